@@ -4,20 +4,22 @@ use Rattle.std.specs.Prelude.{Option, Some, None, IfSome, IfOk}
 use Rattle.std.specs.Io.KnownBytes.{Consumes}
 use Rattle.std.proofs.KnownBytes.{Consumes-nil, Consumes-trans}
 use Rattle.std.proofs.lemmas.List.{append-nil}
+use Rattle.std.proofs.lemmas.Result.{IfOk-weaker}
 use Rattle.sil_io.specs.Reading.{Gives, nothing, piece, GivesToEnd}
 use Rattle.sil_ast.specs.declared.module.Module.{Module}
 use Rattle.sil_grammar.specs.declared.refusal.ReadRefusal.{ReadRefusal}
 use Rattle.sil_grammar.specs.Refusals.{IsRefusalOf}
 use Rattle.sil_grammar.specs.Spells.{Spells}
 use Rattle.sil_rules.specs.declared.limits.TheConstants.{TEXT_BYTES}
-use Rattle.sil_rules.specs.declared.status.Status.{Status}
-use Rattle.sil_rules.specs.declared.status.Status.TheVariants.{Usage, Limit}
-use Rattle.sil_rules.specs.Statuses.{code_of}
+use Rattle.sil_command.specs.declared.status.Status.{Status}
+use Rattle.sil_command.specs.declared.status.Status.TheVariants.{Usage, Limit}
+use Rattle.sil_command.specs.Statuses.{code_of}
+use Rattle.sil_verifier.specs.Findings.{Accepted}
 use Rattle.sil_command.specs.Texts.{limit_text, usage_text}
 use Rattle.sil_command.specs.declared.answer.Answer.{Answer}
 use Rattle.sil_command.specs.declared.words.Mode.{Mode}
 use Rattle.sil_command.specs.Words.{AsksFor, IsCommandLine}
-use Rattle.sil_command.specs.Answers.{AnswersCheck, AnswersModule, AnswersText, usage, in_mode, too_long, unread, spelled}
+use Rattle.sil_command.specs.Answers.{AnswersChecked, AnswersModule, AnswersText, AnswersWrong, usage, in_mode, too_long, unread, spelled, wrong, accepted}
 use Rattle.sil_command.specs.Reading.{AnswersRefusal}
 use Rattle.sil_command.specs.Ends.{IsAnswer, MayHave, TakesText}
 
@@ -72,6 +74,18 @@ pub read_answer : {A E : Type 0} (r : Result A E) (text_of : A → List ℕ) (st
     → IfOk r (λ a. AnswersModule mode m (text_of a) (status_of a)) → IfOk r (λ a. AnswersText mode text (text_of a) (status_of a))
 read_answer (Ok a) text_of status_of mode {m = m} within spells answer = spelled m _ _ within spells answer
 read_answer (Err e) text_of status_of mode within spells answer = tt
+
+-- what a mode answers that checks rules, by what is answered to a module that isn't accepted, and to one that is
+module _ (AnswersAccepted : List ℕ → ℕ → Type 0) {E : Type 0} (r : Result Answer E) {m : Module} where
+  -- what is answered is told so
+  abbrev Tells : (List ℕ → ℕ → Type 0) → Answer → Type 0
+  Tells Told a = Told a.text.items (code_of a.status)
+
+  pub wrong_answer : IfOk r (Tells (AnswersWrong m)) → IfOk r (Tells (AnswersChecked m AnswersAccepted))
+  wrong_answer = IfOk-weaker r (Tells (AnswersWrong m)) (Tells (AnswersChecked m AnswersAccepted)) (λ a answers. wrong _ _ answers)
+
+  pub accepted_answer : Accepted m → IfOk r (Tells AnswersAccepted) → IfOk r (Tells (AnswersChecked m AnswersAccepted))
+  accepted_answer all = IfOk-weaker r (Tells AnswersAccepted) (Tells (AnswersChecked m AnswersAccepted)) (λ a answers. accepted _ _ all answers)
 
 -- what is told of a line and a status is told of a result with that line and that status
 pub told_line : {E : Type 0} (Told : List ℕ → ℕ → Type 0) (r : Result Answer E) (status : Status) {text : List ℕ} → Told text (code_of status)

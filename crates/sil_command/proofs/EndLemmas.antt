@@ -1,13 +1,17 @@
 -- What follows from how a call of the command ends: the clauses of the public call.
 use Rattle.std.proofs.Common.{◌≡◌, ◌⊎◌, inl, inr, ℕ, ◌<◌, List, refl, arith}
+use Rattle.module_runner.specs.States as ending
+use Rattle.module_runner.specs.States.{Ending}
+use Rattle.module_runner.specs.LowFault.{LowFault}
 use Rattle.sil_ast.specs.declared.module.Module.{Module}
 use Rattle.sil_io.specs.Count.{MayFail}
-use Rattle.sil_rules.specs.declared.status.Status.TheVariants.{Done, Refused, Usage, NotAModule, ReadFault, WriteFault, Limit, OutOfMemory}
-use Rattle.sil_rules.specs.Statuses.{code_of}
+use Rattle.sil_command.specs.declared.status.Status.TheVariants.{Done, Refused, Usage, NotAModule, ReadFault, WriteFault, Trapped, OutOfTurns, Limit, OutOfMemory, NoEntry, Faulted}
+use Rattle.sil_command.specs.Statuses.{code_of}
 use Rattle.sil_command.specs.Texts.{read_fault_text}
 use Rattle.sil_command.specs.declared.words.Mode.{Mode}
-use Rattle.sil_command.specs.declared.words.Mode.TheVariants.{Check, Print}
-use Rattle.sil_command.specs.Answers.{Answers, usage, in_mode, AnswersText, too_long, unread, spelled, AnswersModule, AnswersCheck, limit_passed, refused, accepted, AnswersPrint, printed}
+use Rattle.sil_command.specs.declared.words.Mode.TheVariants.{Check, Lower, Print, Run}
+use Rattle.sil_command.specs.Answers.{Answers, usage, in_mode, AnswersText, too_long, unread, spelled, AnswersModule, AnswersChecked, AnswersRun, AnswersWrong, limit_passed, refused, wrong, accepted}
+use Rattle.sil_command.specs.Answers.{Writes, written, no_entry, ran, status_of}
 use Rattle.sil_command.specs.Ends.{Call, Ends, answered, read_failed, exhausted, whole, front, WritesAnswer, Exhausts, WritesWhole, WritesFrontOfAnswer, IsStatus}
 use Rattle.sil_command.proofs.Unread.{unread_status}
 
@@ -15,6 +19,7 @@ use Rattle.sil_command.proofs.Unread.{unread_status}
 abbrev IsAnswerStatus : ℕ → Type 0
 IsAnswerStatus status =
     (status ≡ code_of Done) ⊎ (status ≡ code_of Refused) ⊎ (status ≡ code_of Usage) ⊎ (status ≡ code_of NotAModule) ⊎ (status ≡ code_of Limit)
+    ⊎ (status ≡ code_of Trapped) ⊎ (status ≡ code_of OutOfTurns) ⊎ (status ≡ code_of NoEntry) ⊎ (status ≡ code_of Faulted)
 
 zero_is : IsAnswerStatus (code_of Done)
 zero_is = inl refl
@@ -26,23 +31,51 @@ two_is : IsAnswerStatus (code_of Usage)
 two_is = inr (inr (inl refl))
 
 eight_is : IsAnswerStatus (code_of Limit)
-eight_is = inr (inr (inr (inr refl)))
+eight_is = inr (inr (inr (inr (inl refl))))
 
-check_status : (m : Module) (answer : List ℕ) (status : ℕ) → AnswersCheck m answer status → IsAnswerStatus status
-check_status m _ _ (refused x first rule) = one_is
-check_status m _ _ (limit_passed what first) = eight_is
-check_status m _ _ (accepted all) = zero_is
+six_is : IsAnswerStatus (code_of Trapped)
+six_is = inr (inr (inr (inr (inr (inl refl)))))
 
-print_status : (m : Module) (answer : List ℕ) (status : ℕ) → AnswersPrint m answer status → IsAnswerStatus status
-print_status m _ _ printed = zero_is
+seven_is : IsAnswerStatus (code_of OutOfTurns)
+seven_is = inr (inr (inr (inr (inr (inr (inl refl))))))
+
+ten_is : IsAnswerStatus (code_of NoEntry)
+ten_is = inr (inr (inr (inr (inr (inr (inr (inl refl)))))))
+
+twelve_is : IsAnswerStatus (code_of Faulted)
+twelve_is = inr (inr (inr (inr (inr (inr (inr (inr refl)))))))
+
+wrong_status : (m : Module) (answer : List ℕ) (status : ℕ) → AnswersWrong m answer status → IsAnswerStatus status
+wrong_status m _ _ (refused x first rule) = one_is
+wrong_status m _ _ (limit_passed what first) = eight_is
+
+written_status : (text answer : List ℕ) (status : ℕ) → Writes text answer status → IsAnswerStatus status
+written_status text _ _ written = zero_is
+
+checked_status : (m : Module) (AnswersAccepted : List ℕ → ℕ → Type 0) → ((answer : List ℕ) (status : ℕ) → AnswersAccepted answer status → IsAnswerStatus status)
+    → (answer : List ℕ) (status : ℕ) → AnswersChecked m AnswersAccepted answer status → IsAnswerStatus status
+checked_status m A of_accepted answer status (wrong _ _ answers) = wrong_status m answer status answers
+checked_status m A of_accepted answer status (accepted _ _ all answers) = of_accepted answer status answers
+
+ending_status : (x : Ending LowFault) → IsAnswerStatus (code_of (status_of x))
+ending_status (ending.Returned x) = zero_is
+ending_status (ending.Trapped t) = six_is
+ending_status ending.OutOfTurns = seven_is
+ending_status (ending.Faulted x) = twelve_is
+
+run_status : (m : Module) (name : List ℕ) (bound : ℕ) (answer : List ℕ) (status : ℕ) → AnswersRun m name bound answer status → IsAnswerStatus status
+run_status m name bound _ _ (no_entry none) = ten_is
+run_status m name bound _ _ (ran e f x entry ends) = ending_status x.ending
 
 module_status : (mode : Mode) (m : Module) (answer : List ℕ) (status : ℕ) → AnswersModule mode m answer status → IsAnswerStatus status
-module_status Check m answer status answers = check_status m answer status answers
-module_status Print m answer status answers = print_status m answer status answers
+module_status Check m = checked_status m _ (written_status _)
+module_status Print m = written_status _
+module_status Lower m = checked_status m _ (written_status _)
+module_status (Run entry turns) m = checked_status m _ (run_status m entry turns)
 
 unread_is : (status : ℕ) → (status ≡ code_of NotAModule) ⊎ (status ≡ code_of Limit) → IsAnswerStatus status
 unread_is status (inl three) = inr (inr (inr (inl three)))
-unread_is status (inr eight) = inr (inr (inr (inr eight)))
+unread_is status (inr eight) = inr (inr (inr (inr (inl eight))))
 
 text_status : (mode : Mode) (text answer : List ℕ) (status : ℕ) → AnswersText mode text answer status → IsAnswerStatus status
 text_status mode text _ _ (too_long long) = eight_is
@@ -59,7 +92,11 @@ all_statuses status (inl zero) = (Done, zero)
 all_statuses status (inr (inl one)) = (Refused, one)
 all_statuses status (inr (inr (inl two))) = (Usage, two)
 all_statuses status (inr (inr (inr (inl three)))) = (NotAModule, three)
-all_statuses status (inr (inr (inr (inr eight)))) = (Limit, eight)
+all_statuses status (inr (inr (inr (inr (inl eight))))) = (Limit, eight)
+all_statuses status (inr (inr (inr (inr (inr (inl six)))))) = (Trapped, six)
+all_statuses status (inr (inr (inr (inr (inr (inr (inl seven))))))) = (OutOfTurns, seven)
+all_statuses status (inr (inr (inr (inr (inr (inr (inr (inl ten)))))))) = (NoEntry, ten)
+all_statuses status (inr (inr (inr (inr (inr (inr (inr (inr twelve)))))))) = (Faulted, twelve)
 
 four_is : IsStatus (code_of ReadFault)
 four_is = (ReadFault, refl)

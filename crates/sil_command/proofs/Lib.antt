@@ -1,7 +1,10 @@
 pub mod AnswerLemmas
+pub mod Asked
 pub mod EndLemmas
 pub mod ReadBackLemmas
 pub mod RefusalLemmas
 pub mod Refused
+pub mod RunAnswers
+pub mod RunLemmas
 pub mod StatusLemmas
 pub mod Unread

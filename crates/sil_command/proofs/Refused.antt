@@ -1,19 +1,23 @@
 -- For the laws on refusals: what `check` writes of a module, and which texts are answered as no module.
 use Rattle.std.proofs.Common.{◌≡◌, ℕ, ◌≤◌, List, length, refl, sym, subst, arith}
 use Rattle.command_words.specs.inner.Laws.{SayOneThing}
+use Rattle.module_runner.specs.States as ending
+use Rattle.module_runner.specs.States.{Ending}
+use Rattle.module_runner.specs.LowFault.{LowFault}
 use Rattle.sil_ast.specs.declared.module.Module.{Module}
 use Rattle.sil_grammar.specs.Refusals.{SpellsNone}
 use Rattle.sil_grammar.specs.Spells.{Spells}
 use Rattle.sil_grammar.specs.inner.Laws.{AreSpelledOnce}
 use Rattle.sil_rules.specs.declared.limits.TheConstants.{TEXT_BYTES}
-use Rattle.sil_rules.specs.declared.status.Status.TheVariants.{Done, NotAModule}
-use Rattle.sil_rules.specs.Statuses.{code_of}
+use Rattle.sil_command.specs.declared.status.Status.TheVariants.{Done, NotAModule}
+use Rattle.sil_command.specs.Statuses.{code_of}
 use Rattle.sil_command.specs.declared.words.Mode.{Mode}
-use Rattle.sil_command.specs.declared.words.Mode.TheVariants.{Check, Print}
-use Rattle.sil_command.specs.Answers.{AnswersCheck, AnswersModule, AnswersText, limit_passed, refused, accepted, printed, too_long, unread, spelled}
-use Rattle.sil_command.specs.Laws.{AreRefusedForTheFirst, AreReportedRightly}
+use Rattle.sil_command.specs.declared.words.Mode.TheVariants.{Check, Lower, Print, Run}
+use Rattle.sil_command.specs.Answers.{AnswersChecked, AnswersModule, AnswersRun, AnswersText, AnswersWrong, Writes, status_of}
+use Rattle.sil_command.specs.Answers.{limit_passed, refused, wrong, accepted, written, no_entry, ran, too_long, unread, spelled}
+use Rattle.sil_command.specs.Laws.{AreRefusedForTheFirst, AreReportedRightly, ChecksRules}
 use Rattle.sil_command.specs.RefusalTexts.{refusal_text}
-use Rattle.sil_verifier.specs.Findings.{Finding, Refusal, limit as found_limit}
+use Rattle.sil_verifier.specs.Findings.{Accepted, Finding, Refusal, limit as found_limit}
 use Rattle.sil_command.proofs.StatusLemmas.{mode_answers}
 use Rattle.sil_command.proofs.Unread.{unread_none}
 
@@ -21,29 +25,64 @@ use Rattle.sil_command.proofs.Unread.{unread_none}
 abbrev WritesFirst : Module → List ℕ → Type 0
 WritesFirst m answer = (x : Finding) × Refusal m x × (answer ≡ refusal_text m x)
 
-first_written : (m : Module) (answer : List ℕ) (status : ℕ) → AnswersCheck m answer status → (status ≡ code_of Done → ⊥) → WritesFirst m answer
-first_written m _ _ (refused x first rule) other = (x, first, refl)
-first_written m _ _ (limit_passed what first) other = (found_limit what, first, refl)
-first_written m _ _ (accepted all) other = absurd (other refl)
+wrong_written : (m : Module) (answer : List ℕ) (status : ℕ) → AnswersWrong m answer status → WritesFirst m answer
+wrong_written m _ _ (refused x first rule) = (x, first, refl)
+wrong_written m _ _ (limit_passed what first) = (found_limit what, first, refl)
 
-module _ (once : AreSpelledOnce) (m : Module) where
-  text_written : (text answer : List ℕ) (status : ℕ) → length text ≤ TEXT_BYTES → AnswersText Check text answer status → Spells m text
-      → (status ≡ code_of Done → ⊥) → WritesFirst m answer
-  text_written text _ _ within (too_long long) spells other = absurd (omega (arith, within, long))
-  text_written text answer status within (unread reason _ _ inside refusal line) spells other = absurd (unread_none text reason answer status refusal line m spells)
-  text_written text answer status within (spelled n _ _ inside known answers) spells other =
-      subst (λ k. WritesFirst k answer) (sym (once text n m known spells)) (first_written n answer status answers other)
+first_written : (m : Module) (A : List ℕ → ℕ → Type 0) (answer : List ℕ) (status : ℕ) → AnswersChecked m A answer status → (Accepted m → ⊥) → WritesFirst m answer
+first_written m A answer status (wrong _ _ answers) not = wrong_written m answer status answers
+first_written m A answer status (accepted _ _ all answers) not = absurd (not all)
+
+mode_written : (mode : Mode) → ChecksRules mode → (m : Module) (answer : List ℕ) (status : ℕ) → AnswersModule mode m answer status → (Accepted m → ⊥)
+    → WritesFirst m answer
+mode_written Check checks m = first_written m _
+mode_written Print checks m = absurd checks
+mode_written Lower checks m = first_written m _
+mode_written (Run entry turns) checks m = first_written m _
+
+module _ (once : AreSpelledOnce) (mode : Mode) (checks : ChecksRules mode) (m : Module) where
+  text_written : (text answer : List ℕ) (status : ℕ) → length text ≤ TEXT_BYTES → AnswersText mode text answer status → Spells m text
+      → (Accepted m → ⊥) → WritesFirst m answer
+  text_written text _ _ within (too_long long) spells not = absurd (omega (arith, within, long))
+  text_written text answer status within (unread reason _ _ inside refusal line) spells not = absurd (unread_none text reason answer status refusal line m spells)
+  text_written text answer status within (spelled n _ _ inside known answers) spells not =
+      let same : m ≡ n = once text m n spells known in
+      subst (λ k. WritesFirst k answer) (sym same) (mode_written mode checks n answer status answers (λ all. not (subst Accepted (sym same) all)))
 
 pub refused_for_the_first : SayOneThing → AreSpelledOnce → AreRefusedForTheFirst
-refused_for_the_first one once words text answer status asks within answers m spells other =
-    text_written once m text answer status within (mode_answers one words Check text answer status asks answers) spells other
+refused_for_the_first one once words mode text answer status checks asks within answers m spells not =
+    text_written once mode checks m text answer status within (mode_answers one words mode text answer status asks answers) spells not
 
 -- a module is never answered as none
-module_reported : (mode : Mode) (m : Module) (answer : List ℕ) (status : ℕ) → AnswersModule mode m answer status → status ≡ code_of NotAModule → ⊥
-module_reported Check m _ _ (refused x first rule) three = omega arith
-module_reported Check m _ _ (limit_passed what first) three = omega arith
-module_reported Check m _ _ (accepted all) three = omega arith
-module_reported Print m _ _ printed three = omega arith
+IsNoReport : (List ℕ → ℕ → Type 0) → Type 0
+IsNoReport A = (answer : List ℕ) (status : ℕ) → A answer status → status ≡ code_of NotAModule → ⊥
+
+wrong_reported : (m : Module) → IsNoReport (AnswersWrong m)
+wrong_reported m _ _ (refused x first rule) three = omega arith
+wrong_reported m _ _ (limit_passed what first) three = omega arith
+
+checked_reported : (m : Module) (A : List ℕ → ℕ → Type 0) → IsNoReport A → IsNoReport (AnswersChecked m A)
+checked_reported m A no answer status (wrong _ _ answers) three = wrong_reported m answer status answers three
+checked_reported m A no answer status (accepted _ _ all answers) three = no answer status answers three
+
+written_reported : (text : List ℕ) → IsNoReport (Writes text)
+written_reported text _ _ written three = omega arith
+
+ending_reported : (x : Ending LowFault) → code_of (status_of x) ≡ code_of NotAModule → ⊥
+ending_reported (ending.Returned x) three = omega arith
+ending_reported (ending.Trapped t) three = omega arith
+ending_reported ending.OutOfTurns three = omega arith
+ending_reported (ending.Faulted x) three = omega arith
+
+run_reported : (m : Module) (name : List ℕ) (bound : ℕ) → IsNoReport (AnswersRun m name bound)
+run_reported m name bound _ _ (no_entry none) three = omega arith
+run_reported m name bound _ _ (ran e f x entry ends) three = ending_reported x.ending three
+
+module_reported : (mode : Mode) (m : Module) → IsNoReport (AnswersModule mode m)
+module_reported Check m = checked_reported m _ (written_reported _)
+module_reported Print m = written_reported _
+module_reported Lower m = checked_reported m _ (written_reported _)
+module_reported (Run entry turns) m = checked_reported m _ (run_reported m entry turns)
 
 text_reported : (mode : Mode) (text answer : List ℕ) (status : ℕ) → AnswersText mode text answer status → status ≡ code_of NotAModule → SpellsNone text
 text_reported mode text _ _ (too_long long) three = absurd (omega arith)

@@ -3,8 +3,8 @@ use Rattle.std.proofs.Common.{◌≡◌, ◌⊎◌, inl, inr, ℕ, List, refl}
 use Rattle.sil_grammar.specs.declared.refusal.ReadRefusal.{ReadRefusal}
 use Rattle.sil_grammar.specs.declared.refusal.ReadRefusal.TheVariants.{Memory}
 use Rattle.sil_grammar.specs.Refusals.{IsRefusalOf, SpellsNone, shapeless, faulty, misnamed, exhausted}
-use Rattle.sil_rules.specs.declared.status.Status.TheVariants.{NotAModule, Limit}
-use Rattle.sil_rules.specs.Statuses.{code_of}
+use Rattle.sil_command.specs.declared.status.Status.TheVariants.{NotAModule, Limit}
+use Rattle.sil_command.specs.Statuses.{code_of}
 use Rattle.sil_command.specs.Reading.{AnswersRefusal, bad_byte, unclosed_text, long_name, unexpected, unsupported, number_range, limit, twice, unknown_name}
 
 pub unread_status : (reason : ReadRefusal) (answer : List ℕ) (status : ℕ) → AnswersRefusal reason answer status → (status ≡ code_of NotAModule) ⊎ (status ≡ code_of Limit)

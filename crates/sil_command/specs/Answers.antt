@@ -1,36 +1,71 @@
 -- The answer to a command line and a text: the bytes that are written, and the status.
 use Rattle.std.specs.Prelude.{ℕ, ◌<◌, ◌≤◌, List, length}
+use Rattle.sil_ast.specs.declared.function.Function.{Function}
 use Rattle.sil_ast.specs.declared.module.Module.{Module}
+use Rattle.sil_ast.specs.declared.place.FuncId.{FuncId}
 use Rattle.sil_grammar.specs.declared.refusal.ReadRefusal.{ReadRefusal}
 use Rattle.sil_grammar.specs.Refusals.{IsRefusalOf}
 use Rattle.sil_grammar.specs.Spells.{Spells}
+use Rattle.module_runner.specs.Outcomes.{Outcome}
+use Rattle.module_runner.specs.States as ending
+use Rattle.module_runner.specs.States.{Ending}
+use Rattle.module_runner.specs.LowOutcomes.{LowEndsSo}
+use Rattle.module_runner.specs.LowFault.{LowFault}
+use Rattle.module_runner.specs.LoweredModules.{lowered}
+use Rattle.module_runner.specs.Entries.{HasEntry, IsEntry}
+use Rattle.module_runner.specs.LowReports.{low_report}
+use Rattle.module_runner.specs.Mentions.{given_type}
+use Rattle.module_runner.specs.Shapes.{shape_of}
+use Rattle.module_runner.specs.Declarations.{declarations_of}
 use Rattle.sil_printer.specs.CanonicalModules.{canonical_text}
 use Rattle.sil_rules.specs.declared.limit_word.LimitWord.{LimitWord}
 use Rattle.sil_rules.specs.declared.limits.TheConstants.{TEXT_BYTES}
-use Rattle.sil_rules.specs.declared.status.Status.TheVariants.{Done, Refused, Usage, Limit}
-use Rattle.sil_rules.specs.Statuses.{code_of}
+use Rattle.sil_command.specs.declared.status.Status.{Status}
+use Rattle.sil_command.specs.declared.status.Status.TheVariants.{Done, Refused, Usage, Trapped, OutOfTurns, Limit, NoEntry, Faulted}
+use Rattle.sil_command.specs.Statuses.{code_of}
 use Rattle.sil_verifier.specs.Findings.{Accepted, Finding, IsLimit, Refusal, limit}
 use Rattle.sil_command.specs.declared.words.Mode.{Mode}
-use Rattle.sil_command.specs.declared.words.Mode.TheVariants.{Check, Print}
+use Rattle.sil_command.specs.declared.words.Mode.TheVariants.{Check, Lower, Print, Run}
 use Rattle.sil_command.specs.Words.{AsksFor, IsCommandLine}
 use Rattle.sil_command.specs.Reading.{AnswersRefusal}
-use Rattle.sil_command.specs.Texts.{usage_text, limit_text, type_limit_text, accepted_text}
+use Rattle.sil_command.specs.Texts.{usage_text, limit_text, type_limit_text, accepted_text, no_entry_text}
 use Rattle.sil_command.specs.RefusalTexts.{refusal_text}
 
--- what `check` answers to a module: the first that is wrong with it, with a walk that shows it for a rule on walks; or else that it is accepted
-pub data AnswersCheck (m : Module) : List ℕ → ℕ → Type 0 where
-  refused : (x : Finding) → Refusal m x → (IsLimit x → ⊥) → AnswersCheck m (refusal_text m x) (code_of Refused)
-  limit_passed : (what : LimitWord) → Refusal m (limit what) → AnswersCheck m (type_limit_text what) (code_of Limit)
-  accepted : Accepted m → AnswersCheck m accepted_text (code_of Done)
+-- what is answered to a module that isn't accepted: the first that is wrong with it, with a walk that shows it for a rule on walks
+pub data AnswersWrong (m : Module) : List ℕ → ℕ → Type 0 where
+  refused : (x : Finding) → Refusal m x → (IsLimit x → ⊥) → AnswersWrong m (refusal_text m x) (code_of Refused)
+  limit_passed : (what : LimitWord) → Refusal m (limit what) → AnswersWrong m (type_limit_text what) (code_of Limit)
 
--- what `print` answers to a module: its canonical text, whatever rules it breaks
-pub data AnswersPrint (m : Module) : List ℕ → ℕ → Type 0 where
-  printed : AnswersPrint m (canonical_text m) (code_of Done)
+-- what a mode answers that checks the rules of a module, by what it answers to an accepted one
+pub data AnswersChecked (m : Module) (AnswersAccepted : List ℕ → ℕ → Type 0) : List ℕ → ℕ → Type 0 where
+  wrong : (answer : List ℕ) (status : ℕ) → AnswersWrong m answer status → AnswersChecked m AnswersAccepted answer status
+  accepted : (answer : List ℕ) (status : ℕ) → Accepted m → AnswersAccepted answer status → AnswersChecked m AnswersAccepted answer status
 
--- what each mode answers to a module
+-- the text is written, with status 0
+pub data Writes (text : List ℕ) : List ℕ → ℕ → Type 0 where
+  written : Writes text text (code_of Done)
+
+-- the status of a run, by its ending
+abbrev pub status_of : Ending LowFault → Status
+status_of (ending.Returned x) = Done
+status_of (ending.Trapped t) = Trapped
+status_of ending.OutOfTurns = OutOfTurns
+status_of (ending.Faulted x) = Faulted
+
+-- what `run` answers to an accepted module: the report of the run of its lowered module from the entry function with this name, for this
+-- bound on turns; or that it has no such function
+pub data AnswersRun (m : Module) (name : List ℕ) (bound : ℕ) : List ℕ → ℕ → Type 0 where
+  no_entry : (HasEntry m name → ⊥) → AnswersRun m name bound (no_entry_text name) (code_of NoEntry)
+  ran : (e : FuncId) (f : Function) (x : Outcome LowFault) → IsEntry m name e f → LowEndsSo (lowered m) e bound x
+      → AnswersRun m name bound (low_report (lowered m) (shape_of (declarations_of (lowered m)) (given_type f.signature)) x) (code_of (status_of x.ending))
+
+-- what each mode answers to a module: `check` that it is accepted; `print` its canonical text, whatever rules it breaks; `lower` the
+-- canonical text of the lowered module; and `run` the report of its run
 abbrev pub AnswersModule : Mode → Module → List ℕ → ℕ → Type 0
-AnswersModule Check = AnswersCheck
-AnswersModule Print = AnswersPrint
+AnswersModule Check m = AnswersChecked m (Writes accepted_text)
+AnswersModule Print m = Writes (canonical_text m)
+AnswersModule Lower m = AnswersChecked m (Writes (canonical_text (lowered m)))
+AnswersModule (Run entry turns) m = AnswersChecked m (AnswersRun m entry turns)
 
 -- the answer of a mode to a text; one that is too long or isn't read is answered alike in all modes
 pub data AnswersText (mode : Mode) (text : List ℕ) : List ℕ → ℕ → Type 0 where

@@ -5,9 +5,9 @@ use Rattle.sil_io.specs.Count.{MayFail}
 use Rattle.sil_io.specs.Reading.{Gives, GivesToEnd}
 use Rattle.sil_io.specs.Writing.{Puts, PutsUntilRefused}
 use Rattle.sil_rules.specs.declared.limits.TheConstants.{TEXT_BYTES}
-use Rattle.sil_rules.specs.declared.status.Status.{Status}
-use Rattle.sil_rules.specs.declared.status.Status.TheVariants.{ReadFault, WriteFault, OutOfMemory}
-use Rattle.sil_rules.specs.Statuses.{code_of}
+use Rattle.sil_command.specs.declared.status.Status.{Status}
+use Rattle.sil_command.specs.declared.status.Status.TheVariants.{ReadFault, WriteFault, OutOfMemory}
+use Rattle.sil_command.specs.Statuses.{code_of}
 use Rattle.sil_command.specs.Texts.{read_fault_text}
 use Rattle.sil_command.specs.Words.{IsCommandLine}
 use Rattle.sil_command.specs.Answers.{Answers}

@@ -1,16 +1,25 @@
 -- What the answers of each mode tell of a text.
-use Rattle.std.specs.Prelude.{◌≡◌, ◌≢◌, ◌↔◌, ℕ, ◌≤◌, List, length, ⊤}
+use Rattle.std.specs.Prelude.{◌≡◌, ◌↔◌, ℕ, ◌≤◌, List, length, ⊤}
+use Rattle.module_runner.specs.Outcomes.{Outcome}
+use Rattle.module_runner.specs.States.{Ending}
+use Rattle.module_runner.specs.LowOutcomes.{LowEndsSo}
+use Rattle.module_runner.specs.LowFault.{LowFault}
+use Rattle.module_runner.specs.LoweredModules.{lowered}
+use Rattle.module_runner.specs.Entries.{HasEntry, IsEntry}
+use Rattle.sil_ast.specs.declared.function.Function.{Function}
 use Rattle.sil_ast.specs.declared.module.Module.{Module}
+use Rattle.sil_ast.specs.declared.place.FuncId.{FuncId}
 use Rattle.sil_grammar.specs.Refusals.{SpellsNone}
 use Rattle.sil_grammar.specs.Spells.{Spells}
 use Rattle.sil_rules.specs.declared.limits.TheConstants.{TEXT_BYTES}
-use Rattle.sil_rules.specs.declared.status.Status.TheVariants.{Done, NotAModule}
-use Rattle.sil_rules.specs.Statuses.{code_of}
+use Rattle.sil_command.specs.declared.status.Status.{Status}
+use Rattle.sil_command.specs.declared.status.Status.TheVariants.{Done, NotAModule, NoEntry}
+use Rattle.sil_command.specs.Statuses.{code_of}
 use Rattle.sil_verifier.specs.Findings.{Accepted, Finding, Refusal}
 use Rattle.sil_command.specs.declared.words.Mode.{Mode}
-use Rattle.sil_command.specs.declared.words.Mode.TheVariants.{Check, Print}
+use Rattle.sil_command.specs.declared.words.Mode.TheVariants.{Check, Lower, Print, Run}
 use Rattle.sil_command.specs.Words.{AsksFor}
-use Rattle.sil_command.specs.Answers.{Answers}
+use Rattle.sil_command.specs.Answers.{Answers, status_of}
 use Rattle.sil_command.specs.RefusalTexts.{refusal_text}
 
 -- among texts within the limit, the mode answers with the status just those that spell a module that is such
@@ -23,11 +32,37 @@ AnswersExactly mode wanted IsSuch =
 abbrev pub AreAcceptedExactly : Type 0
 AreAcceptedExactly = AnswersExactly Check (code_of Done) Accepted
 
--- where `check` doesn't answer Done for a text that spells a module, it writes the first of all that is wrong with the module
+-- so does `lower`
+abbrev pub AreLoweredExactly : Type 0
+AreLoweredExactly = AnswersExactly Lower (code_of Done) Accepted
+
+-- there is an entry function with this name, and the run of the lowered module from there, for this bound on turns, ends with this status
+abbrev pub RunsTo : List ℕ → ℕ → Status → Module → Type 0
+RunsTo name bound s m =
+    (e : FuncId) × (f : Function) × (x : Outcome LowFault) × IsEntry m name e f × LowEndsSo (lowered m) e bound x × (status_of x.ending ≡ s)
+
+-- `run` answers with the status of an ending just for the texts that spell an accepted module whose run ends so
+abbrev pub AreRunExactly : Type 0
+AreRunExactly =
+    (name : List ℕ) (bound : ℕ) (x : Ending LowFault)
+    → AnswersExactly (Run name bound) (code_of (status_of x)) (λ m. Accepted m × RunsTo name bound (status_of x) m)
+
+-- and with NoEntry just for those that spell an accepted module without such a function
+abbrev pub HaveNoEntryExactly : Type 0
+HaveNoEntryExactly = (name : List ℕ) (bound : ℕ) → AnswersExactly (Run name bound) (code_of NoEntry) (λ m. Accepted m × (HasEntry m name → ⊥))
+
+-- all modes but `print` check the rules of a module
+abbrev pub ChecksRules : Mode → Type 0
+ChecksRules Check = ⊤
+ChecksRules Print = ⊥
+ChecksRules Lower = ⊤
+ChecksRules (Run entry turns) = ⊤
+
+-- where a text spells a module that isn't accepted, these modes write the first of all that is wrong with the module
 abbrev pub AreRefusedForTheFirst : Type 0
 AreRefusedForTheFirst =
-    (words : List (List ℕ)) (text answer : List ℕ) (status : ℕ) → AsksFor words Check → length text ≤ TEXT_BYTES → Answers words text answer status
-    → (m : Module) → Spells m text → status ≢ code_of Done → (x : Finding) × Refusal m x × (answer ≡ refusal_text m x)
+    (words : List (List ℕ)) (mode : Mode) (text answer : List ℕ) (status : ℕ) → ChecksRules mode → AsksFor words mode → length text ≤ TEXT_BYTES
+    → Answers words text answer status → (m : Module) → Spells m text → (Accepted m → ⊥) → (x : Finding) × Refusal m x × (answer ≡ refusal_text m x)
 
 -- no mode answers NotAModule for a text that spells a module
 abbrev pub AreReportedRightly : Type 0

@@ -6,8 +6,8 @@ use Rattle.sil_grammar.specs.declared.refusal.ReadRefusal.{ReadRefusal}
 use Rattle.sil_grammar.specs.declared.refusal.ReadRefusal.TheVariants as refusal
 use Rattle.sil_rules.specs.declared.limit_word.LimitWord.{LimitWord}
 use Rattle.sil_rules.specs.declared.limit_word.LimitWord.TheVariants.{Name}
-use Rattle.sil_rules.specs.declared.status.Status.TheVariants.{NotAModule, Limit}
-use Rattle.sil_rules.specs.Statuses.{code_of}
+use Rattle.sil_command.specs.declared.status.Status.TheVariants.{NotAModule, Limit}
+use Rattle.sil_command.specs.Statuses.{code_of}
 use Rattle.sil_command.specs.Texts.{not_a_module_text, passed_limit_text}
 
 -- want of memory has no answer

@@ -29,6 +29,10 @@ read_fault_text = line (codes "read fault")
 abbrev pub accepted_text : List ℕ
 accepted_text = line (codes "accepted")
 
+-- the module has no entry function of this name
+abbrev pub no_entry_text : List ℕ → List ℕ
+no_entry_text name = line (codes "no entry " ++ name)
+
 -- a place is written as its line and its column, both from 1
 abbrev pub place_words : Place → List ℕ
 place_words place = codes " at " ++ decimal place.line ++ codes ":" ++ decimal place.column

@@ -1,20 +1,26 @@
 //! The answer to a text: what is written, and the status. No byte is read or written here.
 
-ghost use Rattle.std.specs.Prelude.{◌≤◌, IfOk, length};
+ghost use Rattle.std.specs.Prelude.{◌≡◌, ◌≤◌, IfOk, length};
+ghost use Rattle.module_runner.specs.LoweredModules.{lowered};
+ghost use Rattle.sil_printer.specs.CanonicalModules.{canonical_text};
 ghost use Rattle.sil_rules.specs.declared.limits.TheConstants.{TEXT_BYTES};
-ghost use Rattle.sil_rules.specs.Statuses.{code_of};
+ghost use Rattle.sil_command.specs.Statuses.{code_of};
 ghost use Rattle.numbered_form.specs.inner.NumberedForm.{IsNumbered};
-ghost use Rattle.sil_command.specs.Answers.{AnswersCheck, AnswersModule, AnswersPrint, AnswersText};
+ghost use Rattle.sil_command.specs.declared.words.Mode.TheVariants.{Check, Lower, Run};
+ghost use Rattle.sil_command.specs.Answers.{AnswersModule, AnswersText, Writes};
+ghost use Rattle.sil_command.specs.Words.{IsAskedFor};
 
 use crate::reading::answer_refusal;
+use crate::run_answer::answer_run;
 use crate::texts;
 use crate::verified::answer_end;
 use crate::words::Mode;
+use module_runner::lower;
 use sil_ast::{Exhausted, Module};
 use sil_grammar::read_owned;
 use sil_printer::print;
-use sil_rules::Status;
-use sil_verifier::verify;
+use crate::status::Status;
+use sil_verifier::{Checked, verify};
 use std::alloc::Global;
 use std::mem::forget;
 
@@ -27,7 +33,8 @@ pub struct Answer {
 
 /// The answer of a mode to a text: to the module that it spells, or why it isn't read.
 pub fn answer_to(alloc: Global, mode: Mode, text: Vec<u8>) -> Result<Answer, Exhausted>
-    requires { length text.items ≤ TEXT_BYTES }
+    requires asked { IsAskedFor mode }
+    requires within { length text.items ≤ TEXT_BYTES }
     ensures { IfOk result (λ a. AnswersText mode text.items a.text.items (code_of a.status)) }
 {
     match read_owned(alloc, text) {
@@ -36,9 +43,10 @@ pub fn answer_to(alloc: Global, mode: Mode, text: Vec<u8>) -> Result<Answer, Exh
     }
 }
 
-/// A program answers one text and ends: the module's memory is left to the system.
+/// A program answers one text and ends: the module's memory is left to the system, here and below.
 fn answer_module(alloc: Global, mode: Mode, module: Module) -> Result<Answer, Exhausted>
-    requires { IsNumbered «module» }
+    requires asked { IsAskedFor mode }
+    requires numbered { IsNumbered «module» }
     ensures { IfOk result (λ a. AnswersModule mode «module» a.text.items (code_of a.status)) }
 {
     match mode {
@@ -48,13 +56,14 @@ fn answer_module(alloc: Global, mode: Mode, module: Module) -> Result<Answer, Ex
             forget(module);
             answer
         }
+        Mode::Lower => lower_module(alloc, module),
+        Mode::Run { entry, turns } => run_module(alloc, module, entry.as_slice(), turns),
     }
 }
 
-/// Verifies the module.
 fn check_module(alloc: Global, module: Module) -> Result<Answer, Exhausted>
     requires { IsNumbered «module» }
-    ensures { IfOk result (λ a. AnswersCheck «module» a.text.items (code_of a.status)) }
+    ensures { IfOk result (λ a. AnswersModule Check «module» a.text.items (code_of a.status)) }
 {
     match verify(alloc, module) {
         Ok(checked) => {
@@ -68,8 +77,51 @@ fn check_module(alloc: Global, module: Module) -> Result<Answer, Exhausted>
     }
 }
 
+fn lower_module(alloc: Global, module: Module) -> Result<Answer, Exhausted>
+    requires { IsNumbered «module» }
+    ensures { IfOk result (λ a. AnswersModule Lower «module» a.text.items (code_of a.status)) }
+{
+    match verify(alloc, module) {
+        Ok(checked) => {
+            let answer = print_lowered(alloc, &checked);
+            forget(checked);
+            answer
+        }
+        Err(end) => answer_end(alloc, end),
+    }
+}
+
+fn run_module(
+    alloc: Global,
+    module: Module,
+    entry: &[u8],
+    turns: u32,
+) -> Result<Answer, Exhausted>
+    requires numbered { IsNumbered «module» }
+    requires some_turns { 1 ≤ turns }
+    ensures { IfOk result (λ a. AnswersModule (Run entry.now turns) «module» a.text.items (code_of a.status)) }
+{
+    match verify(alloc, module) {
+        Ok(checked) => {
+            let answer = answer_run(alloc, &checked, entry, turns);
+            forget(checked);
+            answer
+        }
+        Err(end) => answer_end(alloc, end),
+    }
+}
+
+fn print_lowered(alloc: Global, checked: &Checked) -> Result<Answer, Exhausted>
+    ensures { IfOk result (λ a. Writes (canonical_text (lowered checked.now)) a.text.items (code_of a.status)) }
+{
+    let lowered = lower(alloc, checked)?;
+    let answer = print_module(alloc, &lowered);
+    forget(lowered);
+    answer
+}
+
 fn print_module(alloc: Global, module: &Module) -> Result<Answer, Exhausted>
-    ensures { IfOk result (λ a. AnswersPrint «module».now a.text.items (code_of a.status)) }
+    ensures { IfOk result (λ a. Writes (canonical_text «module».now) a.text.items (code_of a.status)) }
 {
     Ok(Answer {
         text: print(alloc, module)?.into_vec(alloc)?,

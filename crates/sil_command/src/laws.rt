@@ -1,9 +1,10 @@
 //! What follows from the definition of answers, on calls that do nothing.
 
-ghost use Rattle.sil_command.specs.Laws.{AreAcceptedExactly, AreRefusedForTheFirst, AreReportedRightly};
-ghost use Rattle.sil_command.specs.Laws.{ArePrintedExactly, ArePrintedReadBack};
+ghost use Rattle.sil_command.specs.Laws.{AreAcceptedExactly, AreLoweredExactly, ArePrintedExactly, ArePrintedReadBack};
+ghost use Rattle.sil_command.specs.Laws.{AreRefusedForTheFirst, AreReportedRightly, AreRunExactly, HaveNoEntryExactly};
 
 use command_words::command_lines_say_one_thing;
+use module_runner::{lowered_runs_end_once, names_have_one_entry};
 use printed_reading_laws::printed_modules_are_spelled;
 use sil_grammar::{spelled_modules_are_numbered, spelled_once};
 use sil_verifier::accepted_where_nothing_is_found;
@@ -17,7 +18,38 @@ pub fn accepted_exactly()
     accepted_where_nothing_is_found();
 }
 
-/// To a text that spells a module which isn't accepted `check` answers the first of all that is wrong with that module.
+/// `lower` answers a text that spells an accepted module with status 0, and one that is answered so spells such a module.
+pub fn lowered_exactly()
+    ensures { AreLoweredExactly }
+{
+    command_lines_say_one_thing();
+    spelled_once();
+    accepted_where_nothing_is_found();
+}
+
+/// `run` answers a text that spells an accepted module with the status of how its run ends, and one that is answered so spells such a module.
+pub fn run_exactly()
+    ensures { AreRunExactly }
+{
+    command_lines_say_one_thing();
+    spelled_once();
+    spelled_modules_are_numbered();
+    accepted_where_nothing_is_found();
+    names_have_one_entry();
+    lowered_runs_end_once();
+}
+
+/// `run` answers a text that spells an accepted module without the entry function with status 10, and one that is answered so spells such
+/// a module.
+pub fn no_entry_exactly()
+    ensures { HaveNoEntryExactly }
+{
+    command_lines_say_one_thing();
+    spelled_once();
+    accepted_where_nothing_is_found();
+}
+
+/// To a text that spells a module which isn't accepted, all modes but `print` answer the first of all that is wrong with that module.
 pub fn refused_for_the_first()
     ensures { AreRefusedForTheFirst }
 {

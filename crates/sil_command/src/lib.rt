@@ -6,6 +6,9 @@ mod answer;
 mod laws;
 mod reading;
 mod refusal_lines;
+mod run_answer;
+mod run_words;
+mod status;
 mod texts;
 mod top_call;
 mod value_lines;
@@ -13,7 +16,8 @@ mod verified;
 mod words;
 
 pub use laws::{
-    accepted_exactly, printed_exactly, printed_texts_read_back, refused_for_the_first,
-    reported_rightly,
+    accepted_exactly, lowered_exactly, no_entry_exactly, printed_exactly, printed_texts_read_back,
+    refused_for_the_first, reported_rightly, run_exactly,
 };
+pub use status::Status;
 pub use top_call::command;

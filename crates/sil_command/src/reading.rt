@@ -3,8 +3,8 @@
 
 ghost use Rattle.std.specs.Prelude.{◌≡◌, IfOk};
 ghost use Rattle.sil_grammar.specs.declared.refusal.ReadRefusal.TheVariants.{Lex};
-ghost use Rattle.sil_rules.specs.declared.status.Status.TheVariants.{NotAModule, Limit};
-ghost use Rattle.sil_rules.specs.Statuses.{code_of};
+ghost use Rattle.sil_command.specs.declared.status.Status.TheVariants.{NotAModule, Limit};
+ghost use Rattle.sil_command.specs.Statuses.{code_of};
 ghost use Rattle.sil_command.specs.Reading.{AnswersRefusal};
 ghost use Rattle.sil_command.specs.Texts.{not_a_module_text, passed_limit_text};
 
@@ -13,7 +13,8 @@ use crate::texts;
 use sil_ast::{Exhausted, Place};
 use sil_grammar::ReadRefusal;
 use sil_lexer::LexRefusal;
-use sil_rules::{LimitWord, Status};
+use crate::status::Status;
+use sil_rules::LimitWord;
 use std::alloc::Global;
 
 /// The answer to a text that is refused for this reason. Want of memory has none.

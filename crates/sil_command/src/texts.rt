@@ -1,7 +1,7 @@
 //! The lines of answers, made from typed values. Nothing is decided here.
 
 ghost use Rattle.std.specs.Prelude.{◌≡◌, ◌++◌, IfOk, OnOk, decimal};
-ghost use Rattle.sil_command.specs.Texts.{usage_text, limit_text, read_fault_text, accepted_text, place_words};
+ghost use Rattle.sil_command.specs.Texts.{usage_text, limit_text, read_fault_text, accepted_text, no_entry_text, place_words};
 ghost use Rattle.sil_command.specs.Texts.{not_a_module_text, passed_limit_text, rule_words, type_limit_text};
 
 use sil_ast::{Exhausted, Place};
@@ -34,6 +34,16 @@ pub fn accepted() -> &'static [u8]
     ensures { result.now ≡ accepted_text }
 {
     b"accepted\n"
+}
+
+/// The line for a module that has no entry function of this name.
+pub fn no_entry(alloc: Global, name: &[u8]) -> Result<Vec<u8>, Exhausted>
+    ensures { IfOk result (λ text. text.items ≡ no_entry_text name.now) }
+{
+    let mut out = Vec::from_slice(alloc, b"no entry ")?;
+    out.extend_from_slice(name)?;
+    out.push(b'\n')?;
+    Ok(out)
 }
 
 pub(crate) fn push_number(out: &mut Vec<u8>, number: u32) -> Result<(), Exhausted>

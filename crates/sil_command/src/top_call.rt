@@ -4,9 +4,9 @@ ghost use Rattle.std.specs.Prelude.{◌≡◌, ◌⊎◌, ◌<◌, ℕ, List, ma
 ghost use Rattle.sil_io.specs.Count.{MayFail};
 ghost use Rattle.sil_io.specs.Reading.{TakesWithin};
 ghost use Rattle.sil_rules.specs.declared.limits.TheConstants.{TEXT_BYTES};
-ghost use Rattle.sil_rules.specs.declared.status.Status.TheVariants.{ReadFault, WriteFault, OutOfMemory};
-ghost use Rattle.sil_rules.specs.Statuses.{code_of};
-ghost use Rattle.sil_command.specs.Words.{AsksFor, IsCommandLine};
+ghost use Rattle.sil_command.specs.declared.status.Status.TheVariants.{ReadFault, WriteFault, OutOfMemory};
+ghost use Rattle.sil_command.specs.Statuses.{code_of};
+ghost use Rattle.sil_command.specs.Words.{AsksFor, IsAskedFor, IsCommandLine};
 ghost use Rattle.sil_command.specs.Texts.{read_fault_text};
 ghost use Rattle.sil_command.specs.Ends.{TakesText, Gains, GainsFront, WritesAnswer, Exhausts, WritesWhole};
 ghost use Rattle.sil_command.specs.Ends.{WritesFrontOfAnswer, IsStatus, FinishesText, call_between, Ends};
@@ -16,17 +16,20 @@ use crate::texts;
 use crate::words::{Mode, mode_of};
 use sil_ast::Exhausted;
 use sil_io::{ReadEnd, Sink, Source, read_all, write_all};
-use sil_rules::{Status, limits};
+use crate::status::Status;
+use sil_rules::limits;
 use std::alloc::Global;
 
 /// Does what the words ask for: reads a text from the source, writes one answer to the sink, and answers the status.
 ///
-/// The words are those after the program's name: `check` or `print`. The statuses are 0 (accepted, or printed), 1 (refused
-/// by a rule), 2 (not a command line), 3 (not a module), 4 (a read failed), 5 (a write failed), 8 (past a limit) and 9 (no
-/// memory left; nothing was written).
-/// Of a text that spells a module `check` answers that it is accepted exactly where the module is within the limits and keeps all
-/// rules, and else the first that is wrong with it, with a walk that shows it for a rule on walks. `print` answers the module's
-/// canonical text. Of a text that spells none both answer what is wrong, and where.
+/// The words are those after the program's name: `check`, `print`, `lower`, or `run` with `--turns N` and `--entry NAME`
+/// (`docs/PROFILE.md`, "Command line and answers"). The statuses are 0 (done), 1 (refused by a rule), 2 (not a command line),
+/// 3 (not a module), 4 (a read failed), 5 (a write failed), 6 (a run ended with a trap), 7 (a run was out of turns), 8 (past a
+/// limit), 9 (no memory left; nothing was written), 10 (no entry function of the name) and 12 (a run ended with a fault).
+/// Of a text that spells a module all modes but `print` answer the first that is wrong with it, with a walk that shows it for a
+/// rule on walks. Exactly where the module is within the limits and keeps all rules, `check` answers that it is accepted, `lower` the
+/// canonical text of its lowered form, and `run` the report of the run of that form. `print` answers the module's canonical text.
+/// Of a text that spells none all answer what is wrong, and where.
 /// The answer is built whole before the first byte of it is written, and after that no memory is taken.
 pub fn command<'a, S: Source, K: Sink>(
     alloc: Global,
@@ -90,6 +93,7 @@ fn run<'a, S: Source, K: Sink>(
 
 /// Takes the text and answers it in this mode.
 fn answer_in<S: Source, K: Sink>(alloc: Global, mode: Mode, source: &mut S, out: &mut K) -> u8
+    requires { IsAskedFor mode }
     ensures ends { (words : List (List ℕ)) → AsksFor words mode → Ends (call_between words S.left S.gave S.faults
         source.old source.new K.held K.took K.refused K.faults out.old out.new) result }
     ensures takes { TakesWithin S.gave S.missed TEXT_BYTES source.old source.new }

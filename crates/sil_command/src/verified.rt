@@ -2,25 +2,26 @@
 
 ghost use Rattle.std.specs.Prelude.{◌≡◌, IfOk};
 ghost use Rattle.sil_ast.specs.declared.module.Module as any;
-ghost use Rattle.sil_rules.specs.declared.status.Status.TheVariants as status;
-ghost use Rattle.sil_rules.specs.Statuses.{code_of};
+ghost use Rattle.sil_command.specs.declared.status.Status.TheVariants as status;
+ghost use Rattle.sil_command.specs.Statuses.{code_of};
 ghost use Rattle.sil_verifier.specs.inner.Ends.{IsVerifyEnd};
-ghost use Rattle.sil_command.specs.Answers.{AnswersCheck};
+ghost use Rattle.sil_command.specs.Answers.{AnswersWrong};
 ghost use Rattle.sil_command.specs.inner.ReportTexts.{report_text};
 ghost use Rattle.sil_command.specs.Texts.{type_limit_text};
 
 use crate::answer::Answer;
 use crate::{refusal_lines, texts};
 use sil_ast::{Exhausted, Module};
-use sil_rules::{LimitWord, Status};
+use crate::status::Status;
+use sil_rules::LimitWord;
 use sil_verifier::{Refusal, VerifyEnd};
 use std::alloc::Global;
 use std::mem::forget;
 
-/// The answer of `check` to a module with which the verifier ends so. Want of memory has none.
+/// The answer to a module with which the verifier ends so. Want of memory has none.
 /// The module's memory is left to the system.
 pub(crate) fn answer_end(alloc: Global, end: VerifyEnd) -> Result<Answer, Exhausted>
-    ensures { (m : any.Module) → IsVerifyEnd m end → IfOk result (λ a. AnswersCheck m a.text.items (code_of a.status)) }
+    ensures { (m : any.Module) → IsVerifyEnd m end → IfOk result (λ a. AnswersWrong m a.text.items (code_of a.status)) }
 {
     match end {
         VerifyEnd::Refused { module, refusal } => {

@@ -1,4 +1,5 @@
 -- The answer to a module, by the mode.
+use Rattle.sil_command.proofs.RunAnswers.{some_turns}
 use Rattle.sil_command.proofs.answer.answer_module.Goals as goal
 
 pub returns-in-Check : goal.returns-in-Check
@@ -6,3 +7,15 @@ returns-in-Check c = rw c.in-Check.is c.check_module.ensures
 
 pub returns-in-Print : goal.returns-in-Print
 returns-in-Print c = rw c.in-Print.is c.print_module-answer.ensures
+
+pub returns-in-Lower : goal.returns-in-Lower
+returns-in-Lower c = rw c.in-Lower.is c.lower_module.ensures
+
+pub run_module-requires : goal.run_module-requires
+run_module-requires c = record {
+  numbered = c.requires.numbered;
+  some_turns = some_turns c.in-Run.entry c.in-Run.turns (rw c.in-Run.is at c.requires.asked);
+}
+
+pub returns-in-Run : goal.returns-in-Run
+returns-in-Run c = rw c.in-Run.is (rw c.as_slice.ensures at c.run_module.ensures)

@@ -1,5 +1,5 @@
 -- The line for each reason but want of memory.
-use Rattle.sil_rules.specs.declared.status.Status.TheVariants.{NotAModule, Limit}
+use Rattle.sil_command.specs.declared.status.Status.TheVariants.{NotAModule, Limit}
 use Rattle.sil_command.specs.Reading.{AnswersRefusal, unexpected, unsupported, number_range, limit, twice, unknown_name}
 use Rattle.sil_command.proofs.AnswerLemmas.{told_line}
 use Rattle.sil_command.proofs.reading.answer_refusal.Goals as goal

@@ -1,5 +1,5 @@
 -- The line for each lexical stop.
-use Rattle.sil_rules.specs.declared.status.Status.TheVariants.{NotAModule, Limit}
+use Rattle.sil_command.specs.declared.status.Status.TheVariants.{NotAModule, Limit}
 use Rattle.sil_command.specs.Reading.{AnswersRefusal, bad_byte, unclosed_text, long_name}
 use Rattle.sil_command.proofs.AnswerLemmas.{told_line}
 use Rattle.sil_command.proofs.reading.answer_stop.Goals as goal

@@ -1,9 +1,12 @@
 -- Words that are no command line, and want of memory before they are read.
-use Rattle.std.proofs.Common.{refl, rules}
+use Rattle.std.proofs.Common.{Bor, List, ℕ, map, refl, rules}
 use Rattle.sil_io.specs.Reading.{nothing, stopped}
 use Rattle.sil_command.specs.Ends.{answered, exhausted}
 use Rattle.sil_command.proofs.AnswerLemmas.{usage_answer}
 use Rattle.sil_command.proofs.top_call.run.Goals as goal
+
+pub answer_in-requires : goal.answer_in-requires
+answer_in-requires g c = (map {A = Bor (List ℕ)} (λ w. w.now) c.args.words.now, rw c.in-Ok-Some.field-0-is at c.in-Ok-Some.ensures)
 
 pub returns-in-Ok-None-clause-ends : goal.returns-in-Ok-None-clause-ends
 returns-in-Ok-None-clause-ends g c =

@@ -1,0 +1,53 @@
+-- What a report tells of a run.
+use Rattle.std.specs.Prelude.{◌≡◌, ℕ, List}
+use Rattle.holder_model.specs.Outcomes.{Outcome}
+use Rattle.lowered_run.specs.declared.low_fault.LowFault.{LowFault}
+use Rattle.lowered_run.specs.LowOutcomes.{LowEndsSo}
+use Rattle.lowering_model.specs.LoweredModules.{lowered}
+use Rattle.machine_laws.specs.inner.Told.{all_left}
+use Rattle.numbered_form.specs.Names.{Name}
+use Rattle.report_writing.specs.LowReports.{low_report}
+use Rattle.report_writing.specs.RunOutcomes.{ending_of}
+use Rattle.report_writing.specs.declared.outcome.Ending.TheVariants.{Returned}
+use Rattle.run_typing.specs.Runnable.{IsRunnable}
+use Rattle.run_values.specs.Shapes.{shape_of}
+use Rattle.run_values.specs.declared.value.Val.{Val}
+use Rattle.sil_ast.specs.declared.function.Function.{Function}
+use Rattle.sil_ast.specs.declared.module.Module.{Module}
+use Rattle.sil_ast.specs.declared.place.FuncId.{FuncId}
+use Rattle.type_definitions.specs.Declarations.{declarations_of}
+use Rattle.type_definitions.specs.Mentions.{given_type}
+use Rattle.module_runner.specs.Entries.{IsEntry}
+use Rattle.module_runner.specs.declared.report.RunReport.{RunReport}
+
+-- the outcome that is reported
+abbrev pub outcome_of : RunReport → Outcome LowFault
+outcome_of r = record { events = r.events; ending = ending_of r.ending; left = r.left; retains = r.retains; releases = r.releases }
+
+-- the report tells of the run of the lowered module from this function, for this bound on turns
+pub record TellsOfRunFrom (m : Module) (e : FuncId) (f : Function) (bound : ℕ) (r : RunReport) : Type 0 where
+  pub ran : r.module ≡ lowered m
+  pub result_type : r.result_type ≡ given_type f.signature
+  pub ends : LowEndsSo (lowered m) e bound (outcome_of r)
+
+-- the report tells of the run of the lowered module from the entry function with this name, for this bound on turns
+pub record TellsOfRun (m : Module) (name : Name) (bound : ℕ) (r : RunReport) : Type 0 where
+  pub entry : FuncId
+  pub function : Function
+  pub begins : IsEntry m name entry function
+  pub tells : TellsOfRunFrom m entry function bound r
+
+-- the heap of the run has the totals that are told, and after a return its unfreed objects are those that are left
+pub record HeapIsAsTold (r : RunReport) : Type 0 where
+  pub retains : r.heap.retains ≡ r.retains
+  pub releases : r.heap.releases ≡ r.releases
+  pub left : (x : Val) → r.ending ≡ Returned x → r.left ≡ all_left r.heap
+
+-- the module of the report can be run, and the table is its own
+pub record IsReportable (r : RunReport) : Type 0 where
+  pub runnable : IsRunnable r.module
+  pub of_it : r.table.now ≡ declarations_of r.module
+
+-- the lines of the report
+abbrev pub text_of : RunReport → List ℕ
+text_of r = low_report r.module (shape_of (declarations_of r.module) r.result_type) (outcome_of r)

@@ -1,0 +1,106 @@
+//! The run of an accepted module.
+
+ghost use Rattle.std.specs.Prelude.{◌≡◌, ◌≤◌, ◌↔◌, ℕ, Err, IfOk, List};
+ghost use Rattle.type_definitions.specs.Mentions as mentions;
+ghost use Rattle.module_runner.specs.Entries.{HasEntry, IsEntry};
+ghost use Rattle.module_runner.specs.inner.RunReports.{HeapIsAsTold, IsReportable, TellsOfRun, TellsOfRunFrom};
+ghost use Rattle.module_runner.specs.declared.runner.RunEnd.TheVariants.{NoEntry};
+
+use crate::ending::reported;
+use crate::entry::{Entry, entry_named};
+use crate::report::RunReport;
+use count_machine::{LowRun, run};
+use ownership_lowering::lower;
+use sil_ast::{Boxed, Exhausted, Given, List, Signature, TryClone, TypeName};
+use sil_types::only_direct_type;
+use sil_verifier::Checked;
+use std::alloc::Global;
+
+/// Why there is no run to report.
+#[derive(Clone, Copy, Debug, PartialEq, Eq)]
+pub enum RunEnd {
+    /// No function of the name has a body and no arguments.
+    NoEntry,
+    /// Memory ran out.
+    Memory,
+}
+
+/// Lowers an accepted module, and runs the lowered one from the function with the name `entry`, for a bound on turns.
+pub fn run_checked<'c>(
+    alloc: Global,
+    c: &'c Checked,
+    entry: &[u8],
+    turns: u32,
+) -> Result<RunReport<'c>, RunEnd>
+    requires { 1 ≤ turns }
+    ensures run { IfOk result (TellsOfRun c.now entry.now turns) }
+    ensures heap { IfOk result HeapIsAsTold }
+    ensures reportable { IfOk result IsReportable }
+    ensures no_entry { (result ≡ Err NoEntry) ↔ ¬ HasEntry c.now entry.now }
+{
+    let Some(entry) = entry_named(c.module(), entry) else {
+        return Err(RunEnd::NoEntry);
+    };
+    match run_from(alloc, c, entry, turns) {
+        Ok(report) => Ok(report),
+        Err(Exhausted) => Err(RunEnd::Memory),
+    }
+}
+
+fn run_from<'c>(
+    alloc: Global,
+    c: &'c Checked,
+    entry: Entry<'_>,
+    turns: u32,
+) -> Result<RunReport<'c>, Exhausted>
+    requires entry { (name : List ℕ) × IsEntry c.now name entry.id entry.function.now }
+    requires some_turns { 1 ≤ turns }
+    ensures run { IfOk result (TellsOfRunFrom c.now entry.entry.id entry.entry.function.now turns) }
+    ensures heap { IfOk result HeapIsAsTold }
+    ensures reportable { IfOk result IsReportable }
+{
+    let result_type = given_type(alloc, &entry.function.signature)?;
+    let module = lower(alloc, c)?;
+    let LowRun {
+        events,
+        ending,
+        left,
+        retains,
+        releases,
+        heap,
+    } = run(alloc, &module, c.table(), entry.id, turns)?;
+    Ok(RunReport {
+        module,
+        table: c.table(),
+        result_type,
+        events,
+        ending: reported(ending),
+        left,
+        retains,
+        releases,
+        heap,
+    })
+}
+
+/// The type of what a function of the signature gives: of its one direct result, or the tuple of all.
+fn given_type(alloc: Global, signature: &Signature) -> Result<TypeName, Exhausted>
+    ensures { IfOk result (λ ty. ty ≡ mentions.given_type signature.now) }
+{
+    let results = signature.results.as_slice();
+    match only_direct_type(results) {
+        Some(ty) => ty.try_clone(alloc),
+        None => Ok(TypeName::Tuple(Boxed::new(alloc, direct_types(alloc, results)?)?)),
+    }
+}
+
+fn direct_types(alloc: Global, results: &[Given]) -> Result<List<TypeName>, Exhausted>
+    ensures { IfOk result (λ types. types ≡ mentions.direct_types results.now) }
+{
+    let mut types = List::new(alloc);
+    for given in results {
+        if !given.out {
+            types.push(given.ty.try_clone(alloc)?)?;
+        }
+    }
+    Ok(types)
+}

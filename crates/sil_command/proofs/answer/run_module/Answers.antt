@@ -1,0 +1,12 @@
+-- The answer of `run` to a module.
+use Rattle.sil_command.specs.Answers.{AnswersRun}
+use Rattle.sil_command.proofs.AnswerLemmas.{accepted_answer, wrong_answer}
+use Rattle.sil_command.proofs.answer.run_module.Goals as goal
+
+pub returns-in-Ok : goal.returns-in-Ok
+returns-in-Ok c = accepted_answer (AnswersRun c.args.«module» c.args.entry.now c.args.turns) c.answer_run-answer.result c.in-Ok.ensures.accepted
+    (rw c.in-Ok.ensures.ok at c.answer_run-answer.ensures)
+
+pub returns-in-Err : goal.returns-in-Err
+returns-in-Err c = wrong_answer (AnswersRun c.args.«module» c.args.entry.now c.args.turns) c.answer_end.result
+    (c.answer_end.ensures c.args.«module» c.in-Err.ensures.err)

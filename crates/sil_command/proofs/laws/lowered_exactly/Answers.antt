@@ -1,0 +1,6 @@
+-- For the law `lowered_exactly`.
+use Rattle.sil_command.proofs.StatusLemmas.{lowered_exactly}
+use Rattle.sil_command.proofs.laws.lowered_exactly.Goals as goal
+
+pub returns : goal.returns
+returns c = lowered_exactly c.command_lines_say_one_thing.ensures c.spelled_once.ensures c.accepted_where_nothing_is_found.ensures

@@ -1,0 +1,64 @@
+//! The answer of `run` to an accepted module: the report of its run, or that it has no entry function of the name.
+
+ghost use Rattle.std.specs.Prelude.{◌≡◌, ◌≤◌, IfOk};
+ghost use Rattle.module_runner.specs.inner.RunReports.{IsReportable, text_of};
+ghost use Rattle.module_runner.specs.RunOutcomes.{ending_of};
+ghost use Rattle.sil_command.specs.Statuses.{code_of};
+ghost use Rattle.sil_command.specs.Answers as answers;
+ghost use Rattle.sil_command.specs.Answers.{AnswersRun};
+
+use crate::answer::Answer;
+use crate::texts;
+use module_runner::{Ending, RunEnd, RunReport, report_text, run_checked};
+use sil_ast::Exhausted;
+use crate::status::Status;
+use sil_verifier::Checked;
+use std::alloc::Global;
+use std::mem::forget;
+
+/// The answer to an accepted module, from the function with the name `entry`, for a bound on turns.
+pub(crate) fn answer_run(
+    alloc: Global,
+    checked: &Checked,
+    entry: &[u8],
+    turns: u32,
+) -> Result<Answer, Exhausted>
+    requires { 1 ≤ turns }
+    ensures { IfOk result (λ a. AnswersRun checked.now entry.now turns a.text.items (code_of a.status)) }
+{
+    match run_checked(alloc, checked, entry, turns) {
+        Ok(report) => {
+            let answer = answer_report(alloc, &report);
+            forget(report);
+            answer
+        }
+        Err(RunEnd::NoEntry) => Ok(Answer {
+            text: texts::no_entry(alloc, entry)?,
+            status: Status::NoEntry,
+        }),
+        Err(RunEnd::Memory) => Err(Exhausted),
+    }
+}
+
+fn answer_report(alloc: Global, report: &RunReport<'_>) -> Result<Answer, Exhausted>
+    requires { IsReportable report.now }
+    ensures text { IfOk result (λ a. a.text.items ≡ text_of report.now) }
+    ensures status { IfOk result (λ a. a.status ≡ answers.status_of (ending_of report.now.ending)) }
+{
+    Ok(Answer {
+        text: report_text(alloc, report)?.into_vec(alloc)?,
+        status: status_of(&report.ending),
+    })
+}
+
+/// The status of a run, by its ending.
+fn status_of(ending: &Ending) -> Status
+    ensures { result ≡ answers.status_of (ending_of ending.now) }
+{
+    match ending {
+        Ending::Returned(_) => Status::Done,
+        Ending::Trap(_) => Status::Trapped,
+        Ending::OutOfTurns => Status::OutOfTurns,
+        Ending::Fault(_) => Status::Faulted,
+    }
+}
