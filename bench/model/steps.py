@@ -176,7 +176,7 @@ class Steps(Making):
         """A full place is emptied, where it isn't trivial."""
         if not p.full or self.d.trivial(p.ty):
             return
-        if self.r.random() < 0.5 or p.ty[0] == 'unowned':
+        if self.r.random() < (0.8 if p.ty[0] == 'unowned' else 0.5):
             self.emit(f'destroy_addr {p.name} : $*{type_text(p.ty)}')
         else:
             word, t = (f'load_{p.ty[0]}', p.ty[1]) if p.is_stored() else ('load', p.ty)
