@@ -80,20 +80,33 @@ class Comparison:
             return 'left out', []         # a value is used that the change before took away
         checked = self.asked(['check'], source)
         if checked[1] != 0:
-            lines = [['lower'], ['run', '--entry', entry]]
-            return 'refused', [self.told(number, words, checked, got) for words in lines for got in [self.asked(words, source)] if got != checked]
+            return 'refused', self.differing(number, source, [(words, checked) for words in (['lower'], ['run', '--entry', entry])])
         whole = run.both(text.read(source), entry, TURNS)[0]
         lines = [['lower']] + [['run', '--turns', str(n), '--entry', entry] for n in bounds(whole.turns, random.Random(number))]
-        differ = []
-        for words in lines:
-            wanted, got = run.answer(words, source), self.asked(words, source)
-            if wanted != got:
-                differ.append(self.told(number, words, wanted, got))
-        return ' '.join(whole.ending[:1 + (whole.ending[0] in ('trap', 'fault'))]) if whole.ending[0] != 'returned' else 'returned', differ
+        return ended(whole.ending), self.differing(number, source, [(words, run.answer(words, source)) for words in lines])
 
-    @staticmethod
-    def told(number, words, wanted, got):
-        return f'{number}: {" ".join(words)}: model {wanted}, program {got}'
+    def differing(self, number, source, wanted):
+        told = []
+        for words, answer in wanted:
+            got = self.asked(words, source)
+            if got != answer:
+                told.append(f'{number}: {" ".join(words)}: wanted {answer}, program {got}')
+        return told
+
+
+def ended(ending):
+    """The name of an ending: with the trap or fault, without a message or value."""
+    return ' '.join(ending[:2]) if ending[0] in ('trap', 'fault') else ending[0]
+
+
+def begin(program, folder):
+    """Makes a process ready to compare: the examples are read in each of them."""
+    global comparison
+    comparison = Comparison(program, examples(folder))
+
+
+def compare(number):
+    return comparison(number)
 
 
 def main():
@@ -110,10 +123,9 @@ def main():
         return
 
     counts, differ = collections.Counter(), 0
-    with multiprocessing.Pool(words.processes) as pool:
-        accepted, comparison = 0, Comparison(words.program, examples(words.modules))
+    with multiprocessing.Pool(words.processes, begin, (words.program, words.modules)) as pool:
         for first in itertools.count(words.first, BATCH):
-            for kind, lines in pool.imap(comparison, range(first, first + BATCH), 10):
+            for kind, lines in pool.imap(compare, range(first, first + BATCH), 10):
                 counts[kind] += 1
                 differ += len(lines)
                 for line in lines:
