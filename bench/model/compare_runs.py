@@ -22,6 +22,8 @@ import subprocess
 import sys
 
 import changes
+import counts
+import holders
 import lower
 import programs
 import run
@@ -81,9 +83,14 @@ class Comparison:
         checked = self.asked(['check'], source)
         if checked[1] != 0:
             return 'refused', self.differing(number, source, [(words, checked) for words in (['lower'], ['run', '--entry', entry])])
-        whole = run.both(text.read(source), entry, TURNS)[0]
-        lines = [['lower']] + [['run', '--turns', str(n), '--entry', entry] for n in bounds(whole.turns, random.Random(number))]
-        return ended(whole.ending), self.differing(number, source, [(words, run.answer(words, source)) for words in lines])
+        module = text.read(source)
+        lowered = lower.lower(module)
+        whole = holders.run(module, entry, TURNS)
+        wanted = [(['lower'], (lower.canonical(lowered), 0))]
+        for n in bounds(whole.turns, random.Random(number)):
+            answer = run.compared_runs(module, entry, holders.run(module, entry, n), counts.run(lowered, entry, n))
+            wanted.append((['run', '--turns', str(n), '--entry', entry], answer))
+        return ended(whole.ending), self.differing(number, source, wanted)
 
     def differing(self, number, source, wanted):
         told = []
@@ -122,19 +129,19 @@ def main():
         print(one(words.show, examples(words.modules))[0], end='')
         return
 
-    counts, differ = collections.Counter(), 0
+    kinds, differ = collections.Counter(), 0
     with multiprocessing.Pool(words.processes, begin, (words.program, words.modules)) as pool:
         for first in itertools.count(words.first, BATCH):
             for kind, lines in pool.imap(compare, range(first, first + BATCH), 10):
-                counts[kind] += 1
+                kinds[kind] += 1
                 differ += len(lines)
                 for line in lines:
                     print(line, flush=True)
-            accepted = sum(counts.values()) - counts['refused'] - counts['left out']
+            accepted = kinds.total() - kinds['refused'] - kinds['left out']
             if accepted >= words.accepted:
                 break
-    print(f'{sum(counts.values())} made, {accepted} accepted, {counts["refused"]} refused, {differ} answers differ')
-    print(', '.join(f'{kind} {count}' for kind, count in counts.most_common() if kind not in ('refused', 'left out')))
+    print(f'{kinds.total()} made, {accepted} accepted, {kinds["refused"]} refused, {differ} answers differ')
+    print(', '.join(f'{kind} {count}' for kind, count in kinds.most_common() if kind not in ('refused', 'left out')))
     sys.exit(1 if differ or not accepted else 0)
 
 

@@ -82,7 +82,11 @@ def answer(words, source):
     if mode == 'audit':
         outcome = counts.run(module, entry, turns)
         return '\n'.join(told(module, entry, outcome)) + '\n', report.status(outcome)
-    by_holders, by_counts = both(module, entry, turns)
+    return compared_runs(module, entry, *both(module, entry, turns))
+
+
+def compared_runs(module, entry, by_holders, by_counts):
+    """The text and the status of a run, whose two outcomes have to be the same."""
     lines = told(module, entry, by_holders)
     if not by_holders.same(by_counts):
         return '\n'.join(['by holders:'] + lines + ['lowered:'] + told(module, entry, by_counts)) + '\n', DIFFERENT
