@@ -3,6 +3,7 @@ from lower import signature_text, type_text
 from making import BIT, INT, LENT, NONE, OWNED, Place, Value
 from model import CONVENTIONS
 from steps import Steps
+from values import members
 
 
 class Body(Steps):
@@ -45,16 +46,21 @@ class Body(Steps):
         return v
 
     def address(self, word, t, used):
-        """A place that fits the convention, and that no operand before it overlaps."""
+        """A place that fits the convention, and that no operand before it overlaps; a part of one where that may be lent."""
         def fits(p):
-            if p.ty != t or p.kind == 'field' or any(q is p for q, _ in used):
+            if p.kind == 'field' or any(q is p for q, _ in used):
                 return False
             if word == '@in_guaranteed':
                 return p.full
             if p.loans or p.kind == '@in_guaranteed':
                 return False
             return p.full if word != '@out' else not p.full or self.d.trivial(t)
-        known = [p for p in self.places if fits(p)]
+        known = [p for p in self.places if p.ty == t and fits(p)]
+        parts = [(p, n) for p in self.places for n, u in enumerate(members(self.m, p.ty) or ()) if u == t and fits(p)]
+        if parts and word in ('@inout', '@in_guaranteed') and (not known or self.r.random() < 0.5):
+            p, n = self.r.choice(parts)
+            used.append((p, word))
+            return Place(self.part_at(p, n), t, p.kind, True)
         if not known:
             p = Place(self.result(f'alloc_stack ${type_text(t)}'), t, 'slot', False)
             self.slots.append(p)
@@ -67,6 +73,12 @@ class Body(Steps):
         p = self.r.choice(known)
         used.append((p, word))
         return p
+
+    def part_at(self, p, n):
+        """The address of a member of a place."""
+        if p.ty[0] == 'tuple':
+            return self.result(f'tuple_element_addr {p.name} : $*{type_text(p.ty)}, {n}')
+        return self.result(f'struct_element_addr {p.name} : $*{p.ty[1]}, #{p.ty[1]}.{self.m.decls[p.ty[1]][1][n][0]}')
 
     # ---- branches
     def saved(self):

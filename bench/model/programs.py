@@ -157,7 +157,9 @@ class Program:
         self.functions.append((name, sig, count))
 
     def deinitialiser(self, n, name):
-        self.body(f'{name}_deinit', text.Sig('method', [('@guaranteed', ('name', name))], []), n, self.r.randrange(1, 7))
+        sig = text.Sig('method', [('@guaranteed', ('name', name))], [])
+        self.body(f'{name}_deinit', sig, n, self.r.randrange(1, 7))
+        self.functions.append((f'{name}_deinit', sig, n))
         self.vtables.append(f'sil_vtable {name} {{\n  #{name}.deinit!destroyer: @{name}_deinit\n}}')
 
     def body(self, name, sig, count, steps):
