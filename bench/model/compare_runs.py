@@ -1,113 +1,149 @@
 #!/usr/bin/env python3
-"""Compares the runs of a built program with those of the model, on modules that come from the examples by random changes.
+"""Compares the runs and the lowering of a built program with those of the model, on random modules.
 
-    bench/model/compare_runs.py PATH-TO-SIL [--from A] [--count N] [--modules FOLDER]
+    bench/model/compare_runs.py PATH-TO-SIL [--from A] [--accepted N] [--processes P] [--modules FOLDER]
+    bench/model/compare_runs.py --show NUMBER
 
-Each number from A on stands for one module: an example with one to four changes (an instruction goes, moves or is doubled, an operand becomes
-another value of its type, a word in brackets, a literal or the target of a branch changes). The program's `check` says which of them are
-accepted. Of these, `run` with a small bound and with a large one and `lower` have to be the model's, whose two runs have to be the same. Each
-answer that differs is printed. The last line counts the modules.
+Each number from A on stands for one module, which `--show` writes: every fourth an example below FOLDER with one to four changes
+(`changes.py`), each other one a random program (`programs.py`), half of them with a change or two. The program's `check` says which of them
+are accepted; it goes on until so many are. Of an accepted module `run` with five bounds on turns (the number of turns that the whole run
+takes, up to 2,000, those beside it, one, and one between) and `lower` have to answer as the model does, whose two runs have to be the same.
+Of a refused one `run` and `lower` have to answer as `check` does. Each answer that differs is printed. The last lines count the modules, and
+how often an accepted one ended in each way.
 """
 import argparse
 import collections
 import copy
+import itertools
+import multiprocessing
 import pathlib
 import random
 import subprocess
 import sys
 
+import changes
+import counts
+import holders
 import lower
-import model
+import programs
 import run
 import text
 
 MODULES = pathlib.Path(__file__).resolve().parent.parent.parent / 'crates' / 'run_examples' / 'modules'
-OTHER_WORD = {'copy': 'take', 'take': 'copy', 'init': 'assign', 'assign': 'init'}
+TURNS, BATCH = 2000, 100
 
 
-def change(module, r):
-    f = r.choice([f for f in module.functions if f.blocks])
-    insts = r.choice(f.blocks).insts
-    at = r.randrange(len(insts))
-    kind = r.choice(['leave out', 'move', 'double', 'operand', 'operand', 'word', 'number', 'target'])
-    if kind in ('leave out', 'move', 'double') and at + 1 == len(insts):
-        return
-    if kind == 'leave out':
-        insts.pop(at)
-    elif kind == 'move':
-        i = insts.pop(at)
-        insts.insert(r.randrange(len(insts)), i)
-    elif kind == 'double':
-        i = copy.deepcopy(insts[at])
-        i.results = [f.values + n for n in range(len(i.results))]
-        f.values += len(i.results)
-        insts.insert(r.randrange(len(insts)), i)
-    elif kind == 'operand':
-        operands = insts[at].operands + [o for _, args, _ in insts[at].edges for o in args]
-        types = model.Checker(module, f).types
-        if operands:
-            o = r.choice(operands)
-            o[0] = r.choice([v for v in sorted(types) if types[v] == types.get(o[0])] or [o[0]])
-    elif kind == 'word':
-        i = insts[at]
-        if i.op in ('load', 'store'):
-            i.q = OTHER_WORD.get(i.q, i.q)
-        elif i.op in ('load_weak', 'load_unowned', 'store_weak', 'store_unowned'):
-            i.q = None if i.q else 'take' if i.op.startswith('load') else 'init'
-    elif kind == 'number' and insts[at].op == 'integer_literal':
-        insts[at].number = r.choice([0, 1, -1])
-    elif kind == 'target' and insts[-1].op in ('br', 'cond_br') and len(f.blocks) > 1:
-        n = r.randrange(len(insts[-1].edges))
-        insts[-1].edges[n] = (r.randrange(1, len(f.blocks)),) + insts[-1].edges[n][1:]
+def examples(folder):
+    """The examples of the ownership form, each with its entry."""
+    found = []
+    for file in sorted(pathlib.Path(folder).rglob('*.sil')):
+        source = file.read_text()
+        module = text.read(source)
+        if all(f.form() != 'Lowered' for f in module.functions):
+            found.append((module, run.Head(source).entry))
+    return found
 
 
-def one(number, examples):
+def one(number, known):
     """The text and the entry of the module for which a number stands."""
     r = random.Random(number)
-    module, entry = r.choice(examples)
-    module = copy.deepcopy(module)
-    for _ in range(r.choice([1, 1, 2, 3, 4])):
-        change(module, r)
+    if number % 4 == 0:
+        module, entry = r.choice(known)
+        module, count = copy.deepcopy(module), r.choice([1, 1, 2, 3, 4])
+    else:
+        module, entry = text.read(programs.one(number)), 'main'
+        count = r.choice([0, 0, 1, 2])
+    for _ in range(count):
+        changes.change(module, r)
     return lower.canonical(module), entry
+
+
+def bounds(turns, r):
+    """Five bounds on turns."""
+    wanted = [TURNS, turns, turns - 1, 1, r.randrange(1, turns + 1), turns + 1, turns + 2, turns + 3, turns + 4]
+    return list(dict.fromkeys(n for n in wanted if 1 <= n <= TURNS))[:5]
+
+
+class Comparison:
+    """Asks one program of modules by their numbers."""
+
+    def __init__(self, program, known):
+        self.program, self.known = program, known
+
+    def asked(self, words, source):
+        got = subprocess.run([self.program] + words, input=source, capture_output=True, text=True, timeout=60)
+        return got.stdout, got.returncode
+
+    def __call__(self, number):
+        """What becomes of a module, and the lines that tell the answers that differ."""
+        try:
+            source, entry = one(number, self.known)
+        except KeyError:
+            return 'left out', []         # a value is used that the change before took away
+        checked = self.asked(['check'], source)
+        if checked[1] != 0:
+            return 'refused', self.differing(number, source, [(words, checked) for words in (['lower'], ['run', '--entry', entry])])
+        module = text.read(source)
+        lowered = lower.lower(module)
+        whole = holders.run(module, entry, TURNS)
+        wanted = [(['lower'], (lower.canonical(lowered), 0))]
+        for n in bounds(whole.turns, random.Random(number)):
+            answer = run.compared_runs(module, entry, holders.run(module, entry, n), counts.run(lowered, entry, n))
+            wanted.append((['run', '--turns', str(n), '--entry', entry], answer))
+        return ended(whole.ending), self.differing(number, source, wanted)
+
+    def differing(self, number, source, wanted):
+        told = []
+        for words, answer in wanted:
+            got = self.asked(words, source)
+            if got != answer:
+                told.append(f'{number}: {" ".join(words)}: wanted {answer}, program {got}')
+        return told
+
+
+def ended(ending):
+    """The name of an ending: with the trap or fault, without a message or value."""
+    return ' '.join(ending[:2]) if ending[0] in ('trap', 'fault') else ending[0]
+
+
+def begin(program, folder):
+    """Makes a process ready to compare: the examples are read in each of them."""
+    global comparison
+    comparison = Comparison(program, examples(folder))
+
+
+def compare(number):
+    return comparison(number)
 
 
 def main():
     words = argparse.ArgumentParser()
-    words.add_argument('program')
+    words.add_argument('program', nargs='?')
     words.add_argument('--from', dest='first', type=int, default=0)
-    words.add_argument('--count', type=int, default=1000)
+    words.add_argument('--accepted', type=int, default=1000)
+    words.add_argument('--processes', type=int, default=1)
     words.add_argument('--modules', default=str(MODULES))
+    words.add_argument('--show', type=int)
     words = words.parse_args()
+    if words.show is not None:
+        print(one(words.show, examples(words.modules))[0], end='')
+        return
 
-    examples = []
-    for file in sorted(pathlib.Path(words.modules).rglob('*.sil')):
-        source = file.read_text()
-        module = text.read(source)
-        if all(f.form() != 'Lowered' for f in module.functions):
-            examples.append((module, run.Head(source).entry))
-
-    def asked(line, source):
-        got = subprocess.run([words.program] + line, input=source, capture_output=True, text=True, timeout=60)
-        return got.stdout, got.returncode
-
-    counts, differ = collections.Counter(), 0
-    for number in range(words.first, words.first + words.count):
-        try:
-            source, entry = one(number, examples)
-        except KeyError:
-            counts['left out'] += 1       # a value is used that the change before took away
-            continue
-        if asked(['check'], source)[1] != 0:
-            counts['refused'] += 1
-            continue
-        counts['accepted'] += 1
-        for line in (['run', '--turns', '3', '--entry', entry], ['run', '--turns', '2000', '--entry', entry], ['lower']):
-            wanted, got = run.answer(line, source), asked(line, source)
-            if wanted != got:
-                differ += 1
-                print(f'{number}: {" ".join(line)}: model {wanted}, program {got}', flush=True)
-    print(f'{words.count} made, {counts["accepted"]} accepted, {counts["refused"]} refused, {differ} answers differ')
-    sys.exit(1 if differ or not counts['accepted'] else 0)
+    kinds, differ = collections.Counter(), 0
+    with multiprocessing.Pool(words.processes, begin, (words.program, words.modules)) as pool:
+        for first in itertools.count(words.first, BATCH):
+            for kind, lines in pool.imap(compare, range(first, first + BATCH), 10):
+                kinds[kind] += 1
+                differ += len(lines)
+                for line in lines:
+                    print(line, flush=True)
+            accepted = kinds.total() - kinds['refused'] - kinds['left out']
+            if accepted >= words.accepted:
+                break
+    print(f'{kinds.total()} made, {accepted} accepted, {kinds["refused"]} refused, {differ} answers differ')
+    print(', '.join(f'{kind} {count}' for kind, count in kinds.most_common() if kind not in ('refused', 'left out')))
+    sys.exit(1 if differ or not accepted else 0)
 
 
-main()
+if __name__ == '__main__':
+    main()

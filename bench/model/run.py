@@ -9,11 +9,13 @@ The words, answers and statuses are those of `sil`; no rule is checked. Where th
 status is 99. A fault of the run by holders has one of the names in `holders.py`, one of the lowered run one of those in `counts.py`.
 
     bench/model/run.py cases FOLDER..
+    bench/model/run.py files FOLDER..
     bench/model/run.py lowered FOLDER..
     bench/model/run.py examples FOLDER..
 
-`cases` compares with the files `stdin`, `args`, `stdout` and `status` in the folders below FOLDER, as far as their words are these modes
-without `--optimize`. `lowered` compares with the case files (`docs/CASES.md`) there that run a lowered text. `examples` compares with the comments at the heads of the modules in FOLDER, and says which rule refuses a module.
+`cases` compares with the files `stdin`, `args`, `stdout` and `status` in the folders below FOLDER, and `files` with the heads of case files
+(docs/CASES.md), both as far as their words are these modes without `--optimize`. `lowered` compares with the case files there that run a
+lowered text. `examples` compares with the comments at the heads of the modules in FOLDER, and says which rule refuses a module.
 """
 import pathlib
 import re
@@ -36,6 +38,8 @@ def words_of(words):
     words = list(words)
     while words:
         word = words.pop(0)
+        if word.startswith('--') and '=' in word:
+            word, *words = word.split('=', 1) + words
         if word in ('--turns', '--entry'):
             if not words or word in options:
                 return None
@@ -79,7 +83,11 @@ def answer(words, source):
     if mode == 'audit':
         outcome = counts.run(module, entry, turns)
         return '\n'.join(told(module, entry, outcome)) + '\n', report.status(outcome)
-    by_holders, by_counts = both(module, entry, turns)
+    return compared_runs(module, entry, *both(module, entry, turns))
+
+
+def compared_runs(module, entry, by_holders, by_counts):
+    """The text and the status of a run, whose two outcomes have to be the same."""
     lines = told(module, entry, by_holders)
     if not by_holders.same(by_counts):
         return '\n'.join(['by holders:'] + lines + ['lowered:'] + told(module, entry, by_counts)) + '\n', DIFFERENT
@@ -88,24 +96,41 @@ def answer(words, source):
 
 # ---- cases
 
-def cases(folders):
+def case_folders(folder):
+    """The cases that are folders: name, words, text, answer and status. Those of a mode that was to come are left out."""
+    for args in sorted(pathlib.Path(folder).rglob('args')):
+        case = args.parent
+        words = args.read_text().split('\n')
+        words = words[:-1] if words[-1] == '' else words
+        until = case / 'until'
+        if not until.exists() or int(until.read_text()) >= 20:
+            yield case.name, words, (case / 'stdin').read_text(), (case / 'stdout').read_text(), int((case / 'status').read_text())
+
+
+HEAD = re.compile(r'(?://.*\n)+?// words:(.*)\n// status: (\d+)\n// answer:\n((?://.*\n)*)')
+
+
+def case_files(folder):
+    """The cases that are files."""
+    for file in sorted(pathlib.Path(folder).rglob('*.sil')):
+        source = file.read_bytes().decode(errors='replace')
+        head = HEAD.match(source)
+        lines = ''.join(line[3:] + '\n' for line in head.group(3).splitlines())
+        yield file.name, ['' if word == '""' else word for word in head.group(1).split(' ')[1:]], source, lines, int(head.group(2))
+
+
+def compared(cases):
     agree = differ = left_out = 0
-    for folder in folders:
-        for case in sorted(pathlib.Path(folder).rglob('args')):
-            case = case.parent
-            words = (case / 'args').read_text().split('\n')
-            words = words[:-1] if words[-1] == '' else words
-            until = case / 'until'
-            if words[:1] not in (['run'], ['lower'], ['audit']) or '--optimize' in words or until.exists() and int(until.read_text()) < 20:
-                left_out += 1
-                continue
-            got = answer(words, (case / 'stdin').read_text())
-            wanted = (case / 'stdout').read_text(), int((case / 'status').read_text())
-            if got == wanted or got == (None, 2) and wanted[1] == 2:
-                agree += 1
-            else:
-                differ += 1
-                print(f'{case.name}: wanted {wanted}, got {got}')
+    for name, words, source, *wanted in cases:
+        if words[:1] not in (['run'], ['lower'], ['audit']) or '--optimize' in words:
+            left_out += 1
+            continue
+        got = answer(words, source)
+        if got == tuple(wanted) or got == (None, 2) and wanted[1] == 2:
+            agree += 1
+        else:
+            differ += 1
+            print(f'{name}: wanted {wanted}, got {got}')
     print(f'{agree} agree, {differ} differ, {left_out} left out')
     return 1 if differ or not agree else 0
 
@@ -200,9 +225,12 @@ def examples(folders):
 
 
 def main():
-    compared = {'cases': cases, 'lowered': lowered, 'examples': examples}
-    if len(sys.argv) > 1 and sys.argv[1] in compared:
-        sys.exit(compared[sys.argv[1]](sys.argv[2:]))
+    readers = {'cases': case_folders, 'files': case_files}
+    whole = {'lowered': lowered, 'examples': examples}
+    if sys.argv[1:2] and sys.argv[1] in whole:
+        sys.exit(whole[sys.argv[1]](sys.argv[2:]))
+    if sys.argv[1:2] and sys.argv[1] in readers:
+        sys.exit(compared(case for folder in sys.argv[2:] for case in readers[sys.argv[1]](folder)))
     written, status = answer(sys.argv[1:], sys.stdin.read())
     sys.stdout.write(written if written is not None else 'not a command line\n')
     sys.exit(status)
