@@ -110,4 +110,5 @@ def main():
     sys.exit(1 if differ or not counts['accepted'] else 0)
 
 
-main()
+if __name__ == '__main__':
+    main()
