@@ -8,8 +8,8 @@ use Rattle.run_values.specs.declared.leaf.Leaf.{Leaf}
 use Rattle.sil_ast.specs.declared.decl.Storage.{Storage}
 use Rattle.sil_ast.specs.declared.decl.Storage.TheVariants as storage
 use Rattle.sil_ast.specs.declared.place.ObjectId.{ObjectId}
-use Rattle.machine_steps.specs.Operands.{object_in_leaf}
-use Rattle.machine_steps.specs.Naming.{all_unnamed, leaf_unnamed, less_named}
+use Rattle.leaf_windows.specs.Operands.{object_in_leaf}
+use Rattle.leaf_windows.specs.Naming.{all_unnamed, leaf_unnamed, less_named}
 
 -- what doesn't change: the object isn't dead, and has the same phase, number of strong references and fields
 pub record Alike (x y : Option HeapObject) : Type 0 where

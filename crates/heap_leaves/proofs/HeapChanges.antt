@@ -7,7 +7,7 @@ use Rattle.heap_model.specs.HeapViews.{HeapObject, HeapView, fields_told, is_dea
 use Rattle.run_values.specs.Memory.{is_dead_phase}
 use Rattle.run_values.specs.declared.leaf.Leaf.{Leaf}
 use Rattle.sil_ast.specs.declared.place.ObjectId.{ObjectId}
-use Rattle.machine_steps.specs.Held.{without_field}
+use Rattle.leaf_windows.specs.Held.{without_field}
 
 set_there : {A : Type 0} (xs : List (Option A)) (i : ℕ) → set xs i (unwrap_or (slice_get xs i) None) ≡ xs
 set_there [] i = refl

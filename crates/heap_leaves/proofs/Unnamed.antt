@@ -8,9 +8,9 @@ use Rattle.heap_model.specs.HeapViews.{HeapView, field_in, is_dead_in, object_in
 use Rattle.run_values.specs.declared.leaf.Leaf.{Leaf}
 use Rattle.sil_ast.specs.declared.decl.Storage.{Storage}
 use Rattle.sil_ast.specs.declared.place.ObjectId.{ObjectId}
-use Rattle.machine_steps.specs.Naming.{all_unnamed, leaf_unnamed, less_named}
-use Rattle.machine_steps.specs.Operands.{object_in_leaf, objects_among}
-use Rattle.machine_steps.specs.Steps.{field_unnamed, fields_unnamed, strong_in_field, strong_in_fields}
+use Rattle.leaf_windows.specs.Naming.{all_unnamed, leaf_unnamed, less_named}
+use Rattle.leaf_windows.specs.Operands.{object_in_leaf, objects_among}
+use Rattle.leaf_windows.specs.Steps.{field_unnamed, fields_unnamed, strong_in_field, strong_in_fields}
 use Rattle.heap_leaves.proofs.Alike.{Alike, alike-self, all_unnamed-alike}
 
 -- leaves of a field

@@ -2,7 +2,7 @@
 
 ghost use Rattle.std.specs.Prelude.{◌≡◌, ◌-◌, ◌<◌, ◌^◌, ◌++◌, IfSome, OnOk, false, option_and_then, slice_get};
 ghost use Rattle.heap_model.specs.HeapViews.{field_in, fields_in, is_dead_in, phase_in, strong_in};
-ghost use Rattle.machine_steps.specs.Steps.{field_unnamed, fields_unnamed, strong_in_field, strong_in_fields};
+ghost use Rattle.leaf_windows.specs.Steps.{field_unnamed, fields_unnamed, strong_in_field, strong_in_fields};
 
 use crate::fields::field_of;
 use crate::naming::unname_leaf;

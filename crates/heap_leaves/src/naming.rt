@@ -2,8 +2,8 @@
 
 ghost use Rattle.std.specs.Prelude.{◌≡◌, None, find, OnOk, false};
 ghost use Rattle.heap_model.specs.HeapViews.{is_dead_in};
-ghost use Rattle.machine_steps.specs.Naming.{leaf_named, leaf_unnamed, less_named, more_named};
-ghost use Rattle.machine_steps.specs.Operands.{object_in_leaf};
+ghost use Rattle.leaf_windows.specs.Naming.{leaf_named, leaf_unnamed, less_named, more_named};
+ghost use Rattle.leaf_windows.specs.Operands.{object_in_leaf};
 
 use count_heap::Heap;
 use run_values::Leaf;

@@ -7,7 +7,7 @@ use Rattle.builtin_names.specs.declared.names.Operation.TheVariants as o
 use Rattle.numbered_form.specs.inner.Literals.{is_residue}
 use Rattle.run_values.specs.Values as value
 use Rattle.run_values.specs.Values.{Value, grouped}
-use Rattle.sil_types.specs.Typing.Builtins.{Builtin, bits, builtin_named}
+use Rattle.memory_accesses.specs.Typing.Builtins.{Builtin, bits, builtin_named}
 
 abbrev pub modulus : ℕ → ℤ
 modulus width = pos (2 ^ width)

@@ -12,7 +12,7 @@ use Rattle.sil_ast.specs.declared.place.ValueId.{ValueId}
 use Rattle.item_operands.specs.Items.{item_defined}
 use Rattle.item_operands.specs.declared.taken.Taken.{Taken}
 use Rattle.sil_cfg.specs.declared.item.Item.TheVariants as item
-use Rattle.sil_types.specs.Typing.Values.{value_functions}
+use Rattle.memory_accesses.specs.Typing.Values.{value_functions}
 use Rattle.run_values.specs.Memory.{Memory}
 use Rattle.run_values.specs.Places.{Place, emptied, is_there_at}
 use Rattle.holder_model.specs.Data.{Datum, as_place}

@@ -13,7 +13,7 @@ use Rattle.sil_cfg.specs.declared.item.Item.{Item}
 use Rattle.item_operands.specs.declared.taken.Taken.{Taken}
 use Rattle.ownership_chains.specs.Facts.{known_or}
 use Rattle.ownership_chains.specs.declared.facts.Facts.{Facts}
-use Rattle.ownership_marks.specs.Marks as marks
+use Rattle.memory_accesses.specs.Marks as marks
 use Rattle.type_definitions.specs.declared.kind.Kind.{Kind}
 use Rattle.type_definitions.specs.declared.kind.Kind.TheVariants as kind
 use Rattle.run_values.specs.Memory.{Memory, is_dead}

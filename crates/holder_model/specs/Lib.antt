@@ -17,3 +17,6 @@ pub mod StepParts
 pub mod Steps
 pub mod Outcomes
 pub mod inner
+pub use Rattle.memory_accesses.specs.Operations
+pub use Rattle.memory_accesses.specs.declared.access.Operation
+pub use Rattle.memory_accesses.specs.Typing

@@ -14,8 +14,8 @@ use Rattle.sil_ast.specs.declared.type_name.TypeName.{TypeName}
 use Rattle.numbered_form.specs.Names.{Name}
 use Rattle.type_definitions.specs.Declarations.{Declarations, declarations_of}
 use Rattle.type_definitions.specs.Lookups.{fields_of}
-use Rattle.sil_types.specs.Typing.Shapes.{stored_as, target}
-use Rattle.sil_types.specs.Typing.Values.{value_types}
+use Rattle.memory_accesses.specs.Typing.Shapes.{stored_as, target}
+use Rattle.memory_accesses.specs.Typing.Values.{value_types}
 use Rattle.run_values.specs.Layers.{CaseLayer}
 use Rattle.run_values.specs.Shapes.{Shape, Unknown, case_shapes, shape_of}
 

@@ -3,7 +3,7 @@ use Rattle.std.proofs.Common.{◌≡◌, ℕ, suc, ◌-◌, ◌<◌, ◌%◌, �
 use Rattle.std.proofs.Math.Nat.{mod-mod}
 use Rattle.std.specs.Int.{int_rem_euclid}
 use Rattle.std.specs.Prelude.{negsuc}
-use Rattle.holder_model.specs.Builtins.{magnitude, signed, unsigned}
+use Rattle.machine_steps.specs.Builtins.{magnitude, signed, unsigned}
 use Rattle.leaf_windows.proofs.Residues.{HasModulus, back, half, rest, rest_back, rest_is, whole}
 
 -- a number from 0 on, as a signed one

@@ -5,11 +5,11 @@ use Rattle.std.proofs.lemmas.Int.{to_z-of_z}
 use Rattle.std.specs.Prelude.{negsuc, Bool, true, false, not, ◌||◌}
 use Rattle.builtin_names.specs.declared.names.Width.{Width}
 use Rattle.builtin_names.specs.declared.names.Width.TheVariants as width
-use Rattle.holder_model.specs.Builtins.{bit, signed}
+use Rattle.machine_steps.specs.Builtins.{bit, signed}
 use Rattle.machine_steps.specs.Computing.{overflow_leaves}
 use Rattle.numbered_form.specs.inner.Literals.{is_residue}
 use Rattle.run_values.specs.declared.leaf.Leaf.TheVariants as leaf
-use Rattle.sil_types.specs.Typing.Builtins.{bits}
+use Rattle.machine_steps.specs.Typing.Builtins.{bits}
 use Rattle.leaf_windows.proofs.Residues.{HasModulus, back_same, is_within, one_bit, eight_bits, sixteen_bits, thirty_two_bits, sixty_four_bits, same_back, signed_twice, within_negsuc}
 use Rattle.leaf_windows.proofs.Residues.{within_pos, negsuc_within, pos_within, half, whole}
 

@@ -4,7 +4,7 @@ use Rattle.std.proofs.Math.Nat.{mod-eq_of_lt}
 use Rattle.std.proofs.lemmas.Bool.{cases_lt}
 use Rattle.std.specs.Int.{int_rem_euclid}
 use Rattle.std.specs.Prelude.{negsuc, Bool, true, cond, int_le, int_lt, ◌&&◌}
-use Rattle.holder_model.specs.Builtins.{signed}
+use Rattle.machine_steps.specs.Builtins.{signed}
 use Rattle.numbered_form.specs.inner.Literals.{is_residue}
 
 -- the residue from 0 on

@@ -6,7 +6,7 @@ use Rattle.std.proofs.lemmas.List.Folds.{length-flat_map-take}
 use Rattle.std.proofs.lemmas.List.Sums.{fold_more}
 use Rattle.std.proofs.lemmas.Grind.{flat_map-append}
 use Rattle.std.proofs.lemmas.List.{append-nil}
-use Rattle.ready_code.specs.declared.local.Carry.{Carry}
+use Rattle.machine_steps.specs.Carry.{Carry}
 use Rattle.run_values.specs.declared.leaf.Leaf.{Leaf}
 use Rattle.machine_steps.specs.Operands.{laid_over}
 use Rattle.leaf_windows.specs.inner.Carried.{all_laid, carried_from, laid_by}

@@ -3,7 +3,7 @@ use Rattle.std.proofs.Common.{◌≡◌, ◌-◌, ◌%◌, refl, sym, ◌∙◌,
 use Rattle.std.specs.Bool.{FalseIff}
 use Rattle.std.specs.Int.{int_wrap}
 use Rattle.std.specs.Prelude.{negsuc, Bool, true, false, not}
-use Rattle.holder_model.specs.Builtins.{signed}
+use Rattle.machine_steps.specs.Builtins.{signed}
 use Rattle.numbered_form.specs.inner.Literals.{is_residue}
 use Rattle.leaf_windows.proofs.Bitwise.{of_bits}
 use Rattle.leaf_windows.proofs.Residues.{half, is_within, negsuc_within, pos_within, whole, within_negsuc, within_pos}

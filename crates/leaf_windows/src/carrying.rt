@@ -5,7 +5,7 @@ ghost use Rattle.std.specs.List.{flat_map};
 ghost use Rattle.leaf_windows.specs.inner.Carried.{all_laid, all_marked, carried_from};
 
 use crate::leaf_lists::{lay_over, window};
-use ready_code::Carry;
+use machine_steps::Carry;
 use run_values::Leaf;
 use sil_ast::Exhausted;
 

@@ -1,10 +1,10 @@
 //! What builtin operations give.
 
 ghost use Rattle.std.specs.Prelude.{◌≡◌, ◌<◌, ◌≤◌, ◌^◌, ℤ, ◌+ℤ◌, ◌-ℤ◌, ◌*ℤ◌, not};
-ghost use Rattle.holder_model.specs.Builtins.{bit, signed};
+ghost use Rattle.machine_steps.specs.Builtins.{bit, signed};
 ghost use Rattle.machine_steps.specs.Computing.{computed_leaves, overflow_leaves};
 ghost use Rattle.numbered_form.specs.inner.Literals.{is_residue};
-ghost use Rattle.sil_types.specs.Typing.Builtins.{bits};
+ghost use Rattle.machine_steps.specs.Typing.Builtins.{bits};
 ghost use Rattle.leaf_windows.specs.inner.Computed.{leaves_of, signed_by};
 
 use builtin_names::{Operation, Width};

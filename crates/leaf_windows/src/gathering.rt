@@ -6,7 +6,7 @@ ghost use Rattle.machine_steps.specs.Operands.{objects_among};
 ghost use Rattle.leaf_windows.specs.inner.Grouped.{leaves_from};
 
 use crate::leaf_lists::window;
-use ready_code::Local;
+use machine_steps::Local;
 use run_values::Leaf;
 use sil_ast::{Exhausted, ObjectId};
 

@@ -4,7 +4,7 @@ ghost use Rattle.std.specs.Prelude.{◌≡◌, ◌+◌, drop, take};
 ghost use Rattle.machine_steps.specs.Operands.{laid_over};
 
 use crate::leaf_lists::move_over;
-use ready_code::Local;
+use machine_steps::Local;
 use run_values::Leaf;
 
 /// Leaves of a frame that begin at a base are laid over others of the same frame or of another one.

@@ -5,7 +5,7 @@ ghost use Rattle.machine_steps.specs.Operands.{laid_over};
 ghost use Rattle.run_values.specs.declared.leaf.Leaf.TheVariants.{Blank, Tag};
 ghost use Rattle.leaf_windows.specs.inner.Grouped.{leaves_from};
 
-use ready_code::Local;
+use machine_steps::Local;
 use run_values::Leaf;
 
 /// The leaves from a place on, so many of them.

@@ -3,9 +3,9 @@ use Rattle.std.specs.Prelude.{◌||◌, List, [], ◌∷◌, ◌++◌, Bool, tru
 use Rattle.std.specs.List.{flat_map}
 use Rattle.sil_ast.specs.declared.inst.Inst.{Inst}
 use Rattle.sil_ast.specs.declared.place.ObjectId.{ObjectId}
-use Rattle.memory_accesses.specs.Operations.{access_kind_of, operation_by}
-use Rattle.memory_accesses.specs.declared.access.Operation.{Operation}
-use Rattle.memory_accesses.specs.declared.access.Operation.TheVariants as operation
+use Rattle.holder_model.specs.Operations.{access_kind_of, operation_by}
+use Rattle.holder_model.specs.Operation.{Operation}
+use Rattle.holder_model.specs.Operation.TheVariants as operation
 use Rattle.type_definitions.specs.Declarations.{Declarations}
 use Rattle.run_values.specs.Cells.{in_cells}
 use Rattle.run_values.specs.Memory.{Memory, is_dead}

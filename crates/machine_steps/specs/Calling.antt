@@ -1,6 +1,6 @@
 -- How frames come and go.
 use Rattle.std.specs.Prelude.{ℕ, List, [], ◌∷◌, ◌++◌, Bool, false, cond, Option, Some, None, length, map, nat_lt, replicate, take, slice_get}
-use Rattle.holder_model.specs.declared.limits.TheConstants.{FRAMES}
+use Rattle.lowered_run.specs.limits.TheConstants.{FRAMES}
 use Rattle.run_values.specs.declared.leaf.Leaf.{Leaf}
 use Rattle.run_values.specs.declared.leaf.Leaf.TheVariants as leaf
 use Rattle.ready_code.specs.declared.function.ReadyFunction.{ReadyFunction}

@@ -2,7 +2,7 @@
 use Rattle.std.specs.Prelude.{ℕ, ℤ, pos, ◌+ℤ◌, ◌-ℤ◌, ◌*ℤ◌, int_lt, int_le, List, [], ◌∷◌, Bool, not, map, bit_and, bit_or, bit_xor}
 use Rattle.builtin_names.specs.declared.names.Operation as builtin
 use Rattle.builtin_names.specs.declared.names.Operation.TheVariants as o
-use Rattle.holder_model.specs.Builtins.{bit, magnitude, same_number, signed, unsigned}
+use Rattle.lowered_run.specs.Builtins.{bit, magnitude, same_number, signed, unsigned}
 use Rattle.numbered_form.specs.inner.Literals.{is_residue}
 use Rattle.run_values.specs.declared.leaf.Leaf.{Leaf}
 use Rattle.run_values.specs.declared.leaf.Leaf.TheVariants as leaf

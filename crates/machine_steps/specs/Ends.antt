@@ -1,6 +1,6 @@
 -- What the machine does for each terminator.
 use Rattle.std.specs.Prelude.{ℕ, ◌==◌, List, [], ◌∷◌, ◌++◌, cond, Option, Some, None, drop, find, length, map, option_and_then, slice_get, take}
-use Rattle.holder_model.specs.Builtins.{is_set}
+use Rattle.lowered_run.specs.Builtins.{is_set}
 use Rattle.heap_model.specs.HeapViews.{is_dead_in}
 use Rattle.lowered_run.specs.declared.low_fault.LowFault.TheVariants as fault
 use Rattle.ready_code.specs.declared.block.ReadyBlock.{ReadyBlock}

@@ -10,3 +10,7 @@ pub mod Rows
 pub mod Ends
 pub mod Steps
 pub mod Runs
+pub use Rattle.lowered_run.specs.Builtins
+pub use Rattle.lowered_run.specs.Typing
+pub use Rattle.ready_code.specs.declared.local.Carry
+pub use Rattle.ready_code.specs.declared.local.Local

@@ -6,8 +6,8 @@ use Rattle.std.specs.Option.{option_to_list}
 use Rattle.builtin_names.specs.declared.names.Operation as builtin
 use Rattle.builtin_names.specs.declared.names.Operation.TheVariants as o
 use Rattle.builtin_names.specs.declared.names.Width.{Width}
-use Rattle.holder_model.specs.Builtins.{bit, combined, compared, is_set, overflowing, same_number, signed}
-use Rattle.holder_model.specs.declared.event.Event.TheVariants as event
+use Rattle.lowered_run.specs.Builtins.{bit, combined, compared, is_set, overflowing, same_number, signed}
+use Rattle.lowered_run.specs.Event.TheVariants as event
 use Rattle.heap_model.specs.HeapCalls.{allocated_in, retained}
 use Rattle.heap_model.specs.HeapViews.{HeapView, is_dead_in, phase_in}
 use Rattle.lowered_run.specs.declared.low_fault.LowFault.TheVariants as fault
@@ -27,7 +27,7 @@ use Rattle.sil_ast.specs.declared.place.FuncId.{FuncId}
 use Rattle.sil_ast.specs.declared.place.ObjectId.{ObjectId}
 use Rattle.sil_ast.specs.declared.place.PointId.{PointId}
 use Rattle.sil_ast.specs.declared.place.ValueId.{ValueId}
-use Rattle.sil_types.specs.Typing.Builtins.{bits}
+use Rattle.lowered_run.specs.Typing.Builtins.{bits}
 use Rattle.machine_steps.specs.declared.address.Address.{Address}
 use Rattle.machine_steps.specs.declared.address.Home.{Home}
 use Rattle.machine_steps.specs.declared.address.Home.TheVariants as home

@@ -2,8 +2,8 @@
 use Rattle.std.specs.Prelude.{ℕ, ◌+◌, true, List, [], ◌∷◌, ◌++◌, cond, is_some, Option, Some, None, map, slice_get, take, drop}
 use Rattle.std.specs.Option.{option_to_list}
 use Rattle.type_definitions.specs.Lookups.{class_at}
-use Rattle.holder_model.specs.Builtins.{is_set}
-use Rattle.holder_model.specs.declared.event.Event.TheVariants as event
+use Rattle.lowered_run.specs.Builtins.{is_set}
+use Rattle.lowered_run.specs.Event.TheVariants as event
 use Rattle.heap_model.specs.HeapCalls.{allocated_in}
 use Rattle.lowered_run.specs.declared.low_fault.LowFault.TheVariants as fault
 use Rattle.ready_code.specs.declared.function.ReadyFunction.{ReadyFunction}
@@ -17,7 +17,7 @@ use Rattle.run_values.specs.declared.leaf.Leaf.TheVariants as leaf
 use Rattle.sil_ast.specs.declared.place.FuncId.{FuncId}
 use Rattle.sil_ast.specs.declared.place.PointId.{PointId}
 use Rattle.sil_ast.specs.declared.place.ValueId.{ValueId}
-use Rattle.sil_types.specs.Typing.Builtins.{bits}
+use Rattle.lowered_run.specs.Typing.Builtins.{bits}
 use Rattle.machine_steps.specs.declared.frame.Frame.{Frame}
 use Rattle.machine_steps.specs.declared.frame.Task.{Task}
 use Rattle.machine_steps.specs.declared.run_end.RunEnd.TheVariants as end

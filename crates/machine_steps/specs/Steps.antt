@@ -1,7 +1,7 @@
 -- The steps of the machine: one instruction or terminator, one drop, one call of a deinitialiser, or one finish.
 use Rattle.std.specs.Prelude.{ℕ, suc, ◌+◌, ◌-◌, ◌==◌, List, [], ◌∷◌, ◌++◌, Bool, true, false, not, cond, Option, Some, None, length, option_and_then}
 use Rattle.std.specs.Prelude.{slice_get, take, unwrap_or}
-use Rattle.holder_model.specs.declared.event.Event.TheVariants as event
+use Rattle.lowered_run.specs.Event.TheVariants as event
 use Rattle.heap_model.specs.HeapCalls.{finished, released, started, takes_last}
 use Rattle.heap_model.specs.HeapViews.{HeapView, class_in, fields_in, is_dead_in, phase_in, strong_in}
 use Rattle.lowered_run.specs.declared.low_fault.LowFault.TheVariants as fault

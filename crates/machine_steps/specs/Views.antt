@@ -1,6 +1,6 @@
 -- The state of the counting machine.
 use Rattle.std.specs.Prelude.{ℕ, List, Bool}
-use Rattle.holder_model.specs.declared.event.Event.{Event}
+use Rattle.lowered_run.specs.Event.{Event}
 use Rattle.heap_model.specs.HeapViews.{HeapView}
 use Rattle.run_values.specs.declared.leaf.Leaf.{Leaf}
 use Rattle.sil_ast.specs.declared.place.ObjectId.{ObjectId}

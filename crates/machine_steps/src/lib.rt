@@ -8,4 +8,5 @@ mod run_end;
 
 pub use address::{Address, Home, OpenSlot};
 pub use frame::{Frame, Task};
+pub use ready_code::{Carry, Local};
 pub use run_end::RunEnd;

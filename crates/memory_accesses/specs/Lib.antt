@@ -4,3 +4,5 @@ pub mod Operations
 pub mod Rows
 pub mod Accesses
 pub mod inner
+pub use Rattle.ownership_marks.specs.Marks
+pub use Rattle.sil_types.specs.Typing

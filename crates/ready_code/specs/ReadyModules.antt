@@ -1,7 +1,7 @@
 -- Blocks, functions, classes and modules, made ready to run.
 use Rattle.std.specs.Prelude.{◌≡◌, ℕ, List, [], ◌∷◌, Option, Some, None, map}
-use Rattle.holder_model.specs.Calling.{value_count}
-use Rattle.holder_model.specs.Dropping.{deinits_of}
+use Rattle.run_typing.specs.Calling.{value_count}
+use Rattle.run_typing.specs.Dropping.{deinits_of}
 use Rattle.item_operands.specs.Items.{item_defined}
 use Rattle.sil_ast.specs.declared.decl.Decl.{Decl}
 use Rattle.sil_ast.specs.declared.decl.Decl.TheVariants.{Class, Enum, Struct}

@@ -1,14 +1,14 @@
 -- What an instruction is, made ready to run.
 use Rattle.std.specs.Prelude.{◌≡◌, ℕ, ℤ, List, [], ◌∷◌, true, false, Option, Some, None, map, option_and_then, slice_get, sum, take}
 use Rattle.builtin_names.specs.declared.names.Operation.{Operation}
-use Rattle.holder_model.specs.declared.row_effect.RowEffect.TheVariants as row
-use Rattle.holder_model.specs.Effects.{effect_of, part_number}
-use Rattle.holder_model.specs.Frames.{has_any}
-use Rattle.holder_model.specs.MemoryEffects.{takes}
-use Rattle.holder_model.specs.ModuleShapes.{case_place}
+use Rattle.run_typing.specs.RowEffect.TheVariants as row
+use Rattle.run_typing.specs.Effects.{effect_of, part_number}
+use Rattle.run_typing.specs.Frames.{has_any}
+use Rattle.run_typing.specs.MemoryEffects.{takes}
+use Rattle.run_typing.specs.ModuleShapes.{case_place}
 use Rattle.item_operands.specs.Items.{item_defined}
-use Rattle.lowered_run.specs.LowEffects.{is_first_write}
-use Rattle.memory_accesses.specs.declared.access.Operation as memory
+use Rattle.run_typing.specs.LowEffects.{is_first_write}
+use Rattle.run_typing.specs.Operation as memory
 use Rattle.numbered_form.specs.Names.{Name}
 use Rattle.run_values.specs.Shapes.{Reference, Shape, Stored, member_shapes, storage_in}
 use Rattle.sil_ast.specs.declared.decl.Storage.{Storage}
@@ -18,7 +18,7 @@ use Rattle.sil_ast.specs.declared.module.Module.{Module}
 use Rattle.sil_ast.specs.declared.place.FuncId.{FuncId}
 use Rattle.sil_ast.specs.declared.place.ValueId.{ValueId}
 use Rattle.sil_cfg.specs.declared.item.Item.TheVariants as item
-use Rattle.sil_types.specs.Typing.Builtins.{Builtin, builtin_named}
+use Rattle.run_typing.specs.Typing.Builtins.{Builtin, builtin_named}
 use Rattle.type_definitions.specs.Declarations.{Declarations, declarations_of}
 use Rattle.type_definitions.specs.Lookups.{class_at}
 use Rattle.run_typing.specs.EndForms.{value_in}

@@ -1,7 +1,7 @@
 -- What typing says of functions that a run enters, and of the values that their items take and define.
 use Rattle.std.specs.Prelude.{◌≡◌, ◌<◌, ℕ, List, [], ◌∷◌, true, Option, Some, slice_get}
-use Rattle.holder_model.specs.Calling.{value_count}
-use Rattle.holder_model.specs.Frames.{has_any}
+use Rattle.lowered_run.specs.Calling.{value_count}
+use Rattle.lowered_run.specs.Frames.{has_any}
 use Rattle.item_operands.specs.Items.{item_defined}
 use Rattle.lowered_run.specs.LowStepParts.{values_taken}
 use Rattle.numbered_form.specs.Lists.{Each}

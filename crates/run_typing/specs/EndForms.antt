@@ -1,6 +1,6 @@
 -- What typing says of a terminator of lowered code, and of its edges.
 use Rattle.std.specs.Prelude.{◌≡◌, ◌<◌, ℕ, List, [], ◌∷◌, Bool, true, false, Option, Some, None, map, length, slice_get}
-use Rattle.holder_model.specs.Edges.{edge_for, is_default}
+use Rattle.lowered_run.specs.Edges.{edge_for, is_default}
 use Rattle.instruction_table.specs.Forms.{ending_of}
 use Rattle.instruction_table.specs.declared.entries.Ending.TheVariants as ending
 use Rattle.item_operands.specs.Items.{arg_value}

@@ -1,12 +1,12 @@
 -- What typing says of the fields of classes in the words of a run.
 use Rattle.std.specs.Prelude.{◌≡◌, true, map}
-use Rattle.holder_model.specs.ModuleShapes.{field_shape, field_shapes, shapes_of}
+use Rattle.lowered_run.specs.ModuleShapes.{field_shape, field_shapes, shapes_of}
 use Rattle.numbered_form.specs.Lists.{Each}
 use Rattle.numbered_form.specs.Names.{Name}
 use Rattle.run_values.specs.Leaves.{in_leaves}
 use Rattle.sil_ast.specs.declared.decl.Field.{Field}
 use Rattle.sil_ast.specs.declared.module.Module.{Module}
-use Rattle.sil_types.specs.Typing.Shapes.{stored_as}
+use Rattle.lowered_run.specs.Typing.Shapes.{stored_as}
 use Rattle.type_definitions.specs.Declarations.{Declarations, declarations_of, is_class}
 use Rattle.type_definitions.specs.Lookups.{fields_of}
 use Rattle.type_definitions.specs.Measures.{leaves_of}

@@ -8,8 +8,8 @@ use Rattle.sil_ast.specs.declared.place.FuncId.{FuncId}
 use Rattle.sil_ast.specs.declared.place.ValueId.{ValueId}
 use Rattle.sil_ast.specs.declared.type_name.TypeName.{TypeName}
 use Rattle.sil_cfg.specs.declared.item.Item.TheVariants as item
-use Rattle.sil_types.specs.Typing.Shapes.{target}
-use Rattle.sil_types.specs.Typing.Values.{function_at, type_at, value_functions, value_types}
+use Rattle.lowered_run.specs.Typing.Shapes.{target}
+use Rattle.lowered_run.specs.Typing.Values.{function_at, type_at, value_functions, value_types}
 use Rattle.type_definitions.specs.Declarations.{Declarations}
 use Rattle.type_definitions.specs.Mentions.{given_type}
 

@@ -7,3 +7,14 @@ pub mod CallForms
 pub mod Classes
 pub mod FieldForms
 pub mod RunTyped
+pub use Rattle.lowered_run.specs.LowEffects
+pub use Rattle.lowered_run.specs.Edges
+pub use Rattle.lowered_run.specs.Calling
+pub use Rattle.lowered_run.specs.Dropping
+pub use Rattle.lowered_run.specs.RowEffect
+pub use Rattle.lowered_run.specs.Effects
+pub use Rattle.lowered_run.specs.Frames
+pub use Rattle.lowered_run.specs.MemoryEffects
+pub use Rattle.lowered_run.specs.ModuleShapes
+pub use Rattle.lowered_run.specs.Operation
+pub use Rattle.lowered_run.specs.Typing

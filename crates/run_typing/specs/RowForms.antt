@@ -1,12 +1,12 @@
 -- What typing says of an instruction of lowered code, by what its row does in a run: the forms of its operands and of its results.
 use Rattle.std.specs.Prelude.{◌≡◌, ◌<◌, ℕ, ℤ, List, [], ◌∷◌, Bool, true, false, Option, Some, None, map, option_and_then, slice_get}
-use Rattle.holder_model.specs.declared.row_effect.RowEffect.TheVariants as row
-use Rattle.holder_model.specs.Effects.{effect_of, part_number}
-use Rattle.holder_model.specs.Frames.{has_any}
-use Rattle.holder_model.specs.ModuleShapes.{case_place, field_shapes, shapes_of}
-use Rattle.memory_accesses.specs.Operations.{access_kind_of, operation_by}
-use Rattle.memory_accesses.specs.declared.access.Operation.{Operation}
-use Rattle.memory_accesses.specs.declared.access.Operation.TheVariants as operation
+use Rattle.lowered_run.specs.RowEffect.TheVariants as row
+use Rattle.lowered_run.specs.Effects.{effect_of, part_number}
+use Rattle.lowered_run.specs.Frames.{has_any}
+use Rattle.lowered_run.specs.ModuleShapes.{case_place, field_shapes, shapes_of}
+use Rattle.lowered_run.specs.Operations.{access_kind_of, operation_by}
+use Rattle.lowered_run.specs.Operation.{Operation}
+use Rattle.lowered_run.specs.Operation.TheVariants as operation
 use Rattle.numbered_form.specs.Names.{Name}
 use Rattle.numbered_form.specs.inner.Literals.{is_residue}
 use Rattle.run_values.specs.Layers.{CaseLayer}
@@ -19,7 +19,7 @@ use Rattle.sil_ast.specs.declared.inst.Inst.{Inst}
 use Rattle.sil_ast.specs.declared.member.Member.{Member}
 use Rattle.sil_ast.specs.declared.module.Module.{Module}
 use Rattle.sil_ast.specs.declared.place.FuncId.{FuncId}
-use Rattle.sil_types.specs.Typing.Builtins.{Builtin, Sort, bits, builtin_named, combining, comparing, overflowing, sort_of}
+use Rattle.lowered_run.specs.Typing.Builtins.{Builtin, Sort, bits, builtin_named, combining, comparing, overflowing, sort_of}
 use Rattle.type_definitions.specs.Declarations.{declarations_of, is_class}
 use Rattle.run_typing.specs.Classes.{is_a}
 use Rattle.run_typing.specs.StorageForms.{FieldShapeIs, IsNamed}

@@ -16,7 +16,7 @@ use Rattle.numbered_form.specs.inner.Literals.{AreLiteralsInRange}
 use Rattle.numbered_form.specs.inner.Parts.{HaveTheirParts}
 use Rattle.numbered_form.specs.inner.Types.{AreTypesWritten}
 use Rattle.type_definitions.specs.Rules.{Declared, InLimits}
-use Rattle.sil_types.specs.Typing.Typed.{Typed}
+use Rattle.lowered_run.specs.Typing.Typed.{Typed}
 
 -- fewer than 2^32 instructions in a block, its terminator counted
 abbrev pub IsShort : Block → Type 0

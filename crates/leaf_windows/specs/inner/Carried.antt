@@ -1,6 +1,6 @@
 -- Values that are carried from a frame to another one, by the lists of the frames.
 use Rattle.std.specs.Prelude.{ℕ, ◌+◌, List, Bool, true, take, drop, set, fold}
-use Rattle.ready_code.specs.declared.local.Carry.{Carry}
+use Rattle.machine_steps.specs.Carry.{Carry}
 use Rattle.run_values.specs.declared.leaf.Leaf.{Leaf}
 use Rattle.machine_steps.specs.Operands.{laid_over}
 

@@ -1,6 +1,6 @@
 -- Values that become members of one.
 use Rattle.std.specs.Prelude.{ℕ, ◌+◌, List, take, drop}
-use Rattle.ready_code.specs.declared.local.Local.{Local}
+use Rattle.machine_steps.specs.Local.{Local}
 use Rattle.run_values.specs.declared.leaf.Leaf.{Leaf}
 
 -- the leaves of a value, where those of its frame begin at a base

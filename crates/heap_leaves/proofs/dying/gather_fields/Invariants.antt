@@ -1,6 +1,6 @@
 use Rattle.std.proofs.Common.{◌≡◌, ◌++◌, drop}
 use Rattle.heap_model.specs.HeapViews.{fields_in}
-use Rattle.machine_steps.specs.Steps.{strong_in_fields}
+use Rattle.leaf_windows.specs.Steps.{strong_in_fields}
 use Rattle.heap_leaves.proofs.dying.gather_fields.Given as goal
 
 abbrev pub invariant-loop-index : goal.invariant-loop-index

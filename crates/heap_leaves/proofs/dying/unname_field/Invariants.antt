@@ -1,6 +1,6 @@
 use Rattle.std.proofs.Common.{◌≡◌, ◌-◌, drop, length}
 use Rattle.heap_model.specs.HeapViews.{field_in, object_in}
-use Rattle.machine_steps.specs.Steps.{field_unnamed}
+use Rattle.leaf_windows.specs.Steps.{field_unnamed}
 use Rattle.heap_leaves.proofs.Alike.{Alike}
 use Rattle.std.specs.Prelude.{option_map}
 use Rattle.heap_leaves.proofs.Unnamed.{leaves_of_field}

@@ -1,6 +1,6 @@
 use Rattle.std.proofs.Common.{◌≡◌, drop}
 use Rattle.heap_model.specs.HeapViews.{fields_in, object_in}
-use Rattle.machine_steps.specs.Steps.{fields_unnamed}
+use Rattle.leaf_windows.specs.Steps.{fields_unnamed}
 use Rattle.heap_leaves.proofs.Alike.{Alike}
 use Rattle.heap_leaves.proofs.dying.unname_fields.Given as goal
 
