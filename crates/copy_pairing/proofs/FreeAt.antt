@@ -1,6 +1,6 @@
 -- The first fault of the table tells whether the values are held where the marks come.
 use Rattle.std.proofs.Common.{◌≡◌, ℕ, List, [], ◌∷◌, ◌++◌, refl, sym, ap, ap₂, ◌∙◌, subst, Bool, true, false, cond, map, Option, Some, None}
-use Rattle.std.specs.Prelude.{◌||◌, ◌==◌, ◌↔◌, IsTrue, filter_map, is_none}
+use Rattle.std.specs.Prelude.{◌||◌, ◌==◌, ◌↔◌, IsTrue, filter_map, is_none, is_some, not}
 use Rattle.std.specs.List.{cons_option, flat_map}
 use Rattle.std.proofs.lemmas.Bool.{eqb-true}
 use Rattle.std.proofs.lemmas.List.{append-nil}
@@ -22,17 +22,16 @@ use Rattle.path_checks.specs.Entries.{marks_for, means}
 use Rattle.path_checks.specs.First.{IsFirst}
 use Rattle.path_checks.specs.declared.entry.Entry.{Entry}
 use Rattle.path_checks.specs.declared.fault.PathFault.{PathFault}
-use Rattle.path_checks.specs.inner.Shared.{entries_with, if_sharing, is_sharing}
+use Rattle.path_checks.specs.inner.Shared.{entries_with, entry_if, if_sharing, is_sharing}
 use Rattle.ownership_chains.specs.Facts.{has, value_of}
 use Rattle.ownership_chains.specs.declared.facts.Facts.{Facts}
 use Rattle.ownership_marks.specs.Known.{AreKindsBy, Known, marks_at}
 use Rattle.ownership_marks.specs.Marks.{marks_of}
 use Rattle.ownership_marks.specs.declared.mark.Mark.{Mark}
 use Rattle.ownership_marks.specs.declared.mark.MarkSort.{MarkSort}
-use Rattle.ownership_marks.specs.declared.mark.MarkSort.TheVariants.{End, Use, Begin}
 use Rattle.copy_removal.specs.Removable.{IsFreeAt, is_mark}
 use Rattle.copy_pairing.specs.inner.Asked.{AreFreeAt}
-use Rattle.copy_pairing.specs.inner.Watched.{entries_by, off_entry, turn_entries, watched_of}
+use Rattle.copy_pairing.specs.inner.Watched.{entries_by, off_entries, off_entry, turn_entries, turned_by, watched_of}
 use Rattle.copy_pairing.proofs.KeptOnFunction.{kept, unkept}
 use Rattle.copy_pairing.proofs.WatchedMarks.{along, lawful_spared, table_along}
 
@@ -58,24 +57,23 @@ module _ (sort : MarkSort) (values held : List ValueId) (facts : ValueId → Opt
       at true e = absurd (cc)
       at false e = no_off n hs e
 
-  no_turn : (n : ℕ) (x : MarkSort) (s : ℕ) → (s == n) ≡ false → filter_map (means n) (turn_entries x s) ≡ []
-  no_turn n End s e = ap (λ own. cons_option (cond own (Some _) None) []) e
-  no_turn n Use s e = refl
-  no_turn n Begin s e = ap (λ own. cons_option (cond own (Some _) None) []) e
+  no_entry : (n s : ℕ) (o : Option pattern.Mark) → (s == n) ≡ false → filter_map (means n) (entry_if s o) ≡ []
+  no_entry n s None e = refl
+  no_entry n s (Some mark) e = ap (λ own. cons_option (cond own (Some mark) None) []) e
 
   no_marks : (n : ℕ) → has held n ≡ false → (m : Mark) → filter_map (means n) (entries_by sort values held m) ≡ []
   no_marks n none m =
-      filter_map-append (means n) (cond (is_mark sort values m) (map off_entry held) []) (cond (has held m.subject.0) (turn_entries m.sort m.subject.0) [])
+      filter_map-append (means n) (off_entries sort values held m) (turn_entries held m)
       ∙ ap₂ (λ x y. x ++ y) (offs (is_mark sort values m)) (turns (has held m.subject.0) refl (m.subject.0 == n) refl)
     where
       offs : (b : Bool) → filter_map (means n) (cond b (map off_entry held) []) ≡ []
       offs true = no_off n held none
       offs false = refl
 
-      turns : (b : Bool) → has held m.subject.0 ≡ b → (own : Bool) → (m.subject.0 == n) ≡ own → filter_map (means n) (cond b (turn_entries m.sort m.subject.0) []) ≡ []
+      turns : (b : Bool) → has held m.subject.0 ≡ b → (own : Bool) → (m.subject.0 == n) ≡ own → filter_map (means n) (cond b (entry_if m.subject.0 (turned_by m.sort)) []) ≡ []
       turns false e own is = refl
       turns true e true is = absurd (let same : true ≡ false = sym e ∙ ap (has held) (eqb-true m.subject.0 n is) ∙ none in cc)
-      turns true e false is = no_turn n m.sort m.subject.0 is
+      turns true e false is = no_entry n m.subject.0 (turned_by m.sort) is
 
   none_among : (n : ℕ) → has held n ≡ false → (ms : List Mark) → filter_map (means n) (flat_map (entries_by sort values held) ms) ≡ []
   none_among n none [] = refl
@@ -106,6 +104,14 @@ module _ (sort : MarkSort) (values held : List ValueId) (facts : ValueId → Opt
       at all false e =
           let b = first.0.shows.breaks in
           nothing_in b.front b.rest b.mark (sym (none_among fault.subject e (marks_of facts f fault.item)) ∙ b.parts)
+
+-- whether no fault was found
+pub decided_by : (sort : MarkSort) (values held : List ValueId) (facts : ValueId → Option Facts) (f : Function) (o : Option PathFault) → IsFirst f (watched_of sort values held facts f) o
+    → (r : Bool) → is_some o ≡ not r → IsTrue r ↔ AreFreeAt facts f sort values held
+decided_by sort values held facts f None first true e = decided sort values held facts f None first
+decided_by sort values held facts f None first false e = absurd (let wrong : false ≡ true = e in cc)
+decided_by sort values held facts f (Some fault) first true e = absurd (let wrong : true ≡ false = e in cc)
+decided_by sort values held facts f (Some fault) first false e = decided sort values held facts f (Some fault) first
 
 -- the table by numbers, with no shared entries, is that of the items
 pub watched_agree : (sort : MarkSort) (values held : List ValueId) (f : Function) (g : Layout) (k : Known) (own : List (List Entry)) →

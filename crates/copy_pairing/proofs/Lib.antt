@@ -5,3 +5,7 @@ pub mod WatchedMarks
 pub mod FreeAt
 pub mod Consumers
 pub mod Moves
+pub mod Sizes
+pub mod Borrows
+pub mod Answered
+pub mod CopyFacts

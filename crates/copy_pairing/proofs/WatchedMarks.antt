@@ -13,7 +13,7 @@ use Rattle.sil_rules.specs.declared.rule.Rule.TheVariants.{ConsumedWhileBorrowed
 use Rattle.path_patterns.proofs.HeldIsOn.{on_while_held}
 use Rattle.path_patterns.proofs.SwitchDecided.{pop_none}
 use Rattle.path_patterns.specs.Lawful.{AreLawful}
-use Rattle.path_patterns.specs.Marks.{needs_off}
+use Rattle.path_patterns.specs.Marks.{needs_off, turns_off, turns_on}
 use Rattle.path_patterns.specs.Switch.{IsInPlace, IsOn}
 use Rattle.path_patterns.specs.inner.Runs as runs
 use Rattle.path_patterns.specs.inner.Runs.{IsHeld, Sort, TurnAlike}
@@ -21,7 +21,7 @@ use Rattle.path_patterns.specs.declared.mark.Mark as pattern
 use Rattle.path_checks.proofs.QuietEntries.{IsQuiet, quiet_turns}
 use Rattle.path_checks.proofs.RulesShown.{each_map}
 use Rattle.path_checks.specs.Entries.{marks_for, means}
-use Rattle.path_checks.specs.declared.entry.Entry.{Entry}
+use Rattle.path_checks.specs.inner.Shared.{entry_if}
 use Rattle.ownership_chains.specs.Facts.{has}
 use Rattle.ownership_chains.specs.declared.facts.Facts.{Facts}
 use Rattle.ownership_marks.specs.Marks.{marks_of}
@@ -30,7 +30,7 @@ use Rattle.ownership_marks.specs.declared.mark.MarkSort.{MarkSort}
 use Rattle.ownership_marks.specs.declared.mark.MarkSort.TheVariants.{End, Use, Begin}
 use Rattle.borrow_scopes.specs.inner.Runs.{sort_for, sort_of}
 use Rattle.copy_removal.specs.Removable.{is_mark}
-use Rattle.copy_pairing.specs.inner.Watched.{entries_by, off_entry, turn_entries, watched_of}
+use Rattle.copy_pairing.specs.inner.Watched.{entries_by, off_entries, off_entry, turn_entries, turned_by, watched_of}
 use Rattle.copy_pairing.proofs.LawfulBehind.{LawfulBehind, behind_append, behind_lawful}
 
 abbrev turns : pattern.Mark → Option Bool
@@ -45,18 +45,16 @@ onto (Some runs.End) rest = refl
 onto (Some runs.Use) rest = refl
 onto (Some runs.Begin) rest = refl
 
--- the marks that an entry of the value itself has, and of none other
+-- the marks that the turn of a mark of the value with number n is to the value with number h
 abbrev turn_marks : ℕ → MarkSort → ℕ → Bool → List pattern.Mark
-turn_marks h x n among = filter_map (means h) (cond among (turn_entries x n) [])
+turn_marks h x n among = filter_map (means h) (cond among (entry_if n (turned_by x)) [])
 
 module _ (h : ℕ) where
-  end_turns : (own : Bool) → filter_map turns (cons_option (cond own (Some (record { needs = None; turns = Some false; rule = ConsumedWhileBorrowed })) None) [])
-      ≡ filter_map runs.turned_by (option_to_list (cond own (Some runs.End) None))
+  end_turns : (own : Bool) → filter_map turns (cons_option (cond own (Some (turns_off ConsumedWhileBorrowed)) None) []) ≡ filter_map runs.turned_by (option_to_list (cond own (Some runs.End) None))
   end_turns true = refl
   end_turns false = refl
 
-  begin_turns : (own : Bool) → filter_map turns (cons_option (cond own (Some (record { needs = None; turns = Some true; rule = ConsumedWhileBorrowed })) None) [])
-      ≡ filter_map runs.turned_by (option_to_list (cond own (Some runs.Begin) None))
+  begin_turns : (own : Bool) → filter_map turns (cons_option (cond own (Some (turns_on ConsumedWhileBorrowed)) None) []) ≡ filter_map runs.turned_by (option_to_list (cond own (Some runs.Begin) None))
   begin_turns true = refl
   begin_turns false = refl
 
@@ -65,33 +63,35 @@ module _ (h : ℕ) where
   use_turns false = refl
 
   not_own : (x : MarkSort) (own : Bool) → own ≡ false → [] ≡ filter_map runs.turned_by (option_to_list (cond own (Some (sort_of x)) None))
-  not_own x true e = absurd (cc)
+  not_own x true e = absurd (let wrong : true ≡ false = e in cc)
   not_own x false e = refl
 
+  other : (own : Bool) → (own ≡ true → false ≡ true) → own ≡ false
+  other true e = absurd (let wrong : false ≡ true = e refl in cc)
+  other false e = refl
+
   -- a mark of the value turns its switch
-  turn_as_sort : (x : MarkSort) (n : ℕ) (among : Bool) → ((n == h) ≡ true → among ≡ true) → filter_map turns (turn_marks h x n among) ≡ filter_map runs.turned_by (option_to_list (cond (n == h) (Some (sort_of x)) None))
+  turn_as_sort : (x : MarkSort) (n : ℕ) (among : Bool) → ((n == h) ≡ true → among ≡ true) →
+      filter_map turns (turn_marks h x n among) ≡ filter_map runs.turned_by (option_to_list (cond (n == h) (Some (sort_of x)) None))
   turn_as_sort End n true e = end_turns (n == h)
   turn_as_sort Use n true e = use_turns (n == h)
   turn_as_sort Begin n true e = begin_turns (n == h)
   turn_as_sort x n false e = not_own x (n == h) (other (n == h) e)
-    where
-      other : (own : Bool) → (own ≡ true → false ≡ true) → own ≡ false
-      other true e = absurd (let wrong : false ≡ true = e refl in cc)
-      other false e = refl
 
   -- a mark that turns the switch needs nothing
+
+  end_lawful : (before : List pattern.Mark) (own : Bool) → LawfulBehind IsInPlace before (cons_option (cond own (Some (turns_off ConsumedWhileBorrowed)) None) [])
+  end_lawful before true = (tt, tt)
+  end_lawful before false = tt
+
+  begin_lawful : (before : List pattern.Mark) (own : Bool) → LawfulBehind IsInPlace before (cons_option (cond own (Some (turns_on ConsumedWhileBorrowed)) None) [])
+  begin_lawful before true = (tt, tt)
+  begin_lawful before false = tt
+
   turn_lawful : (before : List pattern.Mark) (x : MarkSort) (n : ℕ) (among : Bool) → LawfulBehind IsInPlace before (turn_marks h x n among)
-  turn_lawful before End n true = at (n == h)
-    where
-      at : (own : Bool) → LawfulBehind IsInPlace before (cons_option (cond own (Some (record { needs = None; turns = Some false; rule = ConsumedWhileBorrowed })) None) [])
-      at true = (tt, tt)
-      at false = tt
+  turn_lawful before End n true = end_lawful before (n == h)
   turn_lawful before Use n true = tt
-  turn_lawful before Begin n true = at (n == h)
-    where
-      at : (own : Bool) → LawfulBehind IsInPlace before (cons_option (cond own (Some (record { needs = None; turns = Some true; rule = ConsumedWhileBorrowed })) None) [])
-      at true = (tt, tt)
-      at false = tt
+  turn_lawful before Begin n true = begin_lawful before (n == h)
   turn_lawful before x n false = tt
 
   off_lawful : (before : List pattern.Mark) → (IsOn before → ⊥) → (held : List ValueId) → LawfulBehind IsInPlace before (filter_map (means h) (map off_entry held))
@@ -118,9 +118,6 @@ module _ (sort : MarkSort) (values held : List ValueId) (h : ValueId) (among : h
   abbrev along : List Mark → List pattern.Mark
   along ms = flat_map marks_by ms
 
-  abbrev off_entries : Mark → List Entry
-  off_entries m = cond (is_mark sort values m) (map off_entry held) []
-
   own_among : (m : Mark) → (m.subject.0 == h.0) ≡ true → has held m.subject.0 ≡ true
   own_among m e = ap (has held) (eqb-true m.subject.0 h.0 e) ∙ among
 
@@ -128,14 +125,14 @@ module _ (sort : MarkSort) (values held : List ValueId) (h : ValueId) (among : h
   off_quiet true = each_map IsQuiet off_entry held (λ v. refl)
   off_quiet false = tt
 
-  parts_of : (m : Mark) → marks_by m ≡ filter_map (means h.0) (off_entries m) ++ turn_marks h.0 m.sort m.subject.0 (has held m.subject.0)
-  parts_of m = filter_map-append (means h.0) (off_entries m) (cond (has held m.subject.0) (turn_entries m.sort m.subject.0) [])
+  parts_of : (m : Mark) → marks_by m ≡ filter_map (means h.0) (off_entries sort values held m) ++ turn_marks h.0 m.sort m.subject.0 (has held m.subject.0)
+  parts_of m = filter_map-append (means h.0) (off_entries sort values held m) (turn_entries held m)
 
   one_turns : (m : Mark) → filter_map turns (marks_by m) ≡ filter_map runs.turned_by (option_to_list (sort_for h m))
   one_turns m =
       ap (filter_map turns) (parts_of m)
-      ∙ filter_map-append turns (filter_map (means h.0) (off_entries m)) (turn_marks h.0 m.sort m.subject.0 (has held m.subject.0))
-      ∙ ap₂ (λ x y. x ++ y) (quiet_turns h.0 (off_entries m) (off_quiet (is_mark sort values m))) (turn_as_sort h.0 m.sort m.subject.0 (has held m.subject.0) (own_among m))
+      ∙ filter_map-append turns (filter_map (means h.0) (off_entries sort values held m)) (turn_marks h.0 m.sort m.subject.0 (has held m.subject.0))
+      ∙ ap₂ (λ x y. x ++ y) (quiet_turns h.0 (off_entries sort values held m) (off_quiet (is_mark sort values m))) (turn_as_sort h.0 m.sort m.subject.0 (has held m.subject.0) (own_among m))
 
   alike : (ms : List Mark) → TurnAlike (along ms) (filter_map (sort_for h) ms)
   alike [] = refl
@@ -153,9 +150,9 @@ module _ (sort : MarkSort) (values held : List ValueId) (h : ValueId) (among : h
   one_lawful : (before : List Mark) (m : Mark) → Spares before m → LawfulBehind IsInPlace (along before) (marks_by m)
   one_lawful before m spares =
       subst (LawfulBehind IsInPlace (along before)) (sym (parts_of m))
-      (behind_append IsInPlace (along before) (filter_map (means h.0) (off_entries m)) (turn_marks h.0 m.sort m.subject.0 (has held m.subject.0))
+      (behind_append IsInPlace (along before) (filter_map (means h.0) (off_entries sort values held m)) (turn_marks h.0 m.sort m.subject.0 (has held m.subject.0))
       (at (is_mark sort values m) refl)
-      (turn_lawful h.0 (along before ++ filter_map (means h.0) (off_entries m)) m.sort m.subject.0 (has held m.subject.0)))
+      (turn_lawful h.0 (along before ++ filter_map (means h.0) (off_entries sort values held m)) m.sort m.subject.0 (has held m.subject.0)))
     where
       at : (b : Bool) → is_mark sort values m ≡ b → LawfulBehind IsInPlace (along before) (filter_map (means h.0) (cond b (map off_entry held) []))
       at true e = off_lawful h.0 (along before) (λ on. spares e ((on_held before).0 on)) held

@@ -1,9 +1,9 @@
 //! Copies and destroys, as they stand in a function.
 
 ghost use Rattle.std.specs.Prelude.{◌≡◌, ◌↔◌, ◌∷◌, [], IfNone, IfSome, IsTrue};
-ghost use Rattle.instruction_table.specs.declared.op.Op.TheVariants as op;
 ghost use Rattle.sil_ast.specs.declared.operands.Operand.{Operand};
 ghost use Rattle.sil_ast.specs.declared.place.ValueId.{ValueId};
+ghost use Rattle.copy_removal.specs.Copies as copies;
 ghost use Rattle.copy_removal.specs.Copies.{Copies, Destroys, IsCopy, IsDestroy};
 
 use instruction_table::Op;
@@ -18,22 +18,11 @@ pub(crate) struct Copied {
     pub operand: ValueId,
 }
 
-fn is_copy(op: Op) -> bool
-    ensures { IsTrue result ↔ (op ≡ op.CopyValue) }
+/// Whether the instruction has this row of the table.
+pub(crate) fn is_op(op: Op, inst: &Inst) -> bool
+    ensures { result ≡ copies.is_op op inst.now }
 {
-    match op {
-        Op::CopyValue => true,
-        _ => false,
-    }
-}
-
-pub(crate) fn is_destroy(op: Op) -> bool
-    ensures { IsTrue result ↔ (op ≡ op.DestroyValue) }
-{
-    match op {
-        Op::DestroyValue => true,
-        _ => false,
-    }
+    inst.op as usize == op as usize
 }
 
 /// The one value, if there is just one.
@@ -63,7 +52,7 @@ fn copied_by(inst: &Inst) -> Option<Copied>
     ensures some { IfSome result (λ x. Copies inst.now x.value x.operand) }
     ensures none { IfNone result ((c v : ValueId) → ¬ Copies inst.now c v) }
 {
-    if !is_copy(inst.op) {
+    if !is_op(Op::CopyValue, inst) {
         return None;
     }
     let value = only_value(inst.results.as_slice())?;
@@ -87,7 +76,7 @@ pub(crate) fn copy_at(f: &Function, p: PointId) -> Option<Copied>
 fn destroys(inst: &Inst, value: ValueId) -> bool
     ensures { IsTrue result ↔ Destroys inst.now value }
 {
-    if !is_destroy(inst.op) {
+    if !is_op(Op::DestroyValue, inst) {
         return false;
     }
     match only_operand(inst.operands.as_slice()) {

@@ -1,6 +1,6 @@
 //! Whether a copy can become a move.
 
-ghost use Rattle.std.specs.Prelude.{◌≡◌, ◌∷◌, [], ◌↔◌, ◌&&◌, ◌<◌, ◌^◌, ℕ, true, length, nat_lt, IfNone, IfOk, IfSome, IsTrue, Option};
+ghost use Rattle.std.specs.Prelude.{◌≡◌, ◌∷◌, [], ◌↔◌, ◌&&◌, ◌||◌, ◌==◌, ℕ, true, length, nat_lt, IfNone, IfOk, IfSome, IsTrue, OnOk, Option};
 ghost use Rattle.std.specs.List.{list_any};
 ghost use Rattle.sil_ast.specs.declared.place.ValueId.{ValueId};
 ghost use Rattle.sil_cfg.specs.declared.item.Item.TheVariants as item;
@@ -41,6 +41,17 @@ fn borrows_from(k: &Kinds, borrows: &[Borrow], value: ValueId, base: ValueId) ->
     }
 }
 
+/// Adds the scope, if it is one of those.
+fn push_if(scopes: &mut Vec<ValueId>, scope: ValueId, is_one: bool) -> Result<(), Exhausted>
+    ensures { OnOk result ((n : ℕ) → has scopes.new.items n ≡ (has scopes.old.items n || (is_one && scope.0 == n))) }
+{
+    if !is_one {
+        return Ok(());
+    }
+    scopes.push(scope)?;
+    Ok(())
+}
+
 /// The scopes that borrow from the value.
 fn scopes_over(
     alloc: Global,
@@ -53,9 +64,7 @@ fn scopes_over(
     let mut scopes = Vec::new(alloc);
     for n in 0..k.values() {
         let scope = ValueId(n as u32);
-        if borrows_from(k, borrows, scope, base) {
-            scopes.push(scope)?;
-        }
+        push_if(&mut scopes, scope, borrows_from(k, borrows, scope, base))?;
     }
     Ok(scopes)
 }
@@ -79,13 +88,17 @@ fn is_unlent(
     are_free_at(alloc, f, g, k, MarkSort::Begin, &[copied.value], &scopes)
 }
 
-/// Whether one of the marks is one of what is copied, or ends the copy.
-fn concern(marks: &[Mark], copied: Copied) -> bool
+/// Whether the mark is one of what is copied, or ends the copy.
+fn concerns(copied: Copied, mark: Mark) -> bool
+    ensures { result ≡ removal.concerns copied.value copied.operand mark }
+{
+    mark.subject.0 == copied.operand.0 || is_mark(MarkSort::End, &[copied.value], mark)
+}
+
+fn concern_one(copied: Copied, marks: &[Mark]) -> bool
     ensures { result ≡ list_any (removal.concerns copied.value copied.operand) marks.now }
 {
-    marks.iter().any(|mark| {
-        mark.subject.0 == copied.operand.0 || is_mark(MarkSort::End, &[copied.value], *mark)
-    })
+    marks.iter().any(|mark| concerns(copied, *mark))
 }
 
 /// Whether the instruction at the point has such a mark.
@@ -99,7 +112,7 @@ fn is_concerned_at(
     ensures { IfOk result (λ r. r ≡ list_any (removal.concerns copied.value copied.operand) (marks_of (told_at k.now.table) f.now (item.Inst p))) }
 {
     let marks = k.marks_of(alloc, f, Item::Inst(p))?;
-    Ok(concern(marks.as_slice(), copied))
+    Ok(concern_one(copied, marks.as_slice()))
 }
 
 /// The index of the destroy of what is copied that is the next mark of it behind the copy, in the same block and before an end of the copy.
@@ -123,7 +136,8 @@ fn destroyed_next(
             block: p.block,
             index: index as u32,
         };
-        if is_concerned_at(alloc, f, k, point, copied)? {
+        let concerned = is_concerned_at(alloc, f, k, point, copied)?;
+        if concerned {
             if is_destroyed_at(f, point, copied.operand) {
                 return Ok(Some(index));
             }
@@ -153,8 +167,9 @@ pub(crate) fn is_movable(
     if !is_owned(k.kind(copied.operand)) {
         return Ok(false);
     }
-    match destroyed_next(alloc, f, k, p, copied)? {
-        None => Ok(false),
-        Some(_) => is_unlent(alloc, f, g, k, borrows, copied),
+    let next = destroyed_next(alloc, f, k, p, copied)?;
+    if next.is_none() {
+        return Ok(false);
     }
+    is_unlent(alloc, f, g, k, borrows, copied)
 }

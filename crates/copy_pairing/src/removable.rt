@@ -1,9 +1,9 @@
 //! The one call: how a copy of an accepted module can go.
 
 ghost use Rattle.std.specs.Prelude.{◌≡◌, ◌↔◌, ℕ, length, Some, slice_get, IfOk, IsTrue, Option};
-ghost use Rattle.numbered_form.specs.Numbering.{values_of};
 ghost use Rattle.sil_ast.specs.declared.function.Function.{Function};
 ghost use Rattle.sil_ast.specs.declared.place.ValueId.{ValueId};
+ghost use Rattle.sil_cfg.specs.Items.{HasBlocks};
 ghost use Rattle.sil_cfg.specs.inner.Build.{HasGraph, IsGraphOf};
 ghost use Rattle.point_checks.specs.inner.Numbered.{IsOfNumberedModule};
 ghost use Rattle.value_tables.specs.Borrows as borrowing;
@@ -71,14 +71,15 @@ fn removal_of(
     ensures { IfOk result (λ r. (count : ℕ) (facts : ValueId → Option Facts) → AreKindsBy count facts f.now g.now k.now
         → IsRemoval facts f.now p copied.value copied.operand r) }
 {
-    if is_borrowable(alloc, f, g, k, copied)? {
+    let borrowable = is_borrowable(alloc, f, g, k, copied)?;
+    if borrowable {
         return Ok(Removal::Borrow);
     }
-    if is_movable(alloc, f, g, k, borrows, p, copied)? {
-        Ok(Removal::Move)
-    } else {
-        Ok(Removal::No)
+    let movable = is_movable(alloc, f, g, k, borrows, p, copied)?;
+    if movable {
+        return Ok(Removal::Move);
     }
+    Ok(Removal::No)
 }
 
 /// How the copy at the point of the function can go, by the kinds of its values.
@@ -94,19 +95,28 @@ fn removal_in(
     ensures { IfOk result (IsRemoval (facts_in types.now f.now) f.now p copied.value copied.operand) }
 {
     let graph = Graph::build(alloc, f)?;
-    let found = match kinds_in(alloc, f, &graph, types) {
-        Ok(found) => found,
-        Err(_) => return Err(Exhausted),
+    let Ok(found) = kinds_in(alloc, f, &graph, types) else {
+        return Err(Exhausted);
     };
-    removal_of(
-        alloc,
-        f,
-        &graph,
-        &found.kinds,
-        &found.borrows,
-        p,
-        copied,
-    )
+    let borrows = found.borrows.as_slice();
+    removal_of(alloc, f, &graph, &found.kinds, borrows, p, copied)
+}
+
+/// How the copy at the point of the function can go, if one stands there.
+fn removal_at(
+    alloc: Global,
+    types: &TypeTable,
+    f: &Function,
+    p: PointId,
+) -> Result<Removal, Exhausted>
+    requires of_module { IsOfNumberedModule f.now }
+    requires graph { HasBlocks f.now → HasGraph f.now }
+    ensures { IfOk result (λ r. (v w : ValueId) → IsCopy f.now p v w → IsRemoval (facts_in types.now f.now) f.now p v w r) }
+{
+    match copy_at(f, p) {
+        None => Ok(Removal::No),
+        Some(copied) => removal_in(alloc, types, f, p, copied),
+    }
 }
 
 /// How the `copy_value` at the point of the function can go ([docs/OPTIMISER.md](../../../docs/OPTIMISER.md)).
@@ -120,11 +130,9 @@ pub fn removable(
     ensures { IfOk result (λ r. (f : Function) (v w : ValueId) → slice_get c.now.functions function.0 ≡ Some f → IsCopy f point v w
         → IsRemoval (optimised.facts_of c.now f) f point v w r) }
 {
-    let Some(f) = c.module().functions.get(function.0 as usize) else {
-        return Ok(Removal::No);
-    };
-    match copy_at(f, point) {
+    let m = c.module();
+    match m.functions.get(function.0 as usize) {
         None => Ok(Removal::No),
-        Some(copied) => removal_in(alloc, c.table(), f, point, copied),
+        Some(f) => removal_at(alloc, c.table(), f, point),
     }
 }

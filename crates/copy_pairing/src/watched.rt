@@ -6,7 +6,8 @@ ghost use Rattle.ownership_chains.specs.Facts.{has};
 ghost use Rattle.ownership_marks.specs.Known.{marks_at};
 ghost use Rattle.copy_removal.specs.Removable as removal;
 ghost use Rattle.copy_pairing.specs.inner.Watched as watched;
-ghost use Rattle.copy_pairing.specs.inner.Watched.{entries_by, off_entry, turn_entries};
+ghost use Rattle.path_checks.specs.inner.Shared.{entry_if};
+ghost use Rattle.copy_pairing.specs.inner.Watched.{entries_by, off_entries, off_entry, turn_entries};
 
 use ownership_marks::{Kinds, Mark, MarkSort};
 use path_checks::{Entry, ItemTable};
@@ -17,11 +18,10 @@ use sil_rules::Rule;
 fn is_sort(sort: MarkSort, other: MarkSort) -> bool
     ensures { result ≡ removal.is_sort sort other }
 {
-    match (sort, other) {
-        (MarkSort::End, MarkSort::End)
-        | (MarkSort::Use, MarkSort::Use)
-        | (MarkSort::Begin, MarkSort::Begin) => true,
-        _ => false,
+    match sort {
+        MarkSort::End => matches!(other, MarkSort::End),
+        MarkSort::Use => matches!(other, MarkSort::Use),
+        MarkSort::Begin => matches!(other, MarkSort::Begin),
     }
 }
 
@@ -39,45 +39,42 @@ pub(crate) fn is_mark(sort: MarkSort, values: &[ValueId], mark: Mark) -> bool
     is_sort(sort, mark.sort) && is_among(mark.subject, values)
 }
 
-/// The rule is named by no answer: what breaks a switch of this table is a copy that stays.
-fn push(
-    entries: &mut Vec<Entry>,
-    subject: ValueId,
-    mark: path_patterns::Mark,
-) -> Result<(), Exhausted>
-    ensures { OnOk result (entries.new.items ≡ entries.old.items ++ watched.entry subject.0 mark ∷ []) }
-{
-    entries.push(Entry {
-        subject: subject.0,
-        mark,
-    })?;
-    Ok(())
-}
-
 /// None of these values is held.
 fn add_off(entries: &mut Vec<Entry>, held: &[ValueId]) -> Result<(), Exhausted>
     ensures { OnOk result (entries.new.items ≡ entries.old.items ++ map off_entry held.now) }
 {
     for value in held {
-        push(
-            entries,
-            *value,
-            path_patterns::Mark::needs_off(Rule::ConsumedWhileBorrowed),
-        )?;
+        entries.push(Entry {
+            subject: value.0,
+            mark: path_patterns::Mark::needs_off(Rule::ConsumedWhileBorrowed),
+        })?;
     }
     Ok(())
 }
 
-/// A begin turns the value's switch on, and an end turns it off.
-fn add_turn(entries: &mut Vec<Entry>, mark: Mark) -> Result<(), Exhausted>
-    ensures { OnOk result (entries.new.items ≡ entries.old.items ++ turn_entries mark.sort mark.subject.0) }
+/// Where a value begins its switch is turned on, and where it ends off.
+fn turned_by(sort: MarkSort) -> Option<path_patterns::Mark>
+    ensures { result ≡ watched.turned_by sort }
 {
     let rule = Rule::ConsumedWhileBorrowed;
-    match mark.sort {
-        MarkSort::Use => Ok(()),
-        MarkSort::End => push(entries, mark.subject, path_patterns::Mark::turns_off(rule)),
-        MarkSort::Begin => push(entries, mark.subject, path_patterns::Mark::turns_on(rule)),
+    match sort {
+        MarkSort::Use => None,
+        MarkSort::End => Some(path_patterns::Mark::turns_off(rule)),
+        MarkSort::Begin => Some(path_patterns::Mark::turns_on(rule)),
     }
+}
+
+/// The turn of a mark's own value.
+fn add_turn(entries: &mut Vec<Entry>, mark: Mark) -> Result<(), Exhausted>
+    ensures { OnOk result (entries.new.items ≡ entries.old.items ++ entry_if mark.subject.0 (watched.turned_by mark.sort)) }
+{
+    if let Some(turn) = turned_by(mark.sort) {
+        entries.push(Entry {
+            subject: mark.subject.0,
+            mark: turn,
+        })?;
+    }
+    Ok(())
 }
 
 /// Values of which the table follows whether they are held, and the marks at which none of them may be: those of one sort, of some values.
@@ -89,18 +86,34 @@ pub(crate) struct Watched<'a> {
     pub held: &'a [ValueId],
 }
 
+/// Where the mark is one of those, none of the values is held.
+fn add_watched(entries: &mut Vec<Entry>, watched: &Watched, mark: Mark) -> Result<(), Exhausted>
+    ensures { OnOk result (entries.new.items ≡ entries.old.items
+        ++ off_entries watched.now.sort watched.now.values.now watched.now.held.now mark) }
+{
+    if is_mark(watched.sort, watched.values, mark) {
+        add_off(entries, watched.held)?;
+    }
+    Ok(())
+}
+
+/// The turn of a mark's own value, if it is one of those that the table follows.
+fn add_own(entries: &mut Vec<Entry>, watched: &Watched, mark: Mark) -> Result<(), Exhausted>
+    ensures { OnOk result (entries.new.items ≡ entries.old.items ++ turn_entries watched.now.held.now mark) }
+{
+    if is_among(mark.subject, watched.held) {
+        add_turn(entries, mark)?;
+    }
+    Ok(())
+}
+
 /// The entries of one mark.
 fn add_mark(entries: &mut Vec<Entry>, watched: &Watched, mark: Mark) -> Result<(), Exhausted>
     ensures { OnOk result (entries.new.items ≡ entries.old.items
         ++ entries_by watched.now.sort watched.now.values.now watched.now.held.now mark) }
 {
-    if is_mark(watched.sort, watched.values, mark) {
-        add_off(entries, watched.held)?;
-    }
-    if is_among(mark.subject, watched.held) {
-        add_turn(entries, mark)?;
-    }
-    Ok(())
+    add_watched(entries, watched, mark)?;
+    add_own(entries, watched, mark)
 }
 
 /// The entries of marks.

@@ -3,19 +3,16 @@ use Rattle.std.proofs.Common.{◌≡◌, ℕ, zero, suc, ◌+◌, ◌<◌, ◌�
 use Rattle.std.specs.Prelude.{◌&&◌, ◌||◌, ◌==◌}
 use Rattle.std.specs.List.{remove, slice_get, sum_by}
 use Rattle.std.proofs.lemmas.List.Sums.{sum_by-cons}
-use Rattle.instruction_table.specs.Forms.{number_of}
-use Rattle.instruction_table.specs.declared.op.Op.{Op}
 use Rattle.instruction_table.specs.declared.op.Op.TheVariants as op
 use Rattle.sil_ast.specs.declared.function.Block.{Block}
 use Rattle.sil_ast.specs.declared.function.Function.{Function}
 use Rattle.sil_ast.specs.declared.inst.Inst.{Inst}
-use Rattle.sil_ast.specs.declared.module.Module.{Module}
 use Rattle.sil_ast.specs.declared.place.PointId.{PointId}
 use Rattle.sil_ast.specs.declared.place.ValueId.{ValueId}
 use Rattle.item_operands.specs.Parts.{inst_at, inst_in}
 use Rattle.ownership_chains.specs.Facts.{has}
-use Rattle.copy_removal.specs.Copies.{Copies, IsCopy}
-use Rattle.copy_removal.specs.Rewritten.{changed_at, is_op, lent, lent_block, lent_inst, makes, moved, moved_block, takes, with_op}
+use Rattle.copy_removal.specs.Copies.{Copies, IsCopy, is_op}
+use Rattle.copy_removal.specs.Rewritten.{changed_at, lent, lent_block, lent_inst, makes, moved, moved_block, takes, with_op}
 use Rattle.copy_removal.specs.Optimised.{Rewrites, lends, moves}
 use Rattle.copy_removal.specs.inner.Laws.{AreFewer, copies_of_block, copies_of_function, copies_of_inst}
 
@@ -51,11 +48,23 @@ module _ {A : Type 0} (weight : A → ℕ) where
   remove_most (x ∷ xs) zero = omega (arith, sum_by-cons weight x xs)
   remove_most (x ∷ xs) (suc n) = omega (arith, sum_by-cons weight x (remove xs n), sum_by-cons weight x xs, remove_most xs n)
 
+no_less : (n : ℕ) → 0 ≤ n
+no_less n = omega arith
+
+no_more : (n : ℕ) → n ≤ n
+no_more n = omega arith
+
+below : (a b c : ℕ) → a ≤ b → b < c → a < c
+below a b c le lt = omega arith
+
+some : (n : ℕ) → n ≡ 1 → 0 < n
+some n e = omega arith
+
 -- an instruction that becomes another one is no copy then
 lent_either : (c : ValueId) (i : Inst) (copies destroys : Bool) → copies_of_inst (cond copies (with_op op.BeginBorrow i) (cond destroys (with_op op.EndBorrow i) i)) ≤ copies_of_inst i
-lent_either c i true destroys = omega arith
-lent_either c i false true = omega arith
-lent_either c i false false = omega arith
+lent_either c i true destroys = no_less (copies_of_inst i)
+lent_either c i false true = no_less (copies_of_inst i)
+lent_either c i false false = no_more (copies_of_inst i)
 
 lent_most : (c : ValueId) (i : Inst) → copies_of_inst (lent_inst c i) ≤ copies_of_inst i
 lent_most c i = lent_either c i (is_op op.CopyValue i && makes c i) (is_op op.DestroyValue i && takes c i)
@@ -63,21 +72,18 @@ lent_most c i = lent_either c i (is_op op.CopyValue i && makes c i) (is_op op.De
 lent_block_most : (c : ValueId) (b : Block) → copies_of_block (lent_block c b) ≤ copies_of_block b
 lent_block_most c b = map_most copies_of_inst (lent_inst c) (lent_most c) b.insts
 
-copy_is_op : (i : Inst) (c v : ValueId) → Copies i c v → is_op op.CopyValue i ≡ true
-copy_is_op i c v h = ap (λ o. number_of o == 7) h.copies
-
 copy_counts : (i : Inst) (c v : ValueId) → Copies i c v → copies_of_inst i ≡ 1
-copy_counts i c v h = ap (λ b. cond b 1 0) (copy_is_op i c v h)
+copy_counts i c v h = ap (λ b. cond b 1 0) h.copies
 
 copy_makes : (i : Inst) (c v : ValueId) → Copies i c v → makes c i ≡ true
 copy_makes i c v h = ap (λ results. has results c.0) h.result ∙ ap (λ b. b || false) (eq-eqb c.0 c.0 refl)
 
 lent_copy : (i : Inst) (c v : ValueId) → Copies i c v → copies_of_inst (lent_inst c i) < copies_of_inst i
 lent_copy i c v h =
-    let lent : lent_inst c i ≡ with_op op.BeginBorrow i =
-    ap₂ (λ x y. cond (x && y) (with_op op.BeginBorrow i) (cond (is_op op.DestroyValue i && takes c i) (with_op op.EndBorrow i) i)) (copy_is_op i c v h) (copy_makes i c v h) in
-    let none : copies_of_inst (lent_inst c i) ≡ 0 = ap copies_of_inst lent in
-    omega (arith, none, copy_counts i c v h)
+    let borrows : lent_inst c i ≡ with_op op.BeginBorrow i =
+    ap₂ (λ x y. cond (x && y) (with_op op.BeginBorrow i) (cond (is_op op.DestroyValue i && takes c i) (with_op op.EndBorrow i) i)) h.copies (copy_makes i c v h) in
+    let none : copies_of_inst (lent_inst c i) ≡ 0 = ap copies_of_inst borrows in
+    subst (λ n. n < copies_of_inst i) (sym none) (some (copies_of_inst i) (copy_counts i c v h))
 
 record InBlock (f : Function) (p : PointId) (i : Inst) : Type 0 where
   block : Block
@@ -101,10 +107,11 @@ moved_fewer : (f : Function) (p : PointId) (c v : ValueId) (last : ℕ) → IsCo
 moved_fewer f p c v last h =
     let at = in_block f p h.inst h.stands in
     let changed = changed_at p.index (with_op op.MoveValue) at.block.insts in
-    let here : copies_of_inst (with_op op.MoveValue h.inst) < copies_of_inst h.inst = omega (arith, copy_counts h.inst c v h.copies) in
+    let here : copies_of_inst (with_op op.MoveValue h.inst) < copies_of_inst h.inst = some (copies_of_inst h.inst) (copy_counts h.inst c v h.copies) in
     let less : sum_by copies_of_inst changed < sum_by copies_of_inst at.block.insts = changed_less copies_of_inst at.block.insts p.index (with_op op.MoveValue) h.inst at.inst here in
     let most : sum_by copies_of_inst (remove changed last) ≤ sum_by copies_of_inst changed = remove_most copies_of_inst changed last in
-    changed_less copies_of_block f.blocks p.block.0 (moved_block p.index last) at.block at.there (omega arith)
+    changed_less copies_of_block f.blocks p.block.0 (moved_block p.index last) at.block at.there
+    (below (sum_by copies_of_inst (remove changed last)) (sum_by copies_of_inst changed) (sum_by copies_of_inst at.block.insts) most less)
 
 pub fewer : AreFewer
 fewer m _ n p (lends f c v there copy h) = changed_less copies_of_function m.functions n (lent c) f there (lent_fewer f p c v copy)

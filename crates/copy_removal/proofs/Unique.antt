@@ -29,18 +29,17 @@ same_numbers (x ∷ xs) (y ∷ ys) (inl lt) (inr b) = absurd (let e : y ≡ x = 
 same_numbers (x ∷ xs) (y ∷ ys) (inr a) (inl gt) = absurd (let e : x ≡ y = a.0 in omega arith)
 same_numbers (x ∷ xs) (y ∷ ys) (inr a) (inr b) = ap₂ (λ n ns. n ∷ ns) a.0 (same_numbers xs ys a.1 b.1)
 
-point_with : ℕ → ℕ → PointId
+abbrev point_with : ℕ → ℕ → PointId
 point_with b k = record { block = record { 0 = b }; index = k }
 
 same_point : (p q : PointId) → p.block.0 ≡ q.block.0 → p.index ≡ q.index → p ≡ q
-unfolding point_with
 same_point p q a b = ap₂ point_with a b
 
-record SameCopy (c d v w : ValueId) : Type 0 where
-  result : c ≡ d
-  operand : v ≡ w
+pub record SameCopy (c d v w : ValueId) : Type 0 where
+  pub result : c ≡ d
+  pub operand : v ≡ w
 
-same_copy : (f : Function) (p : PointId) (c d v w : ValueId) → IsCopy f p c v → IsCopy f p d w → SameCopy c d v w
+pub same_copy : (f : Function) (p : PointId) (c d v w : ValueId) → IsCopy f p c v → IsCopy f p d w → SameCopy c d v w
 same_copy f p c d v w one other =
     let same : one.inst ≡ other.inst = same_Some one.inst other.inst (sym one.stands ∙ other.stands) in
     let results : c ∷ [] ≡ d ∷ [] = sym one.copies.result ∙ ap (λ (i : inst.Inst). i.results) same ∙ other.copies.result in
@@ -105,7 +104,7 @@ module _ (m : Module) (n : ℕ) (p : PointId) where
 
 first_next : (m one other : Module) → RewritesFirst m one → RewritesFirst m other → one ≡ other
 first_next m one other a b =
-    let keys : text_key a.function a.point ≡ text_key b.function b.point =
+    let keys : a.function ∷ (a.point.block.0 ∷ (a.point.index ∷ [])) ≡ b.function ∷ (b.point.block.0 ∷ (b.point.index ∷ [])) =
     same_numbers (text_key a.function a.point) (text_key b.function b.point) (a.first b.function b.point other b.rewrites) (b.first a.function a.point one a.rewrites) in
     let function : a.function ≡ b.function = cc in
     let block : a.point.block.0 ≡ b.point.block.0 = cc in
@@ -115,8 +114,8 @@ first_next m one other a b =
     same_next m b.function b.point one other moved_there b.rewrites
 
 pub unique : AreUnique
-unique m _ _ (done m none) (done m never) = refl
-unique m _ _ (done m none) (more m next last h rest) = absurd (none h.function h.point next h.rewrites)
-unique m _ _ (more m next last h rest) (done m none) = absurd (none h.function h.point next h.rewrites)
-unique m one other (more m next one h rest) (more m later other k further) =
-    unique next one other rest (subst (λ x. IsOptimised x other) (sym (first_next m next later h k)) further)
+unique _ _ _ (done m none) (done _ never) = refl
+unique _ _ _ (done m none) (more _ next last h rest) = absurd (none h.function h.point next h.rewrites)
+unique _ _ _ (more m next last h rest) (done _ none) = absurd (none h.function h.point next h.rewrites)
+unique _ _ _ (more m next last h rest) (more _ later end k further) =
+    unique next last end rest (subst (λ x. IsOptimised x end) (sym (first_next m next later h k)) further)

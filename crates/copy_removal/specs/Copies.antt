@@ -1,5 +1,7 @@
 -- What copies a value, and what destroys one.
-use Rattle.std.specs.Prelude.{◌≡◌, [], ◌∷◌, Some}
+use Rattle.std.specs.Prelude.{◌≡◌, [], ◌∷◌, Bool, true, ◌==◌, Some}
+use Rattle.instruction_table.specs.Forms.{number_of}
+use Rattle.instruction_table.specs.declared.op.Op.{Op}
 use Rattle.instruction_table.specs.declared.op.Op.TheVariants as op
 use Rattle.sil_ast.specs.declared.function.Function.{Function}
 use Rattle.sil_ast.specs.declared.inst.Inst.{Inst}
@@ -8,9 +10,12 @@ use Rattle.sil_ast.specs.declared.place.PointId.{PointId}
 use Rattle.sil_ast.specs.declared.place.ValueId.{ValueId}
 use Rattle.item_operands.specs.Parts.{inst_at}
 
+abbrev pub is_op : Op → Inst → Bool
+is_op o i = number_of i.op == number_of o
+
 -- the instruction is `c = copy_value v`
 pub record Copies (i : Inst) (c v : ValueId) : Type 0 where
-  pub copies : i.op ≡ op.CopyValue
+  pub copies : is_op op.CopyValue i ≡ true
   pub result : i.results ≡ c ∷ []
   pub operand : Operand
   pub operands : i.operands ≡ operand ∷ []
@@ -18,7 +23,7 @@ pub record Copies (i : Inst) (c v : ValueId) : Type 0 where
 
 -- the instruction is `destroy_value v`
 pub record Destroys (i : Inst) (v : ValueId) : Type 0 where
-  pub destroys : i.op ≡ op.DestroyValue
+  pub destroys : is_op op.DestroyValue i ≡ true
   pub operand : Operand
   pub operands : i.operands ≡ operand ∷ []
   pub destroyed : operand.value ≡ v

@@ -1,8 +1,9 @@
 -- How a copy can go, by what the items of its function do to values along all walks.
-use Rattle.std.specs.Prelude.{◌≡◌, ℕ, ◌<◌, List, [], ◌∷◌, Bool, true, false, ◌&&◌, ◌||◌, ◌==◌, filter_map, Option, IsSomeAnd}
+use Rattle.std.specs.Prelude.{◌≡◌, ℕ, ◌<◌, List, [], ◌∷◌, Bool, true, false, ◌&&◌, ◌||◌, ◌==◌, filter_map, Option, Some, None}
 use Rattle.std.specs.List.{list_any}
 use Rattle.instruction_table.specs.declared.op.Op.TheVariants as op
 use Rattle.sil_ast.specs.declared.function.Function.{Function}
+use Rattle.sil_ast.specs.declared.inst.Inst as inst
 use Rattle.sil_ast.specs.declared.place.PointId.{PointId}
 use Rattle.sil_ast.specs.declared.place.ValueId.{ValueId}
 use Rattle.sil_cfg.specs.Items.{IsItem, flow_of, point_at}
@@ -19,7 +20,7 @@ use Rattle.ownership_marks.specs.declared.mark.MarkSort.{MarkSort}
 use Rattle.ownership_marks.specs.declared.mark.MarkSort.TheVariants.{End, Use, Begin}
 use Rattle.borrow_scopes.specs.Scopes.{lent_bases}
 use Rattle.borrow_scopes.specs.inner.Runs.{sort_for}
-use Rattle.copy_removal.specs.Copies.{IsDestroy}
+use Rattle.copy_removal.specs.Copies.{IsDestroy, is_op}
 use Rattle.copy_removal.specs.declared.removal.Removal.{Removal}
 use Rattle.copy_removal.specs.declared.removal.Removal.TheVariants.{No, Borrow, Move}
 
@@ -42,11 +43,14 @@ is_mark sort values m = is_sort sort m.sort && has values m.subject.0
 abbrev pub concerns : ValueId → ValueId → Mark → Bool
 concerns c v m = (m.subject.0 == v.0) || is_mark End (c ∷ []) m
 
+abbrev pub is_destroy : Option inst.Inst → Bool
+is_destroy None = false
+is_destroy (Some i) = is_op op.DestroyValue i
+
 module _ (facts : ValueId → Option Facts) (f : Function) where
   -- each item of the function that ends the value is a `destroy_value`
   abbrev pub IsOnlyDestroyed : ValueId → Type 0
-  IsOnlyDestroyed c =
-      (item : Item) → IsItem f item → list_any (is_mark End (c ∷ [])) (marks_of facts f item) ≡ true → IsSomeAnd (item_inst f item) (λ i. i.op ≡ op.DestroyValue)
+  IsOnlyDestroyed c = (item : Item) → IsItem f item → list_any (is_mark End (c ∷ [])) (marks_of facts f item) ≡ true → is_destroy (item_inst f item) ≡ true
 
   -- on no walk is the value held where one of these values has a mark of this sort: none comes between a begin of the value and its next end
   abbrev pub IsFreeAt : MarkSort → List ValueId → ValueId → Type 0

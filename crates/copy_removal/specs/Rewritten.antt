@@ -1,7 +1,6 @@
 -- What a function becomes where a copy goes. No value is defined anew or goes, so all values keep their numbers.
 use Rattle.std.specs.Prelude.{ℕ, zero, suc, List, [], ◌∷◌, Bool, ◌&&◌, ◌==◌, cond, map, remove}
 use Rattle.std.specs.List.{list_any}
-use Rattle.instruction_table.specs.Forms.{number_of}
 use Rattle.instruction_table.specs.declared.op.Op.{Op}
 use Rattle.instruction_table.specs.declared.op.Op.TheVariants as op
 use Rattle.sil_ast.specs.declared.function.Block.{Block}
@@ -11,9 +10,7 @@ use Rattle.sil_ast.specs.declared.module.Module.{Module}
 use Rattle.sil_ast.specs.declared.place.PointId.{PointId}
 use Rattle.sil_ast.specs.declared.place.ValueId.{ValueId}
 use Rattle.ownership_chains.specs.Facts.{has}
-
-abbrev pub is_op : Op → Inst → Bool
-is_op o i = number_of i.op == number_of o
+use Rattle.copy_removal.specs.Copies.{is_op}
 
 abbrev pub with_op : Op → Inst → Inst
 with_op o i = record i { op = o }

@@ -1,13 +1,13 @@
 -- What the definitions keep.
-use Rattle.std.specs.Prelude.{◌≡◌, ℕ, ◌<◌, List, cond, sum_by}
+use Rattle.std.specs.Prelude.{◌≡◌, ℕ, ◌<◌, cond, sum_by}
 use Rattle.instruction_table.specs.declared.op.Op.TheVariants as op
 use Rattle.sil_ast.specs.declared.function.Block.{Block}
 use Rattle.sil_ast.specs.declared.function.Function.{Function}
 use Rattle.sil_ast.specs.declared.inst.Inst.{Inst}
 use Rattle.sil_ast.specs.declared.module.Module.{Module}
 use Rattle.sil_ast.specs.declared.place.PointId.{PointId}
+use Rattle.copy_removal.specs.Copies.{is_op}
 use Rattle.copy_removal.specs.Optimised.{IsOptimised, Rewrites}
-use Rattle.copy_removal.specs.Rewritten.{is_op}
 
 -- a module has one optimised module at most
 abbrev pub AreUnique : Type 0
