@@ -34,7 +34,8 @@ body_of_copy f p c v h = at (slice_get f.blocks p.block.0) refl
     at None none = absurd (let wrong : None ≡ Some h.inst = sym (ap (λ o. inst_in o p.index) none) ∙ h.stands in cc)
     at (Some block) there = let within : p.block.0 < length f.blocks = slice_get_within f.blocks p.block.0 block there in omega arith
 
-pub removal_same : (facts : ValueId → Option Facts) (f : Function) (p : PointId) (c v d w : ValueId) (r : Removal) → IsCopy f p c v → IsCopy f p d w → IsRemoval facts f p c v r → IsRemoval facts f p d w r
+pub removal_same : (facts : ValueId → Option Facts) (f : Function) (p : PointId) (c v d w : ValueId) (r : Removal) → IsCopy f p c v → IsCopy f p d w → IsRemoval facts f p c v r
+    → IsRemoval facts f p d w r
 removal_same facts f p c v d w r one other h =
     let same = same_copy f p c d v w one other in
     subst (λ x. IsRemoval facts f p x w r) same.result (subst (λ x. IsRemoval facts f p c x r) same.operand h)

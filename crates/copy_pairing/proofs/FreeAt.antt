@@ -33,7 +33,7 @@ use Rattle.copy_removal.specs.Removable.{IsFreeAt, is_mark}
 use Rattle.copy_pairing.specs.inner.Asked.{AreFreeAt}
 use Rattle.copy_pairing.specs.inner.Watched.{entries_by, off_entries, off_entry, turn_entries, turned_by, watched_of}
 use Rattle.copy_pairing.proofs.KeptOnFunction.{kept, unkept}
-use Rattle.copy_pairing.proofs.WatchedMarks.{along, lawful_spared, table_along}
+use Rattle.copy_pairing.proofs.WatchedMarks.{lawful_spared, table_along}
 
 module _ (sort : MarkSort) (values held : List ValueId) (facts : ValueId → Option Facts) (f : Function) where
   abbrev table : Item → List Entry
@@ -51,11 +51,12 @@ module _ (sort : MarkSort) (values held : List ValueId) (facts : ValueId → Opt
 
   no_off : (n : ℕ) (hs : List ValueId) → has hs n ≡ false → filter_map (means n) (map off_entry hs) ≡ []
   no_off n [] e = refl
-  no_off n (v ∷ hs) e = at (v.0 == n) e
+  no_off n (v ∷ hs) e = at (v.0 == n) e (no_off n hs)
     where
-      at : (own : Bool) → (own || has hs n) ≡ false → cons_option (cond own (Some (off_entry v).mark) None) (filter_map (means n) (map off_entry hs)) ≡ []
-      at true e = absurd (cc)
-      at false e = no_off n hs e
+      at : (own : Bool) → (own || has hs n) ≡ false → (has hs n ≡ false → filter_map (means n) (map off_entry hs) ≡ [])
+          → cons_option (cond own (Some (off_entry v).mark) None) (filter_map (means n) (map off_entry hs)) ≡ []
+      at true e next = absurd (let wrong : true ≡ false = e in cc)
+      at false e next = next e
 
   no_entry : (n s : ℕ) (o : Option pattern.Mark) → (s == n) ≡ false → filter_map (means n) (entry_if s o) ≡ []
   no_entry n s None e = refl

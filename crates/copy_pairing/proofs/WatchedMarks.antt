@@ -96,20 +96,22 @@ module _ (h : ℕ) where
 
   off_lawful : (before : List pattern.Mark) → (IsOn before → ⊥) → (held : List ValueId) → LawfulBehind IsInPlace before (filter_map (means h) (map off_entry held))
   off_lawful before not [] = tt
-  off_lawful before not (v ∷ held) = at (v.0 == h)
+  off_lawful before not (v ∷ held) = at (v.0 == h) (off_lawful (before ++ off ∷ []) (λ on. not (pop_none before off refl on)) held) (off_lawful before not held)
     where
-      at : (own : Bool) → LawfulBehind IsInPlace before (cons_option (cond own (Some off) None) (filter_map (means h) (map off_entry held)))
-      at true = (not, off_lawful (before ++ off ∷ []) (λ on. not (pop_none before off refl on)) held)
-      at false = off_lawful before not held
+      at : (own : Bool) → LawfulBehind IsInPlace (before ++ off ∷ []) (filter_map (means h) (map off_entry held)) → LawfulBehind IsInPlace before (filter_map (means h) (map off_entry held))
+          → LawfulBehind IsInPlace before (cons_option (cond own (Some off) None) (filter_map (means h) (map off_entry held)))
+      at true behind same = (not, behind)
+      at false behind same = same
 
   -- a value among those has the mark
   off_first : (held : List ValueId) → has held h ≡ true → (more : List pattern.Mark) × (filter_map (means h) (map off_entry held) ≡ off ∷ more)
   off_first [] e = absurd (let wrong : false ≡ true = e in cc)
-  off_first (v ∷ held) e = at (v.0 == h) e
+  off_first (v ∷ held) e = at (v.0 == h) e (off_first held)
     where
-      at : (own : Bool) → (own || has held h) ≡ true → (more : List pattern.Mark) × (cons_option (cond own (Some off) None) (filter_map (means h) (map off_entry held)) ≡ off ∷ more)
-      at true e = (filter_map (means h) (map off_entry held), refl)
-      at false e = off_first held e
+      at : (own : Bool) → (own || has held h) ≡ true → (has held h ≡ true → (more : List pattern.Mark) × (filter_map (means h) (map off_entry held) ≡ off ∷ more))
+          → (more : List pattern.Mark) × (cons_option (cond own (Some off) None) (filter_map (means h) (map off_entry held)) ≡ off ∷ more)
+      at true e next = (filter_map (means h) (map off_entry held), refl)
+      at false e next = next e
 
 module _ (sort : MarkSort) (values held : List ValueId) (h : ValueId) (among : has held h.0 ≡ true) where
   abbrev marks_by : Mark → List pattern.Mark

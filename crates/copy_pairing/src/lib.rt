@@ -6,8 +6,8 @@ mod consumers;
 mod copies;
 mod held;
 mod moves;
-mod removable;
+mod removals;
 mod watched;
 
 pub use copy_removal::Removal;
-pub use removable::removable;
+pub use removals::removable;

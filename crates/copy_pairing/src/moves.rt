@@ -6,7 +6,7 @@ ghost use Rattle.sil_ast.specs.declared.place.ValueId.{ValueId};
 ghost use Rattle.sil_cfg.specs.declared.item.Item.TheVariants as item;
 ghost use Rattle.sil_cfg.specs.inner.Build.{HasGraph, IsGraphOf};
 ghost use Rattle.value_tables.specs.Borrows as borrowing;
-ghost use Rattle.ownership_chains.specs.Facts as facts;
+ghost use Rattle.ownership_chains.specs.Facts as chains;
 ghost use Rattle.ownership_chains.specs.Facts.{has, told_at};
 ghost use Rattle.ownership_chains.specs.declared.facts.Facts.{Facts};
 ghost use Rattle.ownership_marks.specs.Known.{AreKindsBy, facts_of};
@@ -26,7 +26,7 @@ use type_definitions::Kind;
 use value_tables::{Borrow, lent_by};
 
 fn is_owned(kind: Kind) -> bool
-    ensures { result ≡ facts.is_owned kind }
+    ensures { result ≡ chains.is_owned kind }
 {
     matches!(kind, Kind::Owned)
 }
@@ -124,7 +124,7 @@ fn destroyed_next(
     copied: Copied,
 ) -> Result<Option<usize>, Exhausted>
     requires graph { HasGraph f.now }
-    requires owned { facts.is_owned (facts_of k.now copied.operand).kind ≡ true }
+    requires owned { chains.is_owned (facts_of k.now copied.operand).kind ≡ true }
     ensures some { IfOk result (λ o. IfSome o (IsDestroyedNext (told_at k.now.table) f.now p copied.value copied.operand)) }
     ensures none { IfOk result (λ o. IfNone o ((last : ℕ) → ¬ IsDestroyedNext (told_at k.now.table) f.now p copied.value copied.operand last)) }
 {

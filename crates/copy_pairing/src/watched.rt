@@ -5,7 +5,7 @@ ghost use Rattle.std.specs.List.{flat_map};
 ghost use Rattle.ownership_chains.specs.Facts.{has};
 ghost use Rattle.ownership_marks.specs.Known.{marks_at};
 ghost use Rattle.copy_removal.specs.Removable as removal;
-ghost use Rattle.copy_pairing.specs.inner.Watched as watched;
+ghost use Rattle.copy_pairing.specs.inner.Watched as tables;
 ghost use Rattle.path_checks.specs.inner.Shared.{entry_if};
 ghost use Rattle.copy_pairing.specs.inner.Watched.{entries_by, off_entries, off_entry, turn_entries};
 
@@ -54,7 +54,7 @@ fn add_off(entries: &mut Vec<Entry>, held: &[ValueId]) -> Result<(), Exhausted>
 
 /// Where a value begins its switch is turned on, and where it ends off.
 fn turned_by(sort: MarkSort) -> Option<path_patterns::Mark>
-    ensures { result ≡ watched.turned_by sort }
+    ensures { result ≡ tables.turned_by sort }
 {
     let rule = Rule::ConsumedWhileBorrowed;
     match sort {
@@ -66,7 +66,7 @@ fn turned_by(sort: MarkSort) -> Option<path_patterns::Mark>
 
 /// The turn of a mark's own value.
 fn add_turn(entries: &mut Vec<Entry>, mark: Mark) -> Result<(), Exhausted>
-    ensures { OnOk result (entries.new.items ≡ entries.old.items ++ entry_if mark.subject.0 (watched.turned_by mark.sort)) }
+    ensures { OnOk result (entries.new.items ≡ entries.old.items ++ entry_if mark.subject.0 (tables.turned_by mark.sort)) }
 {
     if let Some(turn) = turned_by(mark.sort) {
         entries.push(Entry {

@@ -5,7 +5,8 @@ use Rattle.copy_pairing.proofs.moves.is_movable.Goals as goal
 
 pub returns-then-not-is_owned : goal.returns-then-not-is_owned
 returns-then-not-is_owned c = λ count facts by.
-    not_owned c.args.f.now c.args.g.now c.args.k.now count facts by c.args.p c.args.copied.value c.args.copied.operand c.is_owned.result c.kind.result c.kind.ensures c.is_owned.ensures c.if-not-is_owned.true
+    not_owned c.args.f.now c.args.g.now c.args.k.now count facts by c.args.p c.args.copied.value c.args.copied.operand
+    c.is_owned.result c.kind.result c.kind.ensures c.is_owned.ensures c.if-not-is_owned.true
 
 pub destroyed_next-requires-clause-owned : goal.destroyed_next-requires-clause-owned
 destroyed_next-requires-clause-owned c = sym (c.is_owned.ensures ∙ ap _ c.kind.ensures) ∙ c.if-not-is_owned.false

@@ -1,5 +1,5 @@
 use Rattle.std.proofs.Common.{◌≡◌, true, false}
-use Rattle.copy_pairing.proofs.removable.removal_of.Goals as goal
+use Rattle.copy_pairing.proofs.removals.removal_of.Goals as goal
 
 pub returns-then-borrowable : goal.returns-then-borrowable
 returns-then-borrowable c = λ count facts by. (c.in_ok-borrowable.ensures count facts by).0 c.if-borrowable.true

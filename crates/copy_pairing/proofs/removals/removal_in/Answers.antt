@@ -3,7 +3,7 @@ use Rattle.std.proofs.lemmas.Result.{IfOk-weaker}
 use Rattle.numbered_form.specs.Numbering.{values_of}
 use Rattle.ownership_kinds.specs.Facts.{facts_in}
 use Rattle.copy_pairing.proofs.Sizes.{borrows_count}
-use Rattle.copy_pairing.proofs.removable.removal_in.Goals as goal
+use Rattle.copy_pairing.proofs.removals.removal_in.Goals as goal
 
 pub removal_of-requires-clause-borrows : goal.removal_of-requires-clause-borrows
 removal_of-requires-clause-borrows c = c.as_slice-borrows.ensures.value ∙ c.in-Ok.ensures.kinds.borrows

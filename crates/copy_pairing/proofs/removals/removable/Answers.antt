@@ -4,7 +4,7 @@ use Rattle.std.proofs.lemmas.Result.{IfOk-weaker}
 use Rattle.sil_ast.specs.declared.module.Module.{Module}
 use Rattle.typed_graph_laws.proofs.Functions.{graphs_by_blocks}
 use Rattle.copy_pairing.proofs.Answered.{answered, contains_at, no_function}
-use Rattle.copy_pairing.proofs.removable.removable.Goals as goal
+use Rattle.copy_pairing.proofs.removals.removable.Goals as goal
 
 pub returns-in-None : goal.returns-in-None
 returns-in-None c =

@@ -1,7 +1,7 @@
 use Rattle.std.proofs.lemmas.Result.{IfOk-weaker}
 use Rattle.ownership_kinds.specs.Facts.{facts_in}
 use Rattle.copy_pairing.proofs.Answered.{body_of_copy, removal_same}
-use Rattle.copy_pairing.proofs.removable.removal_at.Goals as goal
+use Rattle.copy_pairing.proofs.removals.removal_at.Goals as goal
 
 pub returns-in-None : goal.returns-in-None
 returns-in-None c = λ v w copy. absurd (c.in-None.ensures.none v w copy)
