@@ -34,6 +34,7 @@ use Rattle.run_values.specs.inner.Laws.{has_no_address, has_no_address_over}
 use Rattle.run_typing_laws.proofs.Declared.{each_append}
 use Rattle.run_typing_laws.proofs.Opened.{fold-Tuple}
 use Rattle.run_typing_laws.proofs.Rows.Finding.{each_at, if_some, none_in_any, none_in_both}
+use Rattle.run_typing_laws.proofs.RunnableTyped.{well_typed}
 use Rattle.run_typing_laws.proofs.Sizes.{plain_type, sizes}
 use Rattle.frame_layouts.specs.inner.Sized.{HasSize}
 use Rattle.frame_layouts.proofs.Targets.{leaves-target_of}
@@ -43,7 +44,7 @@ pub record Fits (m : Module) (t : TypeName) : Type 0 where
   pub within : leaves_of (declarations_of m) t ≤ LEAVES
 
 pub has_size : (m : Module) → IsRunnable m → (t : TypeName) → Fits m t → HasSize (declarations_of m) t
-has_size m r t fits = record { plain = fits.plain; within = fits.within; measured = sizes m r t fits.plain }
+has_size m r t fits = record { plain = fits.plain; within = fits.within; measured = sizes m (well_typed m r) t fits.plain }
 
 -- a type with one `*` in front, or without, points to one without
 pub placed_plain : (t : TypeName) → is_placed_type t ≡ true → has_no_address (target_of t) ≡ true

@@ -45,6 +45,7 @@ use Rattle.run_typing_laws.proofs.Rows.Finding.{each_at, found_behind, mapped_fr
 use Rattle.run_typing_laws.proofs.Rows.Layers.{object_target, tuple_type, unowned_type, weak_type}
 use Rattle.run_typing_laws.proofs.Rows.Mentioned.{operand_placed}
 use Rattle.run_typing_laws.proofs.Rows.Storage.{behind_address, in_unowned_storage, in_weak_storage, unowned_is_named, weak_is_named}
+use Rattle.run_typing_laws.proofs.RunnableTyped.{well_typed}
 use Rattle.run_typing_laws.proofs.Sizes.{sizes}
 use Rattle.frame_layouts.proofs.Fitting.{Fits, not_overfull, operand_fits, overfull, signature_fits, tuple_plain, tuple_within, type_fits}
 use Rattle.frame_layouts.proofs.FieldsFit.{FieldFits, class_field_fits, elements_fit, fields_fit, struct_field_fits, unowned_fits, weak_fits}
@@ -152,7 +153,7 @@ module _ (m : Module) (r : IsRunnable m) (n : ℕ) (f : Function) (there : slice
   by_size : (w : Storage) (x : TypeName) → has_no_address x ≡ true → IsNamed w (shape_of (declarations_of m) x) → ValueFits m x
   by_size w x plain named =
       let small = named_small w (shape_of (declarations_of m) x) named in
-      let same = sizes m r x plain in
+      let same = sizes m (well_typed m r) x plain in
       itself_fits m x (record { plain = plain; within = omega arith })
 
   in_weak_fits : (t x : TypeName) → written 0 i ≡ Some t → weak_at t ≡ Some x → ValueFits m x

@@ -28,7 +28,7 @@ use Rattle.lowering_model.specs.LoweredInsts.{becomes, lowering_of, plain_load, 
 use Rattle.lowering_model.specs.NewInsts.{load, struct_extract, tuple_extract}
 use Rattle.lowering_model.specs.declared.lowering.Lowering.{Lowering}
 use Rattle.lowering_model.specs.declared.lowering.Lowering.TheVariants as lowering
-use Rattle.run_typing_laws.proofs.ListFacts.{get_below}
+use Rattle.run_typing_laws.proofs.ListFacts.{get_below, slices}
 use Rattle.lowered_typing_laws.proofs.Becomes.{Becomes, IsCounted, IsLoad, at_storage, assigns, becomes_so, by_elements, by_fields, copies, destroys, loads}
 use Rattle.lowered_typing_laws.proofs.Becomes.{no_results, object_there, releases, retains, stays, stores, vanishes}
 use Rattle.lowered_typing_laws.proofs.Fields.{fields_again, fields_are}
@@ -44,16 +44,6 @@ spare_by _ i = None
 
 abbrev pub spare_type : Inst → Option TypeName
 spare_type i = spare_by (lowering_of i.op) i
-
--- ---- lists
-
-slices : {A : Type 0} (before xs : List A) → map (slice_get (before ++ xs)) (range_with_len (length before) (length xs)) ≡ map (λ x. Some x) xs
-slices before [] = refl
-slices before (x ∷ xs) =
-    let none : length before + 0 ≡ length before = omega arith in
-    ap₂ (λ y ys. y ∷ ys) (get_behind before (x ∷ xs) 0 (length before) none)
-    (ap₂ (λ l n. map (slice_get l) (range_with_len n (length xs))) (sym (append_assoc before (x ∷ []) xs)) (sym (length-append before (x ∷ [])))
-    ∙ slices (before ++ x ∷ []) xs)
 
 -- the type of one result
 abbrev first_of : List TypeName → List (Option TypeName)

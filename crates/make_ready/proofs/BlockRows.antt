@@ -6,7 +6,7 @@ use Rattle.sil_ast.specs.declared.function.Block.{Block}
 use Rattle.sil_ast.specs.declared.inst.Inst.{Inst}
 use Rattle.sil_ast.specs.declared.place.PointId.{PointId}
 use Rattle.run_typing_laws.proofs.Declared.{each_from}
-use Rattle.run_typing_laws.proofs.RunnableTyped.{runnable_is_typed}
+use Rattle.run_typing_laws.proofs.RunnableTyped.{runnable_is_typed, well_typed}
 use Rattle.run_typing_laws.proofs.Rows.Known.{known}
 use Rattle.frame_layouts.proofs.ValueSizes.{value_sizes}
 use Rattle.make_ready.specs.declared.body.Body.{Body}
@@ -29,4 +29,4 @@ has_rows b is k block there = record {
         let here : inst_at f p ≡ Some i = ap (λ o. inst_in o j) there ∙ at in
         let row = (((runnable_is_typed m is.runnable).functions is.number f is.there).insts p i here).row in
         parts m is.runnable f (value_sizes m is.runnable is.number f is.there) i _ _ row refl refl
-        (row_told m f i is.runnable (known m is.runnable is.number f is.there p i here))
+        (row_told m f i is.runnable (known m (well_typed m is.runnable) is.number f is.there p i here))

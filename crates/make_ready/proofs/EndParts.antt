@@ -22,7 +22,7 @@ use Rattle.run_typing.specs.EndForms.{EndForms, TakenCase, branch, branches, cas
 use Rattle.run_typing.specs.Forms.{OfValue, form_of, form_with}
 use Rattle.run_typing.specs.Runnable.{IsRunnable}
 use Rattle.run_typing_laws.proofs.FunctionFacts.{TypedInst, typed_function}
-use Rattle.run_typing_laws.proofs.RunnableTyped.{runnable_is_typed}
+use Rattle.run_typing_laws.proofs.RunnableTyped.{runnable_is_typed, well_typed}
 use Rattle.run_typing_laws.proofs.Rows.Finding.{found_behind, where_found}
 use Rattle.run_typing_laws.proofs.Rows.Shares.{taken_from}
 use Rattle.run_typing_laws.proofs.ValueForms.{operand_written, row_kept}
@@ -48,7 +48,7 @@ module _ (m : Module) (r : IsRunnable m) (n : ℕ) (f : Function) (there : slice
   made e is parts = subst (HasEnd d f i) (sym is) (record { ends = is; has = parts })
 
   typed : TypedInst m f i
-  typed = let function = typed_function m r n f there in let at = function.ends b i here in function.insts b at.0 i at.2
+  typed = let function = typed_function m (well_typed m r) n f there in let at = function.ends b i here in function.insts b at.0 i at.2
 
   of_value : (t : TypeName) (s : Shape) (o : Option TypeName) → form_with d t o ≡ OfValue s → s ≡ shape_of d t
   of_value t s None e = cc

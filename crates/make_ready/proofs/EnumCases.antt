@@ -22,6 +22,7 @@ use Rattle.type_definitions.specs.Declarations.{Declarations, decl_of, declarati
 use Rattle.type_definitions.specs.Lookups.{Payload, case_payload, decl_cases, optional_payload, payload_at, payload_in, payload_of}
 use Rattle.run_typing_laws.proofs.Found.{position-map}
 use Rattle.run_typing_laws.proofs.Rows.Layers.{is_named, is_optional}
+use Rattle.run_typing_laws.proofs.RunnableTyped.{well_typed}
 use Rattle.run_typing_laws.proofs.ShapeFacts.{case_layer_of, enum_shape, optional_shape}
 
 abbrev pub place_in : Payload → ℕ
@@ -78,7 +79,7 @@ module _ (m : Module) (r : IsRunnable m) where
       record {
         names = map case_name cases;
         layers = map (case_layer_of m) cases;
-        shapes = ap (λ u. case_shapes (shape_of d u)) (is_named t owner is) ∙ ap case_shapes (enum_shape m r owner n cases there)
+        shapes = ap (λ u. case_shapes (shape_of d u)) (is_named t owner is) ∙ ap case_shapes (enum_shape m (well_typed m r) owner n cases there)
             ∙ listed_all (map (case_layer_of m) cases);
         same = same_names m cases;
         count = ap (case_count_in d) is ∙ ap (option_and_then declared_cases) there ∙ ap Some (sym (length-map cases case_name));

@@ -26,6 +26,7 @@ use Rattle.ready_code.specs.ReadyOps.{leaf_offset}
 use Rattle.run_typing_laws.proofs.Opened.{fold-Address, fold-Int, fold-Named, fold-Optional, fold-Unowned, fold-Weak}
 use Rattle.run_typing_laws.proofs.Rows.Finding.{found_behind}
 use Rattle.run_typing_laws.proofs.Rows.Layers.{is_int, is_named, is_optional, is_unowned, is_weak, named_type, tuple_type}
+use Rattle.run_typing_laws.proofs.RunnableTyped.{well_typed}
 use Rattle.run_typing_laws.proofs.ShapeFacts.{field_shape_of, struct_shape, tuple_shape}
 use Rattle.frame_layouts.specs.inner.Sized.{HasSize}
 use Rattle.frame_layouts.proofs.FieldsFit.{elements_fit, fields_fit}
@@ -94,7 +95,7 @@ module _ (m : Module) (r : IsRunnable m) where
           → (n : Name) × (shape_of d t ≡ shapes.Struct n (members_of (map (field_shape_of m) fields)))
       at (Struct n own) same name is there =
           let own_is : own ≡ fields = cc in
-          (n, ap (shape_of d) is ∙ struct_shape m r name n fields (there ∙ ap (λ fs. Some (Struct n fs)) own_is))
+          (n, ap (shape_of d) is ∙ struct_shape m (well_typed m r) name n fields (there ∙ ap (λ fs. Some (Struct n fs)) own_is))
       at (Enum n cases) same name is there = absurd (cc)
       at (Class n superclass own) same name is there = absurd (cc)
 

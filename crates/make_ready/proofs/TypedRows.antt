@@ -38,6 +38,7 @@ use Rattle.run_typing_laws.proofs.Rows.Forms.{value_form}
 use Rattle.run_typing_laws.proofs.Rows.Known.{Known}
 use Rattle.run_typing_laws.proofs.Rows.Layers.{target-Named}
 use Rattle.run_typing_laws.proofs.Rows.Shares.{given_one, gives_form, is_nothing, of_parts}
+use Rattle.run_typing_laws.proofs.RunnableTyped.{well_typed}
 use Rattle.run_typing_laws.proofs.ShapeFacts.{class_type_shape, same_types}
 use Rattle.run_typing_laws.proofs.Sizes.{plain_type}
 use Rattle.ready_code.specs.ReadyOps.{operands_of}
@@ -105,7 +106,7 @@ module _ (m : Module) (f : Function) (i : Inst) where
     new_object k =
         let it = given_one (where_it (is_class_type d) i.ty) k.keeps in
         let found = where_found (is_class_type d) i.ty it.0 it.1 in
-        let class = class_type_shape m r it.0 found.1 in
+        let class = class_type_shape m (well_typed m r) it.0 found.1 in
         record {
           class = class.0;
           ty = found.0 ∙ ap Some class.1;

@@ -17,7 +17,7 @@ use Rattle.type_definitions.specs.Declarations.{declarations_of}
 use Rattle.ownership_lowering.specs.inner.Laws.{AcceptedLowersRunnable}
 
 module _ (m : Module) (verified : IsVerified m) where
-  have_kinds : (n : ℕ) (f : Function) → slice_get m.functions n ≡ Some f → HasBlocks f → HasKinds (declarations_of m) f
+  pub have_kinds : (n : ℕ) (f : Function) → slice_get m.functions n ≡ Some f → HasBlocks f → HasKinds (declarations_of m) f
   have_kinds n f there body r v b k broken = verified.accepted.values (record { function = n; showing = fault }) (record {
     within = f;
     is_body = record { there = there; body = body };

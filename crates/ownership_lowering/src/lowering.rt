@@ -7,6 +7,7 @@ ghost use Rattle.type_definitions.specs.Declarations.{declarations_of};
 
 use crate::laws::accepted_lowers_runnable;
 use function_lowering::lowered_functions;
+use lowering_laws::{functions_are_lowerable, kinds_have_no_rings};
 use sil_ast::{Exhausted, Module, TryClone};
 use sil_verifier::Checked;
 use std::alloc::Global;
@@ -18,6 +19,8 @@ pub fn lower(alloc: Global, c: &Checked) -> Result<Module, Exhausted>
     ensures declarations { IfOk result (λ m. declarations_of m ≡ declarations_of c.now) }
 {
     accepted_lowers_runnable();
+    functions_are_lowerable();
+    kinds_have_no_rings();
     let m = c.module();
     let vtables = m.vtables.try_clone(alloc)?;
     let decls = m.decls.try_clone(alloc)?;

@@ -24,6 +24,7 @@ use Rattle.type_definitions.specs.Declarations.{declarations_of}
 use Rattle.run_values.specs.Shapes.{shape_of}
 use Rattle.run_typing.specs.EndForms.{EdgeForms, arguments_at}
 use Rattle.run_typing.specs.Forms.{OfValue, forms_of}
+use Rattle.run_typing.specs.Runnable.{IsNotOwned}
 use Rattle.run_typing_laws.proofs.FunctionFacts.{TypedFunction, TypedInst}
 use Rattle.run_typing_laws.proofs.Found.{both_second, each_at}
 use Rattle.run_typing_laws.proofs.Rows.Finding.{fails_at, none_of, passes_at}
@@ -32,11 +33,11 @@ use Rattle.run_typing_laws.proofs.Rows.Forms.{typed_form, written_forms}
 use Rattle.run_typing_laws.proofs.ValueForms.{args_forms, edges_written, value_forms}
 
 -- a function that has a block, and isn't in ownership form, is lowered
-pub lowered_form : (m : Module) (f : Function) (b : ℕ) (block : Block) → TypedFunction m f → slice_get f.blocks b ≡ Some block → f.form ≡ form.Lowered
-lowered_form m f b block typed is = at f.form refl
+pub lowered_form : (m : Module) (f : Function) (b : ℕ) (block : Block) → TypedFunction m f → IsNotOwned f → slice_get f.blocks b ≡ Some block → f.form ≡ form.Lowered
+lowered_form m f b block typed not_owned is = at f.form refl
   where
     at : (x : Form) → f.form ≡ x → x ≡ form.Lowered
-    at form.Ossa e = absurd (typed.unowned e)
+    at form.Ossa e = absurd (not_owned e)
     at form.Lowered e = refl
     at form.External e = let none : slice_get f.blocks b ≡ None = ap (λ bs. slice_get bs b) (typed.formed.external.0 e) in cc
 

@@ -36,7 +36,7 @@ use Rattle.value_tables.specs.ValueRows.{rows_from}
 use Rattle.run_typing.specs.EndForms.{value_in}
 use Rattle.run_typing.specs.Forms.{OfFunction, OfValue, form_by, form_of, forms_of, given_shape}
 use Rattle.run_typing.specs.RowForms.{RowForms, calls, calls_out}
-use Rattle.run_typing.specs.Runnable.{IsRunnable}
+use Rattle.run_typing_laws.specs.inner.WellTyped.{IsWellTyped}
 use Rattle.run_typing_laws.proofs.FunctionFacts.{TypedFunction, TypedInst, typed_function}
 use Rattle.run_typing_laws.proofs.Found.{both_first, not_false}
 use Rattle.run_typing_laws.proofs.ListFacts.{get_below, map_twice, maps_alike}
@@ -130,7 +130,7 @@ only_result [] e = cc
 only_result (v ∷ []) e = (v, refl)
 only_result (v ∷ w ∷ vs) e = let none : length (v ∷ w ∷ vs) ≡ 1 = eqb-true (length (v ∷ w ∷ vs)) 1 e in absurd (omega arith)
 
-module _ (m : Module) (r : IsRunnable m) (n : ℕ) (f : Function) (is_function : slice_get m.functions n ≡ Some f) (block index : ℕ) (i : Inst) (at : IsAt f block index i)
+module _ (m : Module) (r : IsWellTyped m) (n : ℕ) (f : Function) (is_function : slice_get m.functions n ≡ Some f) (block index : ℕ) (i : Inst) (at : IsAt f block index i)
     (call : i.op ≡ op.Apply) where
   typed : TypedFunction m f
   typed = typed_function m r n f is_function

@@ -9,7 +9,7 @@ use Rattle.run_values.specs.Shapes.{Shape}
 use Rattle.type_definitions.specs.Declarations.{Declarations, declarations_of, inherits, is_class}
 use Rattle.type_definitions.specs.Lookups.{fields_of}
 use Rattle.run_typing.specs.Classes.{ClassesAreSound, is_a}
-use Rattle.run_typing.specs.Runnable.{IsRunnable}
+use Rattle.run_typing_laws.specs.inner.WellTyped.{IsWellTyped}
 use Rattle.run_typing_laws.proofs.ClassChains.{fields_first, is_a_passes}
 use Rattle.run_typing_laws.proofs.Found.{same_name}
 use Rattle.run_typing_laws.proofs.TextClasses.{chains_end, class_placed, class_placed_once, names_once}
@@ -20,7 +20,7 @@ pub use Rattle.run_typing_laws.proofs.TextClasses.{ancestor_is_class, placed_is_
 pub is_a_itself : (d : Declarations) (class : Name) → is_a d class class ≡ true
 is_a_itself d class = ap (λ b. b || inherits d class class) (same_name class)
 
-module _ (m : Module) (r : IsRunnable m) where
+module _ (m : Module) (r : IsWellTyped m) where
   shapes_first : (a b : Name) → is_class (declarations_of m) a ≡ true → is_a (declarations_of m) a b ≡ true
       → (more : List Shape) × (field_shapes (shapes_of m) a ≡ field_shapes (shapes_of m) b ++ more)
   shapes_first a b h above =

@@ -24,7 +24,7 @@ use Rattle.type_definitions.specs.Mentions as item
 use Rattle.type_definitions.specs.Rules.{IsWellNamed, has_unknown_owner, is_no_class, is_unknown}
 use Rattle.run_typing.specs.CallForms.{DeinitsAreTyped, IsDeinitOf}
 use Rattle.run_typing.specs.Forms.{OfValue}
-use Rattle.run_typing.specs.Runnable.{IsRunnable}
+use Rattle.run_typing_laws.specs.inner.WellTyped.{IsWellTyped}
 use Rattle.run_typing_laws.proofs.FunctionFacts.{TypedFunction, typed_function}
 use Rattle.run_typing_laws.proofs.Found.{all_at, both_first, both_second, named_at, neither_second, not_false}
 use Rattle.run_typing_laws.proofs.Rows.Finding.{all_of_both, mapped_from, never_passes, passed}
@@ -65,7 +65,7 @@ named m class g e = at (place_of (map class_name m.vtables) class) refl e
     at None placed e = cc
     at (Some k) placed e = in_table k (slice_get m.vtables k) placed refl e
 
-module _ (m : Module) (r : IsRunnable m) (class : Name) (g : FuncId) (n : Named m class g) where
+module _ (m : Module) (r : IsWellTyped m) (class : Name) (g : FuncId) (n : Named m class g) where
   -- the vtable is that of a class
   table_named : IsWellNamed (declarations_of m) (item.vtable n.table)
   table_named =
@@ -122,5 +122,5 @@ module _ (m : Module) (r : IsRunnable m) (class : Name) (g : FuncId) (n : Named 
         ∙ ap (λ x. x ∷ []) (value_form (declarations_of m) (type.Named class) (target-Named class) ∙ ap OfValue (class_shape m r class class_there));
   }
 
-pub deinits : (m : Module) → IsRunnable m → DeinitsAreTyped m
+pub deinits : (m : Module) → IsWellTyped m → DeinitsAreTyped m
 deinits m r class g e = is_deinit m r class g (named m class g e)

@@ -1,5 +1,5 @@
 -- Terminators: their operands and edges are those that their rows have to do with, and they take all their operands.
-use Rattle.std.proofs.Common.{◌≡◌, ℕ, List, [], ◌∷◌, length, map, refl, sym, ap, ◌∙◌, subst, Bool, true, false, Option, Some, None}
+use Rattle.std.proofs.Common.{◌≡◌, ℕ, List, [], ◌∷◌, length, map, refl, sym, ap, ◌∙◌, subst, Bool, true, false, ◌⊎◌, inl, inr, Option, Some, None}
 use Rattle.std.specs.Prelude.{◌&&◌, ◌||◌, ◌==◌, is_some, not, option_and_then, slice_get, take}
 use Rattle.std.specs.List.{list_all}
 use Rattle.instruction_table.specs.Forms.{bare_operands_of, ending_of, is_terminator, roles_of}
@@ -11,7 +11,7 @@ use Rattle.lowered_run.specs.LowStepParts.{taken_value}
 use Rattle.numbered_form.specs.Lists.{is_empty}
 use Rattle.numbered_form.specs.inner.Parts.{are_cases, are_edges_by, first_then, has_operands, is_bare, is_branch, is_typed}
 use Rattle.run_values.specs.Shapes.{shape_of}
-use Rattle.sil_ast.specs.declared.function.Block.{Block}
+use Rattle.sil_ast.specs.declared.function.Form.TheVariants as form
 use Rattle.sil_ast.specs.declared.function.Function.{Function}
 use Rattle.sil_ast.specs.declared.inst.Edge.{Edge}
 use Rattle.sil_ast.specs.declared.inst.Inst.{Inst}
@@ -31,7 +31,8 @@ use Rattle.type_definitions.specs.Declarations.{Declarations, declarations_of}
 use Rattle.type_definitions.specs.Mentions.{given_type}
 use Rattle.run_typing.specs.EndForms.{EndForms, branch, branches, cases, operand_forms, returns, unreachable, value_in}
 use Rattle.run_typing.specs.Forms.{OfValue, form_of, forms_of}
-use Rattle.run_typing.specs.Runnable.{IsRunnable}
+use Rattle.run_typing.specs.Runnable.{IsNotOwned}
+use Rattle.run_typing_laws.specs.inner.WellTyped.{IsWellTyped}
 use Rattle.run_typing_laws.proofs.BlockFacts.{edge_forms, lowered_form}
 use Rattle.run_typing_laws.proofs.FunctionFacts.{TypedFunction, TypedInst}
 use Rattle.run_typing_laws.proofs.Found.{both_first, both_second, not_false}
@@ -41,7 +42,7 @@ use Rattle.run_typing_laws.proofs.Rows.Finding.{mapped_some, passes_at, some_of,
 use Rattle.run_typing_laws.proofs.Rows.Layers.{target-Int}
 use Rattle.run_typing_laws.proofs.ShapeFacts.{int_shape, same_types}
 use Rattle.run_typing_laws.proofs.SignatureFacts.{given_is_value}
-use Rattle.run_typing_laws.proofs.SwitchFacts.{case_taken, switch_kept}
+use Rattle.run_typing_laws.proofs.SwitchFacts.{SwitchKept, case_taken, switch_kept}
 use Rattle.run_typing_laws.proofs.Rows.Forms.{asked_form, typed_form, value_form}
 use Rattle.run_typing_laws.proofs.Rows.Taking.{ends_for_any, takes_any, takes_none}
 use Rattle.run_typing_laws.proofs.ValueForms.{operand_written, operands_asked, row_kept}
@@ -83,7 +84,7 @@ enum_target d t e = at (out-TypeName t) e
     at (TypeName-F.Address inner) e = cc
     at _ e = refl
 
-module _ (m : Module) (r : IsRunnable m) (f : Function) (typed : TypedFunction m f) (i : Inst) (here : TypedInst m f i) where
+module _ (m : Module) (r : IsWellTyped m) (f : Function) (typed : TypedFunction m f) (i : Inst) (here : TypedInst m f i) where
   has_ops : (o : Op) → i.op ≡ o → has_operands o i.operands ≡ true
   has_ops o e = ap (λ x. has_operands x i.operands) (sym e) ∙ here.parts.operands
 
@@ -145,16 +146,28 @@ module _ (m : Module) (r : IsRunnable m) (f : Function) (typed : TypedFunction m
   operand_is : (o : TypedOperand) → target o.ty ≡ None → operand_forms (declarations_of m) f i ≡ OfValue (shape_of (declarations_of m) o.ty) ∷ []
   operand_is o e = ap (λ os. forms_of (declarations_of m) f (map value_in os)) o.alone ∙ ap (λ x. x ∷ []) (o.form ∙ value_form (declarations_of m) o.ty e)
 
-  switch_end : (b : ℕ) (block : Block) → slice_get f.blocks b ≡ Some block → i.op ≡ op.SwitchEnum → EndForms (declarations_of m) f i
-  switch_end b block is e =
+  -- the enum that is switched over
+  pub record IsSwitch : Type 0 where
+    pub ty : TypeName
+    pub enum : is_enum (declarations_of m) ty ≡ true
+    pub operand : operand_forms (declarations_of m) f i ≡ OfValue (shape_of (declarations_of m) ty) ∷ []
+    pub edges : are_cases i.edges ≡ true
+    pub kept : SwitchKept m f ty i.edges
+
+  pub switched : i.op ≡ op.SwitchEnum → IsSwitch
+  switched e =
       let o = typed_operand (has_ops op.SwitchEnum e) in
       let kept : is_some (takes (where_it (is_enum (declarations_of m)) (written 0 i))) ≡ true = ap (λ x. is_some (given_by x (declarations_of m) i)) (sym e) ∙ row_kept m f i here in
       let enum : is_enum (declarations_of m) o.ty ≡ true = enum_asked (written 0 i) o.ty o.is kept in
       let right : switches_wrongly (declarations_of m) f i.edges (Some o.ty) ≡ false =
       ap (switches_wrongly (declarations_of m) f i.edges) (sym o.is) ∙ ap (λ x. has_wrong_cases_by x (declarations_of m) f i) (sym e) ∙ here.cases in
-      cases (shape_of (declarations_of m) o.ty) (ap ending_of e) (operand_is o (enum_target (declarations_of m) o.ty enum)) (enum_is m r o.ty enum)
-      (case_taken m r f typed i here (lowered_form m f b block typed is) o.ty (both_second (not (is_empty i.edges)) (are_cases i.edges) (has_edges_of op.SwitchEnum e))
-      (switch_kept m f o.ty i.edges right) enum)
+      record {
+        ty = o.ty;
+        enum = enum;
+        operand = operand_is o (enum_target (declarations_of m) o.ty enum);
+        edges = both_second (not (is_empty i.edges)) (are_cases i.edges) (has_edges_of op.SwitchEnum e);
+        kept = switch_kept m f o.ty i.edges right;
+      }
     where
       enum_asked : (w : Option TypeName) (t : TypeName) → w ≡ Some t → is_some (takes (where_it (is_enum (declarations_of m)) w)) ≡ true → is_enum (declarations_of m) t ≡ true
       enum_asked w t e h =
@@ -172,13 +185,24 @@ module _ (m : Module) (r : IsRunnable m) (f : Function) (typed : TypedFunction m
       returns (ap ending_of e)
       (operand_is o (ap target (sym same) ∙ given_is_value m f typed) ∙ ap (λ t. OfValue (shape_of (declarations_of m) t) ∷ []) (sym same))
 
-  end_by : (b : ℕ) (block : Block) → slice_get f.blocks b ≡ Some block → (o : Op) → i.op ≡ o → is_terminator o ≡ true → EndForms (declarations_of m) f i
-  end_by b block is op.Br e ends = branch_end e
-  end_by b block is op.CondBr e ends = branches_end e
-  end_by b block is op.SwitchEnum e ends = switch_end b block is e
-  end_by b block is op.Return e ends = return_end e
-  end_by b block is op.Unreachable e ends = unreachable (ap ending_of e)
-  end_by b block is _ e ends = absurd (cc)
+  switch_end : f.form ≡ form.Lowered → i.op ≡ op.SwitchEnum → EndForms (declarations_of m) f i
+  switch_end lowered e =
+      let it = switched e in
+      cases (shape_of (declarations_of m) it.ty) (ap ending_of e) it.operand (enum_is m r it.ty it.enum)
+      (case_taken m r f typed i here it.ty it.edges it.kept it.enum lowered)
+
+  -- all but a switch ends alike in both forms
+  pub other_end : (o : Op) → i.op ≡ o → is_terminator o ≡ true → (o ≡ op.SwitchEnum) ⊎ EndForms (declarations_of m) f i
+  other_end op.Br e ends = inr (branch_end e)
+  other_end op.CondBr e ends = inr (branches_end e)
+  other_end op.SwitchEnum e ends = inl refl
+  other_end op.Return e ends = inr (return_end e)
+  other_end op.Unreachable e ends = inr (unreachable (ap ending_of e))
+  other_end _ e ends = absurd (cc)
+
+  end_by : f.form ≡ form.Lowered → (o : Op) → i.op ≡ o → (o ≡ op.SwitchEnum) ⊎ EndForms (declarations_of m) f i → EndForms (declarations_of m) f i
+  end_by lowered o e (inl switch) = switch_end lowered (e ∙ switch)
+  end_by lowered o e (inr other) = other
 
   takes_by : (o : Op) → i.op ≡ o → is_terminator o ≡ true → map taken_value (taken_by i) ≡ map value_in i.operands
   takes_by op.Br e ends = takes_none i (no_operand i.operands (has_ops op.Br e))
@@ -188,13 +212,14 @@ module _ (m : Module) (r : IsRunnable m) (f : Function) (typed : TypedFunction m
   takes_by op.Unreachable e ends = takes_none i (no_operand i.operands (has_ops op.Unreachable e))
   takes_by _ e ends = absurd (cc)
 
-pub ends : (m : Module) → IsRunnable m → (f : Function) → TypedFunction m f → (b : ℕ) (i : Inst) → terminator_of f b ≡ Some i → EndForms (declarations_of m) f i
-ends m r f typed b i e =
+pub ends : (m : Module) → IsWellTyped m → (f : Function) → TypedFunction m f → IsNotOwned f → (b : ℕ) (i : Inst) → terminator_of f b ≡ Some i → EndForms (declarations_of m) f i
+ends m r f typed not_owned b i e =
     let at = typed.ends b i e in
-    end_by m r f typed i (typed.insts b at.0 i at.2) b at.2.within at.2.is_block i.op refl at.1.ends
+    let here = typed.insts b at.0 i at.2 in
+    end_by m r f typed i here (lowered_form m f b at.2.within typed not_owned at.2.is_block) i.op refl (other_end m r f typed i here i.op refl at.1.ends)
 
 -- a terminator takes all its operands
-pub ends_take : (m : Module) → IsRunnable m → (f : Function) → TypedFunction m f → (b : ℕ) (i : Inst) → terminator_of f b ≡ Some i → map taken_value (taken_by i) ≡ map value_in i.operands
+pub ends_take : (m : Module) → IsWellTyped m → (f : Function) → TypedFunction m f → (b : ℕ) (i : Inst) → terminator_of f b ≡ Some i → map taken_value (taken_by i) ≡ map value_in i.operands
 ends_take m r f typed b i e =
     let at = typed.ends b i e in
     takes_by m r f typed i (typed.insts b at.0 i at.2) i.op refl at.1.ends

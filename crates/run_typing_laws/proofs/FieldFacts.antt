@@ -23,7 +23,7 @@ use Rattle.type_definitions.specs.Rules.{is_class_type, is_misplaced, is_misplac
 use Rattle.run_typing.specs.FieldForms.{AreFieldsTyped, IsMeasuredField}
 use Rattle.run_typing.specs.StorageForms.{FieldShapeIs, named, plain}
 use Rattle.run_typing.specs.StorageForms.{IsNamed, unowned, weak}
-use Rattle.run_typing.specs.Runnable.{IsRunnable}
+use Rattle.run_typing_laws.specs.inner.WellTyped.{IsWellTyped}
 use Rattle.run_typing_laws.proofs.ClassChains.{line_of}
 use Rattle.run_typing_laws.proofs.FieldShapes.{field_shapes_are}
 use Rattle.run_typing_laws.proofs.Found.{each_at, neither_first, neither_second, not_false}
@@ -33,7 +33,7 @@ use Rattle.run_typing_laws.proofs.ShapeFacts.{class_type_shape, no_storage_shape
 use Rattle.run_typing_laws.proofs.Sizes.{plain_type, sizes}
 use Rattle.run_typing_laws.proofs.TextClasses.{in_text, line_of_classes, well_named}
 
-module _ (m : Module) (r : IsRunnable m) where
+module _ (m : Module) (r : IsWellTyped m) where
   abbrev d : Declarations
   d = declarations_of m
 

@@ -14,7 +14,7 @@ use Rattle.holder_model.specs.ModuleShapes.{is_class as is_named}
 use Rattle.run_values.specs.Shapes.{Shape}
 use Rattle.type_definitions.specs.Declarations.{Declarations, declarations_of, is_class}
 use Rattle.type_definitions.specs.Lookups.{fields_of}
-use Rattle.run_typing.specs.Runnable.{IsRunnable}
+use Rattle.run_typing_laws.specs.inner.WellTyped.{IsWellTyped}
 use Rattle.run_typing_laws.proofs.Found.{differs, other_name, same_name}
 use Rattle.run_typing_laws.proofs.TextClasses.{in_text, names_once}
 
@@ -39,7 +39,7 @@ module _ (d : Declarations) (class : Name) where
       let other = other_name class (decl_name x) (differs decl_name x xs k (Class class superclass fields) once e) in
       skips x (flat_map (class_shape d) xs) other ∙ found_shape xs k superclass fields once.1 e
 
-pub field_shapes_are : (m : Module) → IsRunnable m → (class : Name) → is_class (declarations_of m) class ≡ true
+pub field_shapes_are : (m : Module) → IsWellTyped m → (class : Name) → is_class (declarations_of m) class ≡ true
     → field_shapes (shapes_of m) class ≡ map (field_shape (declarations_of m)) (fields_of (declarations_of m) class)
 field_shapes_are m r class h =
     let d = declarations_of m in

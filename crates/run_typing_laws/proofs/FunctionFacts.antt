@@ -25,7 +25,7 @@ use Rattle.sil_types.specs.Typing.SwitchRules.{has_wrong_cases}
 use Rattle.sil_types.specs.Typing.Typed.{BreaksAtFunction, BreaksAtPoint, at_function, at_point, function, point}
 use Rattle.sil_types.specs.Typing.Values.{value_functions, value_types}
 use Rattle.type_definitions.specs.Declarations.{declarations_of}
-use Rattle.run_typing.specs.Runnable.{IsNotOwned, IsRunnable}
+use Rattle.run_typing_laws.specs.inner.WellTyped.{IsWellTyped}
 use Rattle.run_typing_laws.proofs.Declared.{each_append}
 use Rattle.run_typing_laws.proofs.Found.{each_at, not_false}
 use Rattle.run_typing_laws.proofs.Rows.Points.{in_front}
@@ -54,7 +54,6 @@ pub record TypedInst (m : Module) (f : Function) (i : Inst) : Type 0 where
 pub record TypedFunction (m : Module) (f : Function) : Type 0 where
   pub numbered : IsFunctionNumbered (length m.functions) f
   pub formed : IsFormed f
-  pub unowned : IsNotOwned f
   -- 205
   pub external : is_no_output_call f ≡ false
   -- 206
@@ -104,7 +103,7 @@ end_at f b i each e = at (slice_get f.blocks b) refl e
           record { within = c; is_block = is; is_inst = get_last c.insts c.terminator ∙ ap (λ j. Some j) same },
         )
 
-module _ (m : Module) (r : IsRunnable m) (n : ℕ) (f : Function) (there : slice_get m.functions n ≡ Some f) where
+module _ (m : Module) (r : IsWellTyped m) (n : ℕ) (f : Function) (there : slice_get m.functions n ≡ Some f) where
   keeps : (x : Rule) → BreaksAtFunction m f x → ⊥
   keeps x broken = r.typed (at_function n) x (function n f x there broken)
 
@@ -134,7 +133,6 @@ module _ (m : Module) (r : IsRunnable m) (n : ℕ) (f : Function) (there : slice
   typed_function = record {
     numbered = numbered;
     formed = each_at IsFormed m.functions n f r.numbered.functions there;
-    unowned = each_at IsNotOwned m.functions n f r.lowered there;
     external = never_passes _ (λ e. keeps rule.External (BreaksAtFunction.external e));
     signature = never_passes _ (λ e. keeps rule.Signature (BreaksAtFunction.signature e));
     escapes = never_passes _ (λ e. keeps rule.AddressEscapes (BreaksAtFunction.address_escapes e));

@@ -1,7 +1,7 @@
 -- Facts on tests and lists.
-use Rattle.std.proofs.Common.{◌≡◌, ℕ, zero, suc, ◌<◌, List, [], ◌∷◌, ◌++◌, length, map, refl, subst, ap, ap₂, arith, Bool, true, false, Some}
+use Rattle.std.proofs.Common.{◌≡◌, ℕ, zero, suc, ◌<◌, List, [], ◌∷◌, ◌++◌, length, map, refl, sym, subst, ap, ap₂, ◌∙◌, append_assoc, length-append, arith, Bool, true, false, Some}
 use Rattle.std.specs.Prelude.{◌||◌, slice_get}
-use Rattle.std.specs.List.{flat_map}
+use Rattle.std.specs.List.{flat_map, range_with_len}
 use Rattle.numbered_form.specs.Lists.{Each, is_empty}
 
 pub or_second : (a b : Bool) → a ≡ false → (a || b) ≡ true → b ≡ true
@@ -26,9 +26,20 @@ each_within f P (y ∷ ys) (suc k) x h e = each_within f P ys k x (each_parts P 
 
 -- what stands where
 
+pub get_next : {A : Type 0} (before : List A) (x : A) (xs : List A) → slice_get (before ++ x ∷ xs) (length before) ≡ Some x
+get_next [] x xs = refl
+get_next (y ∷ ys) x xs = get_next ys x xs
+
 pub get_last : {A : Type 0} (xs : List A) (x : A) → slice_get (xs ++ x ∷ []) (length xs) ≡ Some x
-get_last [] x = refl
-get_last (y ∷ ys) x = get_last ys x
+get_last xs x = get_next xs x []
+
+-- the elements behind some, got one by one
+pub slices : {A : Type 0} (before xs : List A) → map (slice_get (before ++ xs)) (range_with_len (length before) (length xs)) ≡ map (λ x. Some x) xs
+slices before [] = refl
+slices before (x ∷ xs) =
+    ap₂ (λ y ys. y ∷ ys) (get_next before x xs)
+    (ap₂ (λ l n. map (slice_get l) (range_with_len n (length xs))) (sym (append_assoc before (x ∷ []) xs)) (sym (length-append before (x ∷ [])))
+    ∙ slices (before ++ x ∷ []) xs)
 
 pub get_below : {A : Type 0} (xs : List A) (k : ℕ) → k < length xs → (x : A) × (slice_get xs k ≡ Some x)
 get_below [] k lt = absurd (omega arith)

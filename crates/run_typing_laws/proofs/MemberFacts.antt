@@ -25,7 +25,7 @@ use Rattle.type_definitions.specs.Lookups.{FoundField, Payload, case_payload, de
 use Rattle.type_definitions.specs.Lookups.{payload_in}
 use Rattle.type_definitions.specs.Lookups.{chain_fields}
 use Rattle.run_typing.specs.RowForms.{IsEnum, IsGroup, enum, struct}
-use Rattle.run_typing.specs.Runnable.{IsRunnable}
+use Rattle.run_typing_laws.specs.inner.WellTyped.{IsWellTyped}
 use Rattle.run_typing_laws.proofs.ClassChains.{no_ancestors}
 use Rattle.run_typing_laws.proofs.FieldShapes.{field_shapes_are}
 use Rattle.run_typing_laws.proofs.Found.{both_first, both_second, name_is, position-map}
@@ -104,7 +104,7 @@ module _ (m : Module) where
   d = declarations_of m
 
   -- the struct that a type is
-  struct_named : (t : TypeName) (fields : List Field) → fields_of_struct d t ≡ Some fields
+  pub struct_named : (t : TypeName) (fields : List Field) → fields_of_struct d t ≡ Some fields
       → (name : Name) × (n : Name) × (out-TypeName t ≡ TypeName-F.Named name) × (decl_of d name ≡ Some (decl.Struct n fields))
   struct_named t fields e = at (out-TypeName t) refl e
     where
@@ -151,7 +151,7 @@ module _ (m : Module) where
 
 -- ---- fields in shapes
 
-module _ (m : Module) (r : IsRunnable m) where
+module _ (m : Module) (r : IsWellTyped m) where
   pub struct_group : (t : TypeName) (fields : List Field) → fields_of_struct (declarations_of m) t ≡ Some fields
       → IsGroup (shape_of (declarations_of m) t) (map (field_shape_of m) fields)
   struct_group t fields e =
@@ -252,7 +252,7 @@ same_names : (m : Module) (cases : List Case) → map layer_name (map (case_laye
 same_names m [] = refl
 same_names m (c ∷ cases) = ap (λ names. c.name ∷ names) (same_names m cases)
 
-module _ (m : Module) (r : IsRunnable m) where
+module _ (m : Module) (r : IsWellTyped m) where
   optional_has : (t target : TypeName) → out-TypeName t ≡ TypeName-F.Optional target → HasCases (shape_of (declarations_of m) t) (optional_layers (shape_of (declarations_of m) target))
   optional_has t target e = record { name = codes "Optional"; is = ap (shape_of (declarations_of m)) (is_Optional t target e) ∙ optional_shape m target }
 

@@ -24,7 +24,7 @@ use Rattle.run_values.specs.Shapes.{CaseShapes, Shape, cases_by_layers, cases_of
 use Rattle.run_values.specs.Trivial.{itself}
 use Rattle.run_typing.specs.Forms.{has_no_storage}
 use Rattle.value_parts.specs.inner.Storages.{no_storage_layer, payload_holds_none}
-use Rattle.run_typing.specs.Runnable.{IsRunnable}
+use Rattle.run_typing_laws.specs.inner.WellTyped.{IsWellTyped}
 use Rattle.run_typing_laws.proofs.Declared.{each_append, each_at, each_from, holds_of_found}
 use Rattle.run_typing_laws.proofs.Opened.{Proved, by_layer, fold-Int, type_in, types_in}
 
@@ -135,14 +135,14 @@ decl_item P [] more others all i x e = cc
 decl_item P (y ∷ ys) more others all zero x e = let same : y ≡ x = cc in subst (λ z. P (item.decl z)) same (all 0 (item.decl y) (omega arith))
 decl_item P (y ∷ ys) more others all (suc i) x e = decl_item P ys more others (λ k z lt. all (suc k) z (omega arith)) i x e
 
-pub declarations_hold_none : (m : Module) → IsRunnable m → Each HoldsNone (all_decls (declarations_of m))
+pub declarations_hold_none : (m : Module) → IsWellTyped m → Each HoldsNone (all_decls (declarations_of m))
 declarations_hold_none m r =
     each_append HoldsNone (swift_structs m.imports.swift) m.decls (swift_hold_none m.imports.swift) (each_from HoldsNone m.decls (λ i x e.
     holds_none (declarations_of m) x (each_at HasStrongFields m.decls i x r.numbered.fields e)
     (decl_item (IsWellNamed (declarations_of m)) m.decls (map item.function m.functions) (map item.vtable m.vtables) r.declared.items i x e).storage))
 
 -- no storage is in the shape of a type in which none is written
-pub no_storage_shape : (m : Module) → IsRunnable m → (t : TypeName) → has_storage t ≡ false → has_no_storage (shape_of (declarations_of m) t) ≡ true
+pub no_storage_shape : (m : Module) → IsWellTyped m → (t : TypeName) → has_storage t ≡ false → has_no_storage (shape_of (declarations_of m) t) ≡ true
 no_storage_shape m r t e =
     let d = declarations_of m in
     let n = length (all_decls d) in

@@ -1,19 +1,27 @@
 -- A runnable module is typed in the words of a run: function by function, and its deinitialisers, classes, fields and sizes.
+use Rattle.std.proofs.Common.{Some}
+use Rattle.sil_ast.specs.declared.module.Module.{Module}
 use Rattle.run_typing.specs.RunTyped.{RunnableIsTyped}
+use Rattle.run_typing.specs.Runnable.{IsNotOwned, IsRunnable}
+use Rattle.run_typing_laws.specs.inner.WellTyped.{IsWellTyped}
 use Rattle.run_typing_laws.proofs.ClassFacts.{classes, fields_are_typed}
 use Rattle.run_typing_laws.proofs.DeinitFacts.{deinits}
 use Rattle.run_typing_laws.proofs.EndFacts.{ends, ends_take}
 use Rattle.run_typing_laws.proofs.FunctionFacts.{typed_function}
+use Rattle.run_typing_laws.proofs.Found.{each_at}
 use Rattle.run_typing_laws.proofs.ItemFacts.{item_is_of}
 use Rattle.run_typing_laws.proofs.Rows.Insts.{inst_is_typed}
 use Rattle.run_typing_laws.proofs.ShapeFacts.{sizes}
 use Rattle.run_typing_laws.proofs.SignatureFacts.{entry_carried}
 
+pub well_typed : (m : Module) → IsRunnable m → IsWellTyped m
+well_typed m r = record { numbered = r.numbered; declared = r.declared; limits = r.limits; typed = r.typed }
+
 pub runnable_is_typed : RunnableIsTyped
-runnable_is_typed m r = record {
-  functions = λ n f there. let typed = typed_function m r n f there in record {
-    insts = inst_is_typed m r n f there;
-    ends = ends m r f typed;
+runnable_is_typed m runnable = let r = well_typed m runnable in record {
+  functions = λ n f there. let typed = typed_function m r n f there in let not_owned = each_at IsNotOwned m.functions n f runnable.lowered there in record {
+    insts = λ p i here. inst_is_typed m r n f there p i here not_owned;
+    ends = ends m r f typed not_owned;
     ends_take = ends_take m r f typed;
     items = item_is_of m f typed;
     entry = entry_carried m f typed;

@@ -16,7 +16,7 @@ use Rattle.type_definitions.specs.Declarations.{all_decls, declarations_of, decl
 use Rattle.type_definitions.specs.Rules.{is_class_layer, is_class_type}
 use Rattle.run_values.specs.Layers.{CaseLayer, decl_with, named_within, over}
 use Rattle.run_values.specs.Shapes.{Enum, FullCase, Integer, NoCase, PlainCase, Reference, Shape, Stored, Struct, Tuple, cases_of, members_of, shape_of, shape_with}
-use Rattle.run_typing.specs.Runnable.{IsRunnable}
+use Rattle.run_typing_laws.specs.inner.WellTyped.{IsWellTyped}
 use Rattle.run_typing_laws.proofs.Declared.{class_found}
 use Rattle.run_typing_laws.proofs.Opened.{fold-Int, fold-Optional, fold-Tuple, fold-Unowned, fold-Weak}
 use Rattle.run_typing_laws.proofs.Whole.{no_ring, told_named}
@@ -51,26 +51,26 @@ pub unowned_shape : (m : Module) (t : TypeName) → shape_of (declarations_of m)
 unowned_shape m t = fold-Unowned Shape (over shape_with (named_shape m)) t
 
 -- the shape of a name is that of what it finds
-declared_shape : (m : Module) → IsRunnable m → (name : Name) (x : Option Decl) → decl_of (declarations_of m) name ≡ x
+declared_shape : (m : Module) → IsWellTyped m → (name : Name) (x : Option Decl) → decl_of (declarations_of m) name ≡ x
     → shape_of (declarations_of m) (type.Named name) ≡ decl_with shape_with (named_shape m) x
 declared_shape m r name x e = told_named shape_with (declarations_of m) (no_ring m r.declared) name ∙ ap (decl_with shape_with (named_shape m)) e
 
-pub struct_shape : (m : Module) → IsRunnable m → (name n : Name) (fields : List Field) → decl_of (declarations_of m) name ≡ Some (decl.Struct n fields)
+pub struct_shape : (m : Module) → IsWellTyped m → (name n : Name) (fields : List Field) → decl_of (declarations_of m) name ≡ Some (decl.Struct n fields)
     → shape_of (declarations_of m) (type.Named name) ≡ Struct n (members_of (map (field_shape_of m) fields))
 struct_shape m r name n fields e = declared_shape m r name (Some (decl.Struct n fields)) e
 
-pub enum_shape : (m : Module) → IsRunnable m → (name n : Name) (cases : List Case) → decl_of (declarations_of m) name ≡ Some (decl.Enum n cases)
+pub enum_shape : (m : Module) → IsWellTyped m → (name n : Name) (cases : List Case) → decl_of (declarations_of m) name ≡ Some (decl.Enum n cases)
     → shape_of (declarations_of m) (type.Named name) ≡ Enum n (cases_of (map (case_layer_of m) cases))
 enum_shape m r name n cases e = declared_shape m r name (Some (decl.Enum n cases)) e
 
 -- a type that is a class is a reference of this class
-pub class_shape : (m : Module) → IsRunnable m → (name : Name) → is_class (declarations_of m) name ≡ true
+pub class_shape : (m : Module) → IsWellTyped m → (name : Name) → is_class (declarations_of m) name ≡ true
     → shape_of (declarations_of m) (type.Named name) ≡ Reference name
 class_shape m r name e =
     let found = class_found (declarations_of m) name e in
     declared_shape m r name (Some (decl.Class name found.0 found.1)) found.2
 
-pub class_type_shape : (m : Module) → IsRunnable m → (t : TypeName) → is_class_type (declarations_of m) t ≡ true
+pub class_type_shape : (m : Module) → IsWellTyped m → (t : TypeName) → is_class_type (declarations_of m) t ≡ true
     → (name : Name) × (t ≡ type.Named name) × (is_class (declarations_of m) name ≡ true) × (shape_of (declarations_of m) t ≡ Reference name)
 class_type_shape m r t e = at (out-TypeName t) (sym (roll-out-TypeName t)) e
   where

@@ -18,7 +18,7 @@ use Rattle.type_definitions.specs.Declarations.{all_decls, declarations_of, inte
 use Rattle.run_values.specs.inner.Laws.{has_no_address, has_no_address_over, holds_no_address}
 use Rattle.run_typing.specs.RunTyped.{SizesAreMeasured}
 use Rattle.run_values.proofs.Sizes.{are_measured}
-use Rattle.run_typing.specs.Runnable.{IsRunnable}
+use Rattle.run_typing_laws.specs.inner.WellTyped.{IsWellTyped}
 use Rattle.run_typing_laws.proofs.Opened.{Proved, by_layer, fold-Int, type_in, types_in}
 
 abbrev IsPlain : TypeName → Type 0
@@ -81,8 +81,8 @@ with_swift true xs h =
     ∙ h
 with_swift false xs h = h
 
-pub no_addresses : (m : Module) → IsRunnable m → list_all holds_no_address (all_decls (declarations_of m)) ≡ true
+pub no_addresses : (m : Module) → IsWellTyped m → list_all holds_no_address (all_decls (declarations_of m)) ≡ true
 no_addresses m r = with_swift m.imports.swift m.decls (plain_decls m.decls r.numbered.types.declarations)
 
-pub sizes : (m : Module) → IsRunnable m → SizesAreMeasured (declarations_of m)
+pub sizes : (m : Module) → IsWellTyped m → SizesAreMeasured (declarations_of m)
 sizes m r t plain = are_measured (declarations_of m) t (no_addresses m r) plain

@@ -1,5 +1,5 @@
 -- Each case of an enum has its edge in a `switch_enum`, and the edge's block takes the payload.
-use Rattle.std.proofs.Common.{◌≡◌, ℕ, zero, suc, ◌<◌, ◌≤◌, List, [], ◌∷◌, length, map, get_or, zero-add, refl, sym, ap, ap₂, ◌∙◌, subst, arith, Bool, true, false, Option, Some, None}
+use Rattle.std.proofs.Common.{◌≡◌, ℕ, zero, suc, ◌<◌, ◌≤◌, List, [], ◌∷◌, length, map, get_or, zero-add, refl, sym, ap, ap₂, ◌∙◌, subst, arith, Bool, true, false, ◌⊎◌, inl, inr, Option, Some, None}
 use Rattle.std.specs.Prelude.{◌&&◌, ◌||◌, ◌==◌, cond, is_none, is_some, nat_lt, option_and_then, option_map, position, slice_get, unwrap_or, if◌then◌else◌}
 use Rattle.std.specs.List.{cons_option, filter_map, list_all, list_any, position_or_len, range_with_len}
 use Rattle.std.specs.Option.{option_or, option_to_list}
@@ -9,7 +9,7 @@ use Rattle.std.proofs.lemmas.List.Sums.{fails_before_first}
 use Rattle.std.proofs.lemmas.List.FromFn.{get_or-range_with_len, length-range_with_len}
 use Rattle.std.proofs.lemmas.List.Quantifiers.{position-Some}
 use Rattle.std.proofs.lemmas.Option.{slice_get-get_or}
-use Rattle.holder_model.specs.Edges.{is_at, is_default, is_for}
+use Rattle.holder_model.specs.Edges.{edge_for, is_at, is_default, is_for}
 use Rattle.holder_model.specs.ModuleShapes.{case_place}
 use Rattle.numbered_form.specs.Lists.{is_empty}
 use Rattle.numbered_form.specs.inner.Parts.{are_cases, is_case, is_default as is_default_edge}
@@ -31,9 +31,9 @@ use Rattle.sil_types.specs.Typing.SwitchRules.{misfits_default, misfits_payload,
 use Rattle.sil_types.specs.Typing.Values.{arg_type}
 use Rattle.type_definitions.specs.Declarations.{Declarations, declarations_of}
 use Rattle.type_definitions.specs.Lookups.{Payload}
-use Rattle.run_typing.specs.EndForms.{CaseForms, TakenCase, payload_forms}
-use Rattle.run_typing.specs.Forms.{OfValue}
-use Rattle.run_typing.specs.Runnable.{IsRunnable}
+use Rattle.run_typing.specs.EndForms.{CaseForms, TakenCase, arguments_at, payload_forms}
+use Rattle.run_typing.specs.Forms.{OfValue, forms_of}
+use Rattle.run_typing_laws.specs.inner.WellTyped.{IsWellTyped}
 use Rattle.run_typing_laws.proofs.BlockFacts.{block_forms, block_there}
 use Rattle.run_typing_laws.proofs.FunctionFacts.{TypedFunction, TypedInst}
 use Rattle.run_typing_laws.proofs.Found.{both_first, both_second, neither_first, neither_second, not_false}
@@ -137,7 +137,7 @@ record IsEdgeOf (m : Module) (t : TypeName) (e : Edge) (k : ℕ) : Type 0 where
   there : slice_get (case_shapes (shape_of (declarations_of m) t)) k ≡ Some layer
   holds : layer.payload ≡ option_map (shape_of (declarations_of m)) payload.ty
 
-edge_of_case : (m : Module) → IsRunnable m → (t : TypeName) (e : Edge) (p : Payload) → case_of_edge (declarations_of m) t e ≡ Some p → IsEdgeOf m t e p.place
+edge_of_case : (m : Module) → IsWellTyped m → (t : TypeName) (e : Edge) (p : Payload) → case_of_edge (declarations_of m) t e ≡ Some p → IsEdgeOf m t e p.place
 edge_of_case m r t e p is = at e.case_of refl is
   where
     at : (named : Option Member) → e.case_of ≡ named → option_and_then (λ n. case_in (declarations_of m) n t) named ≡ Some p → IsEdgeOf m t e p.place
@@ -153,8 +153,24 @@ edge_of_case m r t e p is = at e.case_of refl is
           holds = found.3;
         }
 
-module _ (m : Module) (r : IsRunnable m) (f : Function) (typed : TypedFunction m f) (i : Inst) (here : TypedInst m f i) (lowered : f.form ≡ form.Lowered)
-    (t : TypeName) (cases : are_cases i.edges ≡ true) (kept : SwitchKept m f t i.edges) (enum : is_enum (declarations_of m) t ≡ true) where
+-- the edge of a default, whose block takes nothing, or the enum where its form allows it
+pub record DefaultEdge (m : Module) (f : Function) (t : TypeName) (e : Edge) : Type 0 where
+  pub default : is_default e ≡ true
+  pub block : e.block.0 < length f.blocks
+  pub bare : e.args ≡ []
+  pub forms : forms_of (declarations_of m) f (arguments_at f e) ≡ map OfValue (map (shape_of (declarations_of m)) (map arg_type (args_of f e.block.0)))
+  pub takes : is_default_argument f.form t (args_of f e.block.0) ≡ true
+
+module _ (m : Module) (r : IsWellTyped m) (f : Function) (typed : TypedFunction m f) (i : Inst) (here : TypedInst m f i) (t : TypeName)
+    (cases : are_cases i.edges ≡ true) (kept : SwitchKept m f t i.edges) (enum : is_enum (declarations_of m) t ≡ true) where
+  -- the edge that a case of the enum takes: its own, or the default
+  pub record ChosenEdge (k : ℕ) (c : CaseLayer Shape) : Type 0 where
+    pub edge : ℕ
+    pub chosen : edge_for (shape_of (declarations_of m) t) i.edges k ≡ Some edge
+    pub to : Edge
+    pub there : slice_get i.edges edge ≡ Some to
+    pub how : CaseForms (declarations_of m) f c to ⊎ DefaultEdge m f t to
+
   -- the edge of a case
   case_forms : (k j : ℕ) (e : Edge) (c : CaseLayer Shape) → slice_get i.edges j ≡ Some e → slice_get (case_shapes (shape_of (declarations_of m) t)) k ≡ Some c → IsEdgeOf m t e k →
       CaseForms (declarations_of m) f c e
@@ -181,26 +197,18 @@ module _ (m : Module) (r : IsRunnable m) (f : Function) (typed : TypedFunction m
           by None none place = cc
           by (Some named) none place = cc
 
-  -- the edge of a default, which takes nothing in lowered code
-  default_forms : (j : ℕ) (e : Edge) (c : CaseLayer Shape) → slice_get i.edges j ≡ Some e → is_default e ≡ true → CaseForms (declarations_of m) f c e
-  default_forms j e c at default = record {
+  default_edge : (j : ℕ) (e : Edge) → slice_get i.edges j ≡ Some e → is_default e ≡ true → DefaultEdge m f t e
+  default_edge j e at default = record {
+    default = default;
     block = block_there m f typed i here j e at;
     bare = bare_at i.edges j e cases at;
-    payload = λ other. cc;
-    nothing = λ again. no_args (args_of f e.block.0) (ap (λ x. is_default_argument x t (args_of f e.block.0)) (sym lowered) ∙ takes);
+    forms = block_forms m f typed i here j e at;
+    takes = or_second (is_some e.case_of) _ (names_none e.case_of default) (passes_at (fits_default f t) i.edges j e kept.defaults at);
   }
     where
-      takes : is_default_argument f.form t (args_of f e.block.0) ≡ true
-      takes = or_second (is_some e.case_of) _ (names_none e.case_of default) (passes_at (fits_default f t) i.edges j e kept.defaults at)
-        where
-          names_none : (o : Option Member) → is_none o ≡ true → is_some o ≡ false
-          names_none None h = refl
-          names_none (Some x) h = cc
-
-      no_args : (args : List BlockArg) → is_default_argument form.Lowered t args ≡ true → args ≡ []
-      no_args [] h = refl
-      no_args (a ∷ []) h = cc
-      no_args (a ∷ b ∷ more) h = cc
+      names_none : (o : Option Member) → is_none o ≡ true → is_some o ≡ false
+      names_none None h = refl
+      names_none (Some x) h = cc
 
   -- an edge that is found by the case's name
   named_edge : (k j : ℕ) (e : Edge) → slice_get i.edges j ≡ Some e → is_for (shape_of (declarations_of m) t) k e ≡ true → IsEdgeOf m t e k
@@ -257,26 +265,46 @@ module _ (m : Module) (r : IsRunnable m) (f : Function) (typed : TypedFunction m
       at true is all = refl
       at false is all = absurd (counted (or_second (list_any is_default i.edges) _ is all))
 
-  pub case_taken : (k : ℕ) (c : CaseLayer Shape) → slice_get (case_shapes (shape_of (declarations_of m) t)) k ≡ Some c → TakenCase (declarations_of m) f i (shape_of (declarations_of m) t) k c
-  case_taken k c there = at (look_for (is_for (shape_of (declarations_of m) t) k) i.edges)
+  pub edge_chosen : (k : ℕ) (c : CaseLayer Shape) → slice_get (case_shapes (shape_of (declarations_of m) t)) k ≡ Some c → ChosenEdge k c
+  edge_chosen k c there = at (look_for (is_for (shape_of (declarations_of m) t) k) i.edges)
     where
-      by_default : Found is_default i.edges → position (is_for (shape_of (declarations_of m) t) k) i.edges ≡ None → list_any is_default i.edges ≡ true →
-          TakenCase (declarations_of m) f i (shape_of (declarations_of m) t) k c
+      by_default : Found is_default i.edges → position (is_for (shape_of (declarations_of m) t) k) i.edges ≡ None → list_any is_default i.edges ≡ true → ChosenEdge k c
       by_default (missed none fails) first passes = cc
       by_default (found j e is stands default) first passes = record {
         edge = j;
         chosen = ap₂ option_or first is;
         to = e;
         there = stands;
-        forms = default_forms j e c stands default;
+        how = inr (default_edge j e stands default);
       }
 
-      at : Found (is_for (shape_of (declarations_of m) t) k) i.edges → TakenCase (declarations_of m) f i (shape_of (declarations_of m) t) k c
+      at : Found (is_for (shape_of (declarations_of m) t) k) i.edges → ChosenEdge k c
       at (found j e is stands passes) = record {
         edge = j;
         chosen = ap (λ o. option_or o (position is_default i.edges)) is;
         to = e;
         there = stands;
-        forms = case_forms k j e c stands there (named_edge k j e stands passes);
+        how = inl (case_forms k j e c stands there (named_edge k j e stands passes));
       }
       at (missed none fails) = by_default (look_for is_default i.edges) none (has_default k c there fails)
+
+  -- a default takes nothing in lowered code
+  pub case_taken : f.form ≡ form.Lowered → (k : ℕ) (c : CaseLayer Shape) → slice_get (case_shapes (shape_of (declarations_of m) t)) k ≡ Some c
+      → TakenCase (declarations_of m) f i (shape_of (declarations_of m) t) k c
+  case_taken lowered k c there =
+      let it = edge_chosen k c there in
+      record { edge = it.edge; chosen = it.chosen; to = it.to; there = it.there; forms = by it.to it.how }
+    where
+      no_args : (args : List BlockArg) → is_default_argument form.Lowered t args ≡ true → args ≡ []
+      no_args [] h = refl
+      no_args (a ∷ []) h = cc
+      no_args (a ∷ b ∷ more) h = cc
+
+      by : (e : Edge) → CaseForms (declarations_of m) f c e ⊎ DefaultEdge m f t e → CaseForms (declarations_of m) f c e
+      by e (inl forms) = forms
+      by e (inr d) = record {
+        block = d.block;
+        bare = d.bare;
+        payload = λ other. let one = d.default in cc;
+        nothing = λ again. no_args (args_of f e.block.0) (ap (λ x. is_default_argument x t (args_of f e.block.0)) (sym lowered) ∙ d.takes);
+      }

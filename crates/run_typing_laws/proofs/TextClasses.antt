@@ -17,7 +17,7 @@ use Rattle.type_definitions.specs.Lookups.{class_at, class_named}
 use Rattle.type_definitions.specs.Mentions.{decl, function, items_of, mentioned_by, members_named_by, mentions_of, vtable}
 use Rattle.type_definitions.specs.Rules.{IsWellNamed, has_unknown_owner, is_no_class, is_of_unknown_class, is_too_deep, is_too_low, is_unknown}
 use Rattle.run_typing.specs.Classes.{is_a}
-use Rattle.run_typing.specs.Runnable.{IsRunnable}
+use Rattle.run_typing_laws.specs.inner.WellTyped.{IsWellTyped}
 use Rattle.run_typing_laws.proofs.ClassChains.{ChainsEnd, line_of, line_split}
 use Rattle.run_typing_laws.proofs.Found.{all_at, fails_at, found, neither_second, not_false, place_once}
 
@@ -67,7 +67,7 @@ module _ (m : Module) where
       before (y ∷ xs) zero e = let same : y ≡ x = cc in ap (λ z. Some (decl z)) same
       before (y ∷ xs) (suc i) e = before xs i e
 
-  module _ (r : IsRunnable m) where
+  module _ (r : IsWellTyped m) where
     pub well_named : (k : ℕ) (x : Decl) → slice_get m.decls k ≡ Some x → IsWellNamed d (decl x)
     well_named k x e = all_at (IsWellNamed d) (items_of m) k (decl x) r.declared.items (item_at k x e)
 
@@ -170,7 +170,7 @@ among_all : (swift : Bool) (decls : List Decl) (k : ℕ) (x : Decl) → slice_ge
 among_all true decls k x e = (suc (suc k), e)
 among_all false decls k x e = (k, e)
 
-module _ (m : Module) (r : IsRunnable m) where
+module _ (m : Module) (r : IsWellTyped m) where
   pub names_once : AreOnce (map decl_name m.decls)
   names_once = text_once m.imports.swift (map decl_name m.decls) r.numbered.once.declarations
 

@@ -2,6 +2,7 @@
 use Rattle.std.proofs.Common.{◌≡◌, ℕ, List, None, Option, Some, map, length, sym, ap, ◌∙◌}
 use Rattle.numbered_form.specs.Names.{Name}
 use Rattle.run_typing_laws.proofs.ListFacts.{map_twice}
+use Rattle.run_typing_laws.proofs.RunnableTyped.{well_typed}
 use Rattle.run_typing_laws.proofs.ShapeFacts.{class_shape, enum_shape, int_shape, struct_shape, tuple_shape, unowned_shape}
 use Rattle.run_typing_laws.proofs.Whole.{no_ring, told_named}
 use Rattle.run_values.specs.Layers.{decl_with, named_within}
@@ -32,21 +33,21 @@ struct_is = of_module
     (λ d. (name n : Name) (fields : List Field) → decl_of d name ≡ Some (decl.Struct n fields)
     → shape_of d (type.Named name) ≡ Struct n (members_of (map (shape_of d) (map field_type fields))))
     (λ m r name n fields e.
-    struct_shape m r name n fields e ∙ ap (λ ss. Struct n (members_of ss)) (sym (map_twice (shape_of (declarations_of m)) field_type fields)))
+    struct_shape m (well_typed m r) name n fields e ∙ ap (λ ss. Struct n (members_of ss)) (sym (map_twice (shape_of (declarations_of m)) field_type fields)))
 
 pub enum_is : (d : Declarations) → IsOfRunnable d → (name n : Name) (cases : List Case) → decl_of d name ≡ Some (decl.Enum n cases)
     → shape_of d (type.Named name) ≡ Enum n (cases_of (map (case_layer_of d) cases))
 enum_is = of_module
     (λ d. (name n : Name) (cases : List Case) → decl_of d name ≡ Some (decl.Enum n cases)
     → shape_of d (type.Named name) ≡ Enum n (cases_of (map (case_layer_of d) cases)))
-    enum_shape
+    (λ m r. enum_shape m (well_typed m r))
 
 pub class_is : (d : Declarations) → IsOfRunnable d → (name n : Name) (superclass : Option Name) (fields : List Field)
     → decl_of d name ≡ Some (decl.Class n superclass fields) → shape_of d (type.Named name) ≡ Reference name
 class_is = of_module
     (λ d. (name n : Name) (superclass : Option Name) (fields : List Field)
     → decl_of d name ≡ Some (decl.Class n superclass fields) → shape_of d (type.Named name) ≡ Reference name)
-    (λ m r name n superclass fields e. class_shape m r name (ap is_class_found e))
+    (λ m r name n superclass fields e. class_shape m (well_typed m r) name (ap is_class_found e))
 
 pub unknown_is : (d : Declarations) → IsOfRunnable d → (name : Name) → decl_of d name ≡ None → shape_of d (type.Named name) ≡ Unknown
 unknown_is = of_module

@@ -7,6 +7,7 @@ use Rattle.std.proofs.lemmas.Bool.{and_parts}
 use Rattle.std.proofs.lemmas.List.Sums.{sum_by-cons}
 use Rattle.run_typing.specs.Runnable.{IsRunnable}
 use Rattle.run_typing_laws.proofs.Declared.{found_at}
+use Rattle.run_typing_laws.proofs.RunnableTyped.{well_typed}
 use Rattle.run_typing_laws.proofs.ShapeFacts.{enum_shape, struct_shape}
 use Rattle.run_typing_laws.proofs.Sizes.{no_addresses, sizes}
 use Rattle.run_values.specs.Leaves.{in_leaves, leaves_layer, payload_sizes, size_of}
@@ -37,7 +38,7 @@ of_module P holds d r = subst P (sym r.2) (holds r.0 r.1)
 
 pub size_measured : (d : Declarations) → IsOfRunnable d → (t : TypeName) → has_no_address t ≡ true
     → (in_leaves (shape_of d t)).size ≡ leaves_of d t
-size_measured = of_module (λ d. (t : TypeName) → has_no_address t ≡ true → (in_leaves (shape_of d t)).size ≡ leaves_of d t) sizes
+size_measured = of_module (λ d. (t : TypeName) → has_no_address t ≡ true → (in_leaves (shape_of d t)).size ≡ leaves_of d t) (λ m r. sizes m (well_typed m r))
 
 pub largest_within : (ns : List ℕ) → largest ns ≤ sum ns
 largest_within [] = omega arith
@@ -53,14 +54,14 @@ module _ (m : Module) (r : IsRunnable m) where
   d = declarations_of m
 
   pub declared_plain : (name : Name) (x : Decl) → decl_of d name ≡ Some x → holds_no_address x ≡ true
-  declared_plain name x e = let found = found_at d name x e in passes_at holds_no_address (all_decls d) found.0 x (no_addresses m r) found.2
+  declared_plain name x e = let found = found_at d name x e in passes_at holds_no_address (all_decls d) found.0 x (no_addresses m (well_typed m r)) found.2
 
   fields_sized : (fields : List Field) → list_all has_no_address (map field_type fields) ≡ true
       → map size_of (each_by_layers leaves_layer (members_of (map (λ f. shape_of d f.ty) fields))) ≡ map (leaves_of d) (map field_type fields)
   fields_sized [] h = refl
   fields_sized (x ∷ fields) h =
       let parts = and_parts (has_no_address x.ty) (list_all has_no_address (map field_type fields)) h in
-      ap₂ (λ n ns. n ∷ ns) (sizes m r x.ty parts.0) (fields_sized fields parts.1)
+      ap₂ (λ n ns. n ∷ ns) (sizes m (well_typed m r) x.ty parts.0) (fields_sized fields parts.1)
 
   payload_sized : (name : Name) (t : Option TypeName) (more : List TypeName) (others : CaseShapes) → list_all has_no_address (option_to_list t ++ more) ≡ true
       → (list_all has_no_address more ≡ true → flat_map payload_sizes (cases_by_layers leaves_layer others) ≡ map (leaves_of d) more)
@@ -68,7 +69,7 @@ module _ (m : Module) (r : IsRunnable m) where
   payload_sized name None more others h behind = behind h
   payload_sized name (Some t) more others h behind =
       let parts = and_parts (has_no_address t) (list_all has_no_address more) h in
-      ap₂ (λ n ns. n ∷ ns) (sizes m r t parts.0) (behind parts.1)
+      ap₂ (λ n ns. n ∷ ns) (sizes m (well_typed m r) t parts.0) (behind parts.1)
 
   cases_sized : (cases : List Case) → list_all has_no_address (flat_map payload_types cases) ≡ true
       → flat_map payload_sizes (cases_by_layers leaves_layer (cases_of (map (case_layer_of d) cases))) ≡ map (leaves_of d) (flat_map payload_types cases)
@@ -80,13 +81,13 @@ module _ (m : Module) (r : IsRunnable m) where
   pub struct_leaves : (name n : Name) (fields : List Field) → has_no_address (type.Named name) ≡ true → decl_of d name ≡ Some (decl.Struct n fields)
       → leaves_of d (type.Named name) ≡ sum (map (leaves_of d) (map field_type fields))
   struct_leaves name n fields plain e =
-      sym (sizes m r (type.Named name) plain)
-      ∙ ap (λ s. (in_leaves s).size) (struct_shape m r name n fields e)
+      sym (sizes m (well_typed m r) (type.Named name) plain)
+      ∙ ap (λ s. (in_leaves s).size) (struct_shape m (well_typed m r) name n fields e)
       ∙ ap sum (fields_sized fields (declared_plain name (decl.Struct n fields) e))
 
   pub enum_leaves : (name n : Name) (cases : List Case) → has_no_address (type.Named name) ≡ true → decl_of d name ≡ Some (decl.Enum n cases)
       → leaves_of d (type.Named name) ≡ 1 + largest (map (leaves_of d) (flat_map payload_types cases))
   enum_leaves name n cases plain e =
-      sym (sizes m r (type.Named name) plain)
-      ∙ ap (λ s. (in_leaves s).size) (enum_shape m r name n cases e)
+      sym (sizes m (well_typed m r) (type.Named name) plain)
+      ∙ ap (λ s. (in_leaves s).size) (enum_shape m (well_typed m r) name n cases e)
       ∙ ap (λ ns. 1 + largest ns) (cases_sized cases (declared_plain name (decl.Enum n cases) e))

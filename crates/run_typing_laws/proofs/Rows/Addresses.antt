@@ -22,7 +22,7 @@ use Rattle.sil_types.specs.Typing.Shapes.{is_case_owner_layer, is_owner, is_owne
 use Rattle.sil_types.specs.Typing.Shapes.{name_in, struct_field, struct_fields, target, target_in}
 use Rattle.run_values.specs.inner.Laws.{has_no_address, has_no_address_over}
 use Rattle.run_typing.specs.Forms.{OfValue}
-use Rattle.run_typing.specs.Runnable.{IsRunnable}
+use Rattle.run_typing_laws.specs.inner.WellTyped.{IsWellTyped}
 use Rattle.run_typing_laws.proofs.Declared.{holds_of_found}
 use Rattle.run_typing_laws.proofs.Opened.{fold-Optional, fold-Tuple}
 use Rattle.run_typing_laws.proofs.ShapeFacts.{field_shape_of}
@@ -111,7 +111,7 @@ none_with_swift : (swift : Bool) (xs : List Decl) → Each HasNone xs → Each H
 none_with_swift true xs h = (record { fields = (target-Int 64, tt); cases = tt }, (record { fields = (target-Int 1, tt); cases = tt }, h))
 none_with_swift false xs h = h
 
-module _ (m : Module) (r : IsRunnable m) where
+module _ (m : Module) (r : IsWellTyped m) where
   abbrev d : Declarations
   d = declarations_of m
 

@@ -17,7 +17,7 @@ use Rattle.sil_types.specs.Typing.Shapes.{is_nontrivial, is_object, target, wher
 use Rattle.run_values.specs.Shapes.{shape_of}
 use Rattle.run_typing.specs.Forms.{OfValue, has_no_storage}
 use Rattle.run_typing.specs.RowForms.{drops, retains}
-use Rattle.run_typing.specs.Runnable.{IsRunnable}
+use Rattle.run_typing_laws.specs.inner.WellTyped.{IsWellTyped}
 use Rattle.run_typing_laws.proofs.ShapeFacts.{class_type_shape, no_storage_shape}
 use Rattle.run_typing_laws.proofs.Rows.Finding.{found_behind, where_found}
 use Rattle.run_typing_laws.proofs.Rows.Forms.{typed_form, value_form}
@@ -32,18 +32,18 @@ placed_at m f i o k n t e =
     let it = found_behind type_of (slice_get i.operands n) t e in
     k.placed n it.0 t it.1 it.2
 
-module _ (m : Module) (r : IsRunnable m) where
+module _ (m : Module) (r : IsWellTyped m) where
   -- a value without storage
-  record IsCounted (t : TypeName) : Type 0 where
-    form : typed_form (declarations_of m) t ≡ OfValue (shape_of (declarations_of m) t)
-    holds_none : has_no_storage (shape_of (declarations_of m) t) ≡ true
+  pub record IsCounted (t : TypeName) : Type 0 where
+    pub form : typed_form (declarations_of m) t ≡ OfValue (shape_of (declarations_of m) t)
+    pub holds_none : has_no_storage (shape_of (declarations_of m) t) ≡ true
 
   class_counted : (t : TypeName) → is_class_type (declarations_of m) t ≡ true → IsCounted t
   class_counted t e =
       let class = class_type_shape m r t e in
       record { form = value_form (declarations_of m) t (ap target class.1 ∙ target-Named class.0); holds_none = class_holds_none m r t e }
 
-  object_counted : (t : TypeName) → is_object t ≡ true → is_misplaced_value (declarations_of m) t ≡ false → IsCounted t
+  pub object_counted : (t : TypeName) → is_object t ≡ true → is_misplaced_value (declarations_of m) t ≡ false → IsCounted t
   object_counted t e placed = record {
     form = value_form (declarations_of m) t (object_target t e);
     holds_none = no_storage_shape m r t (object_holds_none (declarations_of m) t e placed);

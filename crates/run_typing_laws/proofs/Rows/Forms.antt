@@ -24,6 +24,7 @@ use Rattle.sil_types.specs.Typing.Values.{arg_functions, arg_has, arg_types, fun
 use Rattle.run_values.specs.Shapes.{shape_of}
 use Rattle.run_typing.specs.EndForms.{value_in}
 use Rattle.run_typing.specs.Forms.{Form, OfPlace, OfValue, form_by, form_of, form_with, forms_of}
+use Rattle.run_typing_laws.proofs.ListFacts.{slices}
 use Rattle.run_typing_laws.proofs.ShapeFacts.{same_types}
 use Rattle.run_typing_laws.proofs.Rows.Finding.{passed, some_of}
 use Rattle.run_typing_laws.proofs.Rows.Tables.{row_at, told_of_results}
@@ -100,3 +101,19 @@ module _ (d : Declarations) (f : Function) where
             subst (λ x. forms_of d f x ≡ form_by d (slice_get (made_types d i) 0) i.function ∷ []) (sym e)
             (of_one (subst (λ x. map (row_at None (value_types d f)) x ≡ map (slice_get (made_types d i)) (range_with_len 0 (length x))) e t)
             (subst (λ x. map (row_at None (value_functions f)) x ≡ functions_by i.function x) e g))
+
+    -- the forms of all results, where there are as many as types that the row gives
+    pub list_forms : (block index : ℕ) (i : Inst) → IsAt f block index i → (ts : List TypeName) → made_types d i ≡ ts → length i.results ≡ length ts
+        → forms_of d f i.results ≡ map (typed_form d) ts
+    list_forms block index i here ts made count =
+        by_types i.results ts
+        (types_of_results block index i here ∙ ap₂ (λ us n. map (slice_get us) (range_with_len 0 n)) made count ∙ slices [] ts)
+      where
+        by_types : (vs : List ValueId) (us : List TypeName) → map (row_at None (value_types d f)) vs ≡ map (λ t. Some t) us → forms_of d f vs ≡ map (typed_form d) us
+        by_types [] [] e = refl
+        by_types [] (u ∷ us) e = absurd (cc)
+        by_types (v ∷ vs) [] e = absurd (cc)
+        by_types (v ∷ vs) (u ∷ us) e =
+            let first : row_at None (value_types d f) v ≡ Some u = cc in
+            let rest : map (row_at None (value_types d f)) vs ≡ map (λ t. Some t) us = cc in
+            ap₂ (λ x y. x ∷ y) (ap (λ x. form_by d x (function_at (value_functions f) v.0)) first) (by_types vs us rest)

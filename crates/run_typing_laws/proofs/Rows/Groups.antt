@@ -27,7 +27,7 @@ use Rattle.run_values.specs.Layers.{CaseLayer}
 use Rattle.run_values.specs.Shapes.{Shape, Tuple, case_shapes, members_of, shape_of}
 use Rattle.run_typing.specs.Forms.{OfValue, forms_of}
 use Rattle.run_typing.specs.RowForms.{chooses_full, chooses_plain, groups, tuple}
-use Rattle.run_typing.specs.Runnable.{IsRunnable}
+use Rattle.run_typing_laws.specs.inner.WellTyped.{IsWellTyped}
 use Rattle.run_typing_laws.proofs.MemberFacts.{case_found, enum_is, struct_group}
 use Rattle.run_typing_laws.proofs.ShapeFacts.{field_shape_of, tuple_shape}
 use Rattle.run_typing_laws.proofs.Sizes.{plain_type}
@@ -38,7 +38,7 @@ use Rattle.run_typing_laws.proofs.Rows.Known.{Known}
 use Rattle.run_typing_laws.proofs.Rows.Layers.{object_target, target-Tuple}
 use Rattle.run_typing_laws.proofs.Rows.Shares.{Row, all_operands, given_one, gives_form, of_parts, row_of, same_lists, some_where}
 
-module _ (m : Module) (r : IsRunnable m) (f : Function) (i : Inst) where
+module _ (m : Module) (r : IsWellTyped m) (f : Function) (i : Inst) where
   -- the type behind the instruction's name is plain, so that a value of it is none of an address
   plain_there : (o : Op) → Known m f i o → (t : TypeName) → i.ty ≡ Some t → is_plain_type t ≡ true
   plain_there o k t e = (if_some IsPlainType i.ty t e k.types.ty).written

@@ -1,29 +1,35 @@
--- Each instruction of a runnable module takes its operands, and they and its results are of the forms that its row has to do with.
+-- Each instruction takes its operands. In a lowered function they and its results are of the forms that its row has to do with.
 use Rattle.std.proofs.Common.{◌≡◌, ℕ, length, map, ap, ◌∙◌, append-nil, true, false, Some}
 use Rattle.std.specs.Prelude.{drop, option_to_list, slice_get}
 use Rattle.std.specs.List.{flat_map}
-use Rattle.instruction_table.specs.Forms.{roles_of}
+use Rattle.instruction_table.specs.Forms.{forms_of, roles_of}
 use Rattle.instruction_table.specs.declared.op.Op.{Op}
 use Rattle.instruction_table.specs.declared.op.Op.TheVariants as op
 use Rattle.item_operands.specs.Parts.{inst_at}
 use Rattle.item_operands.specs.Roles.{taken_by}
-use Rattle.lowered_run.specs.LowStepParts.{taken_value}
+use Rattle.lowered_run.specs.LowStepParts.{taken_value, values_taken}
+use Rattle.sil_ast.specs.declared.function.Form.TheVariants.{Lowered}
 use Rattle.sil_ast.specs.declared.function.Function.{Function}
 use Rattle.sil_ast.specs.declared.inst.Inst.{Inst}
 use Rattle.sil_ast.specs.declared.module.Module.{Module}
 use Rattle.sil_ast.specs.declared.place.PointId.{PointId}
 use Rattle.type_definitions.specs.Declarations.{declarations_of}
+use Rattle.sil_cfg.specs.declared.item.Item.TheVariants as item
+use Rattle.sil_types.specs.Typing.FormRules.{may_stand_lowered}
 use Rattle.sil_types.specs.Typing.OperandTypes.{argument_types, has_type}
 use Rattle.sil_types.specs.Typing.Values.{value_types}
 use Rattle.run_typing.specs.EndForms.{value_in}
 use Rattle.run_typing.specs.RunTyped.{InstIsTyped}
-use Rattle.run_typing.specs.Runnable.{IsRunnable}
+use Rattle.run_typing.specs.Runnable.{IsNotOwned}
+use Rattle.run_typing_laws.specs.inner.WellTyped.{IsWellTyped}
+use Rattle.run_typing_laws.proofs.BlockFacts.{lowered_form}
 use Rattle.run_typing_laws.proofs.CallFacts.{call_row}
+use Rattle.run_typing_laws.proofs.FunctionFacts.{typed_function}
 use Rattle.run_typing_laws.proofs.Rows.Builtins.{builtin}
 use Rattle.run_typing_laws.proofs.Rows.Counting.{release_value, retain_value, strong_release, strong_retain}
 use Rattle.run_typing_laws.proofs.Rows.Finding.{some_of}
 use Rattle.run_typing_laws.proofs.Rows.Groups.{enum, struct, tuple_of}
-use Rattle.run_typing_laws.proofs.Rows.Known.{Known, known}
+use Rattle.run_typing_laws.proofs.Rows.Known.{Known, in_lowered, known}
 use Rattle.run_typing_laws.proofs.Rows.Members.{ref_element_addr, struct_element_addr, struct_extract, tuple_element_addr, tuple_extract}
 use Rattle.run_typing_laws.proofs.Rows.Memory.{load, store}
 use Rattle.run_typing_laws.proofs.Rows.NamesOfObjects.{destroy_addr, load_unowned, load_weak, store_unowned, store_weak}
@@ -39,7 +45,8 @@ no_other_form e = absurd (cc)
 no_terminator : {P : Type 0} → true ≡ false → P
 no_terminator e = absurd (cc)
 
-module _ (m : Module) (r : IsRunnable m) (n : ℕ) (f : Function) (is_function : slice_get m.functions n ≡ Some f) (p : PointId) (i : Inst) (here : inst_at f p ≡ Some i) where
+module _ (m : Module) (r : IsWellTyped m) (n : ℕ) (f : Function) (is_function : slice_get m.functions n ≡ Some f) (p : PointId) (i : Inst)
+    (here : inst_at f p ≡ Some i) where
   abbrev Taken : Type 0
   Taken = map taken_value (taken_by i) ≡ map value_in i.operands
 
@@ -61,51 +68,60 @@ module _ (m : Module) (r : IsRunnable m) (n : ℕ) (f : Function) (is_function :
   takes op.Unreachable k = no_terminator k.inside
   takes _ k = takes_any i (ap (λ o. ends_for_any (roles_of o)) k.op)
 
-  row : (o : Op) → Known m f i o → Row m f i
-  row op.IntegerLiteral k = integer_literal m r f i k
-  row op.FunctionRef k = function_ref m r f i k
-  row op.Builtin k = builtin m f i k
-  row op.CondFail k = cond_fail m r f i k
-  row op.AllocRef k = alloc_ref m r f i k
-  row op.AllocStack k = alloc_stack m r f i k
-  row op.DeallocStack k = dealloc_stack m r f i k
-  row op.CopyValue k = no_other_form k.lowered
-  row op.DestroyValue k = no_other_form k.lowered
-  row op.MoveValue k = no_other_form k.lowered
-  row op.BeginBorrow k = no_other_form k.lowered
-  row op.EndBorrow k = no_other_form k.lowered
-  row op.Load k = load m r f i k
-  row op.Store k = store m r f i k
-  row op.LoadBorrow k = no_other_form k.lowered
-  row op.DestroyAddr k = destroy_addr m r f i k
-  row op.LoadWeak k = load_weak m r f i k
-  row op.StoreWeak k = store_weak m r f i k
-  row op.LoadUnowned k = load_unowned m r f i k
-  row op.StoreUnowned k = store_unowned m r f i k
-  row op.Struct k = struct m r f i k
-  row op.Tuple k = tuple_of m r f i k
-  row op.Enum k = enum m r f i k
-  row op.StructExtract k = struct_extract m r f i k
-  row op.TupleExtract k = tuple_extract m r f i k
-  row op.DestructureStruct k = no_other_form k.lowered
-  row op.DestructureTuple k = no_other_form k.lowered
-  row op.StructElementAddr k = struct_element_addr m r f i k
-  row op.TupleElementAddr k = tuple_element_addr m r f i k
-  row op.RefElementAddr k = ref_element_addr m r f i k
-  row op.Apply k = call_row m r n f is_function p.block.0 p.index i (is_at f p i here) k.op
-  row op.DebugValue k = debug_value m r f i k
-  row op.StrongRetain k = strong_retain m r f i k
-  row op.StrongRelease k = strong_release m r f i k
-  row op.RetainValue k = retain_value m r f i k
-  row op.ReleaseValue k = release_value m r f i k
-  row op.Br k = no_terminator k.inside
-  row op.CondBr k = no_terminator k.inside
-  row op.SwitchEnum k = no_terminator k.inside
-  row op.Return k = no_terminator k.inside
-  row op.Unreachable k = no_terminator k.inside
-  row op.Upcast k = upcast_of m r f i k
+  -- in a function of either form
+  pub inst_takes : values_taken f (item.Inst p) ≡ map value_in i.operands
+  inst_takes = item_takes f p i here (takes i.op (known m r n f is_function p i here))
 
-  pub inst_is_typed : InstIsTyped m f p i
-  inst_is_typed =
-      let k = known m r n f is_function p i here in
-      record { takes = item_takes f p i here (takes i.op k); row = row i.op k }
+  module _ (not_owned : IsNotOwned f) where
+    lowered : f.form ≡ Lowered
+    lowered = let at = is_at f p i here in lowered_form m f p.block.0 at.within (typed_function m r n f is_function) not_owned at.is_block
+
+    stands : {o : Op} → Known m f i o → may_stand_lowered (forms_of o) i ≡ true
+    stands {o} k = in_lowered m f i o k lowered
+
+    row : (o : Op) → Known m f i o → Row m f i
+    row op.IntegerLiteral k = integer_literal m r f i k
+    row op.FunctionRef k = function_ref m r f i k
+    row op.Builtin k = builtin m f i k
+    row op.CondFail k = cond_fail m r f i k
+    row op.AllocRef k = alloc_ref m r f i k
+    row op.AllocStack k = alloc_stack m r f i k
+    row op.DeallocStack k = dealloc_stack m r f i k
+    row op.CopyValue k = no_other_form (stands k)
+    row op.DestroyValue k = no_other_form (stands k)
+    row op.MoveValue k = no_other_form (stands k)
+    row op.BeginBorrow k = no_other_form (stands k)
+    row op.EndBorrow k = no_other_form (stands k)
+    row op.Load k = load m r f i lowered k
+    row op.Store k = store m r f i lowered k
+    row op.LoadBorrow k = no_other_form (stands k)
+    row op.DestroyAddr k = destroy_addr m r f i lowered k
+    row op.LoadWeak k = load_weak m r f i k
+    row op.StoreWeak k = store_weak m r f i k
+    row op.LoadUnowned k = load_unowned m r f i k
+    row op.StoreUnowned k = store_unowned m r f i k
+    row op.Struct k = struct m r f i k
+    row op.Tuple k = tuple_of m r f i k
+    row op.Enum k = enum m r f i k
+    row op.StructExtract k = struct_extract m r f i k
+    row op.TupleExtract k = tuple_extract m r f i k
+    row op.DestructureStruct k = no_other_form (stands k)
+    row op.DestructureTuple k = no_other_form (stands k)
+    row op.StructElementAddr k = struct_element_addr m r f i k
+    row op.TupleElementAddr k = tuple_element_addr m r f i k
+    row op.RefElementAddr k = ref_element_addr m r f i k
+    row op.Apply k = call_row m r n f is_function p.block.0 p.index i (is_at f p i here) k.op
+    row op.DebugValue k = debug_value m r f i k
+    row op.StrongRetain k = strong_retain m r f i k
+    row op.StrongRelease k = strong_release m r f i k
+    row op.RetainValue k = retain_value m r f i k
+    row op.ReleaseValue k = release_value m r f i k
+    row op.Br k = no_terminator k.inside
+    row op.CondBr k = no_terminator k.inside
+    row op.SwitchEnum k = no_terminator k.inside
+    row op.Return k = no_terminator k.inside
+    row op.Unreachable k = no_terminator k.inside
+    row op.Upcast k = upcast_of m r f i k
+
+    pub inst_is_typed : InstIsTyped m f p i
+    inst_is_typed = record { takes = inst_takes; row = row i.op (known m r n f is_function p i here) }

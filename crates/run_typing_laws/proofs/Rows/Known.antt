@@ -1,17 +1,15 @@
--- All that is known of an instruction of a runnable module, by its row: what typing, numbered form and lowered form say of it.
-use Rattle.std.proofs.Common.{◌≡◌, ℕ, suc, List, [], ◌∷◌, length, refl, ap, subst, arith, Bool, true, false, not, Option, Some}
+-- All that is known of an instruction of a typed module, by its row: what typing, numbered form and the form of its function say of it.
+use Rattle.std.proofs.Common.{◌≡◌, ℕ, suc, List, [], ◌∷◌, length, map, refl, sym, ap, subst, arith, Bool, true, false, not, Option, Some}
 use Rattle.std.specs.Prelude.{◌==◌, ◌&&◌, IfSome, IsTrue, is_some, slice_get, unwrap_or}
 use Rattle.std.specs.List.{list_all}
 use Rattle.std.proofs.lemmas.Bool.{and_parts, eqb-true, not-false, or_parts}
 use Rattle.instruction_table.specs.Forms.{bare_operands_of, forms_of as forms_of_row, is_terminator, results_of}
-use Rattle.instruction_table.specs.declared.entries.Results.TheVariants.{NoResult, OneResult}
+use Rattle.instruction_table.specs.declared.entries.Results.TheVariants.{NoResult, OneResult, ResultList}
 use Rattle.instruction_table.specs.declared.op.Op.{Op}
 use Rattle.item_operands.specs.Parts.{inst_at}
-use Rattle.numbered_form.specs.inner.Functions.{IsFormed}
 use Rattle.numbered_form.specs.inner.Literals.{is_number_of}
 use Rattle.numbered_form.specs.inner.Parts.{IsInside, has_operands, is_callee, is_member, is_number, is_signature, is_text, is_type, may_have, row_has}
 use Rattle.numbered_form.specs.inner.Types.{HasInstTypes}
-use Rattle.sil_ast.specs.declared.function.Block.{Block}
 use Rattle.sil_ast.specs.declared.function.Form.{Form}
 use Rattle.sil_ast.specs.declared.function.Form.TheVariants.{Ossa, Lowered, External}
 use Rattle.sil_ast.specs.declared.function.Function.{Function}
@@ -24,17 +22,22 @@ use Rattle.point_checks.specs.Points.{IsAt}
 use Rattle.type_definitions.specs.Declarations.{declarations_of}
 use Rattle.type_definitions.specs.Rules.{is_misplaced_at, is_misplaced_value}
 use Rattle.type_definitions.specs.Mentions.{standing_in}
-use Rattle.sil_types.specs.Typing.FormRules.{is_annotated_at, is_of_form, may_stand_lowered}
+use Rattle.sil_types.specs.Typing.FormRules.{is_annotated_at, is_of_form, may_stand_lowered, may_stand_owned}
 use Rattle.sil_types.specs.Typing.OperandTypes.{are_as_asked, are_as_asked_by, are_as_written, edge_is_as_written}
-use Rattle.sil_types.specs.Typing.ResultCounts.{is_count_by}
+use Rattle.sil_types.specs.Typing.ResultCounts.{is_count_by, is_count_of}
 use Rattle.sil_types.specs.Typing.RowTypes.{MadeTypes, given_by, keeps_row, row_types}
 use Rattle.sil_types.specs.Typing.Values.{value_types}
 use Rattle.run_typing.specs.Forms.{form_by, forms_of}
-use Rattle.run_typing.specs.Runnable.{IsNotOwned, IsRunnable}
-use Rattle.run_typing_laws.proofs.Rows.Finding.{each_at}
-use Rattle.run_typing_laws.proofs.Rows.Forms.{one_form}
+use Rattle.run_typing_laws.specs.inner.WellTyped.{IsWellTyped}
+use Rattle.run_typing_laws.proofs.Rows.Forms.{list_forms, one_form, typed_form}
 use Rattle.run_typing_laws.proofs.Rows.Mentioned.{operand_placed, type_placed}
 use Rattle.run_typing_laws.proofs.Rows.Points.{counted, has_literals, has_types, is_at, is_inside, keeps_form, operands_typed, results_counted}
+
+-- the row may stand in a function of this form
+abbrev pub stands_in : Form → Op → Inst → Bool
+stands_in Ossa o i = may_stand_owned (forms_of_row o)
+stands_in Lowered o i = may_stand_lowered (forms_of_row o) i
+stands_in External o i = true
 
 pub record Known (m : Module) (f : Function) (i : Inst) (o : Op) : Type 0 where
   pub op : i.op ≡ o
@@ -46,7 +49,9 @@ pub record Known (m : Module) (f : Function) (i : Inst) (o : Op) : Type 0 where
   pub no_result : results_of o ≡ NoResult → forms_of (declarations_of m) f i.results ≡ []
   pub one_result : results_of o ≡ OneResult
       → forms_of (declarations_of m) f i.results ≡ form_by (declarations_of m) (slice_get (unwrap_or (given_by o (declarations_of m) i) []) 0) i.function ∷ []
-  pub lowered : may_stand_lowered (forms_of_row o) i ≡ true
+  pub all_results : results_of o ≡ ResultList → (ts : List TypeName) → given_by o (declarations_of m) i ≡ Some ts
+      → forms_of (declarations_of m) f i.results ≡ map (typed_form (declarations_of m)) ts
+  pub stands : stands_in f.form o i ≡ true
   pub ty : is_some i.ty ≡ row_has is_type o
   pub signature : is_some i.signature ≡ row_has is_signature o
   pub function : is_some i.function ≡ row_has is_callee o
@@ -68,19 +73,7 @@ single [] e = absurd (cc)
 single (x ∷ []) e = (x, refl)
 single (x ∷ y ∷ xs) e = let none : suc (suc (length xs)) ≡ 1 = eqb-true (suc (suc (length xs))) 1 e in absurd (omega arith)
 
--- a function with a block that isn't in ownership form is in lowered form
-in_lowered_form : (f : Function) (k : ℕ) (b : Block) → IsFormed f → IsNotOwned f → slice_get f.blocks k ≡ Some b → f.form ≡ Lowered
-in_lowered_form f k b formed not_owned e = at f.form refl
-  where
-    none : slice_get [] k ≡ Some b → ⊥
-    none h = absurd (cc)
-
-    at : (form : Form) → f.form ≡ form → f.form ≡ Lowered
-    at Ossa is = absurd (not_owned is)
-    at Lowered is = is
-    at External is = absurd (none (subst (λ bs. slice_get bs k ≡ Some b) (formed.external.0 is) e))
-
-module _ (m : Module) (r : IsRunnable m) (n : ℕ) (f : Function) (is_function : slice_get m.functions n ≡ Some f) (p : PointId) (i : Inst) (here : inst_at f p ≡ Some i) where
+module _ (m : Module) (r : IsWellTyped m) (n : ℕ) (f : Function) (is_function : slice_get m.functions n ≡ Some f) (p : PointId) (i : Inst) (here : inst_at f p ≡ Some i) where
   spot : IsAt f p.block.0 p.index i
   spot = is_at f p i here
 
@@ -95,14 +88,15 @@ module _ (m : Module) (r : IsRunnable m) (n : ℕ) (f : Function) (is_function :
       let two = and_parts keeps written three.0 in
       (two.0, two.1, all.1)
 
-  form : f.form ≡ Lowered
-  form =
-      in_lowered_form f p.block.0 spot.within (each_at IsFormed m.functions n f r.numbered.functions is_function) (each_at IsNotOwned m.functions n f r.lowered is_function) spot.is_block
-
-  in_form : may_stand_lowered (forms_of_row i.op) i ≡ true
+  in_form : stands_in f.form i.op i ≡ true
   in_form =
-      subst (λ x. is_of_form x i ≡ true) form
+      stands f.form
       (not-false (is_of_form f.form i) (or_parts (not (is_of_form f.form i)) (is_annotated_at f p.block.0 p.index) (keeps_form m r n f is_function p.block.0 p.index i spot)).0)
+    where
+      stands : (x : Form) → is_of_form x i ≡ true → stands_in x i.op i ≡ true
+      stands Ossa e = e
+      stands Lowered e = e
+      stands External e = e
 
   number_of_results : is_count_by (results_of i.op) (row_types (declarations_of m) i) (length i.results) ≡ true
   number_of_results = not-false _ (results_counted m r n f is_function p.block.0 p.index i spot)
@@ -124,7 +118,11 @@ module _ (m : Module) (r : IsRunnable m) (n : ℕ) (f : Function) (is_function :
         one_result = λ e.
             let it = single i.results (subst (λ x. is_count_by x given (length i.results) ≡ true) e number_of_results) in
             one_form (declarations_of m) f (counted m r n f is_function) p.block.0 p.index i spot it.0 it.1;
-        lowered = in_form;
+        all_results = λ e ts gives.
+            let counted_so = subst (λ (x : MadeTypes). is_count_of x (length i.results) ≡ true) gives (subst (λ x. is_count_by x given (length i.results) ≡ true) e number_of_results) in
+            list_forms (declarations_of m) f (counted m r n f is_function) p.block.0 p.index i spot ts (ap (λ (x : MadeTypes). unwrap_or x []) gives)
+            (sym (eqb-true (length ts) (length i.results) counted_so));
+        stands = in_form;
         ty = inside.parts.ty;
         signature = inside.parts.signature;
         function = inside.parts.function;
@@ -137,3 +135,11 @@ module _ (m : Module) (r : IsRunnable m) (n : ℕ) (f : Function) (is_function :
         placed = operand_placed m r.declared n f is_function p.block.0 p.index i spot;
         type_placed = type_placed m r.declared n f is_function p.block.0 p.index i spot;
       }
+
+-- in a lowered function
+pub in_lowered : (m : Module) (f : Function) (i : Inst) (o : Op) → Known m f i o → f.form ≡ Lowered → may_stand_lowered (forms_of_row o) i ≡ true
+in_lowered m f i o k lowered = subst (λ x. stands_in x o i ≡ true) lowered k.stands
+
+-- in one in ownership form
+pub in_owned : (m : Module) (f : Function) (i : Inst) (o : Op) → Known m f i o → f.form ≡ Ossa → may_stand_owned (forms_of_row o) ≡ true
+in_owned m f i o k owned = subst (λ x. stands_in x o i ≡ true) owned k.stands

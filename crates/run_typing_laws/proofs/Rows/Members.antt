@@ -22,7 +22,7 @@ use Rattle.run_values.specs.Shapes.{Reference, shape_of}
 use Rattle.run_typing.specs.Forms.{OfPlace, OfValue}
 use Rattle.run_typing.specs.RowForms.{member, member_address}
 use Rattle.run_typing.specs.RowForms as row
-use Rattle.run_typing.specs.Runnable.{IsRunnable}
+use Rattle.run_typing_laws.specs.inner.WellTyped.{IsWellTyped}
 use Rattle.run_typing_laws.proofs.MemberFacts.{class_member, element_shape, struct_member}
 use Rattle.run_typing_laws.proofs.ShapeFacts.{class_shape}
 use Rattle.run_typing_laws.proofs.Rows.Addresses.{element_target, field_target}
@@ -32,9 +32,9 @@ use Rattle.run_typing_laws.proofs.Rows.Known.{Known}
 use Rattle.run_typing_laws.proofs.Rows.Layers.{target-Address, target-Named, target-Tuple, tuple_type}
 use Rattle.run_typing_laws.proofs.Rows.Shares.{Row, given_one, gives_form, of_parts, one_operand, row_of}
 
-module _ (m : Module) (r : IsRunnable m) (f : Function) (i : Inst) where
+module _ (m : Module) (r : IsWellTyped m) (f : Function) (i : Inst) where
   -- an operand's written type is written with one `*` at most
-  placed_so : (o : Op) → Known m f i o → (n : ℕ) (t : TypeName) → written n i ≡ Some t → is_placed_type t ≡ true
+  pub placed_so : (o : Op) → Known m f i o → (n : ℕ) (t : TypeName) → written n i ≡ Some t → is_placed_type t ≡ true
   placed_so o k n t e =
       let it = found_behind type_of (slice_get i.operands n) t e in
       (if_some IsPlacedType it.0.ty t it.2 (each_at HasOperandType i.operands n it.0 k.types.operands it.1)).written

@@ -3,6 +3,7 @@ use Rattle.std.proofs.Common.{◌≡◌, [], ◌∷◌, refl, ap, ap₂, ◌∙�
 use Rattle.std.specs.Prelude.{option_and_then, take}
 use Rattle.std.specs.Option.{option_to_list}
 use Rattle.instruction_table.specs.declared.op.Op.TheVariants as op
+use Rattle.sil_ast.specs.declared.function.Form.TheVariants.{Lowered}
 use Rattle.sil_ast.specs.declared.function.Function.{Function}
 use Rattle.sil_ast.specs.declared.inst.Inst.{Inst}
 use Rattle.sil_ast.specs.declared.inst.Qualifier.{Qualifier}
@@ -20,14 +21,15 @@ use Rattle.sil_types.specs.Typing.Same.{all_pairs}
 use Rattle.sil_types.specs.Typing.Shapes.{is_object, object_at, target}
 use Rattle.sil_types.specs.Typing.Values.{value_types}
 use Rattle.run_values.specs.Shapes.{shape_of}
-use Rattle.run_typing.specs.Forms.{OfPlace, OfValue, has_no_storage}
+use Rattle.run_typing.specs.EndForms.{operand_forms}
+use Rattle.run_typing.specs.Forms.{OfPlace, OfValue, forms_of, has_no_storage}
 use Rattle.run_typing.specs.RowForms.{loads, stores}
-use Rattle.run_typing.specs.Runnable.{IsRunnable}
+use Rattle.run_typing_laws.specs.inner.WellTyped.{IsWellTyped}
 use Rattle.run_typing_laws.proofs.ShapeFacts.{no_storage_shape}
 use Rattle.run_typing_laws.proofs.Rows.Counting.{placed_at}
 use Rattle.run_typing_laws.proofs.Rows.Finding.{found_behind, where_found}
 use Rattle.run_typing_laws.proofs.Rows.Forms.{place_form, typed_form, value_form}
-use Rattle.run_typing_laws.proofs.Rows.Known.{Known}
+use Rattle.run_typing_laws.proofs.Rows.Known.{Known, in_lowered}
 use Rattle.run_typing_laws.proofs.Rows.Layers.{object_target}
 use Rattle.run_typing_laws.proofs.Rows.Shares.{Row, given_one, gives_form, of_parts, one_operand, row_of, taken_from, two_operands}
 use Rattle.run_typing_laws.proofs.Rows.Storage.{behind_address, object_in_storage}
@@ -40,14 +42,14 @@ no_word word.Trivial e = absurd (cc)
 no_word word.Init e = absurd (cc)
 no_word word.Assign e = absurd (cc)
 
-module _ (m : Module) (r : IsRunnable m) where
+module _ (m : Module) (r : IsWellTyped m) where
   -- an object at an address
-  record IsPlaceOf (t inner : TypeName) : Type 0 where
-    place : typed_form (declarations_of m) t ≡ OfPlace (shape_of (declarations_of m) inner)
-    value : typed_form (declarations_of m) inner ≡ OfValue (shape_of (declarations_of m) inner)
-    holds_none : has_no_storage (shape_of (declarations_of m) inner) ≡ true
+  pub record IsPlaceOf (t inner : TypeName) : Type 0 where
+    pub place : typed_form (declarations_of m) t ≡ OfPlace (shape_of (declarations_of m) inner)
+    pub value : typed_form (declarations_of m) inner ≡ OfValue (shape_of (declarations_of m) inner)
+    pub holds_none : has_no_storage (shape_of (declarations_of m) inner) ≡ true
 
-  object_place : (t inner : TypeName) → object_at t ≡ Some inner → is_misplaced_value (declarations_of m) t ≡ false → IsPlaceOf t inner
+  pub object_place : (t inner : TypeName) → object_at t ≡ Some inner → is_misplaced_value (declarations_of m) t ≡ false → IsPlaceOf t inner
   object_place t inner e placed =
       let found = where_found is_object (target t) inner e in
       record {
@@ -57,23 +59,51 @@ module _ (m : Module) (r : IsRunnable m) where
       }
 
   module _ (f : Function) (i : Inst) where
-    pub load : Known m f i op.Load → Row m f i
-    load k =
+    -- what a load takes and gives: the address of an object, and the object
+    pub record IsLoaded : Type 0 where
+      pub ty : TypeName
+      pub taken : operand_forms (declarations_of m) f i ≡ OfPlace (shape_of (declarations_of m) ty) ∷ []
+      pub given : forms_of (declarations_of m) f i.results ≡ OfValue (shape_of (declarations_of m) ty) ∷ []
+      pub holds_none : has_no_storage (shape_of (declarations_of m) ty) ≡ true
+
+    pub loaded : Known m f i op.Load → IsLoaded
+    loaded k =
         let it = given_one (option_and_then object_at (written 0 i)) k.keeps in
         let at = found_behind object_at (written 0 i) it.0 it.1 in
         let whole = object_place at.0 it.0 at.2 (placed_at m f i op.Load k 0 at.0 at.1) in
-        row_of m f i (OfPlace (shape_of (declarations_of m) it.0) ∷ []) (OfValue (shape_of (declarations_of m) it.0) ∷ [])
-        (one_operand m f i op.Load k (of_parts _ k.operands) at.0 at.1 ∙ ap (λ x. x ∷ []) whole.place)
-        (gives_form m f i op.Load k refl it.0 (ap gives it.1) ∙ ap (λ x. x ∷ []) whole.value)
-        (loads _ (ap effect_of k.op) (ap₂ (λ o q. operation_by (access_kind_of o) q) k.op (no_word i.qualifier k.lowered)) whole.holds_none)
+        record {
+          ty = it.0;
+          taken = one_operand m f i op.Load k (of_parts _ k.operands) at.0 at.1 ∙ ap (λ x. x ∷ []) whole.place;
+          given = gives_form m f i op.Load k refl it.0 (ap gives it.1) ∙ ap (λ x. x ∷ []) whole.value;
+          holds_none = whole.holds_none;
+        }
 
-    pub store : Known m f i op.Store → Row m f i
-    store k =
+    -- what a store takes: an object, and the address of one of its type
+    pub record IsStored : Type 0 where
+      pub ty : TypeName
+      pub taken : operand_forms (declarations_of m) f i ≡ OfValue (shape_of (declarations_of m) ty) ∷ OfPlace (shape_of (declarations_of m) ty) ∷ []
+      pub holds_none : has_no_storage (shape_of (declarations_of m) ty) ≡ true
+
+    pub stored : Known m f i op.Store → IsStored
+    stored k =
         let it = taken_from (option_and_then object_at (written 1 i)) k.keeps in
         let at = found_behind object_at (written 1 i) it.0 it.1 in
         let whole = object_place at.0 it.0 at.2 (placed_at m f i op.Store k 1 at.0 at.1) in
         let asked = subst (λ t. all_pairs (has_type (value_types (declarations_of m) f)) (take 1 i.operands) (option_to_list t) ≡ true) it.1 k.asked in
-        row_of m f i (OfValue (shape_of (declarations_of m) it.0) ∷ OfPlace (shape_of (declarations_of m) it.0) ∷ []) []
-        (two_operands m f i op.Store k (of_parts _ k.operands) it.0 at.0 at.1 asked ∙ ap₂ (λ x y. x ∷ y ∷ []) whole.value whole.place)
-        (k.no_result refl)
-        (stores _ (ap effect_of k.op) (ap₂ (λ o q. operation_by (access_kind_of o) q) k.op (no_word i.qualifier k.lowered)) whole.holds_none)
+        record {
+          ty = it.0;
+          taken = two_operands m f i op.Store k (of_parts _ k.operands) it.0 at.0 at.1 asked ∙ ap₂ (λ x y. x ∷ y ∷ []) whole.value whole.place;
+          holds_none = whole.holds_none;
+        }
+
+    pub load : f.form ≡ Lowered → Known m f i op.Load → Row m f i
+    load lowered k =
+        let it = loaded k in
+        row_of m f i _ _ it.taken it.given
+        (loads _ (ap effect_of k.op) (ap₂ (λ o q. operation_by (access_kind_of o) q) k.op (no_word i.qualifier (in_lowered m f i op.Load k lowered))) it.holds_none)
+
+    pub store : f.form ≡ Lowered → Known m f i op.Store → Row m f i
+    store lowered k =
+        let it = stored k in
+        row_of m f i _ [] it.taken (k.no_result refl)
+        (stores _ (ap effect_of k.op) (ap₂ (λ o q. operation_by (access_kind_of o) q) k.op (no_word i.qualifier (in_lowered m f i op.Store k lowered))) it.holds_none)

@@ -6,6 +6,7 @@ use Rattle.instruction_table.specs.declared.op.Op.TheVariants as op
 use Rattle.numbered_form.specs.inner.Parts.{is_plain_or_init, is_plain_or_take}
 use Rattle.sil_ast.specs.declared.decl.Storage.{Storage}
 use Rattle.sil_ast.specs.declared.decl.Storage.TheVariants as storage
+use Rattle.sil_ast.specs.declared.function.Form.TheVariants.{Lowered}
 use Rattle.sil_ast.specs.declared.function.Function.{Function}
 use Rattle.sil_ast.specs.declared.inst.Inst.{Inst}
 use Rattle.sil_ast.specs.declared.inst.Qualifier.{Qualifier}
@@ -17,6 +18,7 @@ use Rattle.holder_model.specs.Effects.{effect_of}
 use Rattle.memory_accesses.specs.Operations.{access_kind_of, load_operation, operation_by, store_operation}
 use Rattle.type_definitions.specs.Declarations.{declarations_of}
 use Rattle.type_definitions.specs.Rules.{is_misplaced_value}
+use Rattle.sil_types.specs.Typing.FormRules.{is_at_storage}
 use Rattle.sil_types.specs.Typing.OperandTypes.{has_type}
 use Rattle.sil_types.specs.Typing.RowTypes.{gives, written}
 use Rattle.sil_types.specs.Typing.Same.{all_pairs}
@@ -26,12 +28,12 @@ use Rattle.run_values.specs.Shapes.{Stored, shape_of}
 use Rattle.run_typing.specs.Forms.{OfPlace, OfValue}
 use Rattle.run_typing.specs.RowForms.{IsLoadOf, IsStoreOf, again, destroys_name, first, loads_name, reads, stores_name, takes}
 use Rattle.run_typing.specs.StorageForms.{IsNamed}
-use Rattle.run_typing.specs.Runnable.{IsRunnable}
+use Rattle.run_typing_laws.specs.inner.WellTyped.{IsWellTyped}
 use Rattle.run_typing_laws.proofs.ShapeFacts.{class_type_shape, unowned_shape, weak_shape}
 use Rattle.run_typing_laws.proofs.Rows.Counting.{placed_at}
 use Rattle.run_typing_laws.proofs.Rows.Finding.{found_behind, passed}
 use Rattle.run_typing_laws.proofs.Rows.Forms.{place_form, typed_form, value_form}
-use Rattle.run_typing_laws.proofs.Rows.Known.{Known}
+use Rattle.run_typing_laws.proofs.Rows.Known.{Known, in_lowered}
 use Rattle.run_typing_laws.proofs.Rows.Layers.{is_unowned, is_weak, target-Named, target-Optional, unowned_type, weak_type}
 use Rattle.run_typing_laws.proofs.Rows.Shares.{Row, given_one, gives_form, of_parts, one_operand, row_of, taken_from, two_operands}
 use Rattle.run_typing_laws.proofs.Rows.Storage.{behind_address, in_unowned_storage, in_weak_storage, optional_type, unowned_is_named, weak_is_named}
@@ -64,7 +66,7 @@ storage_type t e = at (out-TypeName t) refl e
     at (TypeName-F.Unowned x) o e = inr (x, is_unowned t x o)
     at (TypeName-F.Address x) o e = absurd (cc)
 
-module _ (m : Module) (r : IsRunnable m) where
+module _ (m : Module) (r : IsWellTyped m) where
   -- storage of this kind at an address, which names a value of the inner type
   record IsStorageOf (w : Storage) (t inner : TypeName) : Type 0 where
     place : typed_form (declarations_of m) t ≡ OfPlace (Stored w (shape_of (declarations_of m) inner))
@@ -151,9 +153,10 @@ module _ (m : Module) (r : IsRunnable m) where
         (k.no_result refl)
         (destroys_name w _ (ap effect_of k.op) held.named (ap (λ o. operation_by (access_kind_of o) i.qualifier) k.op))
 
-    pub destroy_addr : Known m f i op.DestroyAddr → Row m f i
-    destroy_addr k =
-        let it = passed is_storage (option_and_then target (written 0 i)) k.lowered in
+    -- the address is that of storage
+    pub destroy_storage : Known m f i op.DestroyAddr → is_at_storage i ≡ true → Row m f i
+    destroy_storage k stored =
+        let it = passed is_storage (option_and_then target (written 0 i)) stored in
         let at = found_behind target (written 0 i) it.0 it.1 in
         let placed = placed_at m f i op.DestroyAddr k 0 at.0 at.1 in
         by at.0 it.0 at.1 at.2 placed (storage_type it.0 it.2)
@@ -162,3 +165,7 @@ module _ (m : Module) (r : IsRunnable m) where
             → ((inner : TypeName) × (u ≡ type.Weak inner)) ⊎ ((inner : TypeName) × (u ≡ type.Unowned inner)) → Row m f i
         by t u is to placed (inl w) = destroys_at storage.Weak t w.0 k is (weak_there t w.0 (to ∙ ap Some w.1) placed)
         by t u is to placed (inr w) = destroys_at storage.Unowned t w.0 k is (unowned_there t w.0 (to ∙ ap Some w.1) placed)
+
+    -- as it always is in lowered code
+    pub destroy_addr : f.form ≡ Lowered → Known m f i op.DestroyAddr → Row m f i
+    destroy_addr lowered k = destroy_storage k (in_lowered m f i op.DestroyAddr k lowered)

@@ -14,7 +14,7 @@ use Rattle.sil_types.specs.Typing.Shapes.{is_bit, is_integer, target, where_it}
 use Rattle.run_values.specs.Shapes.{Reference, shape_of}
 use Rattle.run_typing.specs.Forms.{OfFunction, OfPlace, OfValue, form_by}
 use Rattle.run_typing.specs.RowForms.{bit, function, literal, looks, object, removes, slot, traps}
-use Rattle.run_typing.specs.Runnable.{IsRunnable}
+use Rattle.run_typing_laws.specs.inner.WellTyped.{IsWellTyped}
 use Rattle.run_typing_laws.proofs.ShapeFacts.{class_type_shape}
 use Rattle.run_typing_laws.proofs.Rows.Finding.{found_behind, if_some, mapped_from, some_of, where_found}
 use Rattle.run_typing_laws.proofs.Rows.Forms.{place_form, typed_form, value_form}
@@ -23,7 +23,7 @@ use Rattle.run_typing_laws.proofs.Rows.Layers.{bit_type, integer_type, out-Int, 
 use Rattle.run_typing_laws.proofs.Rows.Storage.{stored_shape}
 use Rattle.run_typing_laws.proofs.Rows.Shares.{Row, given_one, gives_form, int_form, no_operand, of_parts, one_operand, row_of, some_operand, taken_from}
 
-module _ (m : Module) (r : IsRunnable m) (f : Function) (i : Inst) where
+module _ (m : Module) (r : IsWellTyped m) (f : Function) (i : Inst) where
   pub integer_literal : Known m f i op.IntegerLiteral → Row m f i
   integer_literal k =
       let it = given_one (where_it is_integer i.ty) k.keeps in

@@ -21,7 +21,7 @@ use Rattle.sil_types.specs.Typing.OperandTypes.{has_operand_types}
 use Rattle.sil_types.specs.Typing.ResultCounts.{has_wrong_result_count}
 use Rattle.sil_types.specs.Typing.Typed.{BreaksAtPoint, at_point, mixed_forms, operand_type, point, result_count}
 use Rattle.sil_types.specs.Typing.Values.{value_types}
-use Rattle.run_typing.specs.Runnable.{IsRunnable}
+use Rattle.run_typing_laws.specs.inner.WellTyped.{IsWellTyped}
 use Rattle.run_typing_laws.proofs.Rows.Finding.{each_at, never_fails, never_passes}
 
 -- an element of the first list stands at its place in both
@@ -48,7 +48,7 @@ is_at f p i e =
     let w = within f p i e in
     record { within = w.block; is_block = w.is_block; is_inst = in_front w.block.insts (w.block.terminator ∷ []) p.index i w.is_inst }
 
-module _ (m : Module) (r : IsRunnable m) (n : ℕ) (f : Function) (is_function : slice_get m.functions n ≡ Some f) where
+module _ (m : Module) (r : IsWellTyped m) (n : ℕ) (f : Function) (is_function : slice_get m.functions n ≡ Some f) where
   pub counted : AreCountedFrom 0 (values_of f.blocks)
   counted = (each_at (IsFunctionNumbered _) m.functions n f r.numbered.numbering.functions is_function).values
 

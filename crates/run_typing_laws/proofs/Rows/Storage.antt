@@ -14,7 +14,7 @@ use Rattle.sil_types.specs.Typing.Shapes.{is_object, is_object_layer, target, ta
 use Rattle.run_values.specs.Shapes.{Enum, FullCase, NoCase, PlainCase, shape_of}
 use Rattle.run_typing.specs.Forms.{has_no_storage}
 use Rattle.run_typing.specs.StorageForms.{FieldShapeIs, IsNamed, named, plain, unowned, weak}
-use Rattle.run_typing.specs.Runnable.{IsRunnable}
+use Rattle.run_typing_laws.specs.inner.WellTyped.{IsWellTyped}
 use Rattle.run_typing_laws.proofs.ShapeFacts.{class_type_shape, no_storage_shape, optional_shape, unowned_shape, weak_shape}
 use Rattle.run_typing_laws.proofs.Rows.Layers.{is_optional, is_unowned, is_weak, out-Unowned, out-Weak}
 
@@ -76,7 +76,7 @@ in_weak_storage d inner e = not-false (is_optional_class d inner) (subst (λ lay
 pub in_unowned_storage : (d : Declarations) (inner : TypeName) → is_misplaced_in_storage d (type.Unowned inner) ≡ false → is_class_type d inner ≡ true
 in_unowned_storage d inner e = not-false (is_class_type d inner) (subst (λ layer. is_misplaced_layer d (type.Unowned inner) layer ≡ false) (out-Unowned inner) e)
 
-module _ (m : Module) (r : IsRunnable m) where
+module _ (m : Module) (r : IsWellTyped m) where
   pub weak_is_named : (t : TypeName) → is_optional_class (declarations_of m) t ≡ true → IsNamed storage.Weak (shape_of (declarations_of m) t)
   weak_is_named t e =
       let it = optional_type (declarations_of m) t e in

@@ -20,7 +20,7 @@ use Rattle.sil_types.specs.Typing.Shapes.{name_in, where_it}
 use Rattle.run_values.specs.Shapes.{Reference}
 use Rattle.run_typing.specs.Forms.{OfValue}
 use Rattle.run_typing.specs.RowForms.{upcast}
-use Rattle.run_typing.specs.Runnable.{IsRunnable}
+use Rattle.run_typing_laws.specs.inner.WellTyped.{IsWellTyped}
 use Rattle.run_typing_laws.proofs.Found.{name_is}
 use Rattle.run_typing_laws.proofs.ShapeFacts.{class_shape}
 use Rattle.run_typing_laws.proofs.TextClasses.{superclass_is_class}
@@ -44,7 +44,7 @@ no_chain : (d : Declarations) (n : ℕ) → chain d n None ≡ []
 no_chain d zero = refl
 no_chain d (suc n) = refl
 
-module _ (m : Module) (r : IsRunnable m) where
+module _ (m : Module) (r : IsWellTyped m) where
   abbrev d : Declarations
   d = declarations_of m
 

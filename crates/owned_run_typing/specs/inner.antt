@@ -1,0 +1,3 @@
+pub mod OwnedRows
+pub mod OwnedEnds
+pub mod OwnedTyped
