@@ -1,5 +1,5 @@
 -- A `destroy_value` of an Owned value has a mark of it.
-use Rattle.std.proofs.Common.{◌≡◌, ℕ, List, [], ◌∷◌, ◌++◌, length, refl, sym, ap, ap₂, ◌∙◌, Bool, true, false, Option, Some, None, eq-eqb, append-nil}
+use Rattle.std.proofs.Common.{◌≡◌, List, [], ◌∷◌, ◌++◌, length, refl, sym, ap, ap₂, ◌∙◌, true, false, Option, Some, None, eq-eqb, append-nil}
 use Rattle.std.specs.Prelude.{◌||◌, ◌==◌, unwrap_or}
 use Rattle.std.specs.List.{flat_map, list_any, slice_get}
 use Rattle.std.proofs.lemmas.Bool.{eqb-true}

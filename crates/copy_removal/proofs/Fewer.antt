@@ -1,6 +1,6 @@
 -- Each rewriting leaves fewer copies.
-use Rattle.std.proofs.Common.{◌≡◌, ℕ, zero, suc, ◌+◌, ◌<◌, ◌≤◌, List, [], ◌∷◌, refl, sym, ap, ap₂, ◌∙◌, subst, Bool, true, false, cond, Option, Some, None, map, eq-eqb, arith}
-use Rattle.std.specs.Prelude.{◌&&◌, ◌||◌, ◌==◌}
+use Rattle.std.proofs.Common.{◌≡◌, ℕ, zero, suc, ◌<◌, ◌≤◌, List, [], ◌∷◌, refl, sym, ap, ap₂, ◌∙◌, subst, Bool, true, false, cond, Option, Some, None, map, eq-eqb, arith}
+use Rattle.std.specs.Prelude.{◌&&◌, ◌||◌}
 use Rattle.std.specs.List.{remove, slice_get, sum_by}
 use Rattle.std.proofs.lemmas.List.Sums.{sum_by-cons}
 use Rattle.instruction_table.specs.declared.op.Op.TheVariants as op
@@ -13,7 +13,7 @@ use Rattle.item_operands.specs.Parts.{inst_at, inst_in}
 use Rattle.ownership_chains.specs.Facts.{has}
 use Rattle.copy_removal.specs.Copies.{Copies, IsCopy, is_op}
 use Rattle.copy_removal.specs.Rewritten.{changed_at, lent, lent_block, lent_inst, makes, moved, moved_block, takes, with_op}
-use Rattle.copy_removal.specs.Optimised.{Rewrites, lends, moves}
+use Rattle.copy_removal.specs.Optimised.{lends, moves}
 use Rattle.copy_removal.specs.inner.Laws.{AreFewer, copies_of_block, copies_of_function, copies_of_inst}
 
 module _ {A : Type 0} (weight : A → ℕ) where
@@ -114,5 +114,5 @@ moved_fewer f p c v last h =
     (below (sum_by copies_of_inst (remove changed last)) (sum_by copies_of_inst changed) (sum_by copies_of_inst at.block.insts) most less)
 
 pub fewer : AreFewer
-fewer m _ n p (lends f c v there copy h) = changed_less copies_of_function m.functions n (lent c) f there (lent_fewer f p c v copy)
-fewer m _ n p (moves f c v there copy not h) = changed_less copies_of_function m.functions n (moved p h.last) f there (moved_fewer f p c v h.last copy)
+fewer m n p _ (lends f c v there copy h) = changed_less copies_of_function m.functions n (lent c) f there (lent_fewer f p c v copy)
+fewer m n p _ (moves f c v there copy not h) = changed_less copies_of_function m.functions n (moved p h.last) f there (moved_fewer f p c v h.last copy)

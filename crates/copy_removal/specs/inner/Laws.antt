@@ -28,4 +28,4 @@ copies_of m = sum_by copies_of_function m.functions
 
 -- each rewriting leaves fewer, so that they come to an end
 abbrev pub AreFewer : Type 0
-AreFewer = (m next : Module) (n : ℕ) (p : PointId) → Rewrites m n p next → copies_of next < copies_of m
+AreFewer = (m : Module) (n : ℕ) (p : PointId) (next : Module) → Rewrites m n p next → copies_of next < copies_of m
