@@ -1,8 +1,9 @@
 #!/usr/bin/env python3
 """Runs a module in two ways, by holders and lowered by stored numbers, and writes the report or the lowered module.
 
-    bench/model/run.py run [--turns N] [--entry NAME] < FILE
-    bench/model/run.py lower < FILE
+    bench/model/run.py run [--turns N] [--entry NAME] [--optimize] < FILE
+    bench/model/run.py lower [--optimize] < FILE
+    bench/model/run.py optimize < FILE
     bench/model/run.py audit [--turns N] [--entry NAME] < FILE
 
 The words, answers and statuses are those of `sil`; no rule is checked. Where the two runs differ, both reports are written and the
@@ -14,8 +15,8 @@ status is 99. A fault of the run by holders has one of the names in `holders.py`
     bench/model/run.py examples FOLDER..
 
 `cases` compares with the files `stdin`, `args`, `stdout` and `status` in the folders below FOLDER, and `files` with the heads of case files
-(docs/CASES.md), both as far as their words are these modes without `--optimize`. `lowered` compares with the case files there that run a
-lowered text. `examples` compares with the comments at the heads of the modules in FOLDER, and says which rule refuses a module.
+(docs/CASES.md), both as far as their words are these modes. `lowered` compares with the case files there that run a lowered text.
+`examples` compares with the comments at the heads of the modules in FOLDER, and says which rule refuses a module.
 """
 import pathlib
 import re
@@ -25,6 +26,7 @@ import counts
 import holders
 import lower
 import model
+import optimise
 import report
 import text
 import values
@@ -33,14 +35,18 @@ DIFFERENT = 99
 
 
 def words_of(words):
-    """The mode, turns and entry of a command line; None where it isn't one."""
+    """The mode, turns, entry and whether to optimise of a command line; None where it isn't one."""
     mode, options = None, {}
     words = list(words)
     while words:
         word = words.pop(0)
         if word.startswith('--') and '=' in word:
             word, *words = word.split('=', 1) + words
-        if word in ('--turns', '--entry'):
+        if word == '--optimize':
+            if word in options:
+                return None
+            options[word] = word
+        elif word in ('--turns', '--entry'):
             if not words or word in options:
                 return None
             options[word] = words.pop(0)
@@ -48,12 +54,13 @@ def words_of(words):
             mode = word
         else:
             return None
-    if mode not in ('run', 'lower', 'audit') or options and mode == 'lower':
+    allowed = {'run': {'--turns', '--entry', '--optimize'}, 'audit': {'--turns', '--entry'}, 'lower': {'--optimize'}, 'optimize': set()}
+    if mode not in allowed or set(options) - allowed[mode]:
         return None
     turns = options.get('--turns', str(values.TURNS))
     if not re.fullmatch(r'\d{1,7}', turns) or not 1 <= int(turns) <= 1000000:
         return None
-    return mode, int(turns), options.get('--entry', 'main')
+    return mode, int(turns), options.get('--entry', 'main'), '--optimize' in options or mode == 'optimize'
 
 
 def both(module, entry, turns, is_watched=False):
@@ -70,8 +77,12 @@ def answer(words, source):
     asked = words_of(words)
     if asked is None:
         return None, 2
-    mode, turns, entry = asked
+    mode, turns, entry, is_optimised = asked
     module = text.read(source)
+    if is_optimised:
+        module = optimise.optimised(module)
+    if mode == 'optimize':
+        return lower.canonical(module), 0
     if mode == 'audit':
         for f in module.functions:
             if f.form() == 'Ossa':
@@ -122,7 +133,7 @@ def case_files(folder):
 def compared(cases):
     agree = differ = left_out = 0
     for name, words, source, *wanted in cases:
-        if words[:1] not in (['run'], ['lower'], ['audit']) or '--optimize' in words:
+        if words[:1] not in (['run'], ['lower'], ['audit'], ['optimize']):
             left_out += 1
             continue
         got = answer(words, source)

@@ -1,0 +1,11 @@
+pub mod ItemNumbers
+pub mod LawfulBehind
+pub mod KeptOnFunction
+pub mod WatchedMarks
+pub mod FreeAt
+pub mod Consumers
+pub mod Moves
+pub mod Sizes
+pub mod Borrows
+pub mod Answered
+pub mod CopyFacts

@@ -1,0 +1,15 @@
+use Rattle.std.proofs.lemmas.Result.{IfOk-weaker}
+use Rattle.ownership_kinds.specs.Facts.{facts_in}
+use Rattle.copy_pairing.proofs.Answered.{body_of_copy, removal_same}
+use Rattle.copy_pairing.proofs.removals.removal_at.Goals as goal
+
+pub returns-in-None : goal.returns-in-None
+returns-in-None c = λ v w copy. absurd (c.in-None.ensures.none v w copy)
+
+pub removal_in-requires-clause-graph : goal.removal_in-requires-clause-graph
+removal_in-requires-clause-graph c = c.requires.graph (body_of_copy c.args.f.now c.args.p c.in-Some.copied.value c.in-Some.copied.operand c.in-Some.ensures.some)
+
+pub returns-in-Some : goal.returns-in-Some
+returns-in-Some c = IfOk-weaker c.removal_in.result _ _
+    (λ r h v w copy. removal_same (facts_in c.args.types.now c.args.f.now) c.args.f.now c.args.p c.in-Some.copied.value c.in-Some.copied.operand v w r c.in-Some.ensures.some copy h)
+    c.removal_in.ensures

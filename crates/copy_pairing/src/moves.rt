@@ -1,0 +1,175 @@
+//! Whether a copy can become a move.
+
+ghost use Rattle.std.specs.Prelude.{◌≡◌, ◌∷◌, [], ◌↔◌, ◌&&◌, ◌||◌, ◌==◌, ℕ, true, length, nat_lt, IfNone, IfOk, IfSome, IsTrue, OnOk, Option};
+ghost use Rattle.std.specs.List.{list_any};
+ghost use Rattle.sil_ast.specs.declared.place.ValueId.{ValueId};
+ghost use Rattle.sil_cfg.specs.declared.item.Item.TheVariants as item;
+ghost use Rattle.sil_cfg.specs.inner.Build.{HasGraph, IsGraphOf};
+ghost use Rattle.value_tables.specs.Borrows as borrowing;
+ghost use Rattle.ownership_chains.specs.Facts as chains;
+ghost use Rattle.ownership_chains.specs.Facts.{has, told_at};
+ghost use Rattle.ownership_chains.specs.declared.facts.Facts.{Facts};
+ghost use Rattle.ownership_marks.specs.Known.{AreKindsBy, facts_of};
+ghost use Rattle.ownership_marks.specs.Marks.{marks_of};
+ghost use Rattle.borrow_scopes.specs.inner.Tables.{lent_bases_in};
+ghost use Rattle.copy_removal.specs.Removable as removal;
+ghost use Rattle.copy_removal.specs.Removable.{IsDestroyedNext, IsMovable, IsUnlent};
+
+use crate::copies::{Copied, is_destroyed_at};
+use crate::held::are_free_at;
+use crate::watched::{is_among, is_mark};
+use ownership_marks::{Kinds, Mark, MarkSort};
+use sil_ast::{Exhausted, Function, PointId, ValueId};
+use sil_cfg::{Graph, Item};
+use std::alloc::Global;
+use type_definitions::Kind;
+use value_tables::{Borrow, lent_by};
+
+fn is_owned(kind: Kind) -> bool
+    ensures { result ≡ chains.is_owned kind }
+{
+    matches!(kind, Kind::Owned)
+}
+
+/// Whether the value lends one of which `base` is a base.
+fn borrows_from(k: &Kinds, borrows: &[Borrow], value: ValueId, base: ValueId) -> bool
+    ensures { result ≡ has (lent_bases_in (facts_of k.now) borrows.now value.0) base.0 }
+{
+    match lent_by(borrows, value) {
+        None => false,
+        Some(lent) => is_among(base, k.bases(lent)),
+    }
+}
+
+/// Adds the scope, if it is one of those.
+fn push_if(scopes: &mut Vec<ValueId>, scope: ValueId, is_one: bool) -> Result<(), Exhausted>
+    ensures { OnOk result ((n : ℕ) → has scopes.new.items n ≡ (has scopes.old.items n || (is_one && scope.0 == n))) }
+{
+    if !is_one {
+        return Ok(());
+    }
+    scopes.push(scope)?;
+    Ok(())
+}
+
+/// The scopes that borrow from the value.
+fn scopes_over(
+    alloc: Global,
+    k: &Kinds,
+    borrows: &[Borrow],
+    base: ValueId,
+) -> Result<Vec<ValueId>, Exhausted>
+    ensures { IfOk result (λ v. (n : ℕ) → has v.items n ≡ (nat_lt n (length k.now.table) && has (lent_bases_in (facts_of k.now) borrows.now n) base.0)) }
+{
+    let mut scopes = Vec::new(alloc);
+    for n in 0..k.values() {
+        let scope = ValueId(n as u32);
+        push_if(&mut scopes, scope, borrows_from(k, borrows, scope, base))?;
+    }
+    Ok(scopes)
+}
+
+/// Whether no scope that borrows from what is copied is open where the copy begins.
+fn is_unlent(
+    alloc: Global,
+    f: &Function,
+    g: &Graph,
+    k: &Kinds,
+    borrows: &[Borrow],
+    copied: Copied,
+) -> Result<bool, Exhausted>
+    requires graph { IsGraphOf g.now f.now }
+    requires borrows { borrows.now ≡ borrowing.borrows_of f.now }
+    requires size { length borrows.now ≡ length k.now.table }
+    ensures { IfOk result (λ r. (count : ℕ) (facts : ValueId → Option Facts) → AreKindsBy count facts f.now g.now k.now
+        → IsTrue r ↔ IsUnlent facts f.now copied.value copied.operand) }
+{
+    let scopes = scopes_over(alloc, k, borrows, copied.operand)?;
+    are_free_at(alloc, f, g, k, MarkSort::Begin, &[copied.value], &scopes)
+}
+
+/// Whether the mark is one of what is copied, or ends the copy.
+fn concerns(copied: Copied, mark: Mark) -> bool
+    ensures { result ≡ removal.concerns copied.value copied.operand mark }
+{
+    mark.subject.0 == copied.operand.0 || is_mark(MarkSort::End, &[copied.value], mark)
+}
+
+fn concern_one(copied: Copied, marks: &[Mark]) -> bool
+    ensures { result ≡ list_any (removal.concerns copied.value copied.operand) marks.now }
+{
+    marks.iter().any(|mark| concerns(copied, *mark))
+}
+
+/// Whether the instruction at the point has such a mark.
+fn is_concerned_at(
+    alloc: Global,
+    f: &Function,
+    k: &Kinds,
+    p: PointId,
+    copied: Copied,
+) -> Result<bool, Exhausted>
+    ensures { IfOk result (λ r. r ≡ list_any (removal.concerns copied.value copied.operand) (marks_of (told_at k.now.table) f.now (item.Inst p))) }
+{
+    let marks = k.marks_of(alloc, f, Item::Inst(p))?;
+    Ok(concern_one(copied, marks.as_slice()))
+}
+
+/// The index of the destroy of what is copied that is the next mark of it behind the copy, in the same block and before an end of the copy.
+fn destroyed_next(
+    alloc: Global,
+    f: &Function,
+    k: &Kinds,
+    p: PointId,
+    copied: Copied,
+) -> Result<Option<usize>, Exhausted>
+    requires graph { HasGraph f.now }
+    requires owned { chains.is_owned (facts_of k.now copied.operand).kind ≡ true }
+    ensures some { IfOk result (λ o. IfSome o (IsDestroyedNext (told_at k.now.table) f.now p copied.value copied.operand)) }
+    ensures none { IfOk result (λ o. IfNone o ((last : ℕ) → ¬ IsDestroyedNext (told_at k.now.table) f.now p copied.value copied.operand last)) }
+{
+    let Some(block) = f.blocks.get(p.block.0 as usize) else {
+        return Ok(None);
+    };
+    for index in p.index as usize + 1..block.insts.len() {
+        let point = PointId {
+            block: p.block,
+            index: index as u32,
+        };
+        let concerned = is_concerned_at(alloc, f, k, point, copied)?;
+        if concerned {
+            if is_destroyed_at(f, point, copied.operand) {
+                return Ok(Some(index));
+            }
+            return Ok(None);
+        }
+    }
+    Ok(None)
+}
+
+/// Whether the copy at the point can become a move.
+pub(crate) fn is_movable(
+    alloc: Global,
+    f: &Function,
+    g: &Graph,
+    k: &Kinds,
+    borrows: &[Borrow],
+    p: PointId,
+    copied: Copied,
+) -> Result<bool, Exhausted>
+    requires has_graph { HasGraph f.now }
+    requires graph { IsGraphOf g.now f.now }
+    requires borrows { borrows.now ≡ borrowing.borrows_of f.now }
+    requires size { length borrows.now ≡ length k.now.table }
+    ensures { IfOk result (λ r. (count : ℕ) (facts : ValueId → Option Facts) → AreKindsBy count facts f.now g.now k.now
+        → IsTrue r ↔ IsMovable facts f.now p copied.value copied.operand) }
+{
+    if !is_owned(k.kind(copied.operand)) {
+        return Ok(false);
+    }
+    let next = destroyed_next(alloc, f, k, p, copied)?;
+    if next.is_none() {
+        return Ok(false);
+    }
+    is_unlent(alloc, f, g, k, borrows, copied)
+}

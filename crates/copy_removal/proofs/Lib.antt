@@ -1,0 +1,3 @@
+pub mod DestroyShown
+pub mod Unique
+pub mod Fewer
