@@ -39,10 +39,10 @@ module _ (facts : ValueId → Option Facts) (v : ValueId) (own : has_any (begun 
       let is : w ≡ v = same_value w v (eqb-true w.0 v.0 same) in
       ap (λ (u : ValueId). has_any (begun facts u) && (u.0 == v.0)) is ∙ ap (λ b. b && (v.0 == v.0)) own ∙ eq-eqb v.0 v.0 refl
 
-  begins_where_made : (f : Function) (i : Item) → makes f v i ≡ true → list_any (is_begin facts v) (item_defined f i) ≡ true
+  pub begins_where_made : (f : Function) (i : Item) → makes f v i ≡ true → list_any (is_begin facts v) (item_defined f i) ≡ true
   begins_where_made f i made = any_weaker (λ (w : ValueId). w.0 == v.0) (is_begin facts v) begins_made (item_defined f i) made
 
-made_where_begun : (facts : ValueId → Option Facts) (v : ValueId) (f : Function) (i : Item) → list_any (is_begin facts v) (item_defined f i) ≡ true → makes f v i ≡ true
+pub made_where_begun : (facts : ValueId → Option Facts) (v : ValueId) (f : Function) (i : Item) → list_any (is_begin facts v) (item_defined f i) ≡ true → makes f v i ≡ true
 made_where_begun facts v f i begins =
     any_weaker (is_begin facts v) (λ (w : ValueId). w.0 == v.0) (λ w e. (and_parts (has_any (begun facts w)) (w.0 == v.0) e).1) (item_defined f i) begins
 
@@ -108,7 +108,7 @@ closed_first : Some false ≡ Some true → ⊥
 closed_first e = false≢true (same_Some false true e)
 
 -- an Owned value begins where it is made, and so does a scope, its own base
-owned_begins : (facts : ValueId → Option Facts) (v : ValueId) → IsOwned facts v → has_any (begun facts v) ≡ true
+pub owned_begins : (facts : ValueId → Option Facts) (v : ValueId) → IsOwned facts v → has_any (begun facts v) ≡ true
 owned_begins facts v owned = at (facts v) owned
   where
     by : (k : Kind) (bases : List ValueId) → is_owned k ≡ true → has_any (cond (is_own_base k v bases) (begin_of v ∷ []) []) ≡ true
@@ -120,7 +120,7 @@ owned_begins facts v owned = at (facts v) owned
     at None e = absurd (false≢true e)
     at (Some x) e = by x.kind x.bases e
 
-scope_begins : (facts : ValueId → Option Facts) (v : ValueId) → is_guaranteed (known_or facts v).kind ≡ true → has (known_or facts v).bases v.0 ≡ true → has_any (begun facts v) ≡ true
+pub scope_begins : (facts : ValueId → Option Facts) (v : ValueId) → is_guaranteed (known_or facts v).kind ≡ true → has (known_or facts v).bases v.0 ≡ true → has_any (begun facts v) ≡ true
 scope_begins facts v guaranteed own = at (facts v) guaranteed own
   where
     by : (k : Kind) (bases : List ValueId) → is_guaranteed k ≡ true → has bases v.0 ≡ true → has_any (cond (is_own_base k v bases) (begin_of v ∷ []) []) ≡ true
