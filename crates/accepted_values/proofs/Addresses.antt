@@ -258,7 +258,7 @@ module _ (m : Module) (n : ℕ) (f : Function) (a : IsAcceptedBody m n f) where
   place_plain _ (an_argument b k x at) t u ty to = by b at
     where
       same : x.ty ≡ t
-      same = same_Some x.ty t (sym (argument_rows m n f b k x a at).typed ∙ ty)
+      same = same_Some x.ty t (sym (argument_rows m n f a b k x at).typed ∙ ty)
 
       by : (b : ℕ) → slice_get (args_of f b) k ≡ Some x → kind_at d f x.value ≡ kind.Plain
       by zero at = parameter_plain k x u at (ap target same ∙ to)
@@ -287,7 +287,7 @@ module _ (m : Module) (n : ℕ) (f : Function) (a : IsAcceptedBody m n f) where
 
   no_owned_operand : (v w : ValueId) → IsDefined f v → origin_at defs v ≡ origin.Address → Contains (operands_at defs v) w → kind_at d f w ≡ kind.Owned → ⊥
   no_owned_operand _ w (a_result block index k i v here at) e c owned =
-      let row = result_rows m n f block index k i v a here at in
+      let row = result_rows m n f a block index k i v here at in
       let address = only_addresses (result_kind_of i.op) _ (sym row.defined.origin ∙ e) in
       let known : TypedInst m f i = (typed m n f a).insts block index i here in
       let operands : operands_at defs v ≡ map values.value_of i.operands = row.defined.operands ∙ ap (λ x. chain_operands x (map values.value_of i.operands)) address in
@@ -311,7 +311,7 @@ module _ (m : Module) (n : ℕ) (f : Function) (a : IsAcceptedBody m n f) where
           let two : kind.Plain ≡ kind.Owned = sym (plain_place w t u (ap (type_in d f) (sym same) ∙ ty) to) ∙ owned in
           cc
   no_owned_operand _ w (an_argument b k x at) e c owned =
-      let row = argument_rows m n f b k x a at in no_address_argument (is_zero b) (switch_to f b) x.kind _ (sym row.defined.origin ∙ e)
+      let row = argument_rows m n f a b k x at in no_address_argument (is_zero b) (switch_to f b) x.kind _ (sym row.defined.origin ∙ e)
 
   -- ---- so the bases of an address lend themselves
 
@@ -339,9 +339,9 @@ module _ (m : Module) (n : ℕ) (f : Function) (a : IsAcceptedBody m n f) where
       by (addressed less o w c h) rest = from w o c h (rest w c h) (at w).kind refl
 
 pub addresses_plain : AreAddressesPlain
-addresses_plain m n f v t u a ty to = plain_place m n f a v t u ty to
+addresses_plain m n f a v t u ty to = plain_place m n f a v t u ty to
 
 pub addresses_of_lenders : AreAddressesOfLenders
-addresses_of_lenders m n f v b a e h =
+addresses_of_lenders m n f a v b e h =
     let lt = based m n f a v b h in
     lender m n f a b (address_lent m n f a v (facts_at (declarations_of m) f v) (known m n f a v lt) lt e b.0 h)

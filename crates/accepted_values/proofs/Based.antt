@@ -151,21 +151,21 @@ module _ (m : Module) (n : ℕ) (f : Function) (a : IsAcceptedBody m n f) where
       ∙ into_together (length defs) v (facts_at d f) false (operands_at defs v) b.0 (inside w b h) w c h
 
 pub owned_own_bases : AreOwnedOwnBases
-owned_own_bases m n f v a e = owned_itself m n f a v e
+owned_own_bases m n f a v e = owned_itself m n f a v e
 
 pub lenders_own_bases : AreLendersOwnBases
-lenders_own_bases m n f v a (inl e) = lender m n f a v e
-lenders_own_bases m n f v a (inr e) = lender m n f a v (lends m n f a v e)
+lenders_own_bases m n f a v (inl e) = lender m n f a v e
+lenders_own_bases m n f a v (inr e) = lender m n f a v (lends m n f a v e)
 
 pub lent_by_lenders : AreLentByLenders
-lent_by_lenders m n f v b a e h =
+lent_by_lenders m n f a v b e h =
     lender m n f a b (lent_so (definitions_of (declarations_of m) f) v (facts_at (declarations_of m) f v) (known m n f a v (guaranteed_value m n f a v e)) e b.0 h)
 
 pub from_operands : AreFromOperands
-from_operands m n f v b a h = from_operand m n f a v b h
+from_operands m n f a v b h = from_operand m n f a v b h
 
 pub handed_on : AreHandedOn
-handed_on m n f v w b a e other c g h = on_to m n f a v w b e other c g h
+handed_on m n f a v w b e other c g h = on_to m n f a v w b e other c g h
 
 pub bases_of_addresses : AreBasesOfAddresses
-bases_of_addresses m n f v w b a lt e c h = to_address m n f a v w b lt e c h
+bases_of_addresses m n f a v w b lt e c h = to_address m n f a v w b lt e c h

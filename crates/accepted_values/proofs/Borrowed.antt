@@ -139,11 +139,11 @@ module _ (m : Module) (n : ℕ) (f : Function) (a : IsAcceptedBody m n f) where
 
   opened_by : (v : ValueId) → IsDefined f v → origin_at (definitions_of d f) v ≡ origin.Lender → (is_borrow f v ≡ true) ⊎ (v.0 < length (args_of f 0))
   opened_by _ (a_result block index k i v here at) e =
-      let row = result_rows m n f block index k i v a here at in
+      let row = result_rows m n f a block index k i v here at in
       let scope = only_scopes (result_kind_of i.op) _ (sym row.defined.origin ∙ e) in
       inl (ap borrows (row.borrow ∙ ap (λ x. borrow_by x i) scope) ∙ each_lends _ _)
   opened_by _ (an_argument b k x at) e =
-      let row = argument_rows m n f b k x a at in
+      let row = argument_rows m n f a b k x at in
       let entry : b ≡ 0 = first_block b (only_entry (is_zero b) (switch_to f b) x.kind _ (sym row.defined.origin ∙ e)) in
       let here : slice_get (args_of f 0) k ≡ Some x = subst (λ c. slice_get (args_of f c) k ≡ Some x) entry at in
       let number : x.value.0 ≡ k = number_of_parameter k x here in
@@ -155,13 +155,13 @@ module _ (m : Module) (n : ℕ) (f : Function) (a : IsAcceptedBody m n f) where
 
   lends_by : (v : ValueId) → IsDefined f v → is_borrow f v ≡ true → origin_at (definitions_of d f) v ≡ origin.Lender
   lends_by _ (a_result block index k i v here at) e =
-      let row = result_rows m n f block index k i v a here at in
+      let row = result_rows m n f a block index k i v here at in
       let scope = only_borrows (result_kind_of i.op) i (ap borrows (sym row.borrow) ∙ e) in
       row.defined.origin
       ∙ ap (λ x. result_origin x (is_trivial_or_untyped d (slice_get (made_types d i) k))) scope
       ∙ ap (λ t. cond t origin.Plain origin.Lender) (scope_held block index k i v here at scope)
   lends_by _ (an_argument b k x at) e =
-      let row = argument_rows m n f b k x a at in
+      let row = argument_rows m n f a b k x at in
       let none : borrows NoBorrow ≡ true = ap borrows (sym row.borrow) ∙ e in
       cc
 

@@ -115,7 +115,7 @@ module _ (m : Module) (n : ℕ) (f : Function) (a : IsAcceptedBody m n f) where
   pub owned_argument : (b k : ℕ) (x : BlockArg) → slice_get (args_of f b) k ≡ Some x → x.kind ≡ annotation.Owned → is_trivial d x.ty ≡ false
       → kind_at d f x.value ≡ kind.Owned
   owned_argument b k x at e nontrivial =
-      let row = argument_rows m n f b k x a at in
+      let row = argument_rows m n f a b k x at in
       let defs = definitions_of d f in
       let is_owned : origin_at defs x.value ≡ origin.Owned =
       row.defined.origin
@@ -124,7 +124,7 @@ module _ (m : Module) (n : ℕ) (f : Function) (a : IsAcceptedBody m n f) where
       ∙ ap (λ o. (told_by (length defs) x.value (facts_at d f) (operands_at defs x.value) o).kind) is_owned
 
   pub plain_argument : (b k : ℕ) (x : BlockArg) → slice_get (args_of f b) k ≡ Some x → is_trivial d x.ty ≡ true → kind_at d f x.value ≡ kind.Plain
-  plain_argument b k x at trivial = trivial_so m n f a x.value (ap (is_trivial_or_untyped d) (argument_rows m n f b k x a at).typed ∙ trivial)
+  plain_argument b k x at trivial = trivial_so m n f a x.value (ap (is_trivial_or_untyped d) (argument_rows m n f a b k x at).typed ∙ trivial)
 
   -- ---- branches
 
@@ -203,5 +203,5 @@ module _ (m : Module) (n : ℕ) (f : Function) (a : IsAcceptedBody m n f) where
       (written_type d f o y.ty ty (passes_at (is_as_written (value_types d f)) x.args k o types is)))
 
 pub taken_over : AreTakenOver
-taken_over m n f e i x a ends is branch =
+taken_over m n f a e i x ends is branch =
     taken_over_by m n f a e i x ends (edge_leaves m n f a e i x ends is) (is_branch_inst m n f a i (known_end m n f a e.block.0 i ends) branch)

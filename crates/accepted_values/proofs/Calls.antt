@@ -114,4 +114,4 @@ module _ (m : Module) (n : ℕ) (f : Function) (a : IsAcceptedBody m n f) (block
       (λ k t x at is e. let ty = asked_type d f x (argument_type t) e in record { typed = ty; hands = hands k t x t.convention refl at is ty })
 
 pub calls_handed : AreCallsHanded
-calls_handed m n f block index i o os s a here call operands signature = handed m n f a block index i here call o os s operands signature
+calls_handed m n f a block index i o os s here call operands signature = handed m n f a block index i here call o os s operands signature

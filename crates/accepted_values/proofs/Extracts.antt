@@ -59,14 +59,14 @@ module _ (m : Module) (n : ℕ) (f : Function) (a : IsAcceptedBody m n f) where
   only_first : (v w : ValueId) → IsDefined f v → origin_at (definitions_of d f) v ≡ origin.Same → Contains (operands_at (definitions_of d f) v) w
       → Contains (take 1 (operands_at (definitions_of d f) v)) w
   only_first _ w (a_result block index k i v here at) e c =
-      let row = result_rows m n f block index k i v a here at in
+      let row = result_rows m n f a block index k i v here at in
       let extract = only_extracts (result_kind_of i.op) _ (sym row.defined.origin ∙ e) in
       let one = extract_row i.op i.operands extract ((typed m n f a).insts block index i here).parts.operands in
       let only : operands_at (definitions_of d f) v ≡ value_of one.0 ∷ [] =
       row.defined.operands ∙ ap (λ x. chain_operands x (map value_of i.operands)) extract ∙ ap (map value_of) one.1 in
       subst (λ vs. Contains (take 1 vs) w) (sym only) (subst (λ vs. Contains vs w) only c)
   only_first _ w (an_argument b k x at) e c =
-      let row = argument_rows m n f b k x a at in absurd (no_extract (is_zero b) (switch_to f b) x.kind _ (sym row.defined.origin ∙ e))
+      let row = argument_rows m n f a b k x at in absurd (no_extract (is_zero b) (switch_to f b) x.kind _ (sym row.defined.origin ∙ e))
 
   pub one_of_extract : (v w : ValueId) → IsValue f v → origin_at (definitions_of d f) v ≡ origin.Same → Contains (operands_at (definitions_of d f) v) w
       → Contains (take 1 (operands_at (definitions_of d f) v)) w

@@ -65,7 +65,7 @@ module _ (m : Module) (n : ℕ) (f : Function) (a : IsAcceptedBody m n f) where
   facts_so v lt = ap (λ (o : Option Facts). unwrap_or o (facts_with kind.Plain [])) (told_so v lt)
 
 pub facts_known : AreFactsKnown
-facts_known m n f v a lt = told_so m n f a v lt
+facts_known m n f a v lt = told_so m n f a v lt
 
 -- ---- what a run is told
 

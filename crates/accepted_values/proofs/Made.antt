@@ -245,21 +245,21 @@ module _ (m : Module) (n : ℕ) (f : Function) (a : IsAcceptedBody m n f) where
   defined_counted (Exit p) = (0, tt)
 
 pub made_somewhere : AreMadeSomewhere
-made_somewhere m n f v a lt =
+made_somewhere m n f a v lt =
     let point = defined_somewhere v f (counted m n f a) lt in
     somewhere m n f a v point.0 point.1 point.2
 
 pub made_there : AreMadeThere
-made_there m n f v s i a made is = (λ c. stops m n f a v s i made (made_by f v i c), makes_there m n f a v s i made is)
+made_there m n f a v s i made is = (λ c. stops m n f a v s i made (made_by f v i c), makes_there m n f a v s i made is)
 
 pub made_once : AreMadeOnce
-made_once m n f i j v a c h = lead_on m n f a v i j (made_by f v i c) (made_by f v j h)
+made_once m n f a i j v c h = lead_on m n f a v i j (made_by f v i c) (made_by f v j h)
 
 pub parameters_of_entry : AreParametersOfEntry
-parameters_of_entry m n f i v a c h = by_entry_alone m n f a v i c (made_by f v i h)
+parameters_of_entry m n f a i v c h = by_entry_alone m n f a v i c (made_by f v i h)
 
 pub distinct : AreDistinct
-distinct m n f i k l v a e h = let all = defined_counted m n f a i in stands_once all.0 (item_defined f i) k l v all.1 e h
+distinct m n f a i k l v e h = let all = defined_counted m n f a i in stands_once all.0 (item_defined f i) k l v all.1 e h
 
 pub items_of : AreItemsOf
-items_of m n f i a = item_is_of m f (typed m n f a) i
+items_of m n f a i = item_is_of m f (typed m n f a) i

@@ -159,7 +159,7 @@ module _ (m : Module) (n : ℕ) (f : Function) (a : IsAcceptedBody m n f) where
   result_told block index k i v t here at ty nontrivial e = by (result_kind_of i.op) refl plain
     where
       given : slice_get (made_types d i) k ≡ Some t
-      given = sym (result_rows m n f block index k i v a here at).typed ∙ ty
+      given = sym (result_rows m n f a block index k i v here at).typed ∙ ty
 
       plain : kind_by_row (result_kind_of i.op) (kind_together d f i) ≡ kind.Plain
       plain =
@@ -194,7 +194,7 @@ module _ (m : Module) (n : ℕ) (f : Function) (a : IsAcceptedBody m n f) where
           absurd (false≢true (sym nontrivial ∙ ap (is_trivial d) ty ∙ (and_parts (is_object t) (is_trivial d t) fit).1))
       by convention.Owned t fit p ty = cc
       by convention.Guaranteed t fit p ty = cc
-      by (convention.Address c) t fit p ty = address x.ty t (argument_rows m n f 0 k x a at).typed (ap target ty ∙ target-Address t)
+      by (convention.Address c) t fit p ty = address x.ty t (argument_rows m n f a 0 k x at).typed (ap target ty ∙ target-Address t)
 
   -- such an argument of another block has a kind
   no_plain_argument : (b k : ℕ) (x : BlockArg) → 0 < b → slice_get (args_of f b) k ≡ Some x → is_trivial d x.ty ≡ false → kind_at d f x.value ≡ kind.Plain → ⊥
@@ -207,7 +207,7 @@ module _ (m : Module) (n : ℕ) (f : Function) (a : IsAcceptedBody m n f) where
           let e : EdgeId = record { block = record { 0 = it.block }; index = it.index } in
           let ends = ap terminator_in it.leaves.is_block ∙ ap (λ t. Some t) it.leaves.ends in
           let there = ap (λ o. edge_in o it.index) ends ∙ it.leaves.there in
-          none (args_of f it.edge.block.0) k v.0 it.edge (switched m n f e it.terminator it.edge v.0 a ends there (only_switch it.terminator.op it.switches) v.1)
+          none (args_of f it.edge.block.0) k v.0 it.edge (switched m n f a e it.terminator it.edge v.0 ends there (only_switch it.terminator.op it.switches) v.1)
           (ap (λ c. slice_get (args_of f c) k) it.to ∙ at)
         where
           no : (v : ValueId) (y : BlockArg) → y ≡ x → Takes d f v y → ⊥
@@ -237,7 +237,7 @@ module _ (m : Module) (n : ℕ) (f : Function) (a : IsAcceptedBody m n f) where
   told_by_type : (v : ValueId) → IsDefined f v → kind_at d f v ≡ kind.Plain → (t : TypeName) → type_in d f v ≡ Some t → is_trivial d t ≡ false → WhyPlain d f v
   told_by_type _ (a_result block index k i v here at) e t ty nontrivial = result_told block index k i v t here at ty nontrivial e
   told_by_type _ (an_argument b k x at) e t ty nontrivial =
-      let same : t ≡ x.ty = same_Some t x.ty (sym ty ∙ (argument_rows m n f b k x a at).typed) in
+      let same : t ≡ x.ty = same_Some t x.ty (sym ty ∙ (argument_rows m n f a b k x at).typed) in
       argument_told b k x at (ap (is_trivial d) (sym same) ∙ nontrivial) e
 
   plain_told_by : (v : ValueId) → IsDefined f v → kind_at d f v ≡ kind.Plain → (o : Option TypeName) → type_in d f v ≡ o → WhyPlain d f v
@@ -249,4 +249,4 @@ module _ (m : Module) (n : ℕ) (f : Function) (a : IsAcceptedBody m n f) where
       by false h = told_by_type v defined e t ty h
 
 pub plain_told : ArePlainTold
-plain_told m n f v a lt e = plain_told_by m n f a v (defined_so m n f v a lt) e (type_in (declarations_of m) f v) refl
+plain_told m n f a v lt e = plain_told_by m n f a v (defined_so m n f v a lt) e (type_in (declarations_of m) f v) refl

@@ -148,7 +148,7 @@ module _ (m : Module) (n : ℕ) (f : Function) (a : IsAcceptedBody m n f) where
   argument_kind : (k : ℕ) (x : BlockArg) → slice_get (args_of f 0) k ≡ Some x
       → kind_at d f x.value ≡ kind_of_origin (arg_definition_by true (switch_to f 0) x.kind (is_trivial d x.ty)).origin
   argument_kind k x at =
-      let row = argument_rows m n f 0 k x a at in
+      let row = argument_rows m n f a 0 k x at in
       let defs = definitions_of d f in
       ap (λ (y : Facts). y.kind) (facts_so m n f a x.value (argument_is_value f (counted m n f a) 0 k x at))
       ∙ ap (λ o. (told_by (length defs) x.value (facts_at d f) (operands_at defs x.value) o).kind) row.defined.origin

@@ -61,6 +61,6 @@ module _ (m : Module) (n : ℕ) (f : Function) (a : IsAcceptedBody m n f) (block
       (ap (λ x. slice_get (taken_each i.operands (roles_for (roles_of x) (conventions_in i) (length i.operands))) 0) ends ∙ first_of i.operands at)))
 
 pub given : AreGiven
-given m n f b i o a e ends at =
+given m n f a b i o e ends at =
     let end = (typed m n f a).ends b i e in
     record { ends = ends_so m n f a b end.0 i end.2 ends o at; typed = given_so m n f a b end.0 i end.2 ends o at }

@@ -285,7 +285,7 @@ module _ (m : Module) (n : ℕ) (f : Function) (a : IsAcceptedBody m n f) where
   pub result_kind : (block index k : ℕ) (i : inst.Inst) (v : ValueId) → IsAt f block index i → slice_get i.results k ≡ Some v
       → kind_at d f v ≡ kind_of_result d f i (is_trivial_or_untyped d (type_in d f v))
   result_kind block index k i v here at =
-      let row = result_rows m n f block index k i v a here at in
+      let row = result_rows m n f a block index k i v here at in
       let count = length (definitions_of d f) in
       let trivial = is_trivial_or_untyped d (slice_get (made_types d i) k) in
       ap (λ (x : Facts). x.kind) (facts_so m n f a v (result_is_value f (counted m n f a) block index k i v here at))
@@ -313,7 +313,7 @@ module _ (m : Module) (n : ℕ) (f : Function) (a : IsAcceptedBody m n f) where
   plain_so : (v : ValueId) → IsDefined f v → is_trivial_or_untyped d (type_in d f v) ≡ true → kind_at d f v ≡ kind.Plain
   plain_so _ (a_result block index k i v here at) e = result_kind block index k i v here at ∙ ap (kind_of_result d f i) e
   plain_so _ (an_argument b k x at) e =
-      let row = argument_rows m n f b k x a at in
+      let row = argument_rows m n f a b k x at in
       let trivial : is_trivial d x.ty ≡ true = ap (is_trivial_or_untyped d) (sym row.typed) ∙ e in
       plain_value x.value (argument_is_value f (counted m n f a) b k x at)
       (row.defined.origin ∙ ap (λ t. (arg_definition_by (is_zero b) (switch_to f b) x.kind t).origin) trivial ∙ trivial_argument (is_zero b) (switch_to f b) x.kind)
@@ -326,13 +326,13 @@ module _ (m : Module) (n : ℕ) (f : Function) (a : IsAcceptedBody m n f) where
       at (inr none) = ap (λ (x : Facts). x.kind) none
 
 pub suited : AreSuited
-suited m n f i t a c = let x = taken_at m n f a i t c in suits_at m n f a x.block x.index x.inst t x.here x.taken
+suited m n f a i t c = let x = taken_at m n f a i t c in suits_at m n f a x.block x.index x.inst t x.here x.taken
 
 pub forwarded_kinds : AreForwarded
-forwarded_kinds m n f block index i a here e = forwarded_so m n f a block index i here e
+forwarded_kinds m n f a block index i here e = forwarded_so m n f a block index i here e
 
 pub results_of_kinds : AreResultsOfKinds
-results_of_kinds m n f block index k i v a here at = result_kind m n f a block index k i v here at
+results_of_kinds m n f a block index k i v here at = result_kind m n f a block index k i v here at
 
 pub trivial_plain : AreTrivialPlain
-trivial_plain m n f v a e = trivial_so m n f a v e
+trivial_plain m n f a v e = trivial_so m n f a v e

@@ -212,7 +212,7 @@ module _ (m : Module) (n : ℕ) (f : Function) (a : IsAcceptedBody m n f) (e : E
             at (suc b) lt = refl
 
         row : IsArgument d f target 0 y
-        row = argument_rows m n f target 0 y a there
+        row = argument_rows m n f a target 0 y there
 
         defined_so : arg_definition_by (is_zero target) (switch_to f target) y.kind (is_trivial d y.ty)
             ≡ arg_definition_by false (Some (switched_by x v)) annotation.Guaranteed false
@@ -233,7 +233,7 @@ module _ (m : Module) (n : ℕ) (f : Function) (a : IsAcceptedBody m n f) (e : E
 
         bases : (b : ValueId) → IsBaseOf d f b v → IsBaseOf d f b y.value
         bases b h =
-            handed_on m n f y.value v b a is_guaranteed_too (λ lender. let no : origin.Lent ≡ origin.Lender = sym lent_origin ∙ lender in cc)
+            handed_on m n f a y.value v b is_guaranteed_too (λ lender. let no : origin.Lent ≡ origin.Lender = sym lent_origin ∙ lender in cc)
             (subst (λ vs. Contains vs v) (sym operands) (0, omega arith, refl)) guaranteed h
 
     owned_on : kind_at d f v ≡ kind.Owned → y.kind ≡ annotation.Owned → is_trivial d y.ty ≡ false → Takes d f v y
@@ -271,4 +271,4 @@ module _ (m : Module) (n : ℕ) (f : Function) (a : IsAcceptedBody m n f) (e : E
       at (y ∷ z ∷ ys) is lt = absurd (omega arith)
 
 pub switched : AreSwitched
-switched m n f e i x v a ends is switch operand = taken_by m n f a e i x v ends (edge_leaves m n f a e i x ends is) switch operand
+switched m n f a e i x v ends is switch operand = taken_by m n f a e i x v ends (edge_leaves m n f a e i x ends is) switch operand

@@ -150,7 +150,7 @@ module _ (d : Declarations) (f : Function) (counted : AreCountedFrom 0 (values_o
       }
 
 pub result_rows : AreResultRows
-result_rows m n f block index k i v a here at = result_row (declarations_of m) f (counted m n f a) block index k i v here at
+result_rows m n f a block index k i v here at = result_row (declarations_of m) f (counted m n f a) block index k i v here at
 
 pub argument_rows : AreArgumentRows
-argument_rows m n f b k a accepted at = argument_row (declarations_of m) f (counted m n f accepted) b k a at
+argument_rows m n f accepted b k a at = argument_row (declarations_of m) f (counted m n f accepted) b k a at

@@ -12,19 +12,18 @@ use Rattle.sil_ast.specs.declared.function.BlockArg.{BlockArg}
 use Rattle.sil_ast.specs.declared.function.Function.{Function}
 use Rattle.sil_ast.specs.declared.inst.Edge.{Edge}
 use Rattle.sil_ast.specs.declared.inst.Inst.{Inst}
-use Rattle.sil_ast.specs.declared.module.Module.{Module}
 use Rattle.sil_ast.specs.declared.operands.Operand.{Operand}
 use Rattle.sil_ast.specs.declared.place.EdgeId.{EdgeId}
 use Rattle.sil_ast.specs.declared.place.ValueId.{ValueId}
 use Rattle.sil_ast.specs.declared.signature.Signature.{Signature}
-use Rattle.type_definitions.specs.Declarations.{Declarations, declarations_of}
+use Rattle.type_definitions.specs.Declarations.{Declarations}
 use Rattle.type_definitions.specs.Measures.{is_trivial}
 use Rattle.type_definitions.specs.Mentions.{given_type}
 use Rattle.type_definitions.specs.declared.kind.Kind.{Kind}
 use Rattle.type_definitions.specs.declared.kind.Kind.TheVariants as kind
 use Rattle.value_tables.specs.FirstValue.{first_value}
 use Rattle.accepted_values.specs.inner.Bases.{IsBaseOf}
-use Rattle.accepted_values.specs.inner.Known.{IsAcceptedBody, kind_at, type_in}
+use Rattle.accepted_values.specs.inner.Known.{InAccepted, kind_at, type_in}
 use Rattle.accepted_values.specs.inner.Operands.{MayEnd}
 
 -- what is taken over keeps its kind, but what has no owner gets one
@@ -41,9 +40,8 @@ pub record TakesOver (d : Declarations) (f : Function) (o : Operand) (a : BlockA
 
 -- along an edge of `br` and `cond_br`
 abbrev pub AreTakenOver : Type 0
-AreTakenOver = (m : Module) (n : ℕ) (f : Function) (e : EdgeId) (i : Inst) (x : Edge) → IsAcceptedBody m n f
-    → terminator_of f e.block.0 ≡ Some i → edge_at f e ≡ Some x → (i.op ≡ op.Br) ⊎ (i.op ≡ op.CondBr)
-    → AllZip (TakesOver (declarations_of m) f) x.args (args_of f x.block.0)
+AreTakenOver = InAccepted (λ d f. (e : EdgeId) (i : Inst) (x : Edge) → terminator_of f e.block.0 ≡ Some i → edge_at f e ≡ Some x
+    → (i.op ≡ op.Br) ⊎ (i.op ≡ op.CondBr) → AllZip (TakesOver d f) x.args (args_of f x.block.0))
 
 -- ---- switches
 
@@ -62,9 +60,8 @@ TakenBy d f v e (a ∷ b ∷ args) = ⊥
 
 -- along an edge of `switch_enum`
 abbrev pub AreSwitched : Type 0
-AreSwitched = (m : Module) (n : ℕ) (f : Function) (e : EdgeId) (i : Inst) (x : Edge) (v : ValueId) → IsAcceptedBody m n f
-    → terminator_of f e.block.0 ≡ Some i → edge_at f e ≡ Some x → i.op ≡ op.SwitchEnum → first_value i ≡ Some v
-    → TakenBy (declarations_of m) f v x (args_of f x.block.0)
+AreSwitched = InAccepted (λ d f. (e : EdgeId) (i : Inst) (x : Edge) (v : ValueId) → terminator_of f e.block.0 ≡ Some i → edge_at f e ≡ Some x
+    → i.op ≡ op.SwitchEnum → first_value i ≡ Some v → TakenBy d f v x (args_of f x.block.0))
 
 -- ---- returns
 
@@ -74,8 +71,8 @@ pub record IsGiven (d : Declarations) (f : Function) (o : Operand) : Type 0 wher
   pub typed : type_in d f o.value ≡ Some (given_type f.signature)
 
 abbrev pub AreGiven : Type 0
-AreGiven = (m : Module) (n : ℕ) (f : Function) (b : ℕ) (i : Inst) (o : Operand) → IsAcceptedBody m n f
-    → terminator_of f b ≡ Some i → i.op ≡ op.Return → slice_get i.operands 0 ≡ Some o → IsGiven (declarations_of m) f o
+AreGiven = InAccepted (λ d f. (b : ℕ) (i : Inst) (o : Operand) → terminator_of f b ≡ Some i → i.op ≡ op.Return → slice_get i.operands 0 ≡ Some o
+    → IsGiven d f o)
 
 -- ---- calls
 
@@ -93,7 +90,7 @@ pub record IsToldOf (d : Declarations) (f : Function) (told : Told) (a : BlockAr
 
 -- the arguments of the entry are those of the signature
 abbrev pub AreEntryTold : Type 0
-AreEntryTold = (m : Module) (n : ℕ) (f : Function) → IsAcceptedBody m n f → AllZip (IsToldOf (declarations_of m) f) (arguments_of f.signature) (args_of f 0)
+AreEntryTold = InAccepted (λ d f. AllZip (IsToldOf d f) (arguments_of f.signature) (args_of f 0))
 
 -- what a call may hand over by a convention
 abbrev pub Hands : Declarations → Function → ArgumentConvention → ValueId → Type 0
@@ -109,5 +106,5 @@ pub record IsHanded (d : Declarations) (f : Function) (told : Told) (o : Operand
 
 -- behind the callee, an `apply` has what the signature tells of that is written there
 abbrev pub AreCallsHanded : Type 0
-AreCallsHanded = (m : Module) (n : ℕ) (f : Function) (block index : ℕ) (i : Inst) (o : Operand) (os : List Operand) (s : Signature) → IsAcceptedBody m n f
-    → IsAt f block index i → i.op ≡ op.Apply → i.operands ≡ o ∷ os → i.signature ≡ Some s → AllZip (IsHanded (declarations_of m) f) (arguments_of s) os
+AreCallsHanded = InAccepted (λ d f. (block index : ℕ) (i : Inst) (o : Operand) (os : List Operand) (s : Signature) → IsAt f block index i → i.op ≡ op.Apply
+    → i.operands ≡ o ∷ os → i.signature ≡ Some s → AllZip (IsHanded d f) (arguments_of s) os)

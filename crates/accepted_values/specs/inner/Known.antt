@@ -44,10 +44,13 @@ abbrev pub told_in_function : Declarations → Function → ValueId → Facts
 told_in_function d f v =
     told_by (length (definitions_of d f)) v (facts_at d f) (operands_at (definitions_of d f) v) (origin_at (definitions_of d f) v)
 
+-- so it is in each function with a body of each accepted module
+abbrev pub InAccepted : (Declarations → Function → Type 0) → Type 0
+InAccepted P = (m : Module) (n : ℕ) (f : Function) → IsAcceptedBody m n f → P (declarations_of m) f
+
 -- each value has facts, and just those
 abbrev pub AreFactsKnown : Type 0
-AreFactsKnown = (m : Module) (n : ℕ) (f : Function) (v : ValueId) → IsAcceptedBody m n f → IsValue f v
-    → facts_in (declarations_of m) f v ≡ Some (told_in_function (declarations_of m) f v)
+AreFactsKnown = InAccepted (λ d f. (v : ValueId) → IsValue f v → facts_in d f v ≡ Some (told_in_function d f v))
 
 -- what a run is told of the values of a function are their facts
 abbrev pub AreRunFacts : Type 0

@@ -3,7 +3,6 @@ use Rattle.std.specs.Prelude.{◌≡◌, ◌↔◌, ◌<◌, ℕ, IsTrue, Contai
 use Rattle.sil_ast.specs.Blocks.{args_of}
 use Rattle.sil_ast.specs.declared.function.Function.{Function}
 use Rattle.sil_ast.specs.declared.inst.Inst as inst
-use Rattle.sil_ast.specs.declared.module.Module.{Module}
 use Rattle.sil_ast.specs.declared.place.PointId.{PointId}
 use Rattle.sil_ast.specs.declared.place.ValueId.{ValueId}
 use Rattle.holder_model.specs.Standing.{behind}
@@ -14,7 +13,7 @@ use Rattle.sil_cfg.specs.Items.{IsItem, flow_of}
 use Rattle.sil_cfg.specs.declared.item.Item.{Item}
 use Rattle.sil_cfg.specs.declared.item.Item.TheVariants.{Entry, Inst}
 use Rattle.sil_cfg.specs.inner.Splice.{Stop, into, is_at, item}
-use Rattle.accepted_values.specs.inner.Known.{IsAcceptedBody, IsValue}
+use Rattle.accepted_values.specs.inner.Known.{InAccepted, IsValue}
 
 -- the value begins with the item
 abbrev pub Makes : Function → Item → ValueId → Type 0
@@ -28,27 +27,25 @@ pub data IsMadeAt (f : Function) (v : ValueId) : Stop → Type 0 where
 
 -- each value is made somewhere
 abbrev pub AreMadeSomewhere : Type 0
-AreMadeSomewhere = (m : Module) (n : ℕ) (f : Function) (v : ValueId) → IsAcceptedBody m n f → IsValue f v → (s : Stop) × IsMadeAt f v s
+AreMadeSomewhere = InAccepted (λ d f. (v : ValueId) → IsValue f v → (s : Stop) × IsMadeAt f v s)
 
 -- and just by the items that are there
 abbrev pub AreMadeThere : Type 0
-AreMadeThere = (m : Module) (n : ℕ) (f : Function) (v : ValueId) (s : Stop) (i : Item) → IsAcceptedBody m n f → IsMadeAt f v s → IsItem f i
-    → Makes f i v ↔ IsTrue (is_at (flow_of f) s i)
+AreMadeThere = InAccepted (λ d f. (v : ValueId) (s : Stop) (i : Item) → IsMadeAt f v s → IsItem f i → Makes f i v ↔ IsTrue (is_at (flow_of f) s i))
 
 -- all items that make a value lead to one point
 abbrev pub AreMadeOnce : Type 0
-AreMadeOnce = (m : Module) (n : ℕ) (f : Function) (i j : Item) (v : ValueId) → IsAcceptedBody m n f → Makes f i v → Makes f j v
-    → behind f i ≡ behind f j
+AreMadeOnce = InAccepted (λ d f. (i j : Item) (v : ValueId) → Makes f i v → Makes f j v → behind f i ≡ behind f j)
 
 -- the entry alone makes its arguments
 abbrev pub AreParametersOfEntry : Type 0
-AreParametersOfEntry = (m : Module) (n : ℕ) (f : Function) (i : Item) (v : ValueId) → IsAcceptedBody m n f → Makes f Entry v → Makes f i v → i ≡ Entry
+AreParametersOfEntry = InAccepted (λ d f. (i : Item) (v : ValueId) → Makes f Entry v → Makes f i v → i ≡ Entry)
 
 -- no item makes a value twice
 abbrev pub AreDistinct : Type 0
-AreDistinct = (m : Module) (n : ℕ) (f : Function) (i : Item) (k l : ℕ) (v : ValueId) → IsAcceptedBody m n f
-    → slice_get (item_defined f i) k ≡ Some v → slice_get (item_defined f i) l ≡ Some v → k ≡ l
+AreDistinct = InAccepted (λ d f. (i : Item) (k l : ℕ) (v : ValueId)
+    → slice_get (item_defined f i) k ≡ Some v → slice_get (item_defined f i) l ≡ Some v → k ≡ l)
 
 -- an item takes and makes values of the function
 abbrev pub AreItemsOf : Type 0
-AreItemsOf = (m : Module) (n : ℕ) (f : Function) (i : Item) → IsAcceptedBody m n f → ItemIsOf f i
+AreItemsOf = InAccepted (λ d f. (i : Item) → ItemIsOf f i)

@@ -4,21 +4,18 @@ use Rattle.numbered_form.specs.Lists.{Each}
 use Rattle.point_checks.specs.Points.{IsAt}
 use Rattle.sil_ast.specs.declared.function.Function.{Function}
 use Rattle.sil_ast.specs.declared.inst.Inst.{Inst}
-use Rattle.sil_ast.specs.declared.module.Module.{Module}
 use Rattle.sil_ast.specs.declared.place.ValueId.{ValueId}
 use Rattle.sil_ast.specs.declared.type_name.TypeName.{TypeName}
 use Rattle.sil_types.specs.Typing.Shapes.{target}
-use Rattle.type_definitions.specs.Declarations.{Declarations, declarations_of}
+use Rattle.type_definitions.specs.Declarations.{Declarations}
 use Rattle.type_definitions.specs.Measures.{is_trivial}
-use Rattle.type_definitions.specs.declared.kind.Kind.TheVariants as kind
 use Rattle.value_tables.specs.FirstValue.{value_of}
-use Rattle.accepted_values.specs.inner.Known.{IsAcceptedBody, IsValue, kind_at, type_in}
+use Rattle.accepted_values.specs.inner.Known.{InAccepted, IsValue, type_in}
 use Rattle.accepted_values.specs.inner.Operands.{HasNoOwner}
 
 -- an address has no owner
 abbrev pub AreAddressesPlain : Type 0
-AreAddressesPlain = (m : Module) (n : ℕ) (f : Function) (v : ValueId) (t u : TypeName) → IsAcceptedBody m n f
-    → type_in (declarations_of m) f v ≡ Some t → target t ≡ Some u → HasNoOwner (declarations_of m) f v
+AreAddressesPlain = InAccepted (λ d f. (v : ValueId) (t u : TypeName) → type_in d f v ≡ Some t → target t ≡ Some u → HasNoOwner d f v)
 
 -- why a value has no owner: of another type the value is a None value, forwarded or extracted from such values, or an enum's case without a payload
 pub data WhyPlain (d : Declarations) (f : Function) (v : ValueId) : Type 0 where
@@ -30,5 +27,4 @@ pub data WhyPlain (d : Declarations) (f : Function) (v : ValueId) : Type 0 where
 
 -- there is no other reason
 abbrev pub ArePlainTold : Type 0
-ArePlainTold = (m : Module) (n : ℕ) (f : Function) (v : ValueId) → IsAcceptedBody m n f → IsValue f v → kind_at (declarations_of m) f v ≡ kind.Plain
-    → WhyPlain (declarations_of m) f v
+ArePlainTold = InAccepted (λ d f. (v : ValueId) → IsValue f v → HasNoOwner d f v → WhyPlain d f v)

@@ -14,15 +14,14 @@ use Rattle.ownership_origins.specs.Origins.{is_trivial_or_untyped}
 use Rattle.point_checks.specs.Points.{IsAt}
 use Rattle.sil_ast.specs.declared.function.Function.{Function}
 use Rattle.sil_ast.specs.declared.inst.Inst.{Inst}
-use Rattle.sil_ast.specs.declared.module.Module.{Module}
 use Rattle.sil_ast.specs.declared.place.ValueId.{ValueId}
 use Rattle.sil_cfg.specs.declared.item.Item.{Item}
-use Rattle.type_definitions.specs.Declarations.{Declarations, declarations_of}
+use Rattle.type_definitions.specs.Declarations.{Declarations}
 use Rattle.type_definitions.specs.declared.kind.Kind.{Kind}
 use Rattle.type_definitions.specs.declared.kind.Kind.TheVariants as kind
 use Rattle.value_tables.specs.Borrows.{is_borrow}
 use Rattle.value_tables.specs.FirstValue.{value_of}
-use Rattle.accepted_values.specs.inner.Known.{IsAcceptedBody, facts_at, kind_at, type_in}
+use Rattle.accepted_values.specs.inner.Known.{InAccepted, facts_at, kind_at, type_in}
 
 -- ---- operands
 
@@ -52,8 +51,7 @@ SuitsRole d f role.Counted v = ⊤
 
 -- each operand of an item is so
 abbrev pub AreSuited : Type 0
-AreSuited = (m : Module) (n : ℕ) (f : Function) (i : Item) (t : Taken) → IsAcceptedBody m n f → Contains (item_taken f i) t
-    → SuitsRole (declarations_of m) f t.role t.value
+AreSuited = InAccepted (λ d f. (i : Item) (t : Taken) → Contains (item_taken f i) t → SuitsRole d f t.role t.value)
 
 -- the operands from which something of this kind is made: one that has no owner may stand among others
 abbrev pub Forwards : Declarations → Function → Kind → List ValueId → Type 0
@@ -67,8 +65,8 @@ kind_together d f i = forwarded (facts_at d f) (map value_of i.operands)
 
 -- an instruction that forwards has no Owned and Guaranteed operands at once
 abbrev pub AreForwarded : Type 0
-AreForwarded = (m : Module) (n : ℕ) (f : Function) (block index : ℕ) (i : Inst) → IsAcceptedBody m n f → IsAt f block index i → forwards i ≡ true
-    → Forwards (declarations_of m) f (kind_together (declarations_of m) f i) (map value_of i.operands)
+AreForwarded = InAccepted (λ d f. (block index : ℕ) (i : Inst) → IsAt f block index i → forwards i ≡ true
+    → Forwards d f (kind_together d f i) (map value_of i.operands))
 
 -- ---- results
 
@@ -86,11 +84,9 @@ kind_of_result d f i trivial = cond trivial kind.Plain (kind_by_row (result_kind
 
 -- a result is Plain where its type is trivial, and else of the kind that its row says
 abbrev pub AreResultsOfKinds : Type 0
-AreResultsOfKinds = (m : Module) (n : ℕ) (f : Function) (block index k : ℕ) (i : Inst) (v : ValueId) → IsAcceptedBody m n f → IsAt f block index i
-    → slice_get i.results k ≡ Some v
-    → kind_at (declarations_of m) f v ≡ kind_of_result (declarations_of m) f i (is_trivial_or_untyped (declarations_of m) (type_in (declarations_of m) f v))
+AreResultsOfKinds = InAccepted (λ d f. (block index k : ℕ) (i : Inst) (v : ValueId) → IsAt f block index i → slice_get i.results k ≡ Some v
+    → kind_at d f v ≡ kind_of_result d f i (is_trivial_or_untyped d (type_in d f v)))
 
 -- a value of a trivial type, and one without a type, has no owner
 abbrev pub AreTrivialPlain : Type 0
-AreTrivialPlain = (m : Module) (n : ℕ) (f : Function) (v : ValueId) → IsAcceptedBody m n f
-    → is_trivial_or_untyped (declarations_of m) (type_in (declarations_of m) f v) ≡ true → kind_at (declarations_of m) f v ≡ kind.Plain
+AreTrivialPlain = InAccepted (λ d f. (v : ValueId) → is_trivial_or_untyped d (type_in d f v) ≡ true → HasNoOwner d f v)

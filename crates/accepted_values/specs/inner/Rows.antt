@@ -15,14 +15,13 @@ use Rattle.sil_ast.specs.Blocks.{args_of}
 use Rattle.sil_ast.specs.declared.function.BlockArg.{BlockArg}
 use Rattle.sil_ast.specs.declared.function.Function.{Function}
 use Rattle.sil_ast.specs.declared.inst.Inst.{Inst}
-use Rattle.sil_ast.specs.declared.module.Module.{Module}
 use Rattle.sil_ast.specs.declared.place.ValueId.{ValueId}
 use Rattle.sil_types.specs.Typing.RowTypes.{made_types}
 use Rattle.sil_types.specs.Typing.Values.{function_at, result_functions, value_functions}
-use Rattle.type_definitions.specs.Declarations.{Declarations, declarations_of}
+use Rattle.type_definitions.specs.Declarations.{Declarations}
 use Rattle.value_tables.specs.Borrows.{borrow_by, borrow_in, borrows_of}
 use Rattle.value_tables.specs.declared.borrows.Borrow.TheVariants.{NoBorrow}
-use Rattle.accepted_values.specs.inner.Known.{IsAcceptedBody, type_in}
+use Rattle.accepted_values.specs.inner.Known.{InAccepted, type_in}
 
 -- how the value comes by its kind and its bases
 pub record IsDefinedBy (d : Declarations) (f : Function) (v : ValueId) (x : Definition) : Type 0 where
@@ -52,10 +51,8 @@ pub record IsArgument (d : Declarations) (f : Function) (n k : ℕ) (a : BlockAr
 
 -- each result has the rows of its instruction
 abbrev pub AreResultRows : Type 0
-AreResultRows = (m : Module) (n : ℕ) (f : Function) (block index k : ℕ) (i : Inst) (v : ValueId) → IsAcceptedBody m n f → IsAt f block index i
-    → slice_get i.results k ≡ Some v → IsResult (declarations_of m) f i k v
+AreResultRows = InAccepted (λ d f. (block index k : ℕ) (i : Inst) (v : ValueId) → IsAt f block index i → slice_get i.results k ≡ Some v → IsResult d f i k v)
 
 -- each argument has the rows of its block
 abbrev pub AreArgumentRows : Type 0
-AreArgumentRows = (m : Module) (n : ℕ) (f : Function) (b k : ℕ) (a : BlockArg) → IsAcceptedBody m n f
-    → slice_get (args_of f b) k ≡ Some a → IsArgument (declarations_of m) f b k a
+AreArgumentRows = InAccepted (λ d f. (b k : ℕ) (a : BlockArg) → slice_get (args_of f b) k ≡ Some a → IsArgument d f b k a)
