@@ -13,16 +13,18 @@ pub(crate) fn push_bytes(out: &mut Vec<u8>, bytes: &[u8]) -> Result<(), Exhauste
     Ok(())
 }
 
-pub(crate) fn push_decimal(out: &mut Vec<u8>, number: u64) -> Result<(), Exhausted>
-    ensures { OnOk result (out.new.items ≡ out.old.items ++ decimal number) }
+pub(crate) fn push_signed(out: &mut Vec<u8>, number: i64) -> Result<(), Exhausted>
+    ensures { OnOk result (out.new.items ≡ out.old.items ++ signed_decimal number) }
 {
     let digits = number.to_string(*out.allocator())?;
     push_bytes(out, digits.as_bytes())
 }
 
-pub(crate) fn push_signed(out: &mut Vec<u8>, number: i64) -> Result<(), Exhausted>
-    ensures { OnOk result (out.new.items ≡ out.old.items ++ signed_decimal number) }
+/// Puts a number behind some words.
+pub(crate) fn push_number(out: &mut Vec<u8>, words: &[u8], number: u64) -> Result<(), Exhausted>
+    ensures { OnOk result (out.new.items ≡ out.old.items ++ (words.now ++ decimal number)) }
 {
+    push_bytes(out, words)?;
     let digits = number.to_string(*out.allocator())?;
     push_bytes(out, digits.as_bytes())
 }
