@@ -92,7 +92,6 @@ module _ (m : Module) (r : IsWellTyped m) (n : ℕ) (f : Function) (is_function 
   in_form =
       stands f.form
       (not-false (is_of_form f.form i) (or_parts (not (is_of_form f.form i)) (is_annotated_at f p.block.0 p.index) (keeps_form m r n f is_function p.block.0 p.index i spot)).0)
-
     where
       stands : (x : Form) → is_of_form x i ≡ true → stands_in x i.op i ≡ true
       stands Ossa e = e
