@@ -1,7 +1,7 @@
 -- The function with which a run begins: how it is found, and that a run of the lowered module may start at it.
 use Rattle.std.proofs.Common.{◌≡◌, ◌∙◌, ◌<◌, ◌&&◌, ◌⊎◌, inl, inr, ℕ, Bool, true, false, not, true≢false, refl, sym, ap, arith}
 use Rattle.std.proofs.Common.{List, [], ◌∷◌, length, map, get_or, position, Option, Some, None, option_map, slice_get}
-use Rattle.std.specs.Prelude.{cond, nat_lt}
+use Rattle.std.specs.Prelude.{◌≤◌, ◌^◌, cond, nat_lt}
 use Rattle.std.specs.List.{position_or_len}
 use Rattle.std.specs.Str.{bytes_eq}
 use Rattle.std.proofs.lemmas.Bool.{and_from, and_parts, cases_Bool, ltb-false}
@@ -25,11 +25,16 @@ use Rattle.sil_ast.specs.declared.function.Function.{Function}
 use Rattle.sil_ast.specs.declared.module.Module.{Module}
 use Rattle.sil_ast.specs.declared.place.FuncId.{FuncId}
 use Rattle.sil_ast.specs.declared.place.ValueId.{ValueId}
+use Rattle.sil_verifier.specs.inner.Checked.{IsVerified}
 use Rattle.type_definitions.specs.Declarations.{Declarations, declarations_of}
 use Rattle.module_runner.specs.Entries.{HasEntry, IsEntry}
 use Rattle.module_runner.specs.inner.Entries.{is_entry}
 
 -- how it is found
+
+-- a module has few functions
+pub few_functions : (m : Module) → IsVerified m → length m.functions < 2 ^ 32
+few_functions m verified = let few : length m.functions ≤ 1024 = verified.numbered.limits.functions in omega arith
 
 -- where no element passes, none does at any place
 none_passes : {X : Type 0} (p : X → Bool) (xs : List X) → position p xs ≡ None → (k : ℕ) (x : X) → slice_get xs k ≡ Some x → p x ≡ true → ⊥

@@ -1,8 +1,9 @@
 -- The run of the lowered module, and what is reported of it.
 use Rattle.std.proofs.Common.{◌∙◌, sym, subst}
-use Rattle.count_machine.specs.LowRuns.{EndsAsTold, MayStartAt}
+use Rattle.count_machine.specs.LowRuns.{MayStartAt}
+use Rattle.lowering_model.specs.LoweredModules.{lowered}
 use Rattle.module_runner.proofs.Entering.{lowered_starts}
-use Rattle.module_runner.proofs.Reported.{ends_reported, left_reported}
+use Rattle.module_runner.proofs.Reported.{ends_reported}
 use Rattle.module_runner.proofs.runner.run_from.Goals as goal
 
 pub run-requires : goal.run-requires
@@ -13,3 +14,13 @@ run-requires c = record {
       (lowered_starts c.args.c.now c.requires.entry.0 c.args.entry.id c.args.entry.function.now c.requires.entry.1);
   some_turns = c.requires.some_turns;
 }
+
+pub returns-clause-run : goal.returns-clause-run
+returns-clause-run c =
+    let run = c.in_ok-events.field-0 in
+    record {
+      ran = c.in_ok-module.ensures.value;
+      result_type = c.in_ok-result_type.ensures;
+      ends = ends_reported (lowered c.args.c.now) c.in_ok-module.module c.args.entry.id c.args.turns run c.reported.result
+          c.in_ok-module.ensures.value c.reported.ensures c.in_ok-events.ensures.outcome;
+    }
