@@ -162,7 +162,7 @@ module _ (m : Module) (r : IsRunnable m) (n : ℕ) (f : Function) (there : slice
       let is : it.0 ≡ type.Weak x = weak_type it.0 x it.2 in
       let fits : Fits m (type.Weak x) = subst (Fits m) is (target_fits 0 t it.0 e it.1) in
       let placed = subst (λ y. is_misplaced_in_storage (declarations_of m) y ≡ false) is (placed_at 0 t it.0 e it.1) in
-      by_size storage.Weak x (sym (fold-Weak Bool has_no_address_over x) ∙ fits.plain) (weak_is_named m r x (in_weak_storage (declarations_of m) x placed))
+      by_size storage.Weak x (sym (fold-Weak Bool has_no_address_over x) ∙ fits.plain) (weak_is_named m (well_typed m r) x (in_weak_storage (declarations_of m) x placed))
 
   in_unowned_fits : (t x : TypeName) → written 0 i ≡ Some t → unowned_at t ≡ Some x → ValueFits m x
   in_unowned_fits t x e at =
@@ -171,7 +171,7 @@ module _ (m : Module) (r : IsRunnable m) (n : ℕ) (f : Function) (there : slice
       let fits : Fits m (type.Unowned x) = subst (Fits m) is (target_fits 0 t it.0 e it.1) in
       let placed = subst (λ y. is_misplaced_in_storage (declarations_of m) y ≡ false) is (placed_at 0 t it.0 e it.1) in
       by_size storage.Unowned x (sym (fold-Unowned Bool has_no_address_over x) ∙ fits.plain)
-      (unowned_is_named m r x (in_unowned_storage (declarations_of m) x placed))
+      (unowned_is_named m (well_typed m r) x (in_unowned_storage (declarations_of m) x placed))
 
   element_fits : (t x : TypeName) → Fits m t → element_of i.number t ≡ Some x → Fits m x
   element_fits t x fits e =
