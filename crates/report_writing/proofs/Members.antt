@@ -84,9 +84,9 @@ module _ (d : Declarations) (left : List LeftObject) where
         let v = value_of member in
         let adds = further (separator_before (codes ", ") i) v (slice_get ws i) in
         let there : slice_get vs i ≡ Some v =
-            slice_get-map value_of members i ∙ ap (option_map value_of) (slice_get-get_or members i member within ∙ ap Some (sym is)) in
+        slice_get-map value_of members i ∙ ap (option_map value_of) (slice_get-get_or members i member within ∙ ap Some (sym is)) in
         let added : member_text d left i v t ≡ adds =
-            as_further i v t ∙ ap (further (separator_before (codes ", ") i) v) (ap (option_map (text_of d left)) at_type ∙ sym (slice_get-map (text_of d left) ts i)) in
+        as_further i v t ∙ ap (further (separator_before (codes ", ") i) v) (ap (option_map (text_of d left)) at_type ∙ sym (slice_get-map (text_of d left) ts i)) in
         at_after ∙ ap (λ l. l ++ member_text d left i v t) at_before ∙ append_assoc start so_far (member_text d left i v t)
         ∙ ap (λ l. start ++ l) (ap (λ l. so_far ++ l) added ∙ sym (more_words ws vs i v there))
         ∙ ap (λ n. start ++ words ws (take n vs)) (sym (add-one i))

@@ -39,7 +39,7 @@ pub push_group-returns-in-Chosen : goal.push_group-returns-in-Chosen
 push_group-returns-in-Chosen t c =
     shown c.push_bytes-in-Chosen.result _ _ _ _
     (ungrouped c.args.names.now.table.now c.args.names.now.left.now (types_in c.args.types.now) c.args.value.now _ c.in-Chosen.is
-    (members-Chosen c.in-Chosen.field-0 c.in-Chosen.field-1))
+    (members-Chosen c.in-Chosen.case_index c.in-Chosen.payload))
     c.push_bytes-in-Chosen.ensures
 
 pub push_members-loop-i-init : goal.push_members-loop-i-init
@@ -69,5 +69,5 @@ pub push_case-returns-in-None : goal.push_case-returns-in-None
 push_case-returns-in-None t c =
     let old = c.args.out.now.items in
     let none = case_not_shown c.args.names.now.table.now c.args.names.now.left.now (cases_in c.args.cases.now) c.args.value.now c.in-Chosen.case_index
-        c.in-Chosen.payload c.in-Chosen.is c.in-None.ensures in
+    c.in-Chosen.payload c.in-Chosen.is c.in-None.ensures in
     sym (append-nil old) ∙ ap (λ l. old ++ l) (sym none)
