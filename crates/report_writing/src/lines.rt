@@ -13,11 +13,7 @@ use holder_model::{Event, LeftObject, Trap};
 use lowered_run::LowFault;
 use sil_ast::{Exhausted, FuncId, Module, ObjectId};
 
-pub(crate) fn push_events(
-    out: &mut Vec<u8>,
-    m: &Module,
-    events: &[Event],
-) -> Result<(), Exhausted>
+pub(crate) fn push_events(out: &mut Vec<u8>, m: &Module, events: &[Event]) -> Result<(), Exhausted>
     ensures { OnOk result (out.new.items ≡ out.old.items ++ flat_map (event_line m.now) events.now) }
 {
     for event in events {
@@ -139,11 +135,7 @@ fn phase(live: bool) -> &'static [u8]
     if live { b" live" } else { b" dead" }
 }
 
-pub(crate) fn push_counts(
-    out: &mut Vec<u8>,
-    retains: u64,
-    releases: u64,
-) -> Result<(), Exhausted>
+pub(crate) fn push_counts(out: &mut Vec<u8>, retains: u64, releases: u64) -> Result<(), Exhausted>
     ensures { OnOk result (out.new.items ≡ out.old.items ++ count_line retains releases) }
 {
     push_number(out, b"retains ", retains)?;

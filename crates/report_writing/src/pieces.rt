@@ -33,5 +33,9 @@ pub(crate) fn push_number(out: &mut Vec<u8>, words: &[u8], number: u64) -> Resul
 pub(crate) fn push_separator(out: &mut Vec<u8>, i: usize) -> Result<(), Exhausted>
     ensures { OnOk result (out.new.items ≡ out.old.items ++ separator_before (codes ", ") i) }
 {
-    if i > 0 { push_bytes(out, b", ") } else { Ok(()) }
+    if i > 0 {
+        push_bytes(out, b", ")
+    } else {
+        Ok(())
+    }
 }

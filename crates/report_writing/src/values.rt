@@ -66,7 +66,9 @@ fn push_group(
             push_members(out, names, members.get().as_slice(), types)?;
             push_bytes(out, b")")
         }
-        Val::Int(_) | Val::Object(_) | Val::Chosen { .. } => push_bytes(out, b"()"),
+        Val::Int(_) => push_bytes(out, b"()"),
+        Val::Object(_) => push_bytes(out, b"()"),
+        Val::Chosen { .. } => push_bytes(out, b"()"),
     }
 }
 
