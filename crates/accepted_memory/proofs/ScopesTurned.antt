@@ -249,7 +249,8 @@ module _ (s : ValueId) where
         ∙ ap (turned_each scope_turn begins) (each_none (IsOfSort Use) scope_turn use_turn uses of_use (turned_each scope_turn ends on)
         ∙ each_where (IsOfSort End) scope_turn by_end
         (λ m e. ap (λ sort. cond (is_same m.subject s) (sort_turn sort) None) e ∙ sym (ap (λ sort. end_turn sort m.subject) e)) ends of_end on)
-        ∙ each_where (IsOfSort Begin) scope_turn by_begin (λ m e. ap (λ sort. cond (is_same m.subject s) (sort_turn sort) None) e ∙ sym (ap (λ sort. begin_turn sort m.subject) e)) begins of_begin behind)
+        ∙ each_where (IsOfSort Begin) scope_turn by_begin
+        (λ m e. ap (λ sort. cond (is_same m.subject s) (sort_turn sort) None) e ∙ sym (ap (λ sort. begin_turn sort m.subject) e)) begins of_begin behind)
       where
         use_turn : (m : Mark) → m.sort ≡ Use → scope_turn m ≡ None
         use_turn m e = ap (λ sort. cond (is_same m.subject s) (sort_turn sort) None) e ∙ none (is_same m.subject s)

@@ -1,5 +1,5 @@
 -- What an instruction and what stands at a point say of copies and destroys.
-use Rattle.std.proofs.Common.{◌≡◌, ℕ, List, [], ◌∷◌, refl, sym, ap, ◌∙◌, subst, Bool, true, false, Option, Some, None, eq-eqb}
+use Rattle.std.proofs.Common.{◌≡◌, ℕ, [], ◌∷◌, refl, sym, ap, ◌∙◌, subst, Bool, true, false, Option, Some, None, eq-eqb}
 use Rattle.std.specs.Prelude.{◌==◌, ◌↔◌, IfNone, IfSome, IsTrue}
 use Rattle.std.proofs.lemmas.Bool.{eqb-true}
 use Rattle.std.proofs.lemmas.Option.{same_Some}
@@ -19,7 +19,7 @@ same_value a b e = ap (λ (n : ℕ). let v : ValueId = record { 0 = n } in v) e
 -- copies
 
 pub no_copy : (i : Inst) → is_op op.CopyValue i ≡ false → (c v : ValueId) → Copies i c v → ⊥
-no_copy i no c v h = let wrong : true ≡ false = sym h.copies ∙ no in cc
+no_copy i not_so c v h = let wrong : true ≡ false = sym h.copies ∙ not_so in cc
 
 pub no_result : (i : Inst) → ((v : ValueId) → i.results ≡ v ∷ [] → ⊥) → (c v : ValueId) → Copies i c v → ⊥
 no_result i none c v h = none c h.result
@@ -28,14 +28,14 @@ pub no_operand : (i : Inst) → ((o : Operand) → i.operands ≡ o ∷ [] → �
 no_operand i none c v h = none h.operand h.operands
 
 pub copies : (i : Inst) (c : ValueId) (o : Operand) → is_op op.CopyValue i ≡ true → i.results ≡ c ∷ [] → i.operands ≡ o ∷ [] → Copies i c o.value
-copies i c o yes result operands = record { copies = yes; result = result; operand = o; operands = operands; copied = refl }
+copies i c o so result operands = record { copies = so; result = result; operand = o; operands = operands; copied = refl }
 
 pub copy_stands : (f : Function) (p : PointId) (i : Inst) (o : Option Copied) → Some i ≡ inst_at f p → IfSome o (λ x. Copies i x.value x.operand) → IfSome o (λ x. IsCopy f p x.value x.operand)
 copy_stands f p i None e h = tt
 copy_stands f p i (Some x) e h = record { inst = i; stands = sym e; copies = h }
 
 pub none_stands : (f : Function) (p : PointId) (i : Inst) (o : Option Copied) → Some i ≡ inst_at f p → IfNone o ((c v : ValueId) → Copies i c v → ⊥) → IfNone o ((c v : ValueId) → IsCopy f p c v → ⊥)
-none_stands f p i None e none c v h = none c v (subst (λ x. Copies x c v) (same_Some h.inst i (sym h.stands ∙ sym e)) h.copies)
+none_stands f p i None e none = λ c v h. none c v (subst (λ x. Copies x c v) (same_Some h.inst i (sym h.stands ∙ sym e)) h.copies)
 none_stands f p i (Some x) e none = tt
 
 pub nothing_stands : (f : Function) (p : PointId) → None ≡ inst_at f p → (c v : ValueId) → IsCopy f p c v → ⊥
@@ -44,17 +44,17 @@ nothing_stands f p e c v h = let wrong : None ≡ Some h.inst = e ∙ h.stands i
 -- destroys
 
 pub not_destroy : (i : Inst) (v : ValueId) → is_op op.DestroyValue i ≡ false → IsTrue false ↔ Destroys i v
-not_destroy i v no = (
+not_destroy i v not_so = (
   λ t. absurd (let wrong : false ≡ true = t in cc),
-  λ h. absurd (let wrong : true ≡ false = sym h.destroys ∙ no in cc),
+  λ h. absurd (let wrong : true ≡ false = sym h.destroys ∙ not_so in cc),
 )
 
 pub without_operand : (i : Inst) (v : ValueId) → ((o : Operand) → i.operands ≡ o ∷ [] → ⊥) → IsTrue false ↔ Destroys i v
 without_operand i v none = (λ t. absurd (let wrong : false ≡ true = t in cc), λ h. absurd (none h.operand h.operands))
 
 pub destroys_if : (i : Inst) (v : ValueId) (o : Operand) → is_op op.DestroyValue i ≡ true → i.operands ≡ o ∷ [] → IsTrue (o.value.0 == v.0) ↔ Destroys i v
-destroys_if i v o yes operands = (
-  λ t. record { destroys = yes; operand = o; operands = operands; destroyed = same_value o.value v (eqb-true o.value.0 v.0 t) },
+destroys_if i v o so operands = (
+  λ t. record { destroys = so; operand = o; operands = operands; destroyed = same_value o.value v (eqb-true o.value.0 v.0 t) },
   λ h.
       let lists : h.operand ∷ [] ≡ o ∷ [] = sym h.operands ∙ operands in
       let same : h.operand ≡ o = cc in

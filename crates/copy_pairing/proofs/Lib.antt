@@ -3,9 +3,9 @@ pub mod LawfulBehind
 pub mod KeptOnFunction
 pub mod WatchedMarks
 pub mod FreeAt
-pub mod Consumers
-pub mod Moves
+pub mod EndedItems
+pub mod MovedCopies
 pub mod Sizes
-pub mod Borrows
+pub mod BorrowedCopies
 pub mod Answered
 pub mod CopyFacts

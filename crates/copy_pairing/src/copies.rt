@@ -68,8 +68,10 @@ pub(crate) fn copy_at(f: &Function, p: PointId) -> Option<Copied>
     ensures some { IfSome result (λ x. IsCopy f.now p x.value x.operand) }
     ensures none { IfNone result ((c v : ValueId) → ¬ IsCopy f.now p c v) }
 {
-    let inst = item_inst(f, Item::Inst(p))?;
-    copied_by(inst)
+    match item_inst(f, Item::Inst(p)) {
+        None => None,
+        Some(inst) => copied_by(inst),
+    }
 }
 
 /// Whether the instruction is `destroy_value` of the value.

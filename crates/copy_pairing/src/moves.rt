@@ -1,6 +1,6 @@
 //! Whether a copy can become a move.
 
-ghost use Rattle.std.specs.Prelude.{◌≡◌, ◌∷◌, [], ◌↔◌, ◌&&◌, ◌||◌, ◌==◌, ℕ, true, length, nat_lt, IfNone, IfOk, IfSome, IsTrue, OnOk, Option};
+ghost use Rattle.std.specs.Prelude.{◌≡◌, ◌∷◌, [], ◌↔◌, ◌&&◌, ◌||◌, ◌==◌, ℕ, true, length, nat_lt, IfNone, IfOk, IfSome, IsTrue, OnOk, Option, Some, slice_get};
 ghost use Rattle.std.specs.List.{list_any};
 ghost use Rattle.sil_ast.specs.declared.place.ValueId.{ValueId};
 ghost use Rattle.sil_cfg.specs.declared.item.Item.TheVariants as item;
@@ -19,7 +19,7 @@ use crate::copies::{Copied, is_destroyed_at};
 use crate::held::are_free_at;
 use crate::watched::{is_among, is_mark};
 use ownership_marks::{Kinds, Mark, MarkSort};
-use sil_ast::{Exhausted, Function, PointId, ValueId};
+use sil_ast::{Block, Exhausted, Function, PointId, ValueId};
 use sil_cfg::{Graph, Item};
 use std::alloc::Global;
 use type_definitions::Kind;
@@ -115,22 +115,21 @@ fn is_concerned_at(
     Ok(concern_one(copied, marks.as_slice()))
 }
 
-/// The index of the destroy of what is copied that is the next mark of it behind the copy, in the same block and before an end of the copy.
-fn destroyed_next(
+/// The same as `destroyed_next`, in the block of the point.
+fn destroyed_in(
     alloc: Global,
     f: &Function,
     k: &Kinds,
+    block: &Block,
     p: PointId,
     copied: Copied,
 ) -> Result<Option<usize>, Exhausted>
+    requires block { slice_get f.now.blocks p.block.0 ≡ Some block.now }
     requires graph { HasGraph f.now }
     requires owned { chains.is_owned (facts_of k.now copied.operand).kind ≡ true }
     ensures some { IfOk result (λ o. IfSome o (IsDestroyedNext (told_at k.now.table) f.now p copied.value copied.operand)) }
     ensures none { IfOk result (λ o. IfNone o ((last : ℕ) → ¬ IsDestroyedNext (told_at k.now.table) f.now p copied.value copied.operand last)) }
 {
-    let Some(block) = f.blocks.get(p.block.0 as usize) else {
-        return Ok(None);
-    };
     for index in p.index as usize + 1..block.insts.len() {
         let point = PointId {
             block: p.block,
@@ -145,6 +144,25 @@ fn destroyed_next(
         }
     }
     Ok(None)
+}
+
+/// The index of the destroy of what is copied that is the next mark of it behind the copy, in the same block and before an end of the copy.
+fn destroyed_next(
+    alloc: Global,
+    f: &Function,
+    k: &Kinds,
+    p: PointId,
+    copied: Copied,
+) -> Result<Option<usize>, Exhausted>
+    requires graph { HasGraph f.now }
+    requires owned { chains.is_owned (facts_of k.now copied.operand).kind ≡ true }
+    ensures some { IfOk result (λ o. IfSome o (IsDestroyedNext (told_at k.now.table) f.now p copied.value copied.operand)) }
+    ensures none { IfOk result (λ o. IfNone o ((last : ℕ) → ¬ IsDestroyedNext (told_at k.now.table) f.now p copied.value copied.operand last)) }
+{
+    match f.blocks.get(p.block.0 as usize) {
+        None => Ok(None),
+        Some(block) => destroyed_in(alloc, f, k, block, p, copied),
+    }
 }
 
 /// Whether the copy at the point can become a move.

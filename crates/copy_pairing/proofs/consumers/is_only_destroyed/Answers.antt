@@ -1,7 +1,7 @@
-use Rattle.std.proofs.Common.{◌≡◌, ◌≤◌, sym, ap, ◌∙◌, Bool, true, arith}
+use Rattle.std.proofs.Common.{◌≡◌, ◌≤◌, sym, ap, ◌∙◌, arith}
 use Rattle.sil_cfg.specs.Layout.{item_count}
 use Rattle.ownership_marks.specs.Known.{marks_at}
-use Rattle.copy_pairing.proofs.Consumers.{all_destroys, is_kept, kept_more, one_consumes}
+use Rattle.copy_pairing.proofs.EndedItems.{all_destroys, is_kept, kept_more, one_consumes}
 use Rattle.copy_pairing.proofs.consumers.is_only_destroyed.Goals as goal
 
 pub loop-i-init : goal.loop-i-init

@@ -1,4 +1,4 @@
-use Rattle.copy_pairing.proofs.Consumers.{AreKeptBefore}
+use Rattle.copy_pairing.proofs.EndedItems.{AreKeptBefore}
 use Rattle.copy_pairing.proofs.consumers.is_only_destroyed.Given as goal
 
 abbrev pub invariant-loop-i : goal.invariant-loop-i

@@ -1,5 +1,5 @@
 use Rattle.std.proofs.Common.{sym, ◌∙◌}
-use Rattle.copy_pairing.proofs.CopyFacts.{destroys_if, not_destroy, without_operand}
+use Rattle.copy_pairing.proofs.CopyFacts.{not_destroy}
 use Rattle.copy_pairing.proofs.copies.destroys.Goals as goal
 
 pub returns-then-not-is_op : goal.returns-then-not-is_op

@@ -1,4 +1,3 @@
-use Rattle.std.proofs.Common.{[]}
 use Rattle.copy_pairing.specs.inner.Watched.{watched_of}
 use Rattle.copy_pairing.proofs.FreeAt.{decided_by, watched_agree}
 use Rattle.copy_pairing.proofs.held.are_free_at.Goals as goal

@@ -1,6 +1,7 @@
 use Rattle.std.proofs.Common.{sym, ap, ◌∙◌}
 use Rattle.std.proofs.lemmas.Result.{IfOk-weaker}
-use Rattle.copy_pairing.proofs.Moves.{movable_by, not_movable, not_owned}
+use Rattle.ownership_chains.specs.Facts.{is_owned}
+use Rattle.copy_pairing.proofs.MovedCopies.{movable_by, not_movable, not_owned}
 use Rattle.copy_pairing.proofs.moves.is_movable.Goals as goal
 
 pub returns-then-not-is_owned : goal.returns-then-not-is_owned
@@ -9,7 +10,7 @@ returns-then-not-is_owned c = λ count facts by.
     c.is_owned.result c.kind.result c.kind.ensures c.is_owned.ensures c.if-not-is_owned.true
 
 pub destroyed_next-requires-clause-owned : goal.destroyed_next-requires-clause-owned
-destroyed_next-requires-clause-owned c = sym (c.is_owned.ensures ∙ ap _ c.kind.ensures) ∙ c.if-not-is_owned.false
+destroyed_next-requires-clause-owned c = sym (c.is_owned.ensures ∙ ap is_owned c.kind.ensures) ∙ c.if-not-is_owned.false
 
 pub returns-then-is_none : goal.returns-then-is_none
 returns-then-is_none c = λ count facts by.

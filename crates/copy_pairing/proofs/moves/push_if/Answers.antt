@@ -1,6 +1,6 @@
 use Rattle.std.proofs.Common.{ap, ◌∙◌}
 use Rattle.ownership_chains.specs.Facts.{has}
-use Rattle.copy_pairing.proofs.Moves.{pushed_if, unpushed}
+use Rattle.copy_pairing.proofs.MovedCopies.{pushed_if, unpushed}
 use Rattle.copy_pairing.proofs.moves.push_if.Goals as goal
 
 pub returns-then-not-is_one : goal.returns-then-not-is_one

@@ -4,7 +4,7 @@ use Rattle.std.specs.Prelude.{◌||◌, ◌==◌, ◌↔◌, IsTrue}
 use Rattle.std.proofs.lemmas.Bool.{eqb-true}
 use Rattle.sil_ast.specs.declared.function.Function.{Function}
 use Rattle.sil_ast.specs.declared.place.ValueId.{ValueId}
-use Rattle.ownership_chains.specs.Facts.{has, known_or}
+use Rattle.ownership_chains.specs.Facts.{known_or}
 use Rattle.ownership_chains.specs.declared.facts.Facts.{Facts}
 use Rattle.ownership_marks.specs.declared.mark.MarkSort.{MarkSort}
 use Rattle.ownership_marks.specs.declared.mark.MarkSort.TheVariants.{End}
@@ -28,14 +28,14 @@ one_free facts f sort values c = (
 -- where only destroys end the copy, the bases alone decide
 pub borrowable_by : (facts : ValueId → Option Facts) (f : Function) (c v : ValueId) (bases : List ValueId) → bases ≡ (known_or facts v).bases → (only : Bool) → only ≡ true
     → IsTrue only ↔ IsOnlyDestroyed facts f c → (r : Bool) → IsTrue r ↔ AreFreeAt facts f End bases (c ∷ []) → IsTrue r ↔ IsBorrowable facts f c v
-borrowable_by facts f c v bases are only yes destroyed r free = (
-  λ t. record { destroyed = destroyed.0 yes; bases_stay = subst (λ b. IsFreeAt facts f End b c) are ((one_free facts f End bases c).0 (free.0 t)) },
+borrowable_by facts f c v bases are only so destroyed r free = (
+  λ t. record { destroyed = destroyed.0 so; bases_stay = subst (λ b. IsFreeAt facts f End b c) are ((one_free facts f End bases c).0 (free.0 t)) },
   λ h. free.1 ((one_free facts f End bases c).1 (subst (λ b. IsFreeAt facts f End b c) (sym are) h.bases_stay)),
 )
 
 -- else it can't
 pub not_borrowable : (facts : ValueId → Option Facts) (f : Function) (c v : ValueId) (only : Bool) → only ≡ false → IsTrue only ↔ IsOnlyDestroyed facts f c → IsTrue false ↔ IsBorrowable facts f c v
-not_borrowable facts f c v only no destroyed = (
+not_borrowable facts f c v only not_so destroyed = (
   λ t. absurd (let wrong : false ≡ true = t in cc),
-  λ h. absurd (let yes : only ≡ true = destroyed.1 h.destroyed in let wrong : true ≡ false = sym yes ∙ no in cc),
+  λ h. absurd (let so : only ≡ true = destroyed.1 h.destroyed in let wrong : true ≡ false = sym so ∙ not_so in cc),
 )

@@ -5,16 +5,15 @@ use Rattle.std.specs.List.{list_any, slice_get}
 use Rattle.std.proofs.lemmas.Bool.{cases_eq, cases_lt}
 use Rattle.std.proofs.lemmas.Bool.Decides.{nat_tests}
 use Rattle.std.proofs.lemmas.List.Folds.{list_any-append}
-use Rattle.std.proofs.lemmas.Option.{same_Some, slice_get_cases, slice_get_within}
+use Rattle.std.proofs.lemmas.Option.{slice_get_cases, slice_get_within}
 use Rattle.sil_ast.specs.declared.function.Block.{Block}
 use Rattle.sil_ast.specs.declared.function.Function.{Function}
-use Rattle.sil_ast.specs.declared.inst.Inst as inst
 use Rattle.sil_ast.specs.declared.place.PointId.{PointId}
 use Rattle.sil_ast.specs.declared.place.ValueId.{ValueId}
 use Rattle.sil_cfg.specs.Items.{point_at}
 use Rattle.sil_cfg.specs.Layout.{Layout}
 use Rattle.sil_cfg.specs.declared.item.Item.TheVariants.{Inst}
-use Rattle.item_operands.specs.Parts.{inst_at, inst_in}
+use Rattle.item_operands.specs.Parts.{inst_in}
 use Rattle.value_tables.specs.Borrows.{borrow_in, borrows_of, lends}
 use Rattle.value_tables.specs.declared.borrows.Borrow.{Borrow}
 use Rattle.value_tables.specs.declared.borrows.Borrow.TheVariants.{NoBorrow}
@@ -186,24 +185,24 @@ module _ (f : Function) (g : Layout) (k : Known) (count : ℕ) (facts : ValueId 
   kind_same kind e = ap is_owned e ∙ ap (λ (x : Facts). is_owned x.kind) (by.facts_are v)
 
   pub not_owned : (r : Bool) (kind : Kind) → kind ≡ (facts_of k v).kind → r ≡ is_owned kind → r ≡ false → IsTrue false ↔ IsMovable facts f p c v
-  not_owned r kind e is no = (
+  not_owned r kind e is not_so = (
     λ t. absurd (let wrong : false ≡ true = t in cc),
-    λ h. absurd (let wrong : true ≡ false = sym h.owned ∙ sym (kind_same kind e) ∙ sym is ∙ no in cc),
+    λ h. absurd (let wrong : true ≡ false = sym h.owned ∙ sym (kind_same kind e) ∙ sym is ∙ not_so in cc),
   )
 
   pub not_movable : (o : Option ℕ) → IfNone o ((last : ℕ) → IsDestroyedNext (told_at k.table) f p c v last → ⊥) → (r : Bool) → is_some o ≡ not r → r ≡ true → IsTrue false ↔ IsMovable facts f p c v
-  not_movable None none r e yes = (
+  not_movable None none r e so = (
     λ t. absurd (let wrong : false ≡ true = t in cc),
     λ h. absurd (none h.last (next_same facts (told_at k.table) (λ w. sym (by.facts_are w)) f p c v h.last h.next)),
   )
-  not_movable (Some last) none r e yes = absurd (let wrong : true ≡ false = e ∙ ap not yes in cc)
+  not_movable (Some last) none r e so = absurd (let wrong : true ≡ false = e ∙ ap not so in cc)
 
   pub movable_by : (owns : Bool) (kind : Kind) → kind ≡ (facts_of k v).kind → owns ≡ is_owned kind → owns ≡ true → (o : Option ℕ) → IfSome o (IsDestroyedNext (told_at k.table) f p c v)
       → (none : Bool) → is_some o ≡ not none → none ≡ false → (r : Bool) → IsTrue r ↔ IsUnlent facts f c v → IsTrue r ↔ IsMovable facts f p c v
-  movable_by owns kind e is yes None next none some no r h = absurd (let wrong : false ≡ true = some ∙ ap not no in cc)
-  movable_by owns kind e is yes (Some last) next none some no r h = (
+  movable_by owns kind e is so None next none some not_so r h = absurd (let wrong : false ≡ true = some ∙ ap not not_so in cc)
+  movable_by owns kind e is so (Some last) next none some not_so r h = (
     λ t. record {
-      owned = sym (kind_same kind e) ∙ sym is ∙ yes;
+      owned = sym (kind_same kind e) ∙ sym is ∙ so;
       unlent = h.0 t;
       last = last;
       next = next_same (told_at k.table) facts by.facts_are f p c v last next;

@@ -1,6 +1,6 @@
 use Rattle.ownership_chains.specs.Facts.{told_at}
-use Rattle.copy_pairing.proofs.Moves.{IsQuietBefore}
-use Rattle.copy_pairing.proofs.moves.destroyed_next.Given as goal
+use Rattle.copy_pairing.proofs.MovedCopies.{IsQuietBefore}
+use Rattle.copy_pairing.proofs.moves.destroyed_in.Given as goal
 
 abbrev pub invariant-loop-index : goal.invariant-loop-index
 invariant-loop-index l = IsQuietBefore (told_at l.k.table) l.f l.p l.copied.value l.copied.operand l.index
