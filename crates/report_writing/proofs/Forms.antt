@@ -9,7 +9,8 @@ use Rattle.run_typing_laws.proofs.ListFacts.{map_twice}
 use Rattle.run_typing_laws.proofs.Opened.{fold-Address, fold-Int, fold-Optional, fold-Tuple, fold-Unowned, fold-Weak}
 use Rattle.run_typing_laws.proofs.Whole.{no_ring, told_named}
 use Rattle.run_values.specs.Layers.{CaseLayer, Layer, case_with, decl_with, field_with, named_within, over}
-use Rattle.run_values.specs.Shapes.{CaseShapes, Enum, FullCase, Integer, NoCase, PlainCase, Shape, Stored, Tuple, Unknown, by_layers, cases_by_layers, cases_of, each_by_layers, members_of, shape_of, shape_with, with_case}
+use Rattle.run_values.specs.Shapes.{CaseShapes, Enum, FullCase, Integer, NoCase, PlainCase, Shape, Stored, Tuple}
+use Rattle.run_values.specs.Shapes.{Unknown, by_layers, cases_by_layers, cases_of, each_by_layers, members_of, shape_of, shape_with, with_case}
 use Rattle.run_values.specs.Values.{Value, integer_of, object_of}
 use Rattle.run_values.specs.Values as value
 use Rattle.sil_ast.specs.declared.decl.Case.{Case}
