@@ -9,7 +9,7 @@ use Rattle.ownership_lowering.proofs.lowering.lower.Goals as goal
 
 pub lowered_functions-requires : goal.lowered_functions-requires
 lowered_functions-requires c =
-    subst AreLowerable (sym (c.as_slice.ensures ∙ ap (λ (m : Module). m.functions) c.module-m.ensures.value)) 
+    subst AreLowerable (sym (c.as_slice.ensures ∙ ap (λ (m : Module). m.functions) c.module-m.ensures.value))
     (all_lowerable c.args.c.now c.module-m.ensures.verified c.kinds_have_no_rings.ensures c.functions_are_lowerable.ensures)
 
 pub returns-clause-value : goal.returns-clause-value
