@@ -1,39 +1,59 @@
 -- The texts of values by the form of their type.
-use Rattle.std.proofs.Common.{◌≡◌, ◌∙◌, ℕ, List, [], ◌∷◌, ◌++◌, None, Option, Some, map, length, refl, sym, ap, ap₂, codes}
+use Rattle.std.proofs.Common.{◌≡◌, ◌∙◌, ℕ, List, [], ◌∷◌, ◌++◌, None, Option, Some, map, length, refl, sym, ap, ap₂, subst, codes}
 use Rattle.std.specs.Prelude.{option_map}
 use Rattle.holder_model.specs.declared.left_object.LeftObject.{LeftObject}
 use Rattle.numbered_form.specs.Names.{Name}
 use Rattle.run_report.specs.ReportLines.{class_among}
 use Rattle.run_report.specs.ValueTexts.{Writer, chosen_words, grouped, if_integer, if_object, text_layer, value_text}
 use Rattle.run_typing_laws.proofs.ListFacts.{map_twice}
-use Rattle.run_typing_laws.proofs.Opened.{fold-Address}
-use Rattle.run_typing_laws.proofs.ShapeFacts.{optional_shape, weak_shape}
-use Rattle.run_values.specs.Layers.{CaseLayer, Layer, named_within, over}
-use Rattle.run_values.specs.Shapes.{CaseShapes, Shape, Stored, Unknown, by_layers, cases_by_layers, cases_of, each_by_layers, members_of, shape_of, shape_with, with_case}
+use Rattle.run_typing_laws.proofs.Opened.{fold-Address, fold-Int, fold-Optional, fold-Tuple, fold-Unowned, fold-Weak}
+use Rattle.run_typing_laws.proofs.Whole.{no_ring, told_named}
+use Rattle.run_values.specs.Layers.{CaseLayer, Layer, case_with, decl_with, field_with, named_within, over}
+use Rattle.run_values.specs.Shapes.{CaseShapes, Enum, FullCase, Integer, NoCase, PlainCase, Shape, Stored, Tuple, Unknown, by_layers, cases_by_layers, cases_of, each_by_layers, members_of, shape_of, shape_with, with_case}
 use Rattle.run_values.specs.Values.{Value, integer_of, object_of}
 use Rattle.run_values.specs.Values as value
 use Rattle.sil_ast.specs.declared.decl.Case.{Case}
+use Rattle.sil_ast.specs.declared.decl.Decl.{Decl}
 use Rattle.sil_ast.specs.declared.decl.Decl.TheVariants as decl
 use Rattle.sil_ast.specs.declared.decl.Field.{Field}
 use Rattle.sil_ast.specs.declared.decl.Storage.TheVariants as storage
 use Rattle.sil_ast.specs.declared.type_name.TypeName.{TypeName}
 use Rattle.sil_ast.specs.declared.type_name.TypeName.TheVariants as type
 use Rattle.type_definitions.specs.Contained.{field_type}
-use Rattle.type_definitions.specs.Declarations.{Declarations, all_decls, decl_of}
-use Rattle.value_reading.specs.inner.Payloads.{case_layer_of, optional_of}
-use Rattle.value_reading.proofs.Shaped.{class_is, enum_is, integer_is, struct_is, tuple_is, unknown_is, unowned_is}
-use Rattle.value_reading.proofs.Sized.{of_module}
+use Rattle.type_definitions.specs.Declarations.{Declarations, all_decls, decl_of, declarations_of}
 use Rattle.report_writing.specs.inner.Layers.{declared_cases, named_case, optional_cases}
 use Rattle.report_writing.specs.inner.Texts.{AreOfRunnable, case_text, case_writer, group_text, text_of}
 
-optional_is : (d : Declarations) → AreOfRunnable d → (t : TypeName) → shape_of d (type.Optional t) ≡ optional_of (shape_of d t)
-optional_is = of_module (λ d. (t : TypeName) → shape_of d (type.Optional t) ≡ optional_of (shape_of d t)) (λ m r. optional_shape m)
+-- the shape of a name, as it is looked up
+abbrev names : Declarations → Name → Shape
+names d = named_within shape_with d (length (all_decls d))
 
-weak_is : (d : Declarations) → AreOfRunnable d → (t : TypeName) → shape_of d (type.Weak t) ≡ Stored storage.Weak (shape_of d t)
-weak_is = of_module (λ d. (t : TypeName) → shape_of d (type.Weak t) ≡ Stored storage.Weak (shape_of d t)) (λ m r. weak_shape m)
+integer_is : (d : Declarations) (w : ℕ) → shape_of d (type.Int w) ≡ Integer w
+integer_is d w = fold-Int Shape (over shape_with (names d)) w
+
+tuple_is : (d : Declarations) (ts : List TypeName) → shape_of d (type.Tuple ts) ≡ Tuple (members_of (map (shape_of d) ts))
+tuple_is d ts = fold-Tuple Shape (over shape_with (names d)) ts
+
+optional_is : (d : Declarations) (t : TypeName) → shape_of d (type.Optional t)
+    ≡ Enum (codes "Optional") (PlainCase (codes "none") (FullCase (codes "some") (shape_of d t) NoCase))
+optional_is d t = fold-Optional Shape (over shape_with (names d)) t
+
+weak_is : (d : Declarations) (t : TypeName) → shape_of d (type.Weak t) ≡ Stored storage.Weak (shape_of d t)
+weak_is d t = fold-Weak Shape (over shape_with (names d)) t
+
+unowned_is : (d : Declarations) (t : TypeName) → shape_of d (type.Unowned t) ≡ Stored storage.Unowned (shape_of d t)
+unowned_is d t = fold-Unowned Shape (over shape_with (names d)) t
 
 address_is : (d : Declarations) (t : TypeName) → shape_of d (type.Address t) ≡ Unknown
-address_is d t = fold-Address Shape (over shape_with (named_within shape_with d (length (all_decls d)))) t
+address_is d t = fold-Address Shape (over shape_with (names d)) t
+
+-- the shape of a name is that of what it finds
+declared_is : (d : Declarations) → AreOfRunnable d → (name : Name) (x : Option Decl) → x ≡ decl_of d name
+    → shape_of d (type.Named name) ≡ decl_with shape_with (names d) x
+declared_is d r name x found =
+    subst (λ e. shape_of e (type.Named name) ≡ decl_with shape_with (names e) (decl_of e name)) (sym r.2)
+    (told_named shape_with (declarations_of r.0) (no_ring r.0 r.1.declared) name)
+    ∙ ap (decl_with shape_with (names d)) (sym found)
 
 -- what is told of members and of cases, by their types
 
@@ -48,6 +68,13 @@ module _ {A : Type 0} (tell : Layer A → A) where
   each_of_types : (d : Declarations) (ts : List TypeName) → each_by_layers tell (members_of (map (shape_of d) ts)) ≡ map (told_type d) ts
   each_of_types d ts = each_member (map (shape_of d) ts) ∙ map_twice (by_layers tell) (shape_of d) ts
 
+  -- the fields of a struct, as they are looked up
+  each_of_fields : (d : Declarations) (fields : List Field) → each_by_layers tell (members_of (map (field_with shape_with (names d)) fields))
+      ≡ map (told_type d) (map field_type fields)
+  each_of_fields d fields =
+      each_member (map (field_with shape_with (names d)) fields) ∙ map_twice (by_layers tell) (field_with shape_with (names d)) fields
+      ∙ sym (map_twice (told_type d) field_type fields)
+
   abbrev told_case : Declarations → Case → CaseLayer A
   told_case d c = record { name = c.name; payload = option_map (told_type d) c.payload }
 
@@ -57,11 +84,12 @@ module _ {A : Type 0} (tell : Layer A → A) where
   one_case d name None others = refl
   one_case d name (Some t) others = refl
 
-  each_of_cases : (d : Declarations) (cases : List Case) → cases_by_layers tell (cases_of (map (case_layer_of d) cases)) ≡ map (told_case d) cases
+  each_of_cases : (d : Declarations) (cases : List Case) → cases_by_layers tell (cases_of (map (case_with shape_with (names d)) cases)) ≡ map (told_case d) cases
   each_of_cases d [] = refl
-  each_of_cases d (c ∷ cases) = one_case d c.name c.payload (cases_of (map (case_layer_of d) cases)) ∙ ap (λ l. told_case d c ∷ l) (each_of_cases d cases)
+  each_of_cases d (c ∷ cases) =
+      one_case d c.name c.payload (cases_of (map (case_with shape_with (names d)) cases)) ∙ ap (λ l. told_case d c ∷ l) (each_of_cases d cases)
 
-module _ (d : Declarations) (r : AreOfRunnable d) (t : TypeName) (left : List LeftObject) (v : Value) where
+module _ (d : Declarations) (t : TypeName) (left : List LeftObject) (v : Value) where
   abbrev of_shape : Shape → List ℕ
   of_shape s = value_text (class_among left) s v
 
@@ -70,7 +98,7 @@ module _ (d : Declarations) (r : AreOfRunnable d) (t : TypeName) (left : List Le
   by_shape u s is shaped = ap of_shape (ap (shape_of d) is ∙ shaped)
 
   pub integer_text : (w : ℕ) → t ≡ type.Int w → text_of d left t v ≡ if_integer (integer_of v)
-  integer_text w is = by_shape (type.Int w) _ is (integer_is d r w)
+  integer_text w is = by_shape (type.Int w) _ is (integer_is d w)
 
   grouped_text : (ts : List TypeName) → grouped (each_by_layers (text_layer (class_among left)) (members_of (map (shape_of d) ts))) (value.members_of v)
       ≡ group_text d left ts v
@@ -78,17 +106,17 @@ module _ (d : Declarations) (r : AreOfRunnable d) (t : TypeName) (left : List Le
 
   pub tuple_text : (ts elements : List TypeName) → t ≡ type.Tuple ts → elements ≡ ts → text_of d left t v ≡ group_text d left elements v
   tuple_text ts elements is same =
-      by_shape (type.Tuple ts) _ is (tuple_is d r ts) ∙ grouped_text ts ∙ ap (λ us. group_text d left us v) (sym same)
+      by_shape (type.Tuple ts) _ is (tuple_is d ts) ∙ grouped_text ts ∙ ap (λ us. group_text d left us v) (sym same)
 
   pub optional_text : (u target : TypeName) → t ≡ type.Optional u → target ≡ u → text_of d left t v ≡ codes "Optional" ++ case_text d left (optional_cases target) v
   optional_text u target is same =
-      by_shape (type.Optional u) _ is (optional_is d r u) ∙ ap (λ x. codes "Optional" ++ case_text d left (optional_cases x) v) (sym same)
+      by_shape (type.Optional u) _ is (optional_is d u) ∙ ap (λ x. codes "Optional" ++ case_text d left (optional_cases x) v) (sym same)
 
   pub weak_text : (u stored : TypeName) → t ≡ type.Weak u → stored ≡ u → text_of d left t v ≡ text_of d left stored v
-  weak_text u stored is same = by_shape (type.Weak u) _ is (weak_is d r u) ∙ ap (λ x. text_of d left x v) (sym same)
+  weak_text u stored is same = by_shape (type.Weak u) _ is (weak_is d u) ∙ ap (λ x. text_of d left x v) (sym same)
 
   pub unowned_text : (u stored : TypeName) → t ≡ type.Unowned u → stored ≡ u → text_of d left t v ≡ text_of d left stored v
-  unowned_text u stored is same = by_shape (type.Unowned u) _ is (unowned_is d r u) ∙ ap (λ x. text_of d left x v) (sym same)
+  unowned_text u stored is same = by_shape (type.Unowned u) _ is (unowned_is d u) ∙ ap (λ x. text_of d left x v) (sym same)
 
   pub address_text : (u : TypeName) → t ≡ type.Address u → text_of d left t v ≡ []
   address_text u is = by_shape (type.Address u) _ is (address_is d u)
@@ -99,27 +127,28 @@ module _ (d : Declarations) (r : AreOfRunnable d) (name : Name) (left : List Lef
   abbrev text : List ℕ
   text = text_of d left (type.Named name) v
 
+  abbrev writer : Layer Writer → Writer
+  writer = text_layer (class_among left)
+
+  of_found : (x : Option Decl) → x ≡ decl_of d name → text ≡ value_text (class_among left) (decl_with shape_with (names d) x) v
+  of_found x found = ap (λ s. value_text (class_among left) s v) (declared_is d r name x found)
+
   pub struct_text : (n put : Name) (fields given : List Field) → Some (decl.Struct n fields) ≡ decl_of d name → put ≡ n → given ≡ fields
       → text ≡ put ++ group_text d left (map field_type given) v
   struct_text n put fields given found at_name same =
-      by_shape d r (type.Named name) left v (type.Named name) _ refl (struct_is d r name n fields (sym found))
-      ∙ ap (λ l. n ++ l) (grouped_text d r (type.Named name) left v (map field_type fields))
+      of_found (Some (decl.Struct n fields)) found ∙ ap (λ ws. n ++ grouped ws (value.members_of v)) (each_of_fields writer d fields)
       ∙ ap₂ (λ x fs. x ++ group_text d left (map field_type fs) v) (sym at_name) (sym same)
-
-  writers : (cases : List Case) → map (told_case (text_layer (class_among left)) d) cases ≡ map (case_writer d left) (declared_cases cases)
-  writers cases = sym (map_twice (case_writer d left) named_case cases)
 
   pub enum_text : (n put : Name) (cases given : List Case) → Some (decl.Enum n cases) ≡ decl_of d name → put ≡ n → given ≡ cases
       → text ≡ put ++ case_text d left (declared_cases given) v
   enum_text n put cases given found at_name same =
-      by_shape d r (type.Named name) left v (type.Named name) _ refl (enum_is d r name n cases (sym found))
-      ∙ ap (λ ws. n ++ chosen_words ws (value.case_of v)) (each_of_cases (text_layer (class_among left)) d cases ∙ writers cases)
+      of_found (Some (decl.Enum n cases)) found
+      ∙ ap (λ ws. n ++ chosen_words ws (value.case_of v)) (each_of_cases writer d cases ∙ sym (map_twice (case_writer d left) named_case cases))
       ∙ ap₂ (λ x cs. x ++ case_text d left (declared_cases cs) v) (sym at_name) (sym same)
 
   pub class_text : (n : Name) (superclass : Option Name) (fields : List Field) → Some (decl.Class n superclass fields) ≡ decl_of d name
       → text ≡ if_object (class_among left) (object_of v)
-  class_text n superclass fields found =
-      by_shape d r (type.Named name) left v (type.Named name) _ refl (class_is d r name n superclass fields (sym found))
+  class_text n superclass fields found = of_found (Some (decl.Class n superclass fields)) found
 
   pub unknown_text : None ≡ decl_of d name → text ≡ []
-  unknown_text found = by_shape d r (type.Named name) left v (type.Named name) _ refl (unknown_is d r name (sym found))
+  unknown_text found = of_found None found

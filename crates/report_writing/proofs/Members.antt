@@ -7,14 +7,16 @@ use Rattle.std.proofs.lemmas.Grind.{common_steps}
 use Rattle.std.proofs.lemmas.List.{length-map, take_all}
 use Rattle.std.proofs.lemmas.Option.{slice_get-get_or, slice_get-map}
 use Rattle.holder_model.specs.declared.left_object.LeftObject.{LeftObject}
-use Rattle.run_report.specs.ValueTexts.{Writer, text_itself, texts_of}
-use Rattle.run_values.specs.Values.{Value}
+use Rattle.run_report.specs.ValueTexts.{Writer, grouped, text_itself, texts_of}
+use Rattle.run_values.specs.Values.{Value, members_of}
 use Rattle.run_values.specs.declared.value.Val.{Val}
+use Rattle.run_values.specs.declared.value.Val.TheVariants as val
 use Rattle.sil_ast.specs.declared.type_name.TypeName.{TypeName}
-use Rattle.sil_printer.specs.Words.{listed, separator_before}
+use Rattle.sil_printer.specs.Words.{in_parens, listed, separator_before}
 use Rattle.type_definitions.specs.Declarations.{Declarations}
 use Rattle.report_writing.specs.RunOutcomes.{value_of}
-use Rattle.report_writing.specs.inner.Texts.{member_text, members_text, text_of}
+use Rattle.report_writing.specs.inner.Texts.{group_text, member_text, members_text, text_of}
+use Rattle.report_writing.proofs.Parts.{members-Group}
 
 -- what a further member adds: nothing where no writer is left for it
 abbrev further : List ℕ → Value → Option Writer → List ℕ
@@ -82,9 +84,9 @@ module _ (d : Declarations) (left : List LeftObject) where
         let v = value_of member in
         let adds = further (separator_before (codes ", ") i) v (slice_get ws i) in
         let there : slice_get vs i ≡ Some v =
-            slice_get-map value_of members i ∙ ap (option_map value_of) (slice_get-get_or members i member within ∙ ap Some (sym is)) in
+        slice_get-map value_of members i ∙ ap (option_map value_of) (slice_get-get_or members i member within ∙ ap Some (sym is)) in
         let added : member_text d left i v t ≡ adds =
-            as_further i v t ∙ ap (further (separator_before (codes ", ") i) v) (ap (option_map (text_of d left)) at_type ∙ sym (slice_get-map (text_of d left) ts i)) in
+        as_further i v t ∙ ap (further (separator_before (codes ", ") i) v) (ap (option_map (text_of d left)) at_type ∙ sym (slice_get-map (text_of d left) ts i)) in
         at_after ∙ ap (λ l. l ++ member_text d left i v t) at_before ∙ append_assoc start so_far (member_text d left i v t)
         ∙ ap (λ l. start ++ l) (ap (λ l. so_far ++ l) added ∙ sym (more_words ws vs i v there))
         ∙ ap (λ n. start ++ words ws (take n vs)) (sym (add-one i))
@@ -97,3 +99,15 @@ module _ (d : Declarations) (left : List LeftObject) where
   -- before the first one
   pub none_yet : (ts : List TypeName) (start : List ℕ) → start ≡ start ++ members_text d left ts []
   none_yet ts start = sym (append-nil start) ∙ ap (λ texts. start ++ listed text_itself texts) (sym (no_texts (map (text_of d left) ts)))
+
+  -- of a struct or a tuple, and of what is none
+  pub group_shown : (ts : List TypeName) (v : Val) (members slice : List Val) → v ≡ val.Group members → slice ≡ members
+      → group_text d left ts (value_of v) ≡ codes "(" ++ members_text d left ts (map value_of slice) ++ codes ")"
+  group_shown ts v members slice is same =
+      ap (λ o. grouped (map (text_of d left) ts) o) (ap (λ x. members_of (value_of x)) is ∙ members-Group members)
+      ∙ ap (λ vs. codes "(" ++ members_text d left ts (map value_of vs) ++ codes ")") (sym same)
+
+  pub ungrouped : (ts : List TypeName) (v u : Val) → v ≡ u → members_of (value_of u) ≡ None → group_text d left ts (value_of v) ≡ codes "()"
+  ungrouped ts v u is none =
+      let ws = map (text_of d left) ts in
+      ap (λ o. grouped ws o) (ap (λ x. members_of (value_of x)) is ∙ none) ∙ ap (λ texts. in_parens text_itself texts) (no_texts ws)

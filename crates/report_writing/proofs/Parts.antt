@@ -1,7 +1,7 @@
 -- The parts of the values that a program has, by the form of the value.
 use Rattle.std.proofs.Common.{◌≡◌, ◌∙◌, ℕ, ℤ, List, None, Some, Option, map, refl, ap}
 use Rattle.std.specs.Prelude.{option_map}
-use Rattle.run_values.specs.Values.{ChosenCase, Value, Case, Full, case_of, chosen, integer_of, members_of, object_of}
+use Rattle.run_values.specs.Values.{Value, Case, Full, case_of, chosen, integer_of, members_of, object_of}
 use Rattle.run_values.specs.declared.value.Val.{Val}
 use Rattle.run_values.specs.declared.value.Val.TheVariants as val
 use Rattle.sil_ast.specs.declared.place.ObjectId.{ObjectId}
@@ -68,6 +68,9 @@ pub case-Chosen : (k : ℕ) (payload : Option Val) → case_of (value_of (val.Ch
 case-Chosen k payload = ap case_of (value-Chosen k payload) ∙ case_in_chosen k (option_map value_of payload)
 
 pub ruleset integers = (integer-Int, integer-Object, integer-Group, integer-Chosen)
+
 pub ruleset objects = (object-Int, object-Object, object-Group, object-Chosen)
+
 pub ruleset members = (members-Int, members-Object, members-Group, members-Chosen)
+
 pub ruleset cases = (case-Int, case-Object, case-Group, case-Chosen)

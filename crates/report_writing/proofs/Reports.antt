@@ -1,5 +1,5 @@
 -- The report of an outcome, as it is put together.
-use Rattle.std.proofs.Common.{◌≡◌, ◌∙◌, ℕ, List, [], ◌++◌, append_assoc, refl, ap, ap₂}
+use Rattle.std.proofs.Common.{◌≡◌, ◌∙◌, ℕ, List, [], ◌++◌, refl, ap, ap₂}
 use Rattle.std.specs.Prelude.{IfOk, Result, Ok, Err}
 use Rattle.std.specs.List.{flat_map}
 use Rattle.holder_model.specs.declared.left_object.LeftObject.{LeftObject}
@@ -31,5 +31,4 @@ module _ (m : Module) (d : Declarations) (t : TypeName) where
       let counts = count_line r.retains r.releases in
       made ∙ at_counted
       ∙ ap (λ l. l ++ counts) (at_ended ∙ ap₂ (λ a b. a ++ b) (at_told ∙ ap (λ l. l ++ events) at_start) (ending_is r.left.now r.ending.now))
-      ∙ append_assoc events (low_ending_lines m (shape_of d t) (ending_of r.ending.now) r.left.now) counts
   whole (Err e) r start told ended counted at_start at_told at_ended at_counted made = made

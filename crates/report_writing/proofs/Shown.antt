@@ -1,6 +1,7 @@
 -- Text that is put is the text of what is shown.
 use Rattle.std.proofs.Common.{◌≡◌, ◌∙◌, ℕ, List, ◌++◌, append_assoc, sym, ap}
 use Rattle.std.specs.Prelude.{OnOk, Result, Ok, Err}
+use Rattle.sil_printer.proofs.Appended.{appended_three}
 
 module _ {T E : Type 0} where
   pub shown : (result : Result T E) (old new put text : List ℕ) → text ≡ put → OnOk result (new ≡ old ++ put) → OnOk result (new ≡ old ++ text)
@@ -13,3 +14,9 @@ module _ {T E : Type 0} where
   shown_behind (Ok x) old named new name put text same at_name wrote =
       wrote ∙ ap (λ l. l ++ put) at_name ∙ append_assoc old name put ∙ ap (λ l. old ++ l) (sym same)
   shown_behind (Err e) old named new name put text same at_name wrote = wrote
+
+  -- in three pieces
+  pub three_shown : (result : Result T E) (start first second new a b c : List ℕ) → first ≡ start ++ a → second ≡ first ++ b
+      → OnOk result (new ≡ second ++ c) → OnOk result (new ≡ start ++ ((a ++ b) ++ c))
+  three_shown (Ok x) start first second new a b c at_first at_second wrote = appended_three start first second new a b c at_first at_second wrote
+  three_shown (Err e) start first second new a b c at_first at_second wrote = wrote

@@ -1,5 +1,5 @@
 -- The values that a program has: what each stands for, form by form, and that a value told to a program is that value again.
-use Rattle.std.proofs.Common.{◌≡◌, ◌∙◌, ℕ, ℤ, List, [], ◌++◌, None, Some, Option, map, refl, sym, ap, ap₂}
+use Rattle.std.proofs.Common.{◌≡◌, ◌∙◌, ℕ, ℤ, List, ◌++◌, None, Some, Option, map, refl, sym, ap, ap₂}
 use Rattle.std.specs.Prelude.{option_map}
 use Rattle.std.specs.List.{flat_map}
 use Rattle.holder_model.specs.Outcomes.{Outcome}

@@ -7,17 +7,13 @@ ghost use Rattle.run_report.specs.ReportLines.{count_line, event_line, left_line
 ghost use Rattle.sil_printer.specs.Words.{in_parens, line};
 ghost use Rattle.report_writing.specs.LowReports.{fault_line};
 
-use crate::pieces::{push_bytes, push_decimal, push_separator, push_signed};
+use crate::pieces::{push_bytes, push_number, push_separator, push_signed};
 use crate::values::push_object;
 use holder_model::{Event, LeftObject, Trap};
 use lowered_run::LowFault;
 use sil_ast::{Exhausted, FuncId, Module, ObjectId};
 
-pub(crate) fn push_events(
-    out: &mut Vec<u8>,
-    m: &Module,
-    events: &[Event],
-) -> Result<(), Exhausted>
+pub(crate) fn push_events(out: &mut Vec<u8>, m: &Module, events: &[Event]) -> Result<(), Exhausted>
     ensures { OnOk result (out.new.items ≡ out.old.items ++ flat_map (event_line m.now) events.now) }
 {
     for event in events {
@@ -87,14 +83,12 @@ pub(crate) fn push_fault(out: &mut Vec<u8>, fault: LowFault) -> Result<(), Exhau
     match fault {
         LowFault::Underflow { object, count } => push_underflow(out, object, count),
         LowFault::Dead { object } => {
-            push_bytes(out, b"fault dead #")?;
-            push_decimal(out, object.0)?;
+            push_number(out, b"fault dead #", object.0)?;
             push_bytes(out, b"\n")
         }
         LowFault::Empty => push_bytes(out, b"fault empty\n"),
         LowFault::Missing { value } => {
-            push_bytes(out, b"fault missing %")?;
-            push_decimal(out, u64::from(value.0))?;
+            push_number(out, b"fault missing %", u64::from(value.0))?;
             push_bytes(out, b"\n")
         }
         LowFault::Slot => push_bytes(out, b"fault slot\n"),
@@ -105,10 +99,8 @@ pub(crate) fn push_fault(out: &mut Vec<u8>, fault: LowFault) -> Result<(), Exhau
 fn push_underflow(out: &mut Vec<u8>, object: ObjectId, count: u64) -> Result<(), Exhausted>
     ensures { OnOk result (out.new.items ≡ out.old.items ++ line (codes "fault underflow #" ++ decimal object.0 ++ codes " count " ++ decimal count)) }
 {
-    push_bytes(out, b"fault underflow #")?;
-    push_decimal(out, object.0)?;
-    push_bytes(out, b" count ")?;
-    push_decimal(out, count)?;
+    push_number(out, b"fault underflow #", object.0)?;
+    push_number(out, b" count ", count)?;
     push_bytes(out, b"\n")
 }
 
@@ -116,8 +108,7 @@ fn push_underflow(out: &mut Vec<u8>, object: ObjectId, count: u64) -> Result<(),
 pub(crate) fn push_left(out: &mut Vec<u8>, left: &[LeftObject]) -> Result<(), Exhausted>
     ensures { OnOk result (out.new.items ≡ out.old.items ++ left_lines left.now) }
 {
-    push_bytes(out, b"objects ")?;
-    push_decimal(out, left.len() as u64)?;
+    push_number(out, b"objects ", left.len() as u64)?;
     push_bytes(out, b"\n")?;
     for object in left {
         push_left_object(out, object)?;
@@ -132,12 +123,9 @@ fn push_left_object(out: &mut Vec<u8>, x: &LeftObject) -> Result<(), Exhausted>
     push_bytes(out, b"object ")?;
     push_object(out, x.class_name.as_slice(), x.object)?;
     push_bytes(out, phase(x.live))?;
-    push_bytes(out, b" strong ")?;
-    push_decimal(out, x.strong)?;
-    push_bytes(out, b" unowned ")?;
-    push_decimal(out, x.unowned)?;
-    push_bytes(out, b" weak ")?;
-    push_decimal(out, x.weak)?;
+    push_number(out, b" strong ", x.strong)?;
+    push_number(out, b" unowned ", x.unowned)?;
+    push_number(out, b" weak ", x.weak)?;
     push_bytes(out, b"\n")
 }
 
@@ -147,16 +135,10 @@ fn phase(live: bool) -> &'static [u8]
     if live { b" live" } else { b" dead" }
 }
 
-pub(crate) fn push_counts(
-    out: &mut Vec<u8>,
-    retains: u64,
-    releases: u64,
-) -> Result<(), Exhausted>
+pub(crate) fn push_counts(out: &mut Vec<u8>, retains: u64, releases: u64) -> Result<(), Exhausted>
     ensures { OnOk result (out.new.items ≡ out.old.items ++ count_line retains releases) }
 {
-    push_bytes(out, b"retains ")?;
-    push_decimal(out, retains)?;
-    push_bytes(out, b" releases ")?;
-    push_decimal(out, releases)?;
+    push_number(out, b"retains ", retains)?;
+    push_number(out, b" releases ", releases)?;
     push_bytes(out, b"\n")
 }

@@ -13,16 +13,18 @@ pub(crate) fn push_bytes(out: &mut Vec<u8>, bytes: &[u8]) -> Result<(), Exhauste
     Ok(())
 }
 
-pub(crate) fn push_decimal(out: &mut Vec<u8>, number: u64) -> Result<(), Exhausted>
-    ensures { OnOk result (out.new.items ≡ out.old.items ++ decimal number) }
+pub(crate) fn push_signed(out: &mut Vec<u8>, number: i64) -> Result<(), Exhausted>
+    ensures { OnOk result (out.new.items ≡ out.old.items ++ signed_decimal number) }
 {
     let digits = number.to_string(*out.allocator())?;
     push_bytes(out, digits.as_bytes())
 }
 
-pub(crate) fn push_signed(out: &mut Vec<u8>, number: i64) -> Result<(), Exhausted>
-    ensures { OnOk result (out.new.items ≡ out.old.items ++ signed_decimal number) }
+/// Puts a number behind some words.
+pub(crate) fn push_number(out: &mut Vec<u8>, words: &[u8], number: u64) -> Result<(), Exhausted>
+    ensures { OnOk result (out.new.items ≡ out.old.items ++ (words.now ++ decimal number)) }
 {
+    push_bytes(out, words)?;
     let digits = number.to_string(*out.allocator())?;
     push_bytes(out, digits.as_bytes())
 }
@@ -31,5 +33,9 @@ pub(crate) fn push_signed(out: &mut Vec<u8>, number: i64) -> Result<(), Exhauste
 pub(crate) fn push_separator(out: &mut Vec<u8>, i: usize) -> Result<(), Exhausted>
     ensures { OnOk result (out.new.items ≡ out.old.items ++ separator_before (codes ", ") i) }
 {
-    if i > 0 { push_bytes(out, b", ") } else { Ok(()) }
+    if i > 0 {
+        push_bytes(out, b", ")
+    } else {
+        Ok(())
+    }
 }

@@ -10,7 +10,7 @@ ghost use Rattle.report_writing.specs.inner.Layers.{case_told, cases_in, types_i
 ghost use Rattle.report_writing.specs.inner.Texts.{AreOfRunnable, case_text, chosen_text, group_text, member_text, members_text, payload_text, text_of};
 
 use crate::layers::{CaseType, CaseTypes, MemberTypes, TypeLayer, layer_of};
-use crate::pieces::{push_bytes, push_decimal, push_separator, push_signed};
+use crate::pieces::{push_bytes, push_number, push_separator, push_signed};
 use holder_model::LeftObject;
 use run_values::Val;
 use sil_ast::{Boxed, Exhausted, ObjectId, TypeName};
@@ -66,7 +66,9 @@ fn push_group(
             push_members(out, names, members.get().as_slice(), types)?;
             push_bytes(out, b")")
         }
-        Val::Int(_) | Val::Object(_) | Val::Chosen { .. } => push_bytes(out, b"()"),
+        Val::Int(_) => push_bytes(out, b"()"),
+        Val::Object(_) => push_bytes(out, b"()"),
+        Val::Chosen { .. } => push_bytes(out, b"()"),
     }
 }
 
@@ -212,6 +214,5 @@ pub(crate) fn push_object(
     ensures { OnOk result (out.new.items ≡ out.old.items ++ object_text class.now object) }
 {
     push_bytes(out, class)?;
-    push_bytes(out, b"#")?;
-    push_decimal(out, object.0)
+    push_number(out, b"#", object.0)
 }

@@ -1,5 +1,5 @@
 -- The types of members and cases, as the outermost layer of a type lends them.
-use Rattle.std.specs.Prelude.{List, [], ◌∷◌, Option, Some, None, map, codes}
+use Rattle.std.specs.Prelude.{List, [], ◌∷◌, Some, None, map, codes}
 use Rattle.std.specs.Option.{option_copied}
 use Rattle.run_values.specs.Layers.{CaseLayer}
 use Rattle.sil_ast.specs.declared.decl.Case.{Case}

@@ -1,5 +1,5 @@
 use Rattle.std.proofs.Common.{Some, sym, ap, ◌∙◌}
-use Rattle.report_writing.proofs.Forms.{enum_text, struct_text}
+use Rattle.report_writing.proofs.Forms.{class_text, enum_text, struct_text, unknown_text}
 use Rattle.report_writing.proofs.layers.declared_layer.Goals as goal
 
 pub returns-in-Some-Struct : goal.returns-in-Some-Struct
@@ -12,3 +12,11 @@ returns-in-Some-Enum c = λ left v.
     enum_text c.args.table.now c.requires c.args.name.now left v c.in-Some-Enum.name c.as_slice-in-Some-Enum.result.now c.in-Some-Enum.cases
     c.as_slice-in-Some-Enum-2.result.now (sym (ap Some c.in-Some-Enum.field-0-is) ∙ c.in-Some-Enum.ensures) c.as_slice-in-Some-Enum.ensures
     c.as_slice-in-Some-Enum-2.ensures
+
+pub returns-in-Some-Class : goal.returns-in-Some-Class
+returns-in-Some-Class c = λ left v.
+    let k = c.in-Some-Class in
+    class_text c.args.table.now c.requires c.args.name.now left v k.field-0-0 k.field-0-1 k.field-0-2 (sym (ap Some k.field-0-is) ∙ k.ensures)
+
+pub returns-in-None : goal.returns-in-None
+returns-in-None c = λ left v. unknown_text c.args.table.now c.requires c.args.name.now left v c.in-None.ensures
