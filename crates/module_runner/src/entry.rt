@@ -31,7 +31,9 @@ fn is_entry(function: &Function, name: &[u8]) -> bool
 fn place_named(functions: &[Function], name: &[u8]) -> Option<usize>
     ensures { result ≡ position (entries.is_entry name.now) functions.now }
 {
-    functions.iter().position(|function| is_entry(function, name))
+    functions
+        .iter()
+        .position(|function| is_entry(function, name))
 }
 
 /// The function of this name with which a run may begin.

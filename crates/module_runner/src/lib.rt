@@ -11,6 +11,6 @@ mod runner;
 pub use laws::names_have_one_entry;
 pub use lowered_run::lowered_runs_end_once;
 pub use ownership_lowering::lower;
-pub use report_writing::Ending;
 pub use report::{RunReport, report_text};
+pub use report_writing::Ending;
 pub use runner::{RunEnd, run_checked};

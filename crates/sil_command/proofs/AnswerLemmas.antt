@@ -1,5 +1,5 @@
 -- How an answer follows from what was read.
-use Rattle.std.proofs.Common.{◌≡◌, inl, inr, ℕ, ◌+◌, ◌≤◌, List, [], ◌∷◌, ◌++◌, length, refl, sym, ap, subst, ◌∙◌, arith, length-append, get_or, Result, Ok, Err}
+use Rattle.std.proofs.Common.{◌≡◌, inl, inr, ℕ, ◌+◌, ◌≤◌, List, [], ◌++◌, length, refl, sym, ap, subst, ◌∙◌, arith, length-append, Result, Ok, Err}
 use Rattle.std.specs.Prelude.{Option, Some, None, IfSome, IfOk}
 use Rattle.std.specs.Io.KnownBytes.{Consumes}
 use Rattle.std.proofs.KnownBytes.{Consumes-nil, Consumes-trans}
@@ -75,12 +75,12 @@ pub read_answer : {A E : Type 0} (r : Result A E) (text_of : A → List ℕ) (st
 read_answer (Ok a) text_of status_of mode {m = m} within spells answer = spelled m _ _ within spells answer
 read_answer (Err e) text_of status_of mode within spells answer = tt
 
--- what a mode answers that checks rules, by what is answered to a module that isn't accepted, and to one that is
-module _ (AnswersAccepted : List ℕ → ℕ → Type 0) {E : Type 0} (r : Result Answer E) {m : Module} where
-  -- what is answered is told so
-  abbrev Tells : (List ℕ → ℕ → Type 0) → Answer → Type 0
-  Tells Told a = Told a.text.items (code_of a.status)
+-- it is so told of an answer
+abbrev Tells : (List ℕ → ℕ → Type 0) → Answer → Type 0
+Tells Told a = Told a.text.items (code_of a.status)
 
+-- what a mode answers that checks rules, by what is answered to a module that isn't accepted, and to one that is
+module _ (AnswersAccepted : List ℕ → ℕ → Type 0) {E : Type 0} (r : Result Answer E) (m : Module) where
   pub wrong_answer : IfOk r (Tells (AnswersWrong m)) → IfOk r (Tells (AnswersChecked m AnswersAccepted))
   wrong_answer = IfOk-weaker r (Tells (AnswersWrong m)) (Tells (AnswersChecked m AnswersAccepted)) (λ a answers. wrong _ _ answers)
 

@@ -9,7 +9,7 @@ use Rattle.sil_grammar.specs.Refusals.{SpellsNone}
 use Rattle.sil_grammar.specs.Spells.{Spells}
 use Rattle.sil_grammar.specs.inner.Laws.{AreSpelledOnce}
 use Rattle.sil_rules.specs.declared.limits.TheConstants.{TEXT_BYTES}
-use Rattle.sil_command.specs.declared.status.Status.TheVariants.{Done, NotAModule}
+use Rattle.sil_command.specs.declared.status.Status.TheVariants.{NotAModule}
 use Rattle.sil_command.specs.Statuses.{code_of}
 use Rattle.sil_command.specs.declared.words.Mode.{Mode}
 use Rattle.sil_command.specs.declared.words.Mode.TheVariants.{Check, Lower, Print, Run}
@@ -46,7 +46,7 @@ module _ (once : AreSpelledOnce) (mode : Mode) (checks : ChecksRules mode) (m : 
   text_written text _ _ within (too_long long) spells not = absurd (omega (arith, within, long))
   text_written text answer status within (unread reason _ _ inside refusal line) spells not = absurd (unread_none text reason answer status refusal line m spells)
   text_written text answer status within (spelled n _ _ inside known answers) spells not =
-      let same : m ≡ n = once text m n spells known in
+      let same : m ≡ n = once text n m known spells in
       subst (λ k. WritesFirst k answer) (sym same) (mode_written mode checks n answer status answers (λ all. not (subst Accepted (sym same) all)))
 
 pub refused_for_the_first : SayOneThing → AreSpelledOnce → AreRefusedForTheFirst
@@ -54,18 +54,16 @@ refused_for_the_first one once words mode text answer status checks asks within 
     text_written once mode checks m text answer status within (mode_answers one words mode text answer status asks answers) spells not
 
 -- a module is never answered as none
-IsNoReport : (List ℕ → ℕ → Type 0) → Type 0
-IsNoReport A = (answer : List ℕ) (status : ℕ) → A answer status → status ≡ code_of NotAModule → ⊥
-
-wrong_reported : (m : Module) → IsNoReport (AnswersWrong m)
+wrong_reported : (m : Module) (answer : List ℕ) (status : ℕ) → AnswersWrong m answer status → status ≡ code_of NotAModule → ⊥
 wrong_reported m _ _ (refused x first rule) three = omega arith
 wrong_reported m _ _ (limit_passed what first) three = omega arith
 
-checked_reported : (m : Module) (A : List ℕ → ℕ → Type 0) → IsNoReport A → IsNoReport (AnswersChecked m A)
-checked_reported m A no answer status (wrong _ _ answers) three = wrong_reported m answer status answers three
-checked_reported m A no answer status (accepted _ _ all answers) three = no answer status answers three
+checked_reported : (m : Module) (A : List ℕ → ℕ → Type 0) → ((answer : List ℕ) (status : ℕ) → A answer status → status ≡ code_of NotAModule → ⊥)
+    → (answer : List ℕ) (status : ℕ) → AnswersChecked m A answer status → status ≡ code_of NotAModule → ⊥
+checked_reported m A none answer status (wrong _ _ answers) three = wrong_reported m answer status answers three
+checked_reported m A none answer status (accepted _ _ all answers) three = none answer status answers three
 
-written_reported : (text : List ℕ) → IsNoReport (Writes text)
+written_reported : (text answer : List ℕ) (status : ℕ) → Writes text answer status → status ≡ code_of NotAModule → ⊥
 written_reported text _ _ written three = omega arith
 
 ending_reported : (x : Ending LowFault) → code_of (status_of x) ≡ code_of NotAModule → ⊥
@@ -74,11 +72,11 @@ ending_reported (ending.Trapped t) three = omega arith
 ending_reported ending.OutOfTurns three = omega arith
 ending_reported (ending.Faulted x) three = omega arith
 
-run_reported : (m : Module) (name : List ℕ) (bound : ℕ) → IsNoReport (AnswersRun m name bound)
+run_reported : (m : Module) (name : List ℕ) (bound : ℕ) (answer : List ℕ) (status : ℕ) → AnswersRun m name bound answer status → status ≡ code_of NotAModule → ⊥
 run_reported m name bound _ _ (no_entry none) three = omega arith
 run_reported m name bound _ _ (ran e f x entry ends) three = ending_reported x.ending three
 
-module_reported : (mode : Mode) (m : Module) → IsNoReport (AnswersModule mode m)
+module_reported : (mode : Mode) (m : Module) (answer : List ℕ) (status : ℕ) → AnswersModule mode m answer status → status ≡ code_of NotAModule → ⊥
 module_reported Check m = checked_reported m _ (written_reported _)
 module_reported Print m = written_reported _
 module_reported Lower m = checked_reported m _ (written_reported _)

@@ -14,7 +14,6 @@ use Rattle.numbered_form.specs.inner.NumberedForm.{IsNumbered}
 use Rattle.sil_ast.specs.declared.function.Function.{Function}
 use Rattle.sil_ast.specs.declared.module.Module.{Module}
 use Rattle.sil_ast.specs.declared.place.FuncId.{FuncId}
-use Rattle.sil_grammar.specs.Spells.{Spells}
 use Rattle.sil_grammar.specs.inner.Laws.{AreSpelledNumbered, AreSpelledOnce}
 use Rattle.sil_command.specs.declared.status.Status.TheVariants.{Refused, Limit, NoEntry}
 use Rattle.sil_command.specs.Statuses.{code_of}

@@ -12,6 +12,7 @@ ghost use Rattle.sil_command.specs.Words.{IsAskedFor};
 
 use crate::reading::answer_refusal;
 use crate::run_answer::answer_run;
+use crate::status::Status;
 use crate::texts;
 use crate::verified::answer_end;
 use crate::words::Mode;
@@ -19,7 +20,6 @@ use module_runner::lower;
 use sil_ast::{Exhausted, Module};
 use sil_grammar::read_owned;
 use sil_printer::print;
-use crate::status::Status;
 use sil_verifier::{Checked, verify};
 use std::alloc::Global;
 use std::mem::forget;
@@ -91,12 +91,7 @@ fn lower_module(alloc: Global, module: Module) -> Result<Answer, Exhausted>
     }
 }
 
-fn run_module(
-    alloc: Global,
-    module: Module,
-    entry: &[u8],
-    turns: u32,
-) -> Result<Answer, Exhausted>
+fn run_module(alloc: Global, module: Module, entry: &[u8], turns: u32) -> Result<Answer, Exhausted>
     requires numbered { IsNumbered «module» }
     requires some_turns { 1 ≤ turns }
     ensures { IfOk result (λ a. AnswersModule (Run entry.now turns) «module» a.text.items (code_of a.status)) }

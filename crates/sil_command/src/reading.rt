@@ -9,11 +9,11 @@ ghost use Rattle.sil_command.specs.Reading.{AnswersRefusal};
 ghost use Rattle.sil_command.specs.Texts.{not_a_module_text, passed_limit_text};
 
 use crate::answer::Answer;
+use crate::status::Status;
 use crate::texts;
 use sil_ast::{Exhausted, Place};
 use sil_grammar::ReadRefusal;
 use sil_lexer::LexRefusal;
-use crate::status::Status;
 use sil_rules::LimitWord;
 use std::alloc::Global;
 

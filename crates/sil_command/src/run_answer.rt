@@ -8,10 +8,10 @@ ghost use Rattle.sil_command.specs.Answers as answers;
 ghost use Rattle.sil_command.specs.Answers.{AnswersRun};
 
 use crate::answer::Answer;
+use crate::status::Status;
 use crate::texts;
 use module_runner::{Ending, RunEnd, RunReport, report_text, run_checked};
 use sil_ast::Exhausted;
-use crate::status::Status;
 use sil_verifier::Checked;
 use std::alloc::Global;
 use std::mem::forget;

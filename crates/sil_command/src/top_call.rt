@@ -12,11 +12,11 @@ ghost use Rattle.sil_command.specs.Ends.{TakesText, Gains, GainsFront, WritesAns
 ghost use Rattle.sil_command.specs.Ends.{WritesFrontOfAnswer, IsStatus, FinishesText, call_between, Ends};
 
 use crate::answer::answer_to;
+use crate::status::Status;
 use crate::texts;
 use crate::words::{Mode, mode_of};
 use sil_ast::Exhausted;
 use sil_io::{ReadEnd, Sink, Source, read_all, write_all};
-use crate::status::Status;
 use sil_rules::limits;
 use std::alloc::Global;
 

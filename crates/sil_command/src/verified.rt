@@ -10,9 +10,9 @@ ghost use Rattle.sil_command.specs.inner.ReportTexts.{report_text};
 ghost use Rattle.sil_command.specs.Texts.{type_limit_text};
 
 use crate::answer::Answer;
+use crate::status::Status;
 use crate::{refusal_lines, texts};
 use sil_ast::{Exhausted, Module};
-use crate::status::Status;
 use sil_rules::LimitWord;
 use sil_verifier::{Refusal, VerifyEnd};
 use std::alloc::Global;

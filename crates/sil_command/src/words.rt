@@ -37,7 +37,7 @@ pub fn mode_of<'a>(alloc: Global, words: &'a [&'a str]) -> Result<Option<Mode>, 
 fn mode_said(alloc: Global, said: CommandWords<'_>) -> Result<Option<Mode>, Exhausted>
     ensures { IfOk result (λ found. MatchOption found
         ((mode : Mode) → said.entry.mode.now ≡ word_of mode
-            → ¬ Takes mode (option_map (λ v. v.now) said.entry.turns) (option_map (λ v. v.now) said.entry.entry))
+        → ¬ Takes mode (option_map (λ v. v.now) said.entry.turns) (option_map (λ v. v.now) said.entry.entry))
         (λ mode. (said.entry.mode.now ≡ word_of mode) × Takes mode (option_map (λ v. v.now) said.entry.turns) (option_map (λ v. v.now) said.entry.entry))) }
 {
     if said.mode == "run" {

@@ -13,4 +13,4 @@ returns-in_ok-from_slice-in-Ok c =
     (subst (λ t. Writes accepted_text t (code_of Done)) (sym (c.in_ok-from_slice-in-Ok.ensures.items ∙ c.accepted.ensures)) written)
 
 pub returns-in-Err : goal.returns-in-Err
-returns-in-Err c = wrong_answer (Writes accepted_text) c.answer_end.result (c.answer_end.ensures c.args.«module» c.in-Err.ensures.err)
+returns-in-Err c = wrong_answer (Writes accepted_text) c.answer_end.result c.args.«module» (c.answer_end.ensures c.args.«module» c.in-Err.ensures.err)

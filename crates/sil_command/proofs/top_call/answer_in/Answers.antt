@@ -1,6 +1,6 @@
 -- Each way in which an answer ends, as one relation, and how far the source was taken.
-use Rattle.std.proofs.Common.{refl, rules, arith}
-use Rattle.sil_io.specs.Reading.{nothing, stopped, ended, failed}
+use Rattle.std.proofs.Common.{refl, arith}
+use Rattle.sil_io.specs.Reading.{stopped, ended, failed}
 use Rattle.sil_command.specs.Ends.{answered, read_failed, exhausted}
 use Rattle.sil_command.proofs.AnswerLemmas.{whole_answer, too_long_answer}
 use Rattle.sil_command.proofs.top_call.answer_in.Goals as goal
@@ -15,11 +15,11 @@ returns-in-Ok-answer_to-clause-ends g c = λ words asks.
 pub returns-in-Ok-answer_to-clause-takes : goal.returns-in-Ok-answer_to-clause-takes
 returns-in-Ok-answer_to-clause-takes g c = ended c.in-Ok.text.items (omega (arith, c.in-Ok.ensures.within, c.in-Ok.text.ok.0)) c.in-Ok.ensures.to_end
 
-pub returns-in-Err-clause-ends : goal.returns-in-Err-clause-ends
-returns-in-Err-clause-ends g c = λ words asks. rw c.code.ensures (exhausted refl refl)
+pub returns-in-Ok-clause-ends : goal.returns-in-Ok-clause-ends
+returns-in-Ok-clause-ends g c = λ words asks. rw c.code.ensures (exhausted refl refl)
 
-pub returns-in-Err-clause-takes : goal.returns-in-Err-clause-takes
-returns-in-Err-clause-takes g c = ended c.in-Ok.text.items (omega (arith, c.in-Ok.ensures.within, c.in-Ok.text.ok.0)) c.in-Ok.ensures.to_end
+pub returns-in-Ok-clause-takes : goal.returns-in-Ok-clause-takes
+returns-in-Ok-clause-takes g c = ended c.in-Ok.text.items (omega (arith, c.in-Ok.ensures.within, c.in-Ok.text.ok.0)) c.in-Ok.ensures.to_end
 
 pub returns-in-Err-TooLong-clause-ends : goal.returns-in-Err-TooLong-clause-ends
 returns-in-Err-TooLong-clause-ends g c = λ words asks.
@@ -44,10 +44,10 @@ returns-in-Err-Fault-clause-takes g c =
     let cut = rw c.in-Err-Fault.field-0-is at c.in-Err-Fault.ensures.cut_off in
     failed _ _ cut.2 cut.3 cut.4
 
-pub returns-in-Err-Memory-clause-ends : goal.returns-in-Err-Memory-clause-ends
-returns-in-Err-Memory-clause-ends g c = λ words asks. rw c.code-in-Err-Memory.ensures (exhausted refl refl)
+pub returns-clause-ends : goal.returns-clause-ends
+returns-clause-ends g c = λ words asks. rw c.code-in-Err-Memory.ensures (exhausted refl refl)
 
-pub returns-in-Err-Memory-clause-takes : goal.returns-in-Err-Memory-clause-takes
-returns-in-Err-Memory-clause-takes g c =
+pub returns-clause-takes : goal.returns-clause-takes
+returns-clause-takes g c =
     let cut = rw c.in-Err-Memory.field-0-is at c.in-Err-Memory.ensures.cut_off in
     stopped _ (omega (arith, cut.1)) cut.2
