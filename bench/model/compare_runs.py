@@ -30,7 +30,7 @@ import run
 import text
 
 MODULES = pathlib.Path(__file__).resolve().parent.parent.parent / 'crates' / 'run_examples' / 'modules'
-TURNS, BATCH = 2000, 100
+TURNS, BATCH, SECONDS = 2000, 100, 60
 
 
 def examples(folder):
@@ -71,7 +71,10 @@ class Comparison:
         self.program, self.known = program, known
 
     def asked(self, words, source):
-        got = subprocess.run([self.program] + words, input=source, capture_output=True, text=True, timeout=60)
+        try:
+            got = subprocess.run([self.program] + words, input=source, capture_output=True, text=True, timeout=SECONDS)
+        except subprocess.TimeoutExpired:
+            return f'no answer in {SECONDS} seconds', None
         return got.stdout, got.returncode
 
     def __call__(self, number):
