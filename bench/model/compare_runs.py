@@ -100,8 +100,15 @@ class Comparison:
         for words, answer in wanted:
             got = self.asked(words, source)
             if got != answer:
-                told.append(f'{number}: {" ".join(words)}: wanted {answer}, program {got}')
+                told.append(f'{number}: {" ".join(words)}: ' + difference(answer, got))
         return told
+
+
+def difference(wanted, got):
+    """The first line that differs in two answers, and their statuses."""
+    lines = itertools.zip_longest(wanted[0].split('\n'), got[0].split('\n'))
+    place, pair = next(((n, pair) for n, pair in enumerate(lines, 1) if pair[0] != pair[1]), (0, ('', '')))
+    return f'line {place}: wanted {pair[0]!r} and status {wanted[1]}, the program wrote {pair[1]!r} and status {got[1]}'
 
 
 def ended(ending):
