@@ -28,7 +28,7 @@ use Rattle.instruction_table.specs.declared.entries.Role.TheVariants as role
 use Rattle.instruction_table.specs.declared.op.Op.{Op}
 use Rattle.instruction_table.specs.declared.op.Op.TheVariants as op
 use Rattle.item_operands.specs.Items.{arg_value, item_taken, taken_along_in, taken_in}
-use Rattle.item_operands.specs.Parts.{item_edge, terminator_in, terminator_of}
+use Rattle.item_operands.specs.Parts.{inst_at, item_edge, terminator_in, terminator_of}
 use Rattle.item_operands.specs.Roles.{by_row, conventions_in, last_roles, roles_for, taken_by, taken_each}
 use Rattle.item_operands.specs.declared.taken.Taken.{Taken}
 use Rattle.item_operands.specs.declared.taken.Treatment.{Treatment}

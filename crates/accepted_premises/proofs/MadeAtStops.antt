@@ -58,7 +58,9 @@ stop_made m n f a i v made =
 
 pub made_at_stops : AreMadeAtStops
 made_at_stops m n f a v j is made =
-    let s = stop_made m n f a j v made in
-    (s.0, λ i there.
-    let at = made_there m n f a v s.0 i s.1 there in
-    both_ways (makes f v i) (is_at (flow_of f) s.0 i) (λ h. at.0 (makes_so f v i h)) (λ h. so_makes f v i (at.1 h)))
+    let s = stop_made m n f a j v made in (
+      s.0,
+      λ i there.
+          let at = made_there m n f a v s.0 i s.1 there in
+          both_ways (makes f v i) (is_at (flow_of f) s.0 i) (λ h. at.0 (makes_so f v i h)) (λ h. so_makes f v i (at.1 h)),
+    )
