@@ -6,7 +6,7 @@ use Rattle.std.proofs.lemmas.Bool.{and_parts, cases_Bool, eqb-true, false≢true
 use Rattle.std.proofs.lemmas.Option.{same_Some}
 use Rattle.accepted_trails.specs.inner.Lives as lives
 use Rattle.accepted_trails.specs.inner.Lives.{is_open}
-use Rattle.accepted_trails.specs.inner.Passing.{IsPassed, is_begin, is_end, left_by}
+use Rattle.accepted_trails.specs.inner.Passing.{IsPassed, is_begin, is_end, is_use, left_by}
 use Rattle.accepted_trails.proofs.BasesOpen.{begins_where_made, made_where_begun, owned_begins, scope_begins}
 use Rattle.accepted_trails.proofs.LivesPassed.{lives_passed}
 use Rattle.accepted_trails.proofs.ScopesPassed.{scopes_passed}
@@ -25,7 +25,7 @@ use Rattle.sil_cfg.specs.declared.item.Item.{Item}
 use Rattle.type_definitions.specs.declared.kind.Kind.{Kind}
 use Rattle.type_definitions.specs.declared.kind.Kind.TheVariants as kind
 use Rattle.held_entries.specs.inner.Entries.{AreEnded, AreMade, Begin, CanEnd, HasEach}
-use Rattle.held_entries.specs.inner.Tracked.{AreTrackedBehind, HoldsWhile, IsWhile, MayEndWhereTracked, NoneHeldAtReturn}
+use Rattle.held_entries.specs.inner.Tracked.{AreThereWhereUsed, AreTrackedBehind, HoldsWhile, IsWhile, MayEndWhereTracked, NoneHeldAtReturn}
 
 -- ---- one value, whose entry is of one form while it is on, and gone while it is off
 
@@ -77,6 +77,12 @@ module _ (facts : ValueId → Option Facts) (f : Function) (v : ValueId) (state 
           either (λ there. absurd (true≢false (sym (begins_where_made facts v own f i there) ∙ is))) (λ no. no) (cases_Bool (has (item_defined f i) v.0)) in
           subst (IsWhile form (left_by facts v f i pass.on)) (sym (put.others v none)) (tracked (left_by facts v f i pass.on) (ap (option_map (left_by facts v f i)) pass.was))
 
+  -- behind the ends it is on where the item uses it
+  used_there : (left : List Entry) → ((b : Bool) → option_map (left_by facts v f i) (state t) ≡ Some b → IsWhile form b (entry_at left v)) →
+      list_any (is_use facts v) (item_taken f i) ≡ true → IsWhile form true (entry_at left v)
+  used_there left tracked uses =
+      subst (λ b. IsWhile form b (entry_at left v)) (pass.found.used uses) (tracked (left_by facts v f i pass.on) (ap (option_map (left_by facts v f i)) pass.was))
+
   -- an operand that ends the value finds its entry
   found_there : (entries : List Entry) → ((on : Bool) → state t ≡ Some on → IsWhile form on (entry_at entries v)) → ((x : Datum) → CanEnd (form x)) →
       (front rest : List Taken) (x : Taken) → item_taken f i ≡ front ++ x ∷ rest → is_end facts v x ≡ true → CanEnd (entry_at entries v) × (list_any (is_end facts v) front ≡ false)
@@ -112,6 +118,12 @@ may_end_where_tracked d f accepted t i h suits entries tracked =
         scopes = λ s own. left_tracked facts f s (λ t. is_open d f s t) Lent t i (scopes_passed d f accepted s own.scope t i h) entries left (tracked.scopes s own) ended;
       },
     )
+
+pub there_where_used : AreThereWhereUsed
+there_where_used d f accepted t i h left tracked = (
+  λ v owned. used_there (facts_in d f) f v (λ t. lives.is_held d f v t) Held t i (lives_passed d f accepted v owned t i h) left (tracked.owned v owned),
+  λ s own. used_there (facts_in d f) f s (λ t. is_open d f s t) Lent t i (scopes_passed d f accepted s own.scope t i h) left (tracked.scopes s own),
+)
 
 pub tracked_behind : AreTrackedBehind
 tracked_behind d f accepted t i h xs es left tracked made put = record {

@@ -1,10 +1,11 @@
 -- Entries that go along with the marks of a trail: an Owned value's holds while the value is held, and a scope's is lent while the scope is open.
 use Rattle.std.specs.Prelude.{◌≡◌, ◌⊎◌, List, ◌∷◌, ◌++◌, Bool, true, false, Option, Some, option_map}
+use Rattle.std.specs.List.{list_any}
 use Rattle.accepted_trails.specs.inner.Accepted.{IsAcceptedIn}
 use Rattle.accepted_trails.specs.inner.Bases.{IsBaseOf}
 use Rattle.accepted_trails.specs.inner.Lives as lives
 use Rattle.accepted_trails.specs.inner.Lives.{IsOwnedIn, IsScopeIn, is_open}
-use Rattle.accepted_trails.specs.inner.Passing.{left_by}
+use Rattle.accepted_trails.specs.inner.Passing.{is_use, left_by}
 use Rattle.holder_model.specs.Data.{Datum}
 use Rattle.holder_model.specs.Frames.{Entry, Gone, Held, Lent, ends, entry_at, is_held}
 use Rattle.item_operands.specs.Items.{item_defined, item_taken}
@@ -59,6 +60,13 @@ abbrev pub MayEndWhereTracked : Type 0
 MayEndWhereTracked = (d : Declarations) (f : Function) → IsAcceptedIn d f → (t : List Item) (i : Item) → IsTurnedTrail f (i ∷ t) → EndsWhatMayEnd d f i
     → (entries : List Entry) → AreTracked d f t entries → MayEnd (facts_in d f) (item_taken f i) entries
     × ((left : List Entry) → AreEnded (facts_in d f) (item_taken f i) entries left → AreTrackedLeft d f t i left)
+
+-- behind the ends, the Owned values and scopes that the item uses are there
+abbrev pub AreThereWhereUsed : Type 0
+AreThereWhereUsed = (d : Declarations) (f : Function) → IsAcceptedIn d f → (t : List Item) (i : Item) → IsTurnedTrail f (i ∷ t)
+    → (left : List Entry) → AreTrackedLeft d f t i left
+    → ((v : ValueId) → IsOwnedIn d f v → list_any (is_use (facts_in d f) v) (item_taken f i) ≡ true → HoldsWhile true (entry_at left v))
+    × ((s : ValueId) → IsOwnScope d f s → list_any (is_use (facts_in d f) s) (item_taken f i) ≡ true → LendsWhile true (entry_at left s))
 
 -- behind its results they go along with the longer trail
 abbrev pub AreTrackedBehind : Type 0
