@@ -33,6 +33,7 @@ use Rattle.item_operands.specs.Roles.{by_row, conventions_in, last_roles, roles_
 use Rattle.item_operands.specs.declared.taken.Taken.{Taken}
 use Rattle.item_operands.specs.declared.taken.Treatment.{Treatment}
 use Rattle.lowering_laws.proofs.Lowerable.{contained}
+use Rattle.numbered_form.specs.inner.Parts.{has_operands}
 use Rattle.ownership_chains.specs.Chains.{operands_at}
 use Rattle.ownership_chains.specs.Facts.{has, known_or}
 use Rattle.ownership_kinds.specs.Facts.{facts_in}
@@ -125,9 +126,14 @@ chained AddressResult vs w c = (refl, c)
 chained ForwardedResult vs w c = (refl, c)
 chained OperandResult vs w c = (refl, c)
 
-covers_chained : (o : Op) → is_chained (result_kind_of o) ≡ true → covers (roles_of o) ≡ true
-covers_chained op.Apply e = cc
-covers_chained _ e = cc
+-- `alloc_stack` has no operands
+covers_chained : (o : Op) → is_chained (result_kind_of o) ≡ true → (covers (roles_of o) ≡ true) ⊎ (o ≡ op.AllocStack)
+covers_chained op.AllocStack e = inr refl
+covers_chained _ e = inl (cc)
+
+no_operands : (os : List Operand) → has_operands op.AllocStack os ≡ true → os ≡ []
+no_operands [] e = refl
+no_operands (o ∷ os) e = cc
 
 entry_none : (k : ArgKind) (s : Option Switched) (trivial : Bool) → (arg_definition_by true s k trivial).operands ≡ []
 entry_none annotation.Plain s trivial = refl
@@ -208,7 +214,14 @@ module _ (m : Module) (n : ℕ) (f : Function) (a : IsAcceptedBody m n f) where
         let row = result_rows m n f a p.block.0 p.index k x v ((typed m n f a).inside p x there).1 at in
         let c = chained (result_kind_of x.op) (map value_of x.operands) w (subst (λ vs. Contains vs w) row.defined.operands chain) in
         ap (λ o. list_any (rests_on d f b) (taken_in o ++ [])) there ∙ ap (list_any (rests_on d f b)) (append-nil (taken_by x))
-        ∙ taken_of rests x w (covers_chained x.op c.0) c.1 base
+        ∙ taken_of rests x w (covered c.1 (covers_chained x.op c.0)) c.1 base
+      where
+        covered : Contains (map value_of x.operands) w → (covers (roles_of x.op) ≡ true) ⊎ (x.op ≡ op.AllocStack) → covers (roles_of x.op) ≡ true
+        covered c (inl row) = row
+        covered c (inr stack) =
+            let parts = ((typed m n f a).inside p x there).0.parts.operands in
+            let none = no_operands x.operands (subst (λ o. has_operands o x.operands ≡ true) stack parts) in
+            absurd (nothing_in w (subst (λ os. Contains (map value_of os) w) none c))
 
     no_parameter : (k : ℕ) (x : BlockArg) → slice_get (args_of f 0) k ≡ Some x → x.value ≡ v → ⊥
     no_parameter k x there is =
@@ -246,7 +259,7 @@ module _ (m : Module) (n : ℕ) (f : Function) (a : IsAcceptedBody m n f) where
         at (inr branches) = absurd (none-some s (sym (no_switch m n f a e.block.0 e.index t x from branches) ∙ there))
 
     at_stop : (s : Stop) (i : Item) → IsMadeAt f v s → IsItem f i → is_at (flow_of f) s i ≡ true → TakesIt i
-    at_stop _ i (result p x there c) is h = let k = stands x.results v c in subst TakesIt (same_item-true (items.Inst p) i h) (by_result p x k.0 there k.1)
+    at_stop _ i (result p x there c) is h = let k = stands x.results v c in subst TakesIt (sym (same_item-true i (items.Inst p) h)) (by_result p x k.0 there k.1)
     at_stop _ i (parameter c) is h =
         let k = stands (map arg_value (args_of f 0)) v c in
         let x = arg_there (args_of f 0) k.0 v k.1 in
