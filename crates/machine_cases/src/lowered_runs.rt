@@ -8,7 +8,7 @@ ghost use Rattle.numbered_form.specs.inner.NumberedForm.{IsNumbered};
 ghost use Rattle.run_typing.specs.Runnable.{IsNotOwned, IsRunnable};
 ghost use Rattle.type_definitions.specs.Rules.{AreDeclarationsOf};
 
-use crate::run_lines::answer_of_run;
+use crate::run_reports::answer_of_run;
 use argument_conventions::argument_count;
 use case_calls::{Answer, line};
 use count_machine::run;
@@ -81,7 +81,7 @@ fn run_main(
         Some(entry) => {
             let run = run(alloc, m, table, entry, turns)?;
             let given = given_type(alloc, m, entry)?;
-            answer_of_run(alloc, m, table, &given, &run, tells_events)
+            answer_of_run(alloc, m, table, &given, run, tells_events)
         }
         None => line(alloc, "no entry", 1),
     }

@@ -4,8 +4,7 @@
 
 mod heap_calls;
 mod lowered_runs;
-mod run_lines;
-mod value_words;
+mod run_reports;
 
 ghost use Rattle.numbered_form.specs.inner.NumberedForm.{IsNumbered};
 ghost use Rattle.type_definitions.specs.Rules.{AreDeclarationsOf};
