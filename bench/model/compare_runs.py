@@ -81,8 +81,8 @@ class Comparison:
         """What becomes of a module, and the lines that tell the answers that differ."""
         try:
             source, entry = one(number, self.known)
-        except KeyError:
-            return 'left out', []         # a value is used that the change before took away
+        except (KeyError, RecursionError):
+            return 'left out', []         # a value is used that the change before took away, or values are made of one another without end
         checked = self.asked(['check'], source)
         if checked[1] != 0:
             return 'refused', self.differing(number, source, [(words, checked) for words in (['lower'], ['run', '--entry', entry])])
