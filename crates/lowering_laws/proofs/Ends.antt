@@ -78,7 +78,7 @@ chain_value defs n m (graph.more _ k _ c h) =
     (chain_value defs k m h)
 
 module _ (defs : List Definition) (range : IsInRange defs) (none : HasNoRing defs) where
-  abbrev known : ValueId → Option Facts
+  abbrev pub known : ValueId → Option Facts
   known = told_in defs (length defs)
 
   -- ---- facts are told of each value
@@ -120,7 +120,7 @@ module _ (defs : List Definition) (range : IsInRange defs) (none : HasNoRing def
       let part = subst (λ xs. Contains xs w.0.0) (sym (parts_are defs n)) (has_number (operands_at defs (value_of n)) w.0 w.1) in
       (w.0.0, part, omega arith, (lt, w.2))
 
-  facts_of : (v : ValueId) → v.0 < length defs → (f : Facts) × (known v ≡ Some f)
+  pub facts_of : (v : ValueId) → v.0 < length defs → (f : Facts) × (known v ≡ Some f)
   facts_of v lt = at (known v) refl
     where
       ring : Ring (numbers_of defs) IsLeft → ⊥

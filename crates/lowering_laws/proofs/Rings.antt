@@ -47,7 +47,7 @@ module _ (v : ValueId) where
   contains_it vs e = let there = stands_somewhere vs v e in contained vs there.0 v there.1
 
   module _ (f : Function) where
-    abbrev IsDefined : Type 0
+    abbrev pub IsDefined : Type 0
     IsDefined = (n : ℕ) × (k : ℕ) × IsDefinedAt f v n k
 
     in_block : (n : ℕ) (b : Block) → slice_get f.blocks n ≡ Some b → IsAmong (defined_in b) → IsDefined
@@ -63,7 +63,7 @@ module _ (v : ValueId) where
             (n, i.0, result n i.0 i.1 (record { within = b; is_block = is_block; is_inst = i.2 }) (contains_it i.1.results i.3))
 
     -- each value of the function is defined at a point
-    defined_somewhere : AreCountedFrom 0 (values_of f.blocks) → v.0 < length (values_of f.blocks) → IsDefined
+    pub defined_somewhere : AreCountedFrom 0 (values_of f.blocks) → v.0 < length (values_of f.blocks) → IsDefined
     defined_somewhere counted lt =
         let b = in_piece defined_in f.blocks (any_counted 0 (values_of f.blocks) v counted (omega arith) (omega arith)) in
         in_block b.0 b.1 b.2 b.3
@@ -71,7 +71,7 @@ module _ (v : ValueId) where
 none_in_nothing : (vs : List ValueId) (w : ValueId) → vs ≡ [] → Contains vs w → ⊥
 none_in_nothing vs w e c = let here : Contains [] w = subst (λ xs. Contains xs w) e c in let lt : here.0 < 0 = here.1 in omega arith
 
-ring_inside : (defs : List Definition) (v w : ValueId) → Chain defs v w → length defs ≤ v.0 → ⊥
+pub ring_inside : (defs : List Definition) (v w : ValueId) → Chain defs v w → length defs ≤ v.0 → ⊥
 ring_inside defs v w (one _ _ c) le = none_in_nothing (operands_at defs v) w (no_operands defs v le) c
 ring_inside defs v w (more _ u _ c h) le = none_in_nothing (operands_at defs v) u (no_operands defs v le) c
 

@@ -42,7 +42,7 @@ lowered_form m f b block typed not_owned is = at f.form refl
     at form.External e = let none : slice_get f.blocks b ≡ None = ap (λ bs. slice_get bs b) (typed.formed.external.0 e) in cc
 
 -- an argument of a block that isn't the first
-no_address : (blocks : List Block) (b k : ℕ) (a : BlockArg) → list_any takes_address (drop 1 blocks) ≡ false → (b == 0) ≡ false → slice_get (args_in (slice_get blocks b)) k ≡ Some a →
+pub no_address : (blocks : List Block) (b k : ℕ) (a : BlockArg) → list_any takes_address (drop 1 blocks) ≡ false → (b == 0) ≡ false → slice_get (args_in (slice_get blocks b)) k ≡ Some a →
     target a.ty ≡ None
 no_address [] b k a none other e = cc
 no_address (x ∷ bs) zero k a none other e = cc

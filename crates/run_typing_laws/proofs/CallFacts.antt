@@ -139,17 +139,17 @@ module _ (m : Module) (r : IsWellTyped m) (n : ℕ) (f : Function) (is_function 
   here = typed.insts block index i at
 
   -- what is called, and how
-  record Called : Type 0 where
-    value : Operand
-    handed : List Operand
-    operands : i.operands ≡ value ∷ handed
-    named : FuncId
-    stands_for : function_at (value_functions f) value.value.0 ≡ Some named
-    body : Function
-    there : slice_get m.functions named.0 ≡ Some body
-    told : i.signature ≡ Some body.signature
+  pub record Called : Type 0 where
+    pub value : Operand
+    pub handed : List Operand
+    pub operands : i.operands ≡ value ∷ handed
+    pub named : FuncId
+    pub stands_for : function_at (value_functions f) value.value.0 ≡ Some named
+    pub body : Function
+    pub there : slice_get m.functions named.0 ≡ Some body
+    pub told : i.signature ≡ Some body.signature
 
-  called : Called
+  pub called : Called
   unfolding calls_no_function differs_from_signature
   called =
       let os = first_operand i.operands (ap (λ x. has_operands x i.operands) (sym call) ∙ here.parts.operands) in

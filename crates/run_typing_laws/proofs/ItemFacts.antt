@@ -34,7 +34,7 @@ use Rattle.run_typing_laws.proofs.Found.{each_at}
 use Rattle.run_typing_laws.proofs.ListFacts.{each_map, each_parts, each_within}
 
 -- as many as its blocks define
-values_counted : (f : Function) → value_count f ≡ length (values_of f.blocks)
+pub values_counted : (f : Function) → value_count f ≡ length (values_of f.blocks)
 values_counted f = rows_count arg_functions result_functions (λ n xs. length-replicate (length xs) None) (λ i. level i.function i.results) 0 f.blocks
   where
     level : (g : Option FuncId) (vs : List ValueId) → length (functions_by g vs) ≡ length vs

@@ -55,7 +55,7 @@ direct_objects d (x ∷ xs) e = at (is_direct x) (direct_objects d xs (both_seco
     at false rest = rest
 
 module _ (m : Module) (f : Function) (typed : TypedFunction m f) where
-  conventions_and_entry : (has_fitting_conventions (declarations_of m) f.signature && has_entry_arguments f) ≡ true
+  pub conventions_and_entry : (has_fitting_conventions (declarations_of m) f.signature && has_entry_arguments f) ≡ true
   unfolding has_wrong_signature
   conventions_and_entry = not_false _ typed.signature
 

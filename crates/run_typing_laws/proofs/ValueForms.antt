@@ -61,7 +61,7 @@ module _ (m : Module) (f : Function) (i : Inst) (typed : TypedInst m f i) where
   pub row_kept : keeps_row (declarations_of m) i ≡ true
   row_kept = both_first _ (are_as_written (value_types (declarations_of m) f) i.operands) (both_first _ (list_all (edge_is_as_written (value_types (declarations_of m) f)) i.edges) row_and_written)
 
-  operands_written : are_as_written (value_types (declarations_of m) f) i.operands ≡ true
+  pub operands_written : are_as_written (value_types (declarations_of m) f) i.operands ≡ true
   operands_written = both_second (keeps_row (declarations_of m) i) _ (both_first _ (list_all (edge_is_as_written (value_types (declarations_of m) f)) i.edges) row_and_written)
 
   pub edges_written : list_all (edge_is_as_written (value_types (declarations_of m) f)) i.edges ≡ true

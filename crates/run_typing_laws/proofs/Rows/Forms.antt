@@ -70,7 +70,7 @@ module _ (d : Declarations) (f : Function) where
 
   -- ---- results
 
-  functions_level : (g : Option FuncId) (vs : List ValueId) → length (functions_by g vs) ≡ length vs
+  pub functions_level : (g : Option FuncId) (vs : List ValueId) → length (functions_by g vs) ≡ length vs
   functions_level g [] = refl
   functions_level g (v ∷ vs) = ap suc (length-replicate (length vs) None)
 
