@@ -1,0 +1,1 @@
+-- A verified module stays verified: its form and its types by the law of these, and its values function by function.
