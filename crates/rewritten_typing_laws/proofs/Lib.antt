@@ -1,5 +1,6 @@
 mod Lists
 mod Alike
+mod Rows
 mod Made
 mod Numbered
 mod Mentioned

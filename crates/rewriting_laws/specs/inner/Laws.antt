@@ -14,7 +14,7 @@ pub record IsVerifiedAs (m next : Module) : Type 0 where
 
 -- where a copy is rewritten
 abbrev pub RewritingKeepsVerified : Type 0
-RewritingKeepsVerified = (m next : Module) (n : ℕ) (p : PointId) → IsVerified m → Rewrites m n p next → IsVerifiedAs m next
+RewritingKeepsVerified = (m : Module) (n : ℕ) (p : PointId) (next : Module) → IsVerified m → Rewrites m n p next → IsVerifiedAs m next
 
 -- where copies are rewritten until none can go
 abbrev pub OptimisedIsVerified : Type 0

@@ -15,4 +15,4 @@ pub record IsTypedAs (m next : Module) : Type 0 where
 
 -- where a copy of a typed module in numbered form is rewritten, it stays typed and in numbered form
 abbrev pub RewritingKeepsTypes : Type 0
-RewritingKeepsTypes = (m next : Module) (n : ℕ) (p : PointId) → IsNumbered m → HasTypes m → Rewrites m n p next → IsTypedAs m next
+RewritingKeepsTypes = (m : Module) (n : ℕ) (p : PointId) (next : Module) → IsNumbered m → HasTypes m → Rewrites m n p next → IsTypedAs m next
