@@ -6,7 +6,7 @@ use Rattle.std.specs.List.{flat_map}
 use Rattle.copy_removal.specs.Rewritten.{with_op}
 use Rattle.instruction_table.specs.declared.op.Op.{Op}
 use Rattle.instruction_table.specs.declared.op.Op.TheVariants as op
-use Rattle.numbered_form.specs.Insts.{EachInBlock, insts_of}
+use Rattle.numbered_form.specs.Insts.{EachInBlock}
 use Rattle.numbered_form.specs.Lists.{Each}
 use Rattle.sil_ast.specs.declared.function.Block.{Block}
 use Rattle.sil_ast.specs.declared.function.BlockArg.{BlockArg}
@@ -14,7 +14,7 @@ use Rattle.sil_ast.specs.declared.function.Function.{Function}
 use Rattle.sil_ast.specs.declared.inst.Inst.{Inst}
 use Rattle.sil_types.specs.Typing.RowTypes.{row_types}
 use Rattle.type_definitions.specs.Declarations.{Declarations}
-use Rattle.value_tables.specs.ValueRows.{block_rows, rows_from}
+use Rattle.value_tables.specs.ValueRows.{rows_from}
 
 -- the op that an instruction gets in place of its own
 pub data Changes : Op → Op → Type 0 where

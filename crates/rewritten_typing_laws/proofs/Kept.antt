@@ -1,10 +1,5 @@
 -- The promise of `laws`: where a copy is rewritten, a typed module in numbered form stays both.
-use Rattle.std.proofs.Common.{◌≡◌, ℕ, refl, sym, subst}
-use Rattle.copy_removal.specs.Optimised.{Rewrites}
-use Rattle.numbered_form.specs.inner.NumberedForm.{IsNumbered}
-use Rattle.sil_ast.specs.declared.module.Module.{Module}
-use Rattle.sil_ast.specs.declared.place.PointId.{PointId}
-use Rattle.sil_verifier.specs.Refusals.{HasTypes}
+use Rattle.std.proofs.Common.{refl, sym, subst}
 use Rattle.type_definitions.specs.Declarations.{declarations_of}
 use Rattle.rewritten_typing_laws.specs.inner.KeptTypes.{IsTypedAs, RewritingKeepsTypes}
 use Rattle.rewritten_typing_laws.proofs.Made.{is_made}

@@ -1,20 +1,19 @@
 -- What a rewriting makes of a module's functions is alike.
 use Rattle.std.proofs.Common.{◌≡◌, ℕ, zero, suc, ◌<◌, List, [], ◌∷◌, map, refl, sym, ap, ◌∙◌, subst, arith, Bool, true, false, cond, Option, Some, None}
-use Rattle.std.specs.Prelude.{◌&&◌, ◌==◌, if◌then◌else◌, is_some, length, not, remove, slice_get}
+use Rattle.std.specs.Prelude.{◌&&◌, if◌then◌else◌, is_some, length, not, remove, slice_get}
 use Rattle.std.specs.List.{list_all}
-use Rattle.std.proofs.lemmas.Bool.{and_parts, eqb-true, not-false}
+use Rattle.std.proofs.lemmas.Bool.{and_parts, eqb-true}
 use Rattle.std.proofs.lemmas.Option.{same_Some}
-use Rattle.copy_removal.specs.Copies.{IsCopy, IsDestroy, is_op}
+use Rattle.copy_removal.specs.Copies.{IsCopy, is_op}
 use Rattle.copy_removal.specs.Optimised.{Rewrites, facts_of, lends, moves}
 use Rattle.copy_removal.specs.Removable.{IsMovable}
-use Rattle.copy_removal.specs.Rewritten.{changed_at, lent, lent_block, lent_inst, makes, moved, moved_block, takes, with_function, with_op}
+use Rattle.copy_removal.specs.Rewritten.{changed_at, lent, lent_block, lent_inst, makes, moved, moved_block, takes, with_op}
 use Rattle.instruction_table.proofs.Numbers.{stands_at}
 use Rattle.instruction_table.specs.Forms.{number_of, results_of}
 use Rattle.instruction_table.specs.declared.op.Op.{Op}
 use Rattle.instruction_table.specs.declared.op.Op.TheVariants as op
 use Rattle.instruction_table.specs.declared.op.TheConstants.{OPS}
 use Rattle.item_operands.specs.Parts.{inst_at, inst_in}
-use Rattle.numbered_form.specs.Insts.{insts_of}
 use Rattle.point_checks.specs.Points.{IsAt}
 use Rattle.sil_ast.specs.declared.function.Block.{Block}
 use Rattle.sil_ast.specs.declared.function.Function.{Function}
@@ -26,9 +25,9 @@ use Rattle.sil_ast.specs.declared.type_name.TypeName.{TypeName}
 use Rattle.sil_rules.specs.declared.rule.Rule.TheVariants as rule
 use Rattle.sil_types.specs.Typing.OperandTypes.{are_as_asked, are_as_written, edge_is_as_written, has_operand_types}
 use Rattle.sil_types.specs.Typing.ResultCounts.{is_count_by}
-use Rattle.sil_types.specs.Typing.RowTypes.{MadeTypes, given_by, gives, keeps_row, row_types, written}
+use Rattle.sil_types.specs.Typing.RowTypes.{given_by, gives, keeps_row, row_types, written}
 use Rattle.sil_types.specs.Typing.Shapes.{is_nontrivial, is_object, where_it}
-use Rattle.sil_types.specs.Typing.Typed.{BreaksAtPoint, Typed, at_point, operand_type, point, result_count}
+use Rattle.sil_types.specs.Typing.Typed.{Typed, at_point, operand_type, point, result_count}
 use Rattle.sil_types.specs.Typing.Values.{value_types}
 use Rattle.type_definitions.specs.Declarations.{Declarations, declarations_of}
 use Rattle.type_definitions.specs.Measures.{is_trivial}
@@ -159,17 +158,17 @@ module _ (m : Module) (typed : Typed m) (n : ℕ) (f : Function) (there : slice_
       let destroyed = stands (record { block = record { 0 = p.block.0 }; index = h.last }) gone.inst gone.stands in
       blocks_changed d (λ is. remove (changed_at p.index (with_op op.MoveValue) is) h.last) f.blocks p.block.0
       (λ b is_block.
-        moved_insts d b.insts p.index h.last h.next.behind
-        (λ i e.
-          let here : Stands p.block.0 p.index i = record { within = b; is_block = is_block; is_inst = e } in
-          let same_block : copied.within ≡ b = same_at f.blocks p.block.0 copied.within b copied.is_block is_block in
-          let same_inst : copy.inst ≡ i = same_at b.insts p.index copy.inst i (sym (ap (λ (x : Block). slice_get x.insts p.index) same_block) ∙ copied.is_inst) e in
-          moved_alike d i (sym (ap (λ (x : Inst). x.op) same_inst) ∙ op_is op.CopyValue copy.inst copy.copies.copies) (row_kept p.block.0 p.index i here))
-        (λ i e.
-          let here : Stands p.block.0 h.last i = record { within = b; is_block = is_block; is_inst = e } in
-          let same_block : destroyed.within ≡ b = same_at f.blocks p.block.0 destroyed.within b destroyed.is_block is_block in
-          let same_inst : gone.inst ≡ i = same_at b.insts h.last gone.inst i (sym (ap (λ (x : Block). slice_get x.insts h.last) same_block) ∙ destroyed.is_inst) e in
-          no_results p.block.0 h.last i here (sym (ap (λ (x : Inst). x.op) same_inst) ∙ op_is op.DestroyValue gone.inst gone.destroys.destroys)))
+      moved_insts d b.insts p.index h.last h.next.behind
+      (λ i e.
+      let here : Stands p.block.0 p.index i = record { within = b; is_block = is_block; is_inst = e } in
+      let same_block : copied.within ≡ b = same_at f.blocks p.block.0 copied.within b copied.is_block is_block in
+      let same_inst : copy.inst ≡ i = same_at b.insts p.index copy.inst i (sym (ap (λ (x : Block). slice_get x.insts p.index) same_block) ∙ copied.is_inst) e in
+      moved_alike d i (sym (ap (λ (x : Inst). x.op) same_inst) ∙ op_is op.CopyValue copy.inst copy.copies.copies) (row_kept p.block.0 p.index i here))
+      (λ i e.
+      let here : Stands p.block.0 h.last i = record { within = b; is_block = is_block; is_inst = e } in
+      let same_block : destroyed.within ≡ b = same_at f.blocks p.block.0 destroyed.within b destroyed.is_block is_block in
+      let same_inst : gone.inst ≡ i = same_at b.insts h.last gone.inst i (sym (ap (λ (x : Block). slice_get x.insts h.last) same_block) ∙ destroyed.is_inst) e in
+      no_results p.block.0 h.last i here (sym (ap (λ (x : Inst). x.op) same_inst) ∙ op_is op.DestroyValue gone.inst gone.destroys.destroys)))
 
 -- the functions of the module in which a copy was rewritten
 pub record IsMadeOf (m next : Module) : Type 0 where
@@ -187,8 +186,8 @@ is_made m n p _ typed (moves f c v there copy never h) = record {
   functions = changed_at n (moved p h.last) m.functions;
   alike = functions_changed (declarations_of m) (λ bs. changed_at p.block.0 (moved_block p.index h.last) bs) m.functions n
       (λ g e.
-        let same_one : f ≡ g = same_at m.functions n f g there e in
-        subst (λ (x : Function). Blocks (declarations_of m) x.blocks (changed_at p.block.0 (moved_block p.index h.last) x.blocks)) same_one
-        (moved_blocks m typed n f there p c v copy h));
+      let same_one : f ≡ g = same_at m.functions n f g there e in
+      subst (λ (x : Function). Blocks (declarations_of m) x.blocks (changed_at p.block.0 (moved_block p.index h.last) x.blocks)) same_one
+      (moved_blocks m typed n f there p c v copy h));
   is = refl;
 }

@@ -1,11 +1,11 @@
 -- A module stays in numbered form where its functions become alike ones.
-use Rattle.std.proofs.Common.{◌≡◌, ℕ, ◌+◌, ◌≤◌, List, [], ◌∷◌, ◌++◌, length, length-append, map, refl, sym, ap, ap₂, ◌∙◌, subst, le_trans, arith, cond}
+use Rattle.std.proofs.Common.{◌≡◌, ℕ, ◌+◌, ◌≤◌, List, [], ◌∷◌, ◌++◌, length, length-append, map, refl, sym, ap, ap₂, subst, le_trans, arith, cond}
 use Rattle.std.specs.Prelude.{◌↔◌, sum_by}
 use Rattle.std.proofs.lemmas.List.Sums.{sum_by-append, sum_by-cons}
 use Rattle.numbered_form.specs.Insts.{EachInBlock, EachInFunction, insts_in}
 use Rattle.numbered_form.specs.Lists.{Each}
 use Rattle.numbered_form.specs.Names.{AreNamesOnce, AreNamesSpelled, AreOnce, IsFunctionSpelled, IsInstSpelled, function_name}
-use Rattle.numbered_form.specs.Numbering.{AreCountedFrom, AreNumbered, IsFunctionNumbered, IsInstInRange, IsVtableInRange, defined_in, results_of, value_of, values_of}
+use Rattle.numbered_form.specs.Numbering.{AreCountedFrom, AreNumbered, IsFunctionNumbered, IsInstInRange, IsVtableInRange, results_of, value_of, values_of}
 use Rattle.numbered_form.specs.inner.Functions.{IsFormed}
 use Rattle.numbered_form.specs.inner.Limits.{AreLimitsKept, IsBlockInLimits, IsFunctionInLimits, IsInstInLimits, inst_takes_value, value_count}
 use Rattle.numbered_form.specs.inner.Literals.{HasLiterals}
@@ -84,8 +84,12 @@ module _ (d : Declarations) where
   fewer_values : (bs cs : List Block) → Blocks d bs cs → value_count cs ≤ value_count bs
   unfolding counted
   fewer_values bs cs r =
-      omega (arith, ap length (same_values bs cs r), fewer_in_blocks (sum_by counted) counted (sum_by-cons counted) (sum_by-append counted)
-      (same_of_both d counted (λ i. refl) (λ i. refl) (λ i. refl)) bs cs r)
+      omega (
+        arith,
+        ap length (same_values bs cs r),
+        fewer_in_blocks (sum_by counted) counted (sum_by-cons counted) (sum_by-append counted)
+            (same_of_both d counted (λ i. refl) (λ i. refl) (λ i. refl)) bs cs r,
+      )
 
   -- ---- what holds of a function
 
@@ -94,7 +98,7 @@ module _ (d : Declarations) where
   function_numbered functions f bs r h =
       let values = same_values f.blocks bs r in
       let used = each_in_blocks d (IsInstInRange (length (values_of f.blocks)) (length f.blocks) functions)
-          (IsInstInRange (length (values_of f.blocks)) (length f.blocks) functions) (range_stays (length (values_of f.blocks)) (length f.blocks) functions) f.blocks bs r h.used in
+      (IsInstInRange (length (values_of f.blocks)) (length f.blocks) functions) (range_stays (length (values_of f.blocks)) (length f.blocks) functions) f.blocks bs r h.used in
       record {
         values = subst (AreCountedFrom 0) (sym values) h.values;
         used = subst (λ n. Each (EachInBlock (IsInstInRange (length (values_of bs)) n functions)) bs) (sym (as_many_blocks d f.blocks bs r))

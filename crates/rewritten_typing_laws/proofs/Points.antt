@@ -1,11 +1,10 @@
 -- An instruction of a function of a typed module that becomes an alike one breaks no rule there.
-use Rattle.std.proofs.Common.{◌≡◌, ℕ, zero, suc, List, [], ◌∷◌, ◌++◌, length, map, refl, sym, ap, ap₂, ◌∙◌, Bool, true, false, cond, Option, Some, None}
-use Rattle.std.specs.Prelude.{◌&&◌, ◌||◌, ◌==◌, count_by, drop, find, is_some, not, option_and_then, option_map, slice_get, unwrap_or}
+use Rattle.std.proofs.Common.{◌≡◌, ℕ, zero, suc, List, [], ◌++◌, length, map, refl, sym, ap, ap₂, ◌∙◌, Bool, true, false, cond, Option, Some, None}
+use Rattle.std.specs.Prelude.{◌&&◌, ◌||◌, ◌==◌, count_by, find, is_some, not, option_and_then, option_map, slice_get, unwrap_or}
 use Rattle.std.specs.List.{flat_map, list_all, list_any, range_with_len}
 use Rattle.std.specs.Option.{option_to_list}
 use Rattle.std.proofs.lemmas.Bool.{or_left}
-use Rattle.argument_conventions.specs.Arguments.{arguments_of}
-use Rattle.instruction_table.specs.Forms.{forms_of, results_of}
+use Rattle.instruction_table.specs.Forms.{results_of}
 use Rattle.instruction_table.specs.declared.entries.Results.{Results}
 use Rattle.instruction_table.specs.declared.op.Op.{Op}
 use Rattle.instruction_table.specs.declared.op.Op.TheVariants as op
@@ -19,7 +18,6 @@ use Rattle.sil_ast.specs.declared.inst.Edge.{Edge}
 use Rattle.sil_ast.specs.declared.inst.Inst.{Inst}
 use Rattle.sil_ast.specs.declared.module.Module.{Module}
 use Rattle.sil_ast.specs.declared.place.FuncId.{FuncId}
-use Rattle.sil_ast.specs.declared.signature.Signature.{Signature}
 use Rattle.sil_ast.specs.declared.type_name.TypeName.{TypeName}
 use Rattle.sil_rules.specs.declared.rule.Rule.{Rule}
 use Rattle.sil_types.specs.Typing.EdgeRules.{goes_to_entry, has_wrong_edge_arguments, have_wrong_arguments_by, is_to_entry}
@@ -133,9 +131,9 @@ module _ (m : Module) (gs : List Function) (alike : Functions (declarations_of m
     switches_alike es None = refl
     switches_alike es (Some t) =
         ap₂ (λ (all : List Edge) (args : ℕ → List BlockArg).
-          names_other_case d t es || repeats_case d t es || leaves_out_case d t es || not (list_all (λ e. count_by (is_to e.block.0) all == 1) es)
-          || not (list_all (λ e. list_all (λ p. are_same_types (map arg_type (args e.block.0)) (option_to_list p.ty)) (option_to_list (case_of_edge d t e))) es)
-          || not (list_all (λ e. has_case e || is_default_argument f.form t (args e.block.0)) es)) same_edges same_args
+        names_other_case d t es || repeats_case d t es || leaves_out_case d t es || not (list_all (λ e. count_by (is_to e.block.0) all == 1) es)
+        || not (list_all (λ e. list_all (λ p. are_same_types (map arg_type (args e.block.0)) (option_to_list p.ty)) (option_to_list (case_of_edge d t e))) es)
+        || not (list_all (λ e. has_case e || is_default_argument f.form t (args e.block.0)) es)) same_edges same_args
 
     cases_alike : (j : Inst) → has_wrong_cases d g j ≡ has_wrong_cases d f j
     cases_alike j = at j.op

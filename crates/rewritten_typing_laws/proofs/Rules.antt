@@ -1,5 +1,5 @@
 -- A typed module stays typed, and its functions in ownership form, where its functions become alike ones.
-use Rattle.std.proofs.Common.{◌≡◌, ℕ, List, [], ◌∷◌, ◌++◌, refl, sym, ap, ap₂, ◌∙◌, subst, Bool, true, false, Option, Some}
+use Rattle.std.proofs.Common.{◌≡◌, ℕ, List, [], ◌∷◌, ◌++◌, refl, sym, ap, ◌∙◌, subst, Bool, false, Some}
 use Rattle.std.specs.Prelude.{◌&&◌, ◌||◌, drop, not, slice_get}
 use Rattle.std.specs.List.{list_all, list_any}
 use Rattle.std.specs.Option.{option_to_list}
@@ -18,16 +18,15 @@ use Rattle.sil_ast.specs.declared.vtable.Vtable.{Vtable}
 use Rattle.sil_rules.specs.declared.rule.Rule.{Rule}
 use Rattle.sil_rules.specs.declared.rule.Rule.TheVariants as rule
 use Rattle.sil_types.specs.Typing.EdgeRules.{lets_address_escape, takes_address}
-use Rattle.sil_types.specs.Typing.FormRules.{has_other_form, is_lowered, mixes_forms}
+use Rattle.sil_types.specs.Typing.FormRules.{has_other_form, is_lowered}
 use Rattle.sil_types.specs.Typing.RowTypes.{passes}
 use Rattle.sil_types.specs.Typing.Same.{all_pairs}
 use Rattle.sil_types.specs.Typing.SignatureRules.{has_fitting_conventions, has_wrong_deinitialiser, has_wrong_signature, is_argument_for, is_deinitialiser, is_external}
 use Rattle.sil_types.specs.Typing.SignatureRules.{is_no_output_call, names_deinitialiser}
-use Rattle.sil_types.specs.Typing.Typed.{BreaksAt, BreaksAtFunction, BreaksAtPoint, BreaksAtVtable, Site, Typed, address_escapes, at_function, at_point, at_vtable}
+use Rattle.sil_types.specs.Typing.Typed.{BreaksAtFunction, BreaksAtPoint, BreaksAtVtable, Typed, address_escapes, at_function, at_point, at_vtable}
 use Rattle.sil_types.specs.Typing.Typed.{deinit_signature, external, function, mixed_forms, point, signature, vtable}
-use Rattle.sil_verifier.specs.Refusals.{IsLowered, IsOwned, lowered}
+use Rattle.sil_verifier.specs.Refusals.{IsOwned, lowered}
 use Rattle.type_check.specs.Refusals.{fault_at}
-use Rattle.type_check.specs.declared.fault.TypingFault.{TypingFault}
 use Rattle.type_definitions.specs.Declarations.{Declarations, declarations_of}
 use Rattle.rewritten_typing_laws.proofs.Alike.{Blocks, Functions, block, block_from, function_from, inst_from, no_block}
 use Rattle.rewritten_typing_laws.proofs.Points.{breaks_before, same_args, same_first, same_found}
@@ -51,7 +50,7 @@ module _ (m : Module) (gs : List Function) (alike : Functions (declarations_of m
     unfolding has_wrong_signature
     signature_same =
         ap (λ (args : ℕ → List BlockArg). not (has_fitting_conventions d f.signature
-          && (is_external f.form || all_pairs (is_argument_for f.form) (args 0) (arguments_of f.signature)))) (same_args m gs alike f bs r)
+        && (is_external f.form || all_pairs (is_argument_for f.form) (args 0) (arguments_of f.signature)))) (same_args m gs alike f bs r)
 
     escapes_same : lets_address_escape g ≡ lets_address_escape f
     unfolding lets_address_escape
