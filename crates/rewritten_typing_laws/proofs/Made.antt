@@ -145,7 +145,10 @@ module _ (m : Module) (typed : Typed m) (n : ℕ) (f : Function) (there : slice_
         by false e = absurd (typed (at_point n b k) rule.OperandType (point n f b k i rule.OperandType there at_it (operand_type (ap not e))))
 
     no_results : i.op ≡ op.DestroyValue → i.results ≡ []
-    no_results is = is_empty_list i.results (sym (ap (λ o. is_count_by (results_of o) (row_types d i) (length i.results)) is) ∙ by (is_count_by (results_of i.op) (row_types d i) (length i.results)) refl)
+    no_results is =
+        is_empty_list i.results
+        (sym (ap (λ o. is_count_by (results_of o) (row_types d i) (length i.results)) is)
+        ∙ by (is_count_by (results_of i.op) (row_types d i) (length i.results)) refl)
       where
         by : (x : Bool) → is_count_by (results_of i.op) (row_types d i) (length i.results) ≡ x → is_count_by (results_of i.op) (row_types d i) (length i.results) ≡ true
         by true e = e
