@@ -2,7 +2,7 @@
 use Rattle.std.proofs.Common.{◌≡◌, ℕ, zero, suc, List, [], ◌∷◌, refl, sym, ap, ◌∙◌, subst, Some, ◌⊎◌, inl, inr}
 use Rattle.std.specs.Prelude.{slice_get}
 use Rattle.std.proofs.lemmas.Option.{same_Some}
-use Rattle.copy_removal.specs.Optimised.{IsOptimised, Rewrites, done, lends, more, moves}
+use Rattle.copy_removal.specs.Optimised.{Rewrites, done, lends, more, moves}
 use Rattle.copy_removal.specs.Rewritten.{changed_at, lent, moved}
 use Rattle.sil_ast.specs.declared.function.Function.{Function}
 use Rattle.sil_ast.specs.declared.module.Module.{Module}
@@ -14,7 +14,7 @@ use Rattle.sil_verifier.specs.inner.Checked.{IsVerified}
 use Rattle.type_definitions.specs.Declarations.{Declarations, declarations_of}
 use Rattle.rewritten_typing_laws.specs.inner.KeptTypes.{RewritingKeepsTypes}
 use Rattle.rewriting_laws.specs.inner.Clean.{AreValuesClean, IsMemoryClean, RewrittenAreClean}
-use Rattle.rewriting_laws.specs.inner.Laws.{IsVerifiedAs, OptimisedIsVerified, RewritingKeepsVerified}
+use Rattle.rewriting_laws.specs.inner.Laws.{OptimisedIsVerified, RewritingKeepsVerified}
 
 -- an element stands where it stood, or is what one became
 changed_from : {A : Type 0} (n : ℕ) (change : A → A) (xs : List A) (k : ℕ) (y : A) → slice_get (changed_at n change xs) k ≡ Some y
