@@ -1,0 +1,5 @@
+use Rattle.rewriting_laws.proofs.Verified.{rewriting_keeps_verified}
+use Rattle.rewriting_laws.proofs.laws.rewriting_keeps_verified.Goals as goal
+
+pub returns : goal.returns
+returns c = rewriting_keeps_verified c.rewriting_keeps_types.ensures
