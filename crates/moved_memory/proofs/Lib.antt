@@ -1,0 +1,9 @@
+pub mod KeptTrails
+pub mod Thinned
+pub mod EachOf
+pub mod MovedAccesses
+pub mod PartsThinned
+pub mod PartsClean
+pub mod OneSlot
+pub mod SlotsClean
+pub mod StaticsClean
