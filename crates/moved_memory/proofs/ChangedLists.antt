@@ -1,8 +1,8 @@
 -- A list of which one element is changed and a later one is gone.
-use Rattle.std.proofs.Common.{◌≡◌, ◌≢◌, ◌⊎◌, inl, inr, ℕ, zero, suc, List, [], ◌∷◌, ◌++◌, refl, sym, ap, ◌∙◌, Option, Some, None}
+use Rattle.std.proofs.Common.{◌≡◌, ◌≢◌, ◌⊎◌, inl, inr, ℕ, zero, suc, List, [], ◌∷◌, ◌++◌, refl, sym, ap, Some}
 use Rattle.std.specs.Prelude.{option_map}
 use Rattle.std.specs.List.{remove, slice_get}
-use Rattle.std.proofs.lemmas.Option.{none-some, same_Some}
+use Rattle.std.proofs.lemmas.Option.{same_Some}
 use Rattle.copy_removal.specs.Rewritten.{changed_at}
 
 pub changed_there : {A : Type 0} (change : A → A) (n : ℕ) (xs : List A) → slice_get (changed_at n change xs) n ≡ option_map change (slice_get xs n)

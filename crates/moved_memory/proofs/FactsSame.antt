@@ -4,13 +4,12 @@ use Rattle.std.specs.Prelude.{◌&&◌, ◌==◌, is_some, not, unwrap_or}
 use Rattle.std.specs.List.{list_all, range_with_len, slice_get}
 use Rattle.std.proofs.lemmas.Bool.{and_parts, eqb-true, not-true, not_from_false, true_from_ne_false}
 use Rattle.std.proofs.lemmas.Option.{none-some, slice_get_within}
-use Rattle.copy_removal.specs.Copies.{Copies, IsCopy, IsDestroy}
+use Rattle.copy_removal.specs.Copies.{IsCopy, IsDestroy}
 use Rattle.copy_removal.specs.Rewritten.{moved, moved_block, with_op}
 use Rattle.instruction_table.specs.Forms.{result_kind_of, results_of}
 use Rattle.instruction_table.specs.declared.op.Op.{Op}
 use Rattle.instruction_table.specs.declared.op.Op.TheVariants as op
 use Rattle.item_operands.specs.Parts.{inst_at, inst_in}
-use Rattle.ownership_chains.specs.declared.definition.Definition.{Definition}
 use Rattle.ownership_kinds.specs.Facts.{facts_by, facts_in}
 use Rattle.ownership_origins.specs.Origins.{arg_definition, arg_definitions, definitions_of, is_trivial_or_untyped, is_zero, result_definition, result_definition_by, result_definitions}
 use Rattle.ownership_origins.specs.Switched.{switch_to, switches_from}

@@ -1,5 +1,5 @@
 -- No rule on memory is broken in a function in which a copy became a move, where none is in the function itself.
-use Rattle.std.proofs.Common.{◌≡◌, false, true, Option, refl, List}
+use Rattle.std.proofs.Common.{◌≡◌, false, true, Option, List}
 use Rattle.memory_accesses.specs.declared.source.Source.{Source}
 use Rattle.memory_parts.specs.Parts.{is_scope}
 use Rattle.memory_rules.specs.Broken.{IsBroken, at_part, crossing, static}

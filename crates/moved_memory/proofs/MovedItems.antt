@@ -1,5 +1,5 @@
 -- The blocks of a function in which a copy became a move, and its items, against those of the function itself.
-use Rattle.std.proofs.Common.{◌≡◌, ◌≢◌, ◌⊎◌, inl, inr, ℕ, zero, suc, ◌+◌, ◌<◌, List, [], ◌∷◌, ◌++◌, length, map, refl, sym, ap, ap₂, ◌∙◌, subst, arith, Bool, true, false, Option, Some, None, append-nil}
+use Rattle.std.proofs.Common.{◌≡◌, ◌≢◌, ◌⊎◌, inl, inr, ℕ, zero, suc, ◌+◌, ◌<◌, List, [], ◌∷◌, ◌++◌, length, map, refl, sym, ap, ◌∙◌, subst, arith, Bool, true, false, Option, Some, None, append-nil}
 use Rattle.std.specs.Prelude.{option_map}
 use Rattle.std.specs.List.{remove, slice_get}
 use Rattle.std.proofs.lemmas.Bool.{cases_eq}
@@ -7,14 +7,12 @@ use Rattle.std.proofs.lemmas.Option.{none-some, same_Some}
 use Rattle.copy_removal.specs.Copies.{Copies, Destroys, IsCopy, IsDestroy}
 use Rattle.copy_removal.specs.Rewritten.{changed_at, moved, moved_block, with_op}
 use Rattle.instruction_table.specs.declared.op.Op.TheVariants as op
-use Rattle.item_operands.specs.Items.{arg_value, item_defined, item_taken, taken_along_in, taken_in}
+use Rattle.item_operands.specs.Items.{arg_value, taken_along_in, taken_in}
 use Rattle.item_operands.specs.Parts.{args_behind, edge_in, inst_at, inst_in, results_in, terminator_in, terminator_of}
 use Rattle.item_operands.specs.Roles.{taken_by}
 use Rattle.numbered_form.specs.Insts.{insts_of}
-use Rattle.point_checks.specs.Points.{IsAt}
 use Rattle.sil_ast.specs.Blocks.{args_in, args_of}
 use Rattle.sil_ast.specs.declared.function.Block.{Block}
-use Rattle.sil_ast.specs.declared.function.BlockArg.{BlockArg}
 use Rattle.sil_ast.specs.declared.function.Function.{Function}
 use Rattle.sil_ast.specs.declared.inst.Edge as edge
 use Rattle.sil_ast.specs.declared.inst.Inst as inst

@@ -1,5 +1,5 @@
 -- A trail of a function in which a copy became a move is cut from a trail of the function itself along the same walk.
-use Rattle.std.proofs.Common.{◌≡◌, ℕ, zero, suc, ◌+◌, ◌<◌, List, [], ◌∷◌, ◌++◌, length, take, refl, sym, ap, ◌∙◌, subst, arith}
+use Rattle.std.proofs.Common.{◌≡◌, ℕ, zero, suc, ◌<◌, List, [], ◌∷◌, ◌++◌, length, take, refl, sym, ap, ◌∙◌, subst, arith}
 use Rattle.std.specs.Prelude.{slice_get, unwrap_or}
 use Rattle.copy_removal.specs.Copies.{IsCopy, IsDestroy}
 use Rattle.copy_removal.specs.Rewritten.{moved}
@@ -8,11 +8,11 @@ use Rattle.sil_ast.specs.declared.place.EdgeId.{EdgeId}
 use Rattle.sil_ast.specs.declared.place.PointId.{PointId}
 use Rattle.sil_ast.specs.declared.place.ValueId.{ValueId}
 use Rattle.sil_cfg.specs.Flow.{edge_to, items_at}
-use Rattle.sil_cfg.specs.Items.{flow_of, items_in, point_at}
-use Rattle.sil_cfg.specs.Walk.{IsTrail, IsWalkFrom, end_from, last_block, passed}
+use Rattle.sil_cfg.specs.Items.{flow_of, point_at}
+use Rattle.sil_cfg.specs.Walk.{IsWalkFrom, end_from, last_block, passed}
 use Rattle.sil_cfg.specs.declared.item.Item.{Item}
 use Rattle.sil_cfg.specs.declared.item.Item.TheVariants as item
-use Rattle.moved_memory.specs.inner.Items.{AreCut, Cut, CutFrom, gone, moved as moves, none, same}
+use Rattle.moved_memory.specs.inner.Items.{AreCut, Cut, gone, moved as moves, none, same}
 use Rattle.moved_memory.proofs.MovedItems.{block_cut, cut_append, edge_same, targets_same}
 
 -- the front of a list that is cut

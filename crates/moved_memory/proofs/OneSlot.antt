@@ -1,5 +1,5 @@
 -- A slot is never out of order with itself.
-use Rattle.std.proofs.Common.{◌≡◌, ℕ, List, [], ◌∷◌, Bool, true, false, Option, Some, None, refl}
+use Rattle.std.proofs.Common.{◌≡◌, ℕ, List, [], ◌∷◌, Bool, true, false, Some, None, refl}
 use Rattle.std.specs.Prelude.{◌==◌, cond, filter_map, ⊤}
 use Rattle.std.specs.List.{cons_option, flat_map}
 use Rattle.memory_accesses.specs.declared.access.Access.{Access}

@@ -25,7 +25,7 @@ use Rattle.sil_cfg.specs.Flow.{point_of}
 use Rattle.sil_cfg.specs.Items.{flow_of}
 use Rattle.sil_cfg.specs.declared.item.Item.{Item}
 use Rattle.sil_rules.specs.declared.rule.Rule.TheVariants as rule
-use Rattle.moved_memory.specs.inner.Items.{AreCut, Cut, IsGone, IsMoved, IsSame, gone, moved, none, same}
+use Rattle.moved_memory.specs.inner.Items.{AreCut, Cut, gone, moved, none, same}
 use Rattle.moved_memory.proofs.KeptTrails.{shown_unlawful, unshown_kept}
 use Rattle.moved_memory.proofs.MovedAccesses.{gone_accesses, moved_accesses, same_accesses}
 use Rattle.moved_memory.proofs.OneSlot.{ordered_with_itself}

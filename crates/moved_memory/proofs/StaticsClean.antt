@@ -1,19 +1,16 @@
 -- No instruction of the function in which a copy became a move breaks 608 or 611.
-use Rattle.std.proofs.Common.{◌≡◌, ℕ, ◌<◌, List, [], ◌∷◌, ◌++◌, refl, sym, ap, ◌∙◌, subst, arith, Option, Some, None}
+use Rattle.std.proofs.Common.{◌≡◌, ℕ, ◌<◌, List, [], ◌++◌, refl, sym, ap, ◌∙◌, subst, arith, Option, Some, None}
 use Rattle.std.specs.Prelude.{Contains, filter, find, map, option_map}
 use Rattle.std.specs.List.{flat_map}
 use Rattle.instruction_table.specs.declared.op.Op.TheVariants as op
 use Rattle.copy_removal.specs.Copies.{Copies}
 use Rattle.copy_removal.specs.Rewritten.{with_op}
-use Rattle.item_operands.specs.Roles.{taken_by}
-use Rattle.item_operands.specs.declared.taken.Taken.{Taken}
 use Rattle.memory_accesses.specs.Operations.{access_kind_of, operated_at, operations_of}
 use Rattle.memory_accesses.specs.declared.access.Operated.{Operated}
 use Rattle.memory_accesses.specs.declared.source.Source.{Source}
 use Rattle.memory_rules.specs.Broken.{IsBroken, static}
 use Rattle.memory_rules.specs.Statics.{IsBrokenAt, address_in, crossed_with, crosses, handed, lacking, lacking_at, lacks, overlapping, pairs_of, second_of}
 use Rattle.ownership_chains.specs.declared.facts.Facts.{Facts}
-use Rattle.point_checks.specs.Points.{IsAt}
 use Rattle.rule_faults.specs.declared.fault.RuleFault.{RuleFault}
 use Rattle.sil_ast.specs.declared.function.Function.{Function}
 use Rattle.sil_ast.specs.declared.inst.Inst.{Inst}

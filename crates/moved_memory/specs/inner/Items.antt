@@ -1,5 +1,5 @@
 -- The items of a function in which a copy became a move, against those of the function itself.
-use Rattle.std.specs.Prelude.{◌≡◌, ℕ, List, [], ◌∷◌, false, Option, Some}
+use Rattle.std.specs.Prelude.{◌≡◌, ℕ, List, [], ◌∷◌, false, Some}
 use Rattle.copy_removal.specs.Copies.{Copies, Destroys}
 use Rattle.copy_removal.specs.Rewritten.{with_op}
 use Rattle.instruction_table.specs.declared.op.Op.TheVariants as op
