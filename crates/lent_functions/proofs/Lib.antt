@@ -1,0 +1,3 @@
+pub mod Insts
+pub mod Graph
+pub mod Parts
