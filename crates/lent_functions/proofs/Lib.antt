@@ -5,3 +5,5 @@ pub mod Parts
 pub mod Ready
 pub mod Rows
 pub mod ValueRows
+pub mod Roles
+pub mod Avoided

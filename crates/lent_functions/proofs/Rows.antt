@@ -114,7 +114,7 @@ module _ (c : ValueId) where
       (λ k. ap (λ o. chain_operands (result_kind_of o) (map operand_value i.operands)) (sym e))
   chained_by d i _ (stays e m) = refl
 
-  arg_rows_lent : (d : Declarations) (f : Function) → definitions_of d (lent c f) ≡ value_rows (arg_definitions d f) (result_definitions d) (lent c f)
+  pub arg_rows_lent : (d : Declarations) (f : Function) → definitions_of d (lent c f) ≡ value_rows (arg_definitions d f) (result_definitions d) (lent c f)
   arg_rows_lent d f = λ i. value_rows (λ n xs. map (arg_definition d (is_zero n) (switch_lent f n i)) xs) (result_definitions d) (lent c f)
 
   pub operands_lent : (d : Declarations) (f : Function) (w : ValueId) → operands_at (definitions_of d (lent c f)) w ≡ operands_at (definitions_of d f) w

@@ -1,17 +1,19 @@
 -- The row of a value of a function in which a copy is lent: that of the function's value, but for the copy itself.
-use Rattle.std.proofs.Common.{◌≡◌, ℕ, zero, suc, ◌<◌, List, [], ◌∷◌, length, map, replicate, refl, sym, ap, ◌∙◌, subst, arith, Bool, Option, Some, None, true, false}
-use Rattle.std.specs.Prelude.{◌||◌, ◌==◌, ◌&&◌, Contains, cond, option_map, slice_get, unwrap_or}
+use Rattle.std.proofs.Common.{◌≡◌, ℕ, zero, suc, ◌<◌, List, [], ◌∷◌, ◌++◌, length, map, replicate, ◌≤◌, ◌⊎◌, inl, inr, refl, sym, ap, ◌∙◌, subst, arith, Bool, Option, Some, None, true, false}
+use Rattle.std.specs.Prelude.{◌||◌, ◌==◌, ◌&&◌, Contains, cond, if◌then◌else◌, option_map, slice_get, unwrap_or}
 use Rattle.std.specs.List.{range_with_len}
-use Rattle.std.proofs.lemmas.Bool.{eq-eqb, eqb-true}
+use Rattle.std.proofs.lemmas.Bool.{cases_lt, eq-eqb, eqb-true, le-ltb}
 use Rattle.std.proofs.lemmas.List.{length-map, length-replicate}
 use Rattle.std.proofs.lemmas.List.FromFn.{length-map-range_with_len}
-use Rattle.std.proofs.lemmas.Option.{slice_get-map}
+use Rattle.std.proofs.lemmas.Option.{same_Some, slice_get-map}
 use Rattle.instruction_table.specs.Forms.{result_kind_of, roles_of}
 use Rattle.instruction_table.specs.declared.op.Op.TheVariants as op
 use Rattle.item_operands.specs.Parts.{inst_at, inst_in, terminator_in}
 use Rattle.numbered_form.specs.Insts.{insts_of}
 use Rattle.numbered_form.specs.Lists.{Each}
 use Rattle.numbered_form.specs.Numbering.{AreCountedFrom, value_of, values_of}
+use Rattle.ownership_chains.specs.Chains.{operands_at}
+use Rattle.ownership_chains.specs.Steps.{told_in}
 use Rattle.ownership_chains.specs.Facts.{AreFactsOf, facts_with, has, origin_at, told, told_by}
 use Rattle.ownership_chains.specs.declared.definition.Definition.{Definition}
 use Rattle.ownership_chains.specs.declared.definition.Origin.{Origin}
@@ -19,6 +21,7 @@ use Rattle.ownership_chains.specs.declared.definition.Origin.TheVariants as orig
 use Rattle.ownership_chains.specs.declared.facts.Facts.{Facts}
 use Rattle.ownership_kinds.specs.Facts.{facts_in}
 use Rattle.ownership_kinds.specs.Statics.{IsDefinedAt, argument, result}
+use Rattle.ownership_origins.proofs.Counts.{are_of_values}
 use Rattle.ownership_origins.specs.Origins.{arg_definition, arg_definitions, defined, definitions_of, is_trivial_or_untyped, is_zero, result_definition, result_definition_by, result_definitions, unless_trivial}
 use Rattle.ownership_origins.specs.Switched.{switch_to}
 use Rattle.point_checks.specs.Points.{IsAt}
@@ -161,13 +164,13 @@ module _ (c : ValueId) (f : Function) (formed : IsFormed f) where
 
 -- ---- definitions and borrows
 
-abbrev none : Definition
+abbrev pub none : Definition
 none = defined origin.Plain []
 
-args_level : (d : Declarations) (f : Function) (n : ℕ) (xs : List BlockArg) → length (arg_definitions d f n xs) ≡ length xs
+pub args_level : (d : Declarations) (f : Function) (n : ℕ) (xs : List BlockArg) → length (arg_definitions d f n xs) ≡ length xs
 args_level d f n xs = length-map xs (arg_definition d (is_zero n) (switch_to f n))
 
-results_level : (d : Declarations) (i : Inst) → length (result_definitions d i) ≡ length i.results
+pub results_level : (d : Declarations) (i : Inst) → length (result_definitions d i) ≡ length i.results
 results_level d i = length-map-range_with_len (result_definition d i) 0 (length i.results)
 
 borrows_level : (n : ℕ) (xs : List BlockArg) → length (arg_borrows n xs) ≡ length xs
@@ -190,6 +193,9 @@ ended_row d i e =
 
 ended_borrow : (i : Inst) → i.op ≡ op.DestroyValue → result_borrows (with_op op.EndBorrow i) ≡ result_borrows i
 ended_borrow i e = ap (λ o. replicate (length i.results) (borrow_by (result_kind_of o) i)) (sym e)
+
+plain_kind : (defs : List Definition) (w : ValueId) (x : Facts) → AreFactsOf defs w x → origin_at defs w ≡ origin.Plain → x.kind ≡ kind.Plain
+plain_kind defs w _ (told _ at sub) e = ap (λ o. (told_by (length defs) w at (operands_at defs w) o).kind) e
 
 module _ (d : Declarations) (f : Function) (p : PointId) (c v : ValueId) (r : Ready d f p c v) where
   pub definition_kept : (w : ValueId) → IsValue f w → (w.0 ≡ c.0 → ⊥) → row_at none (definitions_of d (lent c f)) w ≡ row_at none (definitions_of d f) w
@@ -278,7 +284,44 @@ module _ (d : Declarations) (f : Function) (p : PointId) (c v : ValueId) (r : Re
       ∙ ap (λ ts. unless_trivial (is_trivial_or_untyped d (slice_get ts 0)) origin.Lender) same_types
 
   pub copy_is_value : IsValue f c
-  copy_is_value = at (facts_in d f c) refl
+  copy_is_value = at (cases_lt c.0 (length (definitions_of d f)))
     where
-      at : (o : Option Facts) → facts_in d f c ≡ o → IsValue f c
-      at o e = ?
+      at : (c.0 < length (definitions_of d f)) ⊎ (length (definitions_of d f) ≤ c.0) → IsValue f c
+      at (inl lt) = let level : length (definitions_of d f) ≡ length (values_of f.blocks) = (are_of_values d f).0 in omega arith
+      at (inr le) =
+          let beyond : facts_in d f c ≡ None =
+          ap (λ b. if b then told_in (definitions_of d f) (length (definitions_of d f)) c else None) (le-ltb c.0 (length (definitions_of d f)) le) in
+          let wrong : None ≡ Some (facts_with kind.Owned (c ∷ [])) = sym beyond ∙ r.owned in
+          absurd (cc)
+
+  nontrivial : trivial ≡ false
+  nontrivial = at trivial refl
+    where
+      at : (b : Bool) → trivial ≡ b → trivial ≡ false
+      at false e = e
+      at true e =
+          let x = r.facts.known c copy_is_value in
+          let same : x.0 ≡ facts_with kind.Owned (c ∷ []) = same_Some x.0 (facts_with kind.Owned (c ∷ [])) (sym x.1 ∙ r.owned) in
+          let wrong : kind.Owned ≡ kind.Plain =
+          sym (ap (λ (y : Facts). y.kind) same) ∙ plain_kind (definitions_of d f) c x.0 x.2 (copy_origin ∙ ap (λ b. unless_trivial b origin.Owned) e) in
+          absurd (cc)
+
+  pub owned_origin : origin_at (definitions_of d f) c ≡ origin.Owned
+  owned_origin = copy_origin ∙ ap (λ b. unless_trivial b origin.Owned) nontrivial
+
+  pub lent_origin : origin_at (definitions_of d (lent c f)) c ≡ origin.Lender
+  lent_origin = borrow_origin ∙ ap (λ b. unless_trivial b origin.Lender) nontrivial
+
+  pub no_borrow : borrow_in (borrows_of f) c.0 ≡ NoBorrow
+  no_borrow =
+      one_row NoBorrow arg_borrows result_borrows borrows_level borrowed_level f r.formed.counted p.block.0 p.index copied copy_at
+      r.copy.copies.result (borrow_by (result_kind_of copied.op) copied) (borrows_of_one copied r.copy.copies.result)
+      ∙ ap (λ o. borrow_by (result_kind_of o) copied) copy_op
+
+  pub lent_borrow : borrow_in (borrows_of (lent c f)) c.0 ≡ OfValue v
+  lent_borrow =
+      one_row NoBorrow arg_borrows result_borrows borrows_level borrowed_level (lent c f) (counted_lent c f r.formed) p.block.0 p.index
+      (with_op op.BeginBorrow copied) borrow_at_copy
+      r.copy.copies.result (borrow_by (result_kind_of op.BeginBorrow) (with_op op.BeginBorrow copied)) (borrows_of_one (with_op op.BeginBorrow copied) r.copy.copies.result)
+      ∙ ap (λ os. borrow_at false (option_map operand_value (slice_get os 0))) r.copy.copies.operands
+      ∙ ap (λ u. OfValue u) r.copy.copies.copied
