@@ -75,7 +75,7 @@ switching : (o : Op) → ending_of o ≡ ending.Cases → hands_on (result_kind_
 switching op.SwitchEnum e = refl
 switching _ e = absurd (cc)
 
-abbrev IsOther : ValueId → ValueId → Type 0
+abbrev pub IsOther : ValueId → ValueId → Type 0
 IsOther c u = (u.0 == c.0) ≡ false
 
 module _ (d : Declarations) (f : Function) (p : PointId) (c v : ValueId) (r : Ready d f p c v) where

@@ -7,3 +7,9 @@ pub mod Rows
 pub mod ValueRows
 pub mod Roles
 pub mod Avoided
+pub mod Facts
+pub mod Marks
+pub mod KindRules
+pub mod Kept
+pub mod Tables
+pub mod CopyScope

@@ -5,7 +5,7 @@ use Rattle.copy_removal.specs.Removable.{IsBorrowable}
 use Rattle.instruction_table.specs.declared.op.Op.TheVariants as op
 use Rattle.item_operands.specs.Parts.{inst_at, terminator_of}
 use Rattle.numbered_form.specs.Numbering.{AreCountedFrom, values_of}
-use Rattle.numbered_form.specs.inner.Parts.{IsInside, IsTerminator}
+use Rattle.numbered_form.specs.inner.Parts.{HasItsParts, IsInside, IsTerminator}
 use Rattle.ownership_chains.specs.Chains.{IsInRange}
 use Rattle.ownership_chains.specs.Facts.{AreFactsOf, facts_with}
 use Rattle.ownership_chains.specs.declared.facts.Facts.{Facts}
@@ -28,6 +28,7 @@ pub record IsFormed (f : Function) : Type 0 where
   pub counted : AreCountedFrom 0 (values_of f.blocks)
   pub inside : (q : PointId) (i : Inst) → inst_at f q ≡ Some i → IsInside i
   pub ends : (b : ℕ) (i : Inst) → terminator_of f b ≡ Some i → IsTerminator i
+  pub parts : (n k : ℕ) (i : Inst) → IsAt f n k i → HasItsParts i
   -- a copy has one result
   pub one_result : (n k : ℕ) (i : Inst) → IsAt f n k i → i.op ≡ op.CopyValue → length i.results ≡ 1
   pub defined : (w : ValueId) → IsValue f w → (n : ℕ) × (k : ℕ) × IsDefinedAt f w n k

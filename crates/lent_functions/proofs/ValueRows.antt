@@ -173,10 +173,10 @@ args_level d f n xs = length-map xs (arg_definition d (is_zero n) (switch_to f n
 pub results_level : (d : Declarations) (i : Inst) → length (result_definitions d i) ≡ length i.results
 results_level d i = length-map-range_with_len (result_definition d i) 0 (length i.results)
 
-borrows_level : (n : ℕ) (xs : List BlockArg) → length (arg_borrows n xs) ≡ length xs
+pub borrows_level : (n : ℕ) (xs : List BlockArg) → length (arg_borrows n xs) ≡ length xs
 borrows_level n xs = length-replicate (length xs) NoBorrow
 
-borrowed_level : (i : Inst) → length (result_borrows i) ≡ length i.results
+pub borrowed_level : (i : Inst) → length (result_borrows i) ≡ length i.results
 borrowed_level i = length-replicate (length i.results) (borrow_by (result_kind_of i.op) i)
 
 pub origin_in : (d : Declarations) (g : Function) (w : ValueId) → origin_at (definitions_of d g) w ≡ (row_at none (definitions_of d g) w).origin
