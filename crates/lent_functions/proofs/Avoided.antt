@@ -1,8 +1,7 @@
 -- No value gets its kind from the copy: what forwards or takes apart would end it, or ask for another kind.
-use Rattle.std.proofs.Common.{◌≡◌, ℕ, zero, ◌<◌, List, [], ◌∷◌, ◌++◌, length, map, replicate, refl, sym, ap, ◌∙◌, subst, arith, Bool, Option, Some, None, true, false}
-use Rattle.std.specs.Prelude.{◌||◌, ◌==◌, ◌&&◌, IfSome, if◌then◌else◌, option_map, slice_get}
+use Rattle.std.proofs.Common.{◌≡◌, ℕ, List, [], ◌∷◌, ◌++◌, length, map, replicate, refl, sym, ap, ◌∙◌, subst, Bool, Option, Some, None, true, false}
+use Rattle.std.specs.Prelude.{◌==◌, ◌&&◌, IfSome, if◌then◌else◌, option_map, slice_get}
 use Rattle.std.specs.List.{cons_option, filter_map, flat_map, range_with_len}
-use Rattle.std.specs.Option.{option_to_list}
 use Rattle.std.proofs.lemmas.Bool.{eqb-true}
 use Rattle.instruction_table.specs.Forms.{ending_of, result_kind_of, roles_of}
 use Rattle.instruction_table.specs.declared.entries.Ending.{Ending}
@@ -14,14 +13,13 @@ use Rattle.instruction_table.specs.declared.entries.Role.TheVariants as role
 use Rattle.instruction_table.specs.declared.op.Op.{Op}
 use Rattle.instruction_table.specs.declared.op.Op.TheVariants as op
 use Rattle.item_operands.specs.Roles.{by_row, conventions_in, last_roles, roles_for, taken_along, taken_by, taken_each}
-use Rattle.numbered_form.specs.Insts.{insts_of}
 use Rattle.numbered_form.specs.Lists.{Each}
 use Rattle.ownership_chains.specs.Chains.{operands_at}
 use Rattle.ownership_chains.specs.Facts.{origin_at}
 use Rattle.ownership_chains.specs.declared.definition.Definition.{Definition}
 use Rattle.ownership_chains.specs.declared.definition.Origin.{Origin}
 use Rattle.ownership_chains.specs.declared.definition.Origin.TheVariants as origin
-use Rattle.ownership_origins.specs.Origins.{arg_definition, arg_definition_by, arg_definitions, chain_operands, definitions_of, is_trivial_or_untyped, is_zero, result_definition, result_definitions, result_origin, switch_operand}
+use Rattle.ownership_origins.specs.Origins.{arg_definition, arg_definition_by, arg_definitions, chain_operands, definitions_of, is_trivial_or_untyped, is_zero, result_definition, result_definitions, result_origin}
 use Rattle.ownership_origins.specs.Switched.{edge_to, switch_to, switched_by, switches_by, switches_from}
 use Rattle.ownership_origins.specs.declared.switched.Switched.{Switched}
 use Rattle.point_checks.specs.Points.{IsAt}

@@ -1,8 +1,7 @@
 -- The copy as a scope: what its life kept on each trail of the function, its scope keeps, and no base of the copied value ends while it is open.
-use Rattle.std.proofs.Common.{◌≡◌, ℕ, List, [], ◌∷◌, ◌++◌, map, refl, sym, ap, ap₂, ◌∙◌, subst, append_assoc, Bool, Option, Some, None, true, false}
-use Rattle.std.specs.Prelude.{◌==◌, ◌&&◌, ◌↔◌, cond, filter_map, unwrap_or}
+use Rattle.std.proofs.Common.{◌≡◌, ℕ, List, [], ◌∷◌, ◌++◌, map, refl, sym, ap, ap₂, ◌∙◌, subst, Bool, Option, Some, None, true, false}
+use Rattle.std.specs.Prelude.{◌==◌, ◌&&◌, ◌↔◌, cond, filter_map}
 use Rattle.std.specs.List.{cons_option, flat_map, range_with_len}
-use Rattle.std.proofs.lemmas.Bool.{eq-eqb, eqb-true}
 use Rattle.std.proofs.lemmas.Grind.{flat_map-append}
 use Rattle.std.proofs.lemmas.List.{append-nil}
 use Rattle.std.proofs.lemmas.List.Elements.{filter_map-append}
@@ -12,7 +11,7 @@ use Rattle.borrow_scopes.specs.inner.Runs.{sort_for, sort_of}
 use Rattle.lifetime_worklist.specs.Lives as lives
 use Rattle.lifetime_worklist.specs.Lives.{lives_by, lives_of}
 use Rattle.numbered_form.specs.Lists.{Each}
-use Rattle.ownership_chains.specs.Facts.{has, is_guaranteed, is_owned, known_or, value_of}
+use Rattle.ownership_chains.specs.Facts.{has, is_guaranteed, is_owned, value_of}
 use Rattle.ownership_chains.specs.declared.facts.Facts.{Facts}
 use Rattle.ownership_kinds.specs.Facts.{facts_in}
 use Rattle.ownership_marks.specs.Marks.{marks_of}
@@ -20,7 +19,6 @@ use Rattle.ownership_marks.specs.declared.mark.Mark as own
 use Rattle.ownership_marks.specs.declared.mark.MarkSort.{MarkSort}
 use Rattle.ownership_marks.specs.declared.mark.MarkSort.TheVariants.{End, Use, Begin}
 use Rattle.path_checks.specs.Entries.{marks_for, means}
-use Rattle.path_checks.specs.declared.entry.Entry.{Entry}
 use Rattle.path_patterns.proofs.HeldIsOn.{on_while_held}
 use Rattle.path_patterns.specs.Along.{IsKept}
 use Rattle.path_patterns.specs.Lawful.{AreLawful}
@@ -36,12 +34,11 @@ use Rattle.sil_cfg.specs.Returns.{is_return}
 use Rattle.sil_cfg.specs.Walk.{IsTrail}
 use Rattle.sil_cfg.specs.declared.item.Item.{Item}
 use Rattle.type_definitions.specs.Declarations.{Declarations}
-use Rattle.type_definitions.specs.declared.kind.Kind.TheVariants as kind
-use Rattle.value_tables.specs.Borrows.{borrows, borrows_of, is_borrow, lends}
+use Rattle.value_tables.specs.Borrows.{borrows, lends}
 use Rattle.copy_removal.specs.Removable.{is_mark, is_sort}
 use Rattle.copy_removal.specs.Rewritten.{lent}
 use Rattle.lent_functions.proofs.Graph.{return_lent}
-use Rattle.lent_functions.proofs.Lists.{Placed, each_append, each_behind, each_front, flat_map_all, nothing_in, placed}
+use Rattle.lent_functions.proofs.Lists.{each_behind, each_front, flat_map_all, nothing_in, placed}
 use Rattle.lent_functions.proofs.Marks.{marks_lent}
 use Rattle.lent_functions.proofs.Ready.{Ready}
 use Rattle.lent_functions.proofs.Tables.{bases_same, facts, flat_none, flat_same, known_copy, known_lent, lent_facts, one_same}
@@ -401,8 +398,7 @@ module _ (d : Declarations) (f : Function) (p : PointId) (c v : ValueId) (r : Re
         let lived : IsInPlace (flat_map life before) (lives.turned_by m.sort) =
         life_in_place before after (Some m) parts (lives.turned_by m.sort) [] (ap (λ b. cond b (lives.turned_by m.sort ∷ []) []) is) in
         subst (λ y. Place before [] y) same
-        (finds_alike (scopes.turned_by m.sort).needs (flat_map scope before ++ []) (flat_map life before)
-        (
+        (finds_alike (scopes.turned_by m.sort).needs (flat_map scope before ++ []) (flat_map life before) (
           λ on. (life_held before).1 ((scope_held before [] tt).0 on),
           λ on. (scope_held before [] tt).1 ((life_held before).0 on),
         )

@@ -1,17 +1,14 @@
 -- The graph of a function in which a copy is lent: its blocks, edges and items are those of the function, and so are its walks and trails.
 use Rattle.std.proofs.Common.{◌≡◌, ℕ, suc, ◌<◌, List, [], ◌∷◌, ◌++◌, length, map, refl, sym, ap, ap₂, ◌∙◌, subst, Option, Some, None}
 use Rattle.std.specs.Prelude.{option_map, slice_get, IsSomeAnd, IsTrue}
-use Rattle.std.specs.List.{flat_map}
 use Rattle.std.proofs.lemmas.List.{length-map}
 use Rattle.std.proofs.lemmas.Option.{slice_get-map}
 use Rattle.sil_ast.specs.Blocks.{args_in, args_of}
 use Rattle.sil_ast.specs.declared.function.Block.{Block}
-use Rattle.sil_ast.specs.declared.function.BlockArg.{BlockArg}
 use Rattle.sil_ast.specs.declared.function.Function.{Function}
 use Rattle.sil_ast.specs.declared.inst.Inst as inst
-use Rattle.sil_ast.specs.declared.place.EdgeId.{EdgeId}
 use Rattle.sil_ast.specs.declared.place.ValueId.{ValueId}
-use Rattle.sil_cfg.specs.Flow.{Flow, IsEdge}
+use Rattle.sil_cfg.specs.Flow.{IsEdge}
 use Rattle.sil_cfg.specs.Items.{IsExit, IsItem, ends_function, exit_of, entry_of, flow_of, insts_from, items_in, last_in, own_items, point_at, targets_in}
 use Rattle.sil_cfg.specs.Returns.{is_return, returns_in}
 use Rattle.sil_cfg.specs.declared.item.Item.{Item}

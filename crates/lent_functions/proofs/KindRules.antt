@@ -2,8 +2,8 @@
 use Rattle.std.proofs.Common.{◌≡◌, ℕ, ◌<◌, ◌≤◌, List, [], ◌∷◌, ◌++◌, length, map, refl, sym, ap, ap₂, ◌∙◌, subst, arith, Bool, Option, Some, None, true, false, ◌⊎◌, inl, inr}
 use Rattle.std.specs.Prelude.{◌||◌, ◌==◌, ◌&&◌, Contains, cond, find, is_none, not, option_map, slice_get, unwrap_or}
 use Rattle.std.specs.List.{flat_map, list_any}
-use Rattle.std.proofs.lemmas.Bool.{cases_lt, eq-eqb, eqb-false, eqb-true}
-use Rattle.std.proofs.lemmas.Option.{slice_get-map, slice_get_past}
+use Rattle.std.proofs.lemmas.Bool.{cases_lt, eq-eqb, eqb-true}
+use Rattle.std.proofs.lemmas.Option.{slice_get_past}
 use Rattle.instruction_table.specs.Forms.{ending_of, result_kind_of, roles_of}
 use Rattle.instruction_table.specs.declared.entries.Ending.{Ending}
 use Rattle.instruction_table.specs.declared.entries.Ending.TheVariants as ending
@@ -12,27 +12,23 @@ use Rattle.instruction_table.specs.declared.entries.ResultKind.TheVariants.{None
 use Rattle.instruction_table.specs.declared.entries.Role.{Role}
 use Rattle.instruction_table.specs.declared.entries.Role.TheVariants as role
 use Rattle.instruction_table.specs.declared.op.Op.TheVariants as op
-use Rattle.item_operands.specs.Roles.{by_row, conventions_in, roles_for, taken_along, taken_as, taken_by, taken_each}
+use Rattle.item_operands.specs.Roles.{by_row, conventions_in, roles_for, taken_along, taken_as, taken_each}
 use Rattle.item_operands.specs.declared.taken.Taken.{Taken}
 use Rattle.numbered_form.specs.Lists.{Each, is_empty}
 use Rattle.numbered_form.specs.Numbering.{values_of}
 use Rattle.numbered_form.specs.inner.Parts.{has_edges, has_operands}
-use Rattle.ownership_chains.specs.Chains.{Chain, IsCyclic, more, one, operands_at}
-use Rattle.ownership_chains.specs.declared.definition.Definition.{Definition}
-use Rattle.ownership_chains.specs.declared.facts.Facts.{Facts}
-use Rattle.ownership_kinds.specs.Facts.{facts_in, kind_in, kind_of_facts}
-use Rattle.ownership_kinds.specs.Statics.{HasKinds, IsBroken, IsDefinedAt, IsOnRing, all_taken, forwards, forwards_by, is_annotated_well, is_lacking_default, is_mismatch, is_owned, is_guaranteed}
+use Rattle.ownership_chains.specs.Chains.{Chain, IsCyclic, more, one}
+use Rattle.ownership_kinds.specs.Facts.{kind_in, kind_of_facts}
+use Rattle.ownership_kinds.specs.Statics.{HasKinds, IsDefinedAt, IsOnRing, all_taken, forwards, forwards_by, is_annotated_well, is_lacking_default, is_mismatch, is_owned, is_guaranteed}
 use Rattle.ownership_kinds.specs.Statics.{lacks_argument, lacks_by, mixed_among, mixed_operand, needs_argument, no_arguments}
 use Rattle.ownership_kinds.specs.Statics.IsBroken.{annotated, lacking, mismatch, mixed, on_ring}
 use Rattle.ownership_kinds.specs.Statics.IsDefinedAt.{argument, result}
 use Rattle.ownership_origins.specs.Origins.{definitions_of}
-use Rattle.ownership_origins.specs.Renamings.{renamings_of}
 use Rattle.ownership_origins.specs.Switched.{switch_to}
 use Rattle.ownership_origins.specs.declared.switched.Switched.{Switched}
 use Rattle.point_checks.specs.Points.{IsAt}
 use Rattle.sil_ast.specs.declared.function.ArgKind.{ArgKind}
 use Rattle.sil_ast.specs.declared.function.Block.{Block}
-use Rattle.sil_ast.specs.declared.function.BlockArg.{BlockArg}
 use Rattle.sil_ast.specs.declared.function.Function.{Function}
 use Rattle.sil_ast.specs.declared.inst.Edge.{Edge}
 use Rattle.sil_ast.specs.declared.inst.Inst.{Inst}
@@ -47,9 +43,8 @@ use Rattle.type_definitions.specs.declared.kind.Kind.TheVariants as kind
 use Rattle.value_tables.proofs.Rows.{rows_count}
 use Rattle.value_tables.specs.Borrows.{arg_borrows, borrow_in, borrows as is_some_borrow, borrows_of, is_borrow, result_borrows}
 use Rattle.value_tables.specs.FirstValue.{first_value, value_of}
-use Rattle.value_tables.specs.declared.borrows.Borrow.{Borrow}
 use Rattle.value_tables.specs.declared.borrows.Borrow.TheVariants.{NoBorrow}
-use Rattle.copy_removal.specs.Rewritten.{lent, lent_block, lent_inst, makes, takes, with_op}
+use Rattle.copy_removal.specs.Rewritten.{lent, lent_block, lent_inst, with_op}
 use Rattle.lent_functions.proofs.Avoided.{IsOther, hands_on, operands_avoid, switch_avoids}
 use Rattle.lent_functions.proofs.Facts.{copy_facts, other_facts}
 use Rattle.lent_functions.proofs.Graph.{block_lent, of_block}
@@ -57,7 +52,7 @@ use Rattle.lent_functions.proofs.Insts.{Becomes, becomes, borrows, ends, stays}
 use Rattle.lent_functions.proofs.Lists.{any_each, each_in, each_map, each_weaker}
 use Rattle.lent_functions.proofs.Marks.{first, not_destroy, one_operand}
 use Rattle.lent_functions.proofs.Parts.{inst_results, values_lent}
-use Rattle.lent_functions.proofs.Ready.{IsValue, Ready}
+use Rattle.lent_functions.proofs.Ready.{Ready}
 use Rattle.lent_functions.proofs.Roles.{IsGentle, gentle_at, is_mild}
 use Rattle.lent_functions.proofs.Rows.{operands_lent, renamings_lent, switch_lent}
 use Rattle.lent_functions.proofs.ValueRows.{borrow_kept, borrowed_level, borrows_level, comes_from, lent_borrow, same_value}

@@ -13,3 +13,4 @@ pub mod KindRules
 pub mod Kept
 pub mod Tables
 pub mod CopyScope
+pub mod Clean

@@ -1,5 +1,5 @@
 -- The marks of the items of a function in which a copy is lent: just those of the function's items.
-use Rattle.std.proofs.Common.{◌≡◌, ℕ, zero, suc, List, [], ◌∷◌, ◌++◌, length, map, refl, sym, ap, ap₂, ◌∙◌, subst, Bool, Option, Some, None, true, false, eq-eqb}
+use Rattle.std.proofs.Common.{◌≡◌, ℕ, zero, suc, List, [], ◌∷◌, ◌++◌, length, refl, sym, ap, ap₂, ◌∙◌, subst, Bool, Option, Some, None, true, false, eq-eqb}
 use Rattle.std.specs.Prelude.{◌||◌, ◌==◌, ◌&&◌, cond, option_map, slice_get}
 use Rattle.std.specs.List.{flat_map, list_any}
 use Rattle.std.proofs.lemmas.Bool.{eqb-true}
@@ -13,15 +13,13 @@ use Rattle.item_operands.specs.Items.{item_defined, item_taken, taken_along_in, 
 use Rattle.item_operands.specs.Parts.{edge_in, inst_at, inst_in, terminator_in, terminator_of}
 use Rattle.item_operands.specs.Roles.{by_row, conventions_in, roles_for, taken_along, taken_as, taken_by, taken_each}
 use Rattle.item_operands.specs.declared.taken.Taken.{Taken}
-use Rattle.numbered_form.specs.Insts.{insts_of}
 use Rattle.numbered_form.specs.Lists.{Each}
 use Rattle.numbered_form.specs.inner.Parts.{has_operands, is_typed}
 use Rattle.ownership_chains.specs.Facts.{facts_with}
 use Rattle.ownership_chains.specs.declared.facts.Facts.{Facts}
 use Rattle.ownership_kinds.specs.Facts.{facts_in}
 use Rattle.ownership_kinds.specs.Statics.{all_taken}
-use Rattle.ownership_marks.specs.Marks.{begin_of, begun, begun_with, end_of, ended, ended_by, ended_with, marks_of, use_of, used, used_by, used_with}
-use Rattle.ownership_marks.specs.declared.mark.Mark.{Mark}
+use Rattle.ownership_marks.specs.Marks.{begin_of, begun, begun_with, ended, ended_by, ended_with, marks_of, use_of, used, used_by, used_with}
 use Rattle.point_checks.specs.Points.{IsAt}
 use Rattle.sil_ast.specs.declared.function.Block.{Block}
 use Rattle.sil_ast.specs.declared.function.Function.{Function}
@@ -35,7 +33,7 @@ use Rattle.sil_cfg.specs.declared.item.Item.TheVariants.{Entry, Inst, Edge, Exit
 use Rattle.type_definitions.specs.Declarations.{Declarations}
 use Rattle.type_definitions.specs.declared.kind.Kind.TheVariants as kind
 use Rattle.copy_removal.specs.Copies.{is_op}
-use Rattle.copy_removal.specs.Rewritten.{lent, lent_inst, makes, takes, with_op}
+use Rattle.copy_removal.specs.Rewritten.{lent, lent_inst, takes, with_op}
 use Rattle.lent_functions.proofs.Facts.{copy_facts, other_facts}
 use Rattle.lent_functions.proofs.Insts.{Becomes, becomes, borrows, ends, op_is, stays}
 use Rattle.lent_functions.proofs.Lists.{each_append, each_front, each_behind, each_got, each_unflat, flat_map_all, flat_map_each}

@@ -1,32 +1,27 @@
 -- What is done to the copy: but for its destroys, nothing that ends it, and nothing that only a scope or a Guaranteed value may be taken for.
-use Rattle.std.proofs.Common.{◌≡◌, ℕ, zero, suc, ◌<◌, List, [], ◌∷◌, ◌++◌, length, map, replicate, refl, sym, ap, ◌∙◌, subst, arith, Bool, Option, Some, None, true, false, ◌⊎◌, inl, inr}
+use Rattle.std.proofs.Common.{◌≡◌, ℕ, zero, suc, ◌<◌, List, [], ◌∷◌, ◌++◌, length, refl, sym, ap, ◌∙◌, subst, Bool, Option, Some, true, false, ◌⊎◌, inl, inr}
 use Rattle.std.specs.Prelude.{◌||◌, ◌==◌, ◌&&◌, Contains, cond, option_map, slice_get}
 use Rattle.std.specs.List.{flat_map, list_any}
-use Rattle.std.proofs.lemmas.Bool.{eq-eqb, eqb-true}
-use Rattle.std.proofs.lemmas.List.{length-map}
+use Rattle.std.proofs.lemmas.Bool.{eq-eqb}
 use Rattle.std.proofs.lemmas.Option.{slice_get_within}
-use Rattle.instruction_table.specs.Forms.{ending_of, ends, is_terminator, result_kind_of, roles_of}
+use Rattle.instruction_table.specs.Forms.{ending_of, ends, is_terminator, roles_of}
 use Rattle.instruction_table.specs.declared.entries.Ending.{Ending}
 use Rattle.instruction_table.specs.declared.entries.Ending.TheVariants as ending
-use Rattle.instruction_table.specs.declared.entries.ResultKind.{ResultKind}
-use Rattle.instruction_table.specs.declared.entries.ResultKind.TheVariants.{NoneResult, OwnedResult, ScopeResult, AddressResult, ForwardedResult, OperandResult}
 use Rattle.instruction_table.specs.declared.entries.Role.{Role}
 use Rattle.instruction_table.specs.declared.entries.Role.TheVariants as role
-use Rattle.instruction_table.specs.declared.op.Op.{Op}
 use Rattle.instruction_table.specs.declared.op.Op.TheVariants as op
 use Rattle.item_operands.specs.Items.{item_defined, item_taken, taken_along_in, taken_in}
 use Rattle.item_operands.specs.Parts.{edge_in, inst_at, inst_in, item_inst, terminator_in, terminator_of}
-use Rattle.item_operands.specs.Roles.{by_row, conventions_in, roles_for, taken_along, taken_by, taken_each}
+use Rattle.item_operands.specs.Roles.{conventions_in, roles_for, taken_along, taken_by, taken_each}
 use Rattle.item_operands.specs.declared.taken.Taken.{Taken}
 use Rattle.item_operands.specs.declared.taken.Treatment.{Treatment}
-use Rattle.numbered_form.specs.Insts.{insts_of}
-use Rattle.numbered_form.specs.Lists.{Each, is_empty}
-use Rattle.numbered_form.specs.inner.Parts.{HasItsParts, are_edges_by}
-use Rattle.ownership_chains.specs.Facts.{facts_with, has}
+use Rattle.numbered_form.specs.Lists.{Each}
+use Rattle.numbered_form.specs.inner.Parts.{are_edges_by}
+use Rattle.ownership_chains.specs.Facts.{facts_with}
 use Rattle.ownership_chains.specs.declared.facts.Facts.{Facts}
 use Rattle.ownership_kinds.specs.Facts.{facts_in, kind_in, kind_of_facts}
 use Rattle.ownership_kinds.specs.Statics.{all_taken, is_mismatch, mismatch}
-use Rattle.ownership_marks.specs.Marks.{begun, ended, ended_with, ends_owned, ends_scope, marks_of, used}
+use Rattle.ownership_marks.specs.Marks.{begun, ended, ended_with, ends_owned, marks_of, used}
 use Rattle.ownership_marks.specs.declared.mark.Mark.{Mark}
 use Rattle.ownership_marks.specs.declared.mark.MarkSort.TheVariants.{End}
 use Rattle.point_checks.specs.Points.{IsAt}
@@ -41,7 +36,7 @@ use Rattle.sil_cfg.proofs.Blocks.{item_of_block}
 use Rattle.sil_cfg.specs.Flow.{edge_id}
 use Rattle.sil_cfg.specs.Items.{IsItem, leaves_function, point_at}
 use Rattle.sil_cfg.specs.declared.item.Item.{Item}
-use Rattle.sil_cfg.specs.declared.item.Item.TheVariants.{Entry, Inst, Edge, Exit}
+use Rattle.sil_cfg.specs.declared.item.Item.TheVariants.{Inst, Edge, Exit}
 use Rattle.sil_rules.specs.declared.rule.Rule.TheVariants as rule
 use Rattle.type_definitions.specs.Declarations.{Declarations}
 use Rattle.type_definitions.specs.declared.kind.Kind.TheVariants as kind
@@ -50,7 +45,7 @@ use Rattle.copy_removal.specs.Copies.{is_op}
 use Rattle.copy_removal.specs.Removable.{is_destroy, is_mark}
 use Rattle.copy_removal.specs.Rewritten.{takes}
 use Rattle.lent_functions.proofs.Insts.{op_is}
-use Rattle.lent_functions.proofs.Lists.{any_parts, each_append, each_behind, each_both, each_contained, each_flat, each_front, each_got, each_place, each_unflat, each_weaker}
+use Rattle.lent_functions.proofs.Lists.{any_parts, each_append, each_behind, each_both, each_contained, each_flat, each_front, each_place}
 use Rattle.lent_functions.proofs.Ready.{Ready}
 use Rattle.lent_functions.proofs.ValueRows.{no_borrow, same_value}
 
@@ -238,8 +233,7 @@ module _ (d : Declarations) (f : Function) (p : PointId) (c v : ValueId) (r : Re
           let long : k < length b.terminator.edges =
           subst (λ (j : inst.Inst). k < length j.edges) (sym last) (slice_get_within i.edges k x there) in
           let item : IsItem f (Edge (edge_id n k)) = item_of_block f n b is (Edge (edge_id n k)) (refl, long) in
-          let all = unended_item (Edge (edge_id n k)) item (ap is_destroy term ∙ calm) in
-          (
+          let all = unended_item (Edge (edge_id n k)) item (ap is_destroy term ∙ calm) in (
             subst (λ o. Each IsUnended (taken_in o)) term
                 (each_front IsUnended (taken_in (terminator_of f n)) (taken_along_in (edge_in (terminator_of f n) k)) all),
             subst (λ o. Each IsUnended (taken_along_in o)) (ap (λ o. edge_in o k) term ∙ there)

@@ -1,41 +1,27 @@
 -- The rows of the values of a function in which a copy is lent: those of the function's values, but for the copy's own.
-use Rattle.std.proofs.Common.{◌≡◌, ℕ, zero, suc, ◌+◌, ◌<◌, ◌≤◌, List, [], ◌∷◌, ◌++◌, length, map, replicate, refl, sym, ap, ap₂, ◌∙◌, subst, arith, Option, Some, None, true, false}
-use Rattle.std.specs.Prelude.{◌||◌, ◌==◌, Contains, cond, option_map, slice_get, unwrap_or}
-use Rattle.std.specs.List.{flat_map, list_any, range_with_len}
-use Rattle.std.proofs.lemmas.Bool.{eq-eqb, eqb-true}
+use Rattle.std.proofs.Common.{◌≡◌, ℕ, ◌+◌, List, [], ◌∷◌, ◌++◌, length, map, replicate, refl, sym, ap, ap₂, ◌∙◌}
+use Rattle.std.specs.Prelude.{cond, slice_get, unwrap_or}
+use Rattle.std.specs.List.{flat_map, range_with_len}
 use Rattle.std.proofs.lemmas.Grind.{flat_map-append}
-use Rattle.std.proofs.lemmas.List.{length-map, length-replicate, map-append}
-use Rattle.std.proofs.lemmas.List.FromFn.{length-map-range_with_len}
-use Rattle.std.proofs.lemmas.Option.{same_Some, slice_get-map}
-use Rattle.instruction_table.specs.Forms.{result_kind_of, roles_of}
-use Rattle.instruction_table.specs.declared.op.Op.{Op}
+use Rattle.std.proofs.lemmas.List.{map-append}
+use Rattle.instruction_table.specs.Forms.{result_kind_of}
 use Rattle.instruction_table.specs.declared.op.Op.TheVariants as op
 use Rattle.numbered_form.specs.Insts.{insts_of}
-use Rattle.numbered_form.specs.Numbering.{AreCountedFrom, results_of, value_of, values_of}
 use Rattle.ownership_chains.specs.Chains.{operands_at}
-use Rattle.ownership_chains.specs.Facts.{has, origin_at}
 use Rattle.ownership_chains.specs.declared.definition.Definition.{Definition}
-use Rattle.ownership_chains.specs.declared.definition.Origin.TheVariants as origin
-use Rattle.ownership_origins.specs.Origins.{arg_definition, arg_definitions, chain_operands, defined, definitions_of, is_trivial_or_untyped, is_zero, result_definition, result_definition_by, result_definitions}
+use Rattle.ownership_origins.specs.Origins.{arg_definition, arg_definitions, chain_operands, definitions_of, is_zero, result_definition, result_definitions}
 use Rattle.ownership_origins.specs.Renamings.{arg_renaming, renamed, renames, renamings_of, result_renamings}
 use Rattle.ownership_origins.specs.Switched.{switch_to, switches_from}
-use Rattle.ownership_origins.specs.declared.switched.Switched.{Switched}
-use Rattle.point_checks.specs.Points.{IsAt}
 use Rattle.sil_ast.specs.declared.function.Block.{Block}
 use Rattle.sil_ast.specs.declared.function.BlockArg.{BlockArg}
 use Rattle.sil_ast.specs.declared.function.Function.{Function}
 use Rattle.sil_ast.specs.declared.inst.Inst.{Inst}
 use Rattle.sil_ast.specs.declared.place.ValueId.{ValueId}
-use Rattle.sil_types.specs.Typing.RowTypes.{given_by, made_types}
 use Rattle.type_definitions.specs.Declarations.{Declarations}
-use Rattle.value_tables.specs.Borrows.{arg_borrows, borrow_by, result_borrows}
 use Rattle.value_tables.specs.FirstValue.{value_of as operand_value}
 use Rattle.value_tables.specs.ValueRows.{block_rows, rows_from, value_rows}
-use Rattle.value_tables.specs.declared.borrows.Borrow.{Borrow}
-use Rattle.value_tables.specs.declared.borrows.Borrow.TheVariants.{NoBorrow}
-use Rattle.copy_removal.specs.Rewritten.{lent, lent_block, lent_inst, makes, takes, with_op}
+use Rattle.copy_removal.specs.Rewritten.{lent, lent_block, lent_inst, with_op}
 use Rattle.lent_functions.proofs.Insts.{Becomes, becomes, borrows, ends, stays}
-use Rattle.lent_functions.proofs.Parts.{inst_results}
 
 -- ---- tables whose rows are the same of each instruction
 

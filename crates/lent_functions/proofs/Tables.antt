@@ -1,12 +1,11 @@
 -- The tables of values that are defined, of lives and of scopes: what they have for each value but the copy they had on the function.
-use Rattle.std.proofs.Common.{◌≡◌, ℕ, List, [], ◌∷◌, ◌++◌, length, map, refl, sym, ap, ap₂, ◌∙◌, subst, Bool, Option, Some, None, true, false}
+use Rattle.std.proofs.Common.{◌≡◌, ℕ, List, [], ◌∷◌, ◌++◌, map, refl, sym, ap, ap₂, ◌∙◌, Bool, Option, Some, None, true, false}
 use Rattle.std.specs.Prelude.{◌==◌, ◌&&◌, cond, filter_map, unwrap_or}
 use Rattle.std.specs.List.{cons_option, flat_map, range_with_len}
 use Rattle.std.proofs.lemmas.Bool.{eqb-true}
 use Rattle.std.proofs.lemmas.List.Elements.{filter_map-append}
 use Rattle.borrow_scopes.specs.Scopes as scopes
 use Rattle.borrow_scopes.specs.Scopes.{bases_in, is_scope, lent_bases, lost_at_end, lost_entries, lost_from, lost_with, mark_entries, scope_entries, scopes_of}
-use Rattle.item_operands.specs.Parts.{item_arguments, item_handover, item_operands, item_results}
 use Rattle.lifetime_worklist.specs.Lives as lives
 use Rattle.lifetime_worklist.specs.Lives.{lives_by, lives_of}
 use Rattle.ownership_chains.specs.Facts.{facts_with, has, is_guaranteed, is_owned, known_or, value_of}
@@ -18,7 +17,6 @@ use Rattle.ownership_marks.specs.declared.mark.MarkSort.{MarkSort}
 use Rattle.ownership_marks.specs.declared.mark.MarkSort.TheVariants.{End, Use, Begin}
 use Rattle.path_checks.specs.Entries.{marks_for, means}
 use Rattle.path_checks.specs.declared.entry.Entry.{Entry}
-use Rattle.path_patterns.specs.declared.mark.Mark as pattern
 use Rattle.sil_ast.specs.declared.function.Function.{Function}
 use Rattle.sil_ast.specs.declared.place.PointId.{PointId}
 use Rattle.sil_ast.specs.declared.place.ValueId.{ValueId}
@@ -27,7 +25,7 @@ use Rattle.sil_cfg.specs.declared.item.Item.{Item}
 use Rattle.type_definitions.specs.Declarations.{Declarations}
 use Rattle.type_definitions.specs.declared.kind.Kind.TheVariants as kind
 use Rattle.value_availability.specs.Accesses.{accesses_of, begun as defined_argument, defined, used}
-use Rattle.value_tables.specs.Borrows.{borrows, borrows_of, is_borrow, lends, lent_by}
+use Rattle.value_tables.specs.Borrows.{borrows, lends, lent_by}
 use Rattle.copy_removal.specs.Rewritten.{lent}
 use Rattle.lent_functions.proofs.Avoided.{IsOther}
 use Rattle.lent_functions.proofs.Facts.{bases_lent, copy_facts, other_facts}

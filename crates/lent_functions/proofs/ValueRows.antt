@@ -6,9 +6,9 @@ use Rattle.std.proofs.lemmas.Bool.{cases_lt, eq-eqb, eqb-true, le-ltb}
 use Rattle.std.proofs.lemmas.List.{length-map, length-replicate}
 use Rattle.std.proofs.lemmas.List.FromFn.{length-map-range_with_len}
 use Rattle.std.proofs.lemmas.Option.{same_Some, slice_get-map}
-use Rattle.instruction_table.specs.Forms.{result_kind_of, roles_of}
+use Rattle.instruction_table.specs.Forms.{result_kind_of}
 use Rattle.instruction_table.specs.declared.op.Op.TheVariants as op
-use Rattle.item_operands.specs.Parts.{inst_at, inst_in, terminator_in}
+use Rattle.item_operands.specs.Parts.{inst_in, terminator_in}
 use Rattle.numbered_form.specs.Insts.{insts_of}
 use Rattle.numbered_form.specs.Lists.{Each}
 use Rattle.numbered_form.specs.Numbering.{AreCountedFrom, value_of, values_of}
@@ -16,7 +16,6 @@ use Rattle.ownership_chains.specs.Chains.{operands_at}
 use Rattle.ownership_chains.specs.Steps.{told_in}
 use Rattle.ownership_chains.specs.Facts.{AreFactsOf, facts_with, has, origin_at, told, told_by}
 use Rattle.ownership_chains.specs.declared.definition.Definition.{Definition}
-use Rattle.ownership_chains.specs.declared.definition.Origin.{Origin}
 use Rattle.ownership_chains.specs.declared.definition.Origin.TheVariants as origin
 use Rattle.ownership_chains.specs.declared.facts.Facts.{Facts}
 use Rattle.ownership_kinds.specs.Facts.{facts_in}
@@ -30,24 +29,22 @@ use Rattle.sil_ast.specs.declared.function.Block.{Block}
 use Rattle.sil_ast.specs.declared.function.BlockArg.{BlockArg}
 use Rattle.sil_ast.specs.declared.function.Function.{Function}
 use Rattle.sil_ast.specs.declared.inst.Inst.{Inst}
-use Rattle.sil_ast.specs.declared.operands.Operand.{Operand}
 use Rattle.sil_ast.specs.declared.place.PointId.{PointId}
 use Rattle.sil_ast.specs.declared.place.ValueId.{ValueId}
 use Rattle.sil_types.specs.Typing.RowTypes.{given_by, made_types}
 use Rattle.type_definitions.specs.Declarations.{Declarations}
 use Rattle.type_definitions.specs.declared.kind.Kind.TheVariants as kind
 use Rattle.value_tables.specs.Borrows.{arg_borrows, borrow_at, borrow_by, borrow_in, borrows_of, result_borrows}
-use Rattle.value_tables.specs.FirstValue.{first_value, value_of as operand_value}
+use Rattle.value_tables.specs.FirstValue.{value_of as operand_value}
 use Rattle.value_tables.specs.ValueRows.{value_rows}
-use Rattle.value_tables.specs.declared.borrows.Borrow.{Borrow}
 use Rattle.value_tables.specs.declared.borrows.Borrow.TheVariants.{NoBorrow, OfValue}
-use Rattle.copy_removal.specs.Copies.{Copies, IsCopy, is_op}
+use Rattle.copy_removal.specs.Copies.{is_op}
 use Rattle.copy_removal.specs.Rewritten.{lent, lent_block, lent_inst, makes, takes, with_op}
 use Rattle.lent_functions.proofs.Graph.{block_lent}
 use Rattle.lent_functions.proofs.Insts.{Becomes, becomes, borrows, ends, op_is, stays}
-use Rattle.lent_functions.proofs.Lists.{each_in, each_map, each_unmap, same_each}
+use Rattle.lent_functions.proofs.Lists.{each_in, each_unmap, same_each}
 use Rattle.lent_functions.proofs.Parts.{inst_results, insts_lent, terminator_stays, values_lent}
-use Rattle.lent_functions.proofs.Ready.{HasFacts, IsFormed, IsValue, Ready}
+use Rattle.lent_functions.proofs.Ready.{IsFormed, IsValue, Ready}
 use Rattle.lent_functions.proofs.Rows.{arg_rows_lent}
 
 pub same_value : (a b : ValueId) → a.0 ≡ b.0 → a ≡ b
