@@ -19,7 +19,8 @@ use Rattle.ownership_chains.specs.Facts.{origin_at}
 use Rattle.ownership_chains.specs.declared.definition.Definition.{Definition}
 use Rattle.ownership_chains.specs.declared.definition.Origin.{Origin}
 use Rattle.ownership_chains.specs.declared.definition.Origin.TheVariants as origin
-use Rattle.ownership_origins.specs.Origins.{arg_definition, arg_definition_by, arg_definitions, chain_operands, definitions_of, is_trivial_or_untyped, is_zero, result_definition, result_definitions, result_origin}
+use Rattle.ownership_origins.specs.Origins.{arg_definition, arg_definition_by, arg_definitions, chain_operands, definitions_of, is_trivial_or_untyped, is_zero}
+use Rattle.ownership_origins.specs.Origins.{result_definition, result_definitions, result_origin}
 use Rattle.ownership_origins.specs.Switched.{edge_to, switch_to, switched_by, switches_by, switches_from}
 use Rattle.ownership_origins.specs.declared.switched.Switched.{Switched}
 use Rattle.point_checks.specs.Points.{IsAt}

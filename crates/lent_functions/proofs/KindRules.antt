@@ -160,7 +160,8 @@ module _ (d : Declarations) (f : Function) (p : PointId) (c v : ValueId) (r : Re
       among true q =
           find_each (λ u. is_guaranteed (lent_kinds u)) (λ u. is_guaranteed (kinds u)) (map value_of i.operands)
           (each_map (λ u. is_guaranteed (lent_kinds u) ≡ is_guaranteed (kinds u)) value_of i.operands
-          (each_weaker (λ (o : Operand). lent_kinds o.value ≡ kinds o.value) (λ o. is_guaranteed (lent_kinds o.value) ≡ is_guaranteed (kinds o.value)) (λ o x. ap is_guaranteed x) i.operands (others q)))
+          (each_weaker (λ (o : Operand). lent_kinds o.value ≡ kinds o.value)
+          (λ o. is_guaranteed (lent_kinds o.value) ≡ is_guaranteed (kinds o.value)) (λ o x. ap is_guaranteed x) i.operands (others q)))
       among false q = refl
 
       owned_same : forwards i ≡ true → list_any (λ (o : Operand). is_owned (lent_kinds o.value)) i.operands ≡ list_any (λ (o : Operand). is_owned (kinds o.value)) i.operands

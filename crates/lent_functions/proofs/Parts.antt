@@ -7,7 +7,8 @@ use Rattle.std.proofs.lemmas.List.{map-append}
 use Rattle.std.proofs.lemmas.Option.{slice_get-map}
 use Rattle.instruction_table.specs.Forms.{is_terminator}
 use Rattle.item_operands.specs.Items.{arg_value, item_defined}
-use Rattle.item_operands.specs.Parts.{args_behind, edge_at, edge_in, handover_in, inst_at, inst_in, item_arguments, item_edge, item_handover, item_inst, item_operands, item_results, operands_in, results_in, terminator_in, terminator_of}
+use Rattle.item_operands.specs.Parts.{args_behind, edge_at, edge_in, handover_in, inst_at, inst_in, item_arguments, item_edge}
+use Rattle.item_operands.specs.Parts.{item_handover, item_inst, item_operands, item_results, operands_in, results_in, terminator_in, terminator_of}
 use Rattle.numbered_form.specs.Insts.{insts_of}
 use Rattle.numbered_form.specs.Numbering.{defined_in, results_of, value_of, values_of}
 use Rattle.sil_ast.specs.declared.function.Block.{Block}

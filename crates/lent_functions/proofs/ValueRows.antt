@@ -21,7 +21,8 @@ use Rattle.ownership_chains.specs.declared.facts.Facts.{Facts}
 use Rattle.ownership_kinds.specs.Facts.{facts_in}
 use Rattle.ownership_kinds.specs.Statics.{IsDefinedAt, argument, result}
 use Rattle.ownership_origins.proofs.Counts.{are_of_values}
-use Rattle.ownership_origins.specs.Origins.{arg_definition, arg_definitions, defined, definitions_of, is_trivial_or_untyped, is_zero, result_definition, result_definition_by, result_definitions, unless_trivial}
+use Rattle.ownership_origins.specs.Origins.{arg_definition, arg_definitions, defined, definitions_of, is_trivial_or_untyped, is_zero}
+use Rattle.ownership_origins.specs.Origins.{result_definition, result_definition_by, result_definitions, unless_trivial}
 use Rattle.ownership_origins.specs.Switched.{switch_to}
 use Rattle.point_checks.specs.Points.{IsAt}
 use Rattle.run_typing_laws.proofs.Rows.Tables.{row_at, told_of_args, told_of_results}
