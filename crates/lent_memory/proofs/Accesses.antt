@@ -1,0 +1,127 @@
+-- What each item does to memory where a copy is lent.
+use Rattle.std.proofs.Common.{◌≡◌, ℕ, List, [], ◌∷◌, ◌++◌, map, refl, sym, ap, ap₂, ◌∙◌, subst, Bool, true, false, cond, Option, Some, None}
+use Rattle.std.specs.Prelude.{flat_map, option_map, slice_get}
+use Rattle.std.proofs.lemmas.Option.{slice_get-map}
+use Rattle.item_operands.specs.Items.{arg_value, item_defined, item_taken, taken_along_in, taken_in}
+use Rattle.item_operands.specs.Parts.{edge_at, edge_in, inst_at, inst_in, item_inst, results_in, terminator_in, terminator_of, args_behind}
+use Rattle.item_operands.specs.Roles.{taken_by}
+use Rattle.item_operands.specs.declared.taken.Taken.{Taken}
+use Rattle.memory_accesses.specs.Accesses.{begun, deallocations_of, does_of, ended, made, mentions_of}
+use Rattle.memory_accesses.specs.Operations.{addresses_of, deallocates, operations_of}
+use Rattle.memory_accesses.specs.Sources.{sources_of}
+use Rattle.memory_accesses.specs.declared.access.Access.{Access}
+use Rattle.memory_accesses.specs.declared.access.Access.TheVariants.{Deallocates, Does}
+use Rattle.ownership_kinds.specs.Facts.{facts_in}
+use Rattle.ownership_marks.specs.Marks.{marks_of}
+use Rattle.ownership_marks.specs.declared.mark.Mark.{Mark}
+use Rattle.sil_ast.specs.Blocks.{args_of}
+use Rattle.sil_ast.specs.declared.function.Block.{Block}
+use Rattle.sil_ast.specs.declared.function.BlockArg.{BlockArg}
+use Rattle.sil_ast.specs.declared.function.Function.{Function}
+use Rattle.sil_ast.specs.declared.inst.Edge as edge
+use Rattle.sil_ast.specs.declared.inst.Inst as inst
+use Rattle.sil_ast.specs.declared.place.EdgeId.{EdgeId}
+use Rattle.sil_ast.specs.declared.place.PointId.{PointId}
+use Rattle.sil_ast.specs.declared.place.ValueId.{ValueId}
+use Rattle.sil_cfg.specs.declared.item.Item.{Item}
+use Rattle.sil_cfg.specs.declared.item.Item.TheVariants.{Edge, Entry, Exit, Inst}
+use Rattle.type_definitions.specs.Declarations.{Declarations}
+use Rattle.accepted_memory.specs.inner.PartTrails.{accesses_in}
+use Rattle.copy_removal.specs.Rewritten.{lent, lent_block, lent_inst}
+use Rattle.lent_functions.proofs.Graph.{args_lent, block_lent}
+use Rattle.lent_functions.proofs.Insts.{part_kept}
+use Rattle.lent_memory.proofs.Becoming.{HasOperands, alike_append, alike_equal, alike_same, lent_alike, made_alike}
+use Rattle.lent_memory.proofs.Quiet.{AreAlike}
+use Rattle.lent_memory.proofs.Sources.{AreLentSources}
+
+module _ (c : ValueId) (f : Function) where
+  pub inst_lent : (p : PointId) → inst_at (lent c f) p ≡ option_map (lent_inst c) (inst_at f p)
+  inst_lent p = ap (λ o. inst_in o p.index) (block_lent c f p.block.0) ∙ at (slice_get f.blocks p.block.0)
+    where
+      at : (o : Option Block) → inst_in (option_map (lent_block c) o) p.index ≡ option_map (lent_inst c) (inst_in o p.index)
+      at None = refl
+      at (Some b) = slice_get-map (lent_inst c) b.insts p.index
+
+  pub terminator_lent : (b : ℕ) → terminator_of (lent c f) b ≡ terminator_of f b
+  terminator_lent b = ap terminator_in (block_lent c f b) ∙ at (slice_get f.blocks b)
+    where
+      at : (o : Option Block) → terminator_in (option_map (lent_block c) o) ≡ terminator_in o
+      at None = refl
+      at (Some b) = refl
+
+  edge_lent : (e : EdgeId) → edge_at (lent c f) e ≡ edge_at f e
+  edge_lent e = ap (λ o. edge_in o e.index) (terminator_lent e.block.0)
+
+  behind_lent : (o : Option edge.Edge) → args_behind (lent c f) o ≡ args_behind f o
+  behind_lent None = refl
+  behind_lent (Some e) = args_lent c f e.block.0
+
+  results_lent : (o : Option inst.Inst) → results_in (option_map (lent_inst c) o) ≡ results_in o
+  results_lent None = refl
+  results_lent (Some i) = part_kept (λ (x : inst.Inst). x.results) (λ o x. refl) c i
+
+  pub defined_lent : (i : Item) → item_defined (lent c f) i ≡ item_defined f i
+  defined_lent Entry = ap (λ (as : List BlockArg). map arg_value as) (args_lent c f 0)
+  defined_lent (Inst p) = ap (λ (ws : List ValueId). ws ++ []) (ap results_in (inst_lent p) ∙ results_lent (inst_at f p))
+  defined_lent (Edge e) =
+      ap (λ (as : List BlockArg). map arg_value as) (ap (args_behind (lent c f)) (edge_lent e) ∙ behind_lent (edge_at f e))
+  defined_lent (Exit p) = refl
+
+-- what an instruction mentions, and does to locations
+abbrev mentions_at : Option inst.Inst → List Access
+mentions_at o = mentions_of o (taken_in o ++ [])
+
+module _ (d : Declarations) (f : Function) (c v : ValueId) (h : AreLentSources (sources_of d f) (sources_of d (lent c f)) c v)
+    (marks : (i : Item) → marks_of (facts_in d (lent c f)) (lent c f) i ≡ marks_of (facts_in d f) f i)
+    (operands : (p : PointId) (i : inst.Inst) → inst_at f p ≡ Some i → HasOperands c v i) where
+  whole : (i : Item) → AreAlike c v (mentions_of (item_inst f i) (item_taken f i)) (mentions_of (item_inst (lent c f) i) (item_taken (lent c f) i))
+      → does_of (item_inst (lent c f) i) ≡ does_of (item_inst f i) → deallocations_of (item_inst (lent c f) i) ≡ deallocations_of (item_inst f i)
+      → AreAlike c v (accesses_in d f i) (accesses_in d (lent c f) i)
+  whole i mentions does deallocations =
+      let ms : List Mark = marks_of (facts_in d f) f i in
+      let ns : List Mark = marks_of (facts_in d (lent c f)) (lent c f) i in
+      let made_before : List Access = flat_map (made (sources_of d f)) (item_defined f i) in
+      let made_after : List Access = flat_map (made (sources_of d (lent c f))) (item_defined (lent c f) i) in
+      let same_made : made_after ≡ made_before =
+      ap (λ ws. flat_map (made (sources_of d (lent c f))) ws) (defined_lent c f i) ∙ made_alike (sources_of d f) (sources_of d (lent c f)) c v h (item_defined f i) in
+      alike_append c v (flat_map ended ms) (flat_map ended ns) _ _ (alike_equal c v _ _ (ap (λ xs. flat_map ended xs) (marks i)))
+      (alike_append c v (mentions_of (item_inst f i) (item_taken f i)) (mentions_of (item_inst (lent c f) i) (item_taken (lent c f) i)) _ _ mentions
+      (alike_append c v (does_of (item_inst f i)) (does_of (item_inst (lent c f) i)) _ _ (alike_equal c v _ _ does)
+      (alike_append c v (deallocations_of (item_inst f i)) (deallocations_of (item_inst (lent c f) i)) _ _ (alike_equal c v _ _ deallocations)
+      (alike_append c v made_before made_after (flat_map begun ms) (flat_map begun ns) (alike_equal c v _ _ same_made) (alike_equal c v _ _ (ap (λ xs. flat_map begun xs) (marks i)))))))
+
+  inst_mentions : (p : PointId) (o : Option inst.Inst) → inst_at f p ≡ o → AreAlike c v (mentions_at o) (mentions_at (option_map (lent_inst c) o))
+  inst_mentions p None here = tt
+  inst_mentions p (Some i) here = (lent_alike c v i (operands p i here)).mentions
+
+  inst_does : (p : PointId) (o : Option inst.Inst) → inst_at f p ≡ o → does_of (option_map (lent_inst c) o) ≡ does_of o
+  inst_does p None here = refl
+  inst_does p (Some i) here = ap (λ xs. map Does xs) (lent_alike c v i (operands p i here)).operations
+
+  deallocations_mapped : (i : inst.Inst) → deallocations_of (Some i) ≡ map Deallocates (cond (deallocates i) (addresses_of i) [])
+  deallocations_mapped i = at (deallocates i)
+    where
+      at : (b : Bool) → cond b (map Deallocates (addresses_of i)) [] ≡ map Deallocates (cond b (addresses_of i) [])
+      at true = refl
+      at false = refl
+
+  inst_deallocates : (p : PointId) (o : Option inst.Inst) → inst_at f p ≡ o → deallocations_of (option_map (lent_inst c) o) ≡ deallocations_of o
+  inst_deallocates p None here = refl
+  inst_deallocates p (Some i) here =
+      deallocations_mapped (lent_inst c i) ∙ ap (λ xs. map Deallocates xs) (lent_alike c v i (operands p i here)).deallocated ∙ sym (deallocations_mapped i)
+
+  pub accesses_alike : (i : Item) → AreAlike c v (accesses_in d f i) (accesses_in d (lent c f) i)
+  accesses_alike Entry = whole Entry tt refl refl
+  accesses_alike (Inst p) =
+      whole (Inst p)
+      (subst (λ o. AreAlike c v (mentions_at (inst_at f p)) (mentions_at o)) (sym (inst_lent c f p)) (inst_mentions p (inst_at f p) refl))
+      (ap does_of (inst_lent c f p) ∙ inst_does p (inst_at f p) refl)
+      (ap deallocations_of (inst_lent c f p) ∙ inst_deallocates p (inst_at f p) refl)
+  accesses_alike (Edge e) =
+      let end = terminator_lent c f e.block.0 in
+      whole (Edge e)
+      (alike_equal c v _ _ (ap₂ (λ o x. mentions_of o (taken_in o ++ taken_along_in x)) end (edge_lent c f e)))
+      (ap does_of end) (ap deallocations_of end)
+  accesses_alike (Exit p) =
+      let end = terminator_lent c f p.block.0 in
+      whole (Exit p) (alike_equal c v _ _ (ap mentions_at end)) (ap does_of end) (ap deallocations_of end)

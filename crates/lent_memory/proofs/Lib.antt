@@ -1,0 +1,10 @@
+pub mod Sources
+pub mod Means
+pub mod Parts
+pub mod Items
+pub mod Switches
+pub mod Quiet
+pub mod Following
+pub mod Kept
+pub mod Slots
+pub mod Statics
