@@ -1,11 +1,8 @@
 -- What each item does to memory where a copy is lent.
 use Rattle.std.proofs.Common.{◌≡◌, ℕ, List, [], ◌∷◌, ◌++◌, map, refl, sym, ap, ap₂, ◌∙◌, subst, Bool, true, false, cond, Option, Some, None}
 use Rattle.std.specs.Prelude.{flat_map, option_map, slice_get}
-use Rattle.std.proofs.lemmas.Option.{slice_get-map}
-use Rattle.item_operands.specs.Items.{arg_value, item_defined, item_taken, taken_along_in, taken_in}
-use Rattle.item_operands.specs.Parts.{edge_at, edge_in, inst_at, inst_in, item_inst, results_in, terminator_in, terminator_of, args_behind}
-use Rattle.item_operands.specs.Roles.{taken_by}
-use Rattle.item_operands.specs.declared.taken.Taken.{Taken}
+use Rattle.item_operands.specs.Items.{item_defined, item_taken, taken_along_in, taken_in}
+use Rattle.item_operands.specs.Parts.{inst_at, item_inst}
 use Rattle.memory_accesses.specs.Accesses.{begun, deallocations_of, does_of, ended, made, mentions_of}
 use Rattle.memory_accesses.specs.Operations.{addresses_of, deallocates, operations_of}
 use Rattle.memory_accesses.specs.Sources.{sources_of}
@@ -14,58 +11,19 @@ use Rattle.memory_accesses.specs.declared.access.Access.TheVariants.{Deallocates
 use Rattle.ownership_kinds.specs.Facts.{facts_in}
 use Rattle.ownership_marks.specs.Marks.{marks_of}
 use Rattle.ownership_marks.specs.declared.mark.Mark.{Mark}
-use Rattle.sil_ast.specs.Blocks.{args_of}
-use Rattle.sil_ast.specs.declared.function.Block.{Block}
-use Rattle.sil_ast.specs.declared.function.BlockArg.{BlockArg}
 use Rattle.sil_ast.specs.declared.function.Function.{Function}
-use Rattle.sil_ast.specs.declared.inst.Edge as edge
 use Rattle.sil_ast.specs.declared.inst.Inst as inst
-use Rattle.sil_ast.specs.declared.place.EdgeId.{EdgeId}
 use Rattle.sil_ast.specs.declared.place.PointId.{PointId}
 use Rattle.sil_ast.specs.declared.place.ValueId.{ValueId}
 use Rattle.sil_cfg.specs.declared.item.Item.{Item}
 use Rattle.sil_cfg.specs.declared.item.Item.TheVariants.{Edge, Entry, Exit, Inst}
 use Rattle.type_definitions.specs.Declarations.{Declarations}
 use Rattle.accepted_memory.specs.inner.PartTrails.{accesses_in}
-use Rattle.copy_removal.specs.Rewritten.{lent, lent_block, lent_inst}
-use Rattle.lent_functions.proofs.Graph.{args_lent, block_lent}
-use Rattle.lent_functions.proofs.Insts.{part_kept}
+use Rattle.copy_removal.specs.Rewritten.{lent, lent_inst}
+use Rattle.lent_functions.proofs.Parts.{defined_lent, edge_lent, inst_at_lent, terminator_lent}
 use Rattle.lent_memory.proofs.Becoming.{HasOperands, alike_append, alike_equal, alike_same, lent_alike, made_alike}
 use Rattle.lent_memory.proofs.Quiet.{AreAlike}
 use Rattle.lent_memory.proofs.Sources.{AreLentSources}
-
-module _ (c : ValueId) (f : Function) where
-  pub inst_lent : (p : PointId) → inst_at (lent c f) p ≡ option_map (lent_inst c) (inst_at f p)
-  inst_lent p = ap (λ o. inst_in o p.index) (block_lent c f p.block.0) ∙ at (slice_get f.blocks p.block.0)
-    where
-      at : (o : Option Block) → inst_in (option_map (lent_block c) o) p.index ≡ option_map (lent_inst c) (inst_in o p.index)
-      at None = refl
-      at (Some b) = slice_get-map (lent_inst c) b.insts p.index
-
-  pub terminator_lent : (b : ℕ) → terminator_of (lent c f) b ≡ terminator_of f b
-  terminator_lent b = ap terminator_in (block_lent c f b) ∙ at (slice_get f.blocks b)
-    where
-      at : (o : Option Block) → terminator_in (option_map (lent_block c) o) ≡ terminator_in o
-      at None = refl
-      at (Some b) = refl
-
-  edge_lent : (e : EdgeId) → edge_at (lent c f) e ≡ edge_at f e
-  edge_lent e = ap (λ o. edge_in o e.index) (terminator_lent e.block.0)
-
-  behind_lent : (o : Option edge.Edge) → args_behind (lent c f) o ≡ args_behind f o
-  behind_lent None = refl
-  behind_lent (Some e) = args_lent c f e.block.0
-
-  results_lent : (o : Option inst.Inst) → results_in (option_map (lent_inst c) o) ≡ results_in o
-  results_lent None = refl
-  results_lent (Some i) = part_kept (λ (x : inst.Inst). x.results) (λ o x. refl) c i
-
-  pub defined_lent : (i : Item) → item_defined (lent c f) i ≡ item_defined f i
-  defined_lent Entry = ap (λ (as : List BlockArg). map arg_value as) (args_lent c f 0)
-  defined_lent (Inst p) = ap (λ (ws : List ValueId). ws ++ []) (ap results_in (inst_lent p) ∙ results_lent (inst_at f p))
-  defined_lent (Edge e) =
-      ap (λ (as : List BlockArg). map arg_value as) (ap (args_behind (lent c f)) (edge_lent e) ∙ behind_lent (edge_at f e))
-  defined_lent (Exit p) = refl
 
 -- what an instruction mentions, and does to locations
 abbrev mentions_at : Option inst.Inst → List Access
@@ -114,9 +72,9 @@ module _ (d : Declarations) (f : Function) (c v : ValueId) (h : AreLentSources (
   accesses_alike Entry = whole Entry tt refl refl
   accesses_alike (Inst p) =
       whole (Inst p)
-      (subst (λ o. AreAlike c v (mentions_at (inst_at f p)) (mentions_at o)) (sym (inst_lent c f p)) (inst_mentions p (inst_at f p) refl))
-      (ap does_of (inst_lent c f p) ∙ inst_does p (inst_at f p) refl)
-      (ap deallocations_of (inst_lent c f p) ∙ inst_deallocates p (inst_at f p) refl)
+      (subst (λ o. AreAlike c v (mentions_at (inst_at f p)) (mentions_at o)) (sym (inst_at_lent c f p)) (inst_mentions p (inst_at f p) refl))
+      (ap does_of (inst_at_lent c f p) ∙ inst_does p (inst_at f p) refl)
+      (ap deallocations_of (inst_at_lent c f p) ∙ inst_deallocates p (inst_at f p) refl)
   accesses_alike (Edge e) =
       let end = terminator_lent c f e.block.0 in
       whole (Edge e)
