@@ -3,7 +3,7 @@ use Rattle.std.proofs.Common.{◌≡◌, ℕ, List, [], ◌∷◌, ◌++◌, map
 use Rattle.std.specs.Prelude.{flat_map, option_map, slice_get}
 use Rattle.item_operands.specs.Items.{item_defined, item_taken, taken_along_in, taken_in}
 use Rattle.item_operands.specs.Parts.{inst_at, item_inst}
-use Rattle.memory_accesses.specs.Accesses.{begun, deallocations_of, does_of, ended, made, mentions_of}
+use Rattle.memory_accesses.specs.Accesses.{accesses_of, begun, deallocations_of, does_of, ended, made, mentions_of}
 use Rattle.memory_accesses.specs.Operations.{addresses_of, deallocates, operations_of}
 use Rattle.memory_accesses.specs.Sources.{sources_of}
 use Rattle.memory_accesses.specs.declared.access.Access.{Access}
@@ -18,11 +18,10 @@ use Rattle.sil_ast.specs.declared.place.ValueId.{ValueId}
 use Rattle.sil_cfg.specs.declared.item.Item.{Item}
 use Rattle.sil_cfg.specs.declared.item.Item.TheVariants.{Edge, Entry, Exit, Inst}
 use Rattle.type_definitions.specs.Declarations.{Declarations}
-use Rattle.accepted_memory.specs.inner.PartTrails.{accesses_in}
 use Rattle.copy_removal.specs.Rewritten.{lent, lent_inst}
 use Rattle.lent_functions.proofs.Parts.{defined_lent, edge_lent, inst_at_lent, terminator_lent}
 use Rattle.lent_memory.proofs.Becoming.{HasOperands, alike_append, alike_equal, alike_same, lent_alike, made_alike}
-use Rattle.lent_memory.proofs.Quiet.{AreAlike}
+use Rattle.lent_memory.proofs.Means.{AreAlike}
 use Rattle.lent_memory.proofs.Sources.{AreLentSources}
 
 -- what an instruction mentions, and does to locations
@@ -34,7 +33,7 @@ module _ (d : Declarations) (f : Function) (c v : ValueId) (h : AreLentSources (
     (operands : (p : PointId) (i : inst.Inst) → inst_at f p ≡ Some i → HasOperands c v i) where
   whole : (i : Item) → AreAlike c v (mentions_of (item_inst f i) (item_taken f i)) (mentions_of (item_inst (lent c f) i) (item_taken (lent c f) i))
       → does_of (item_inst (lent c f) i) ≡ does_of (item_inst f i) → deallocations_of (item_inst (lent c f) i) ≡ deallocations_of (item_inst f i)
-      → AreAlike c v (accesses_in d f i) (accesses_in d (lent c f) i)
+      → AreAlike c v (accesses_of (sources_of d f) (facts_in d f) f i) (accesses_of (sources_of d (lent c f)) (facts_in d (lent c f)) (lent c f) i)
   whole i mentions does deallocations =
       let ms : List Mark = marks_of (facts_in d f) f i in
       let ns : List Mark = marks_of (facts_in d (lent c f)) (lent c f) i in
@@ -68,7 +67,7 @@ module _ (d : Declarations) (f : Function) (c v : ValueId) (h : AreLentSources (
   inst_deallocates p (Some i) here =
       deallocations_mapped (lent_inst c i) ∙ ap (λ xs. map Deallocates xs) (lent_alike c v i (operands p i here)).deallocated ∙ sym (deallocations_mapped i)
 
-  pub accesses_alike : (i : Item) → AreAlike c v (accesses_in d f i) (accesses_in d (lent c f) i)
+  pub accesses_alike : (i : Item) → AreAlike c v (accesses_of (sources_of d f) (facts_in d f) f i) (accesses_of (sources_of d (lent c f)) (facts_in d (lent c f)) (lent c f) i)
   accesses_alike Entry = whole Entry tt refl refl
   accesses_alike (Inst p) =
       whole (Inst p)

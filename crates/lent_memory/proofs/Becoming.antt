@@ -21,8 +21,7 @@ use Rattle.sil_ast.specs.declared.operands.Operand.{Operand}
 use Rattle.sil_ast.specs.declared.place.ValueId.{ValueId}
 use Rattle.copy_removal.specs.Rewritten.{lent_inst, makes, takes, with_op}
 use Rattle.lent_functions.proofs.Insts.{Becomes, becomes, borrows, ends, stays}
-use Rattle.lent_memory.proofs.Means.{AlikeAccess, copied, destroyed, same}
-use Rattle.lent_memory.proofs.Quiet.{AreAlike}
+use Rattle.lent_memory.proofs.Means.{AlikeAccess, AreAlike, copied, destroyed, same}
 use Rattle.lent_memory.proofs.Sources.{AreLentSources, told_alike}
 use Rattle.lent_memory.proofs.Statics.{DoesAlike}
 

@@ -51,10 +51,10 @@ module _ {A : Type 0} (p : A → Bool) where
   joined : (xs ys : List A) (a b : Bool) → list_any p xs ≡ a → list_any p ys ≡ b → list_any p (xs ++ ys) ≡ (a || b)
   joined xs ys a b h k = list_any-append p xs ys ∙ ap₂ (λ x y. x || y) h k
 
-  pub six : (as bs cs ds es gs : List A) (a b c d e g : Bool) → list_any p as ≡ a → list_any p bs ≡ b → list_any p cs ≡ c → list_any p ds ≡ d → list_any p es ≡ e
-      → list_any p gs ≡ g → list_any p (as ++ (bs ++ (cs ++ (ds ++ (es ++ gs))))) ≡ (a || (b || (c || (d || (e || g)))))
-  six as bs cs ds es gs a b c d e g ha hb hc hd he hg =
-      joined as (bs ++ (cs ++ (ds ++ (es ++ gs)))) a _ ha
+  pub six : (xs bs cs ds es gs : List A) (a b c d e g : Bool) → list_any p xs ≡ a → list_any p bs ≡ b → list_any p cs ≡ c → list_any p ds ≡ d → list_any p es ≡ e
+      → list_any p gs ≡ g → list_any p (xs ++ (bs ++ (cs ++ (ds ++ (es ++ gs))))) ≡ (a || (b || (c || (d || (e || g)))))
+  six xs bs cs ds es gs a b c d e g ha hb hc hd he hg =
+      joined xs (bs ++ (cs ++ (ds ++ (es ++ gs)))) a _ ha
       (joined bs (cs ++ (ds ++ (es ++ gs))) b _ hb (joined cs (ds ++ (es ++ gs)) c _ hc (joined ds (es ++ gs) d _ hd (joined es gs e g he hg))))
 
 or_nothing : (b : Bool) → (b || false) ≡ b

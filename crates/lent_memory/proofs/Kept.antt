@@ -40,21 +40,14 @@ use Rattle.accepted_trails.specs.inner.Defined.{makes}
 use Rattle.accepted_trails.specs.inner.Accepted.{IsAcceptedIn}
 use Rattle.accepted_memory.specs.inner.PartTrails.{IsPartOf, accesses_in}
 use Rattle.accepted_memory.proofs.PartsFollowed.{part_unbroken}
+use Rattle.lent_memory.proofs.Alike.{AreLentAlike}
 use Rattle.lent_memory.proofs.Following.{IsCopyOfObject, written_where_taken}
 use Rattle.lent_memory.proofs.Items.{unallocated}
-use Rattle.lent_memory.proofs.Means.{AlikeAccess, AreLentFacts, is_building, lends, means_alike, mentions}
+use Rattle.lent_memory.proofs.Means.{AreAlike, is_building, lends, means_alike, mentions}
 use Rattle.lent_memory.proofs.Parts.{parts_alike}
-use Rattle.lent_memory.proofs.Quiet.{AreAlike, allocates_alike, over_alike, quiet}
-use Rattle.lent_memory.proofs.Sources.{AreLentSources, same_value}
+use Rattle.lent_memory.proofs.Quiet.{allocates_alike, over_alike, quiet}
+use Rattle.lent_memory.proofs.Sources.{same_value}
 use Rattle.lent_memory.proofs.Switches.{unbroken_where_followed}
-
--- g is the function f with the copy c of v lent: its sources, facts, accesses and walks
-pub record AreLentAlike (d : Declarations) (f g : Function) (c v : ValueId) : Type 0 where
-  pub sources : AreLentSources (sources_of d f) (sources_of d g) c v
-  pub facts : AreLentFacts (known_or (facts_in d f)) (known_or (facts_in d g)) c
-  pub accesses : (i : Item) → AreAlike c v (accesses_in d f i) (accesses_in d g i)
-  pub returns : (i : Item) → is_return g i ≡ is_return f i
-  pub flow : flow_of g ≡ flow_of f
 
 module _ (d : Declarations) (f g : Function) (c v : ValueId) (alike : AreLentAlike d f g c v) where
   abbrev marks_before : Part → Item → List Mark

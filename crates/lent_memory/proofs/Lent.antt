@@ -58,7 +58,8 @@ use Rattle.lent_functions.proofs.Parts.{values_lent}
 use Rattle.lent_memory.proofs.Accesses.{accesses_alike}
 use Rattle.lent_memory.proofs.Becoming.{HasOperands, does_alike, lent_alike}
 use Rattle.lent_memory.proofs.Copied.{copies, copy_facts, copy_owned, copy_source, known_as, place}
-use Rattle.lent_memory.proofs.Kept.{AreLentAlike, unbroken_lent}
+use Rattle.lent_memory.proofs.Alike.{AreLentAlike}
+use Rattle.lent_memory.proofs.Kept.{unbroken_lent}
 use Rattle.lent_memory.proofs.Means.{AreLentFacts}
 use Rattle.lent_memory.proofs.Objects.{base_alone, copy_of_object, copy_results, no_field, no_upcast}
 use Rattle.lent_memory.proofs.Rows.{as_many_sources, other_sources}

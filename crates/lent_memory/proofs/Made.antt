@@ -90,10 +90,10 @@ module _ (m : Module) (n : ℕ) (f : Function) (a : IsAcceptedBody m n f) where
       rows_count (arg_sources (declarations_of m) f.signature) (result_sources (declarations_of m)) args_long
       (λ i. length-replicate (length i.results) (result_source (declarations_of m) i)) 0 f.blocks
 
-  argument_there : (b k : ℕ) (as : List BlockArg) (w : ValueId) → slice_get (map arg_value as) k ≡ Some w → (x : BlockArg) × (slice_get as k ≡ Some x) × (x.value ≡ w)
+  argument_there : (b k : ℕ) (xs : List BlockArg) (w : ValueId) → slice_get (map arg_value xs) k ≡ Some w → (x : BlockArg) × (slice_get xs k ≡ Some x) × (x.value ≡ w)
   argument_there b k [] w e = cc
-  argument_there b zero (x ∷ as) w e = (x, refl, cc)
-  argument_there b (suc k) (x ∷ as) w e = argument_there b k as w e
+  argument_there b zero (x ∷ xs) w e = (x, refl, cc)
+  argument_there b (suc k) (x ∷ xs) w e = argument_there b k xs w e
 
   pub argument_so : (b : ℕ) (w : ValueId) → Contains (map arg_value (args_of f b)) w → is_by_inst (source_at (sources_of (declarations_of m) f) w) ≡ false
   argument_so b w c =

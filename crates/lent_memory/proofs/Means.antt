@@ -6,6 +6,7 @@ use Rattle.std.proofs.lemmas.Bool.{cases_eq, eqb-false, eqb-true, false≢true}
 use Rattle.sil_ast.specs.declared.place.ValueId.{ValueId}
 use Rattle.sil_rules.specs.declared.rule.Rule.TheVariants as rule
 use Rattle.memory_accesses.specs.Locations.{do_overlap, is_object, location_of, object_built}
+use Rattle.memory_accesses.specs.Rows.{is_part}
 use Rattle.memory_accesses.specs.Sources.{source_at}
 use Rattle.memory_accesses.specs.declared.access.Access.{Access}
 use Rattle.memory_accesses.specs.declared.access.Access.TheVariants.{Allocates, Begins, Deallocates, Does, Ends, Given, Mentions}
@@ -33,6 +34,13 @@ pub data AlikeAccess (c v : ValueId) : Access → Access → Type 0 where
   same : (a : Access) → AlikeAccess c v a a
   copied : AlikeAccess c v (Mentions v NeitherOfThem) (Mentions v FreshObject)
   destroyed : AlikeAccess c v (Mentions c NeitherOfThem) (Mentions c BuildingBorrow)
+
+-- the accesses of an item, and what they become where the copy is lent
+abbrev pub AreAlike : ValueId → ValueId → List Access → List Access → Type 0
+AreAlike c v [] [] = Unit {0}
+AreAlike c v [] (y ∷ ys) = ⊥
+AreAlike c v (x ∷ xs) [] = ⊥
+AreAlike c v (x ∷ xs) (y ∷ ys) = AlikeAccess c v x y × AreAlike c v xs ys
 
 -- F are the facts of the function's values, G those where c is lent: the same, but for the kind of c, which alone has c as a base
 pub record AreLentFacts (F G : ValueId → Facts) (c : ValueId) : Type 0 where
@@ -100,9 +108,7 @@ module _ (S T : List Source) (F G : ValueId → Facts) (c v : ValueId) (h : AreL
   pub at_location_alike : (cell : Cell) (o : Operation) (l : Option Location) → at_location T cell o l ≡ at_location S cell o l
   at_location_alike cell o None = refl
   at_location_alike cell o (Some l) =
-      ap (λ x. when (same_cell x cell) (operation_mark _ _ o)) (cell_alike S T c v h l.root)
-      ∙ ap (λ b. when (same_cell _ cell) (operation_mark b _ o)) (trivial_alike S T c v h l.root)
-      ∙ ap (λ b. when (same_cell _ cell) (operation_mark _ (b && _) o)) (has_alike S T c v h l o)
+      λ i. when (same_cell (cell_alike S T c v h l.root i) cell) (operation_mark (trivial_alike S T c v h l.root i) (has_alike S T c v h l o i && is_part l) o)
 
   contents_alike : (cell : Cell) (trivial : Bool) (a : Access) → contents_mark T cell trivial a ≡ contents_mark S cell trivial a
   contents_alike cell trivial (Ends w) = refl

@@ -22,15 +22,8 @@ use Rattle.path_patterns.specs.declared.mark.Mark.{Mark}
 use Rattle.run_trails.specs.inner.Switched.{switched_over}
 use Rattle.accepted_memory.proofs.Switching.{and_then_some, over_append}
 use Rattle.lent_memory.proofs.Items.{allocates}
-use Rattle.lent_memory.proofs.Means.{AlikeAccess, AreLentFacts, WeakerMark, building_weaker, copied, destroyed, gone, kept, lends, mentions, same}
+use Rattle.lent_memory.proofs.Means.{AlikeAccess, AreAlike, AreLentFacts, WeakerMark, building_weaker, copied, destroyed, gone, kept, lends, mentions, same}
 use Rattle.lent_memory.proofs.Sources.{AreLentSources}
-
--- the accesses of an item, and what they become where the copy is lent
-abbrev pub AreAlike : ValueId → ValueId → List Access → List Access → Type 0
-AreAlike c v [] [] = Unit {0}
-AreAlike c v [] (b ∷ bs) = ⊥
-AreAlike c v (a ∷ as) [] = ⊥
-AreAlike c v (a ∷ as) (b ∷ bs) = AlikeAccess c v a b × AreAlike c v as bs
 
 -- the access takes the object where it may be no unfinished one
 abbrev pub refuses : ValueId → Access → Bool

@@ -19,9 +19,8 @@ use Rattle.sil_cfg.specs.Flow.{Flow, point_of}
 use Rattle.sil_cfg.specs.Items.{flow_of}
 use Rattle.sil_cfg.specs.declared.item.Item.{Item}
 use Rattle.type_definitions.specs.Declarations.{Declarations}
-use Rattle.lent_memory.proofs.Kept.{AreLentAlike}
-use Rattle.lent_memory.proofs.Means.{AlikeAccess, copied, destroyed, same}
-use Rattle.lent_memory.proofs.Quiet.{AreAlike}
+use Rattle.lent_memory.proofs.Alike.{AreLentAlike}
+use Rattle.lent_memory.proofs.Means.{AlikeAccess, AreAlike, copied, destroyed, same}
 use Rattle.lent_memory.proofs.Sources.{slot_alike}
 
 one_pair : (first second c v : ValueId) (a b : Access) → AlikeAccess c v a b → pair_mark first second b ≡ pair_mark first second a
