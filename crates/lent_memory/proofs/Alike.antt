@@ -6,7 +6,7 @@ use Rattle.ownership_chains.specs.Facts.{known_or}
 use Rattle.ownership_kinds.specs.Facts.{facts_in}
 use Rattle.sil_ast.specs.declared.function.Function.{Function}
 use Rattle.sil_ast.specs.declared.place.ValueId.{ValueId}
-use Rattle.sil_cfg.specs.Items.{flow_of}
+use Rattle.sil_cfg.specs.Items.{IsItem, flow_of}
 use Rattle.sil_cfg.specs.Returns.{is_return}
 use Rattle.sil_cfg.specs.declared.item.Item.{Item}
 use Rattle.type_definitions.specs.Declarations.{Declarations}
@@ -17,6 +17,6 @@ use Rattle.lent_memory.proofs.Sources.{AreLentSources}
 pub record AreLentAlike (d : Declarations) (f g : Function) (c v : ValueId) : Type 0 where
   pub sources : AreLentSources (sources_of d f) (sources_of d g) c v
   pub facts : AreLentFacts (known_or (facts_in d f)) (known_or (facts_in d g)) c
-  pub accesses : (i : Item) → AreAlike c v (accesses_of (sources_of d f) (facts_in d f) f i) (accesses_of (sources_of d g) (facts_in d g) g i)
+  pub accesses : (i : Item) → IsItem f i → AreAlike c v (accesses_of (sources_of d f) (facts_in d f) f i) (accesses_of (sources_of d g) (facts_in d g) g i)
   pub returns : (i : Item) → is_return g i ≡ is_return f i
   pub flow : flow_of g ≡ flow_of f

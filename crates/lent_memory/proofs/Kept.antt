@@ -25,7 +25,7 @@ use Rattle.sil_ast.specs.declared.function.Function.{Function}
 use Rattle.sil_ast.specs.declared.place.EdgeId.{EdgeId}
 use Rattle.sil_ast.specs.declared.place.ValueId.{ValueId}
 use Rattle.sil_cfg.specs.Flow.{Flow, point_of}
-use Rattle.sil_cfg.specs.Items.{flow_of}
+use Rattle.sil_cfg.specs.Items.{IsItem, flow_of}
 use Rattle.sil_cfg.specs.Returns.{is_return}
 use Rattle.sil_cfg.specs.Walk.{IsTrail}
 use Rattle.sil_cfg.specs.declared.item.Item.{Item}
@@ -35,7 +35,7 @@ use Rattle.type_definitions.specs.Declarations.{Declarations}
 use Rattle.run_trails.specs.inner.RunTrails.{IsTurnedTrail}
 use Rattle.run_trails.specs.inner.Switched.{IsFollowed, IsUnbroken, switched, switched_over}
 use Rattle.run_trails.proofs.SwitchedTrails.{followed_turned}
-use Rattle.run_trails.proofs.TurnedTrails.{turned_older}
+use Rattle.run_trails.proofs.TurnedTrails.{turned_item, turned_older}
 use Rattle.accepted_trails.specs.inner.Defined.{makes}
 use Rattle.accepted_trails.specs.inner.Accepted.{IsAcceptedIn}
 use Rattle.accepted_memory.specs.inner.PartTrails.{IsPartOf, accesses_in}
@@ -47,6 +47,7 @@ use Rattle.lent_memory.proofs.Means.{AreAlike, is_building, lends, means_alike, 
 use Rattle.lent_memory.proofs.Parts.{parts_alike}
 use Rattle.lent_memory.proofs.Quiet.{allocates_alike, over_alike, quiet}
 use Rattle.lent_memory.proofs.Sources.{same_value}
+use Rattle.lent_memory.proofs.Transport.{same_shows}
 use Rattle.lent_memory.proofs.Switches.{unbroken_where_followed}
 
 module _ (d : Declarations) (f g : Function) (c v : ValueId) (alike : AreLentAlike d f g c v) where
@@ -72,19 +73,18 @@ module _ (d : Declarations) (f g : Function) (c v : ValueId) (alike : AreLentAli
       (means_alike (sources_of d f) (sources_of d g) (known_or (facts_in d f)) (known_or (facts_in d g)) c v alike.sources alike.facts p none x y h.0)
       (all_alike p none xs ys h.1)
 
-  marks_alike : (p : Part) → is_building p ≡ false → (i : Item) → marks_after p i ≡ marks_before p i
-  marks_alike p none i =
+  marks_alike : (p : Part) → is_building p ≡ false → (i : Item) → IsItem f i → marks_after p i ≡ marks_before p i
+  marks_alike p none i is =
       ap₂ (λ (ms : List Mark) b. ms ++ cond b (option_to_list (at_return p)) [])
-      (all_alike p none (accesses_in d f i) (accesses_in d g i) (alike.accesses i)) (alike.returns i)
+      (all_alike p none (accesses_in d f i) (accesses_in d g i) (alike.accesses i is)) (alike.returns i)
 
   module _ (accepted : IsAcceptedIn d f) where
     unbroken_alike : (p : Part) → IsPartOf d f p → is_building p ≡ false → IsUnbroken g (marks_after p)
     unbroken_alike p there none rule walk point item shown =
-        let same : marks_after p ≡ marks_before p = λ j i. marks_alike p none i j in
         part_unbroken d f accepted p there rule walk (point_of (flow_of f) item) item (record {
           point_is = refl;
-          shows = subst (λ (x : Flow Item). Shows x (marks_before p) IsInPlace code_of walk (index_of rule) item) alike.flow
-              (subst (λ (ms : Item → List Mark). Shows (flow_of g) ms IsInPlace code_of walk (index_of rule) item) same shown.shows);
+          shows = same_shows f (marks_after p) (marks_before p) (marks_alike p none) IsInPlace code_of walk (index_of rule) item
+              (subst (λ (x : Flow Item). Shows x (marks_after p) IsInPlace code_of walk (index_of rule) item) alike.flow shown.shows);
         })
 
     -- ---- a field of a new object
@@ -107,20 +107,20 @@ module _ (d : Declarations) (f g : Function) (c v : ValueId) (alike : AreLentAli
       abbrev LeavesAlike : Item → Bool → Bool → Type 0
       LeavesAlike i on b = switched_over (each_after i) on ≡ Some b
 
-      over_asking : (i : Item) (on b : Bool) → switched_over (each_before i) on ≡ Some b
+      over_asking : (i : Item) → IsItem f i → (on b : Bool) → switched_over (each_before i) on ≡ Some b
           → (list_any (mentions c) (accesses_in d f i) ≡ false) ⊎ (lends (sources_of d f) v o ≡ false) → LeavesAlike i on b
-      over_asking i on b s e =
+      over_asking i is on b s e =
           over_alike (sources_of d f) (sources_of d g) (facts_in d f) (facts_in d g) f g c v alike.sources alike.facts o field (accesses_in d f i) (accesses_in d g i)
-          (alike.accesses i) e on b s
+          (alike.accesses i is) e on b s
 
       -- where it is off, and the object isn't allocated, it stays off
-      over_written : (i : Item) (on b : Bool) → switched_over (each_before i) on ≡ Some b → on ≡ false → makes f o i ≡ false → LeavesAlike i on b
-      over_written i on b s off none =
+      over_written : (i : Item) → IsItem f i → (on b : Bool) → switched_over (each_before i) on ≡ Some b → on ≡ false → makes f o i ≡ false → LeavesAlike i on b
+      over_written i is on b s off none =
           let unmade = unallocated (sources_of d f) (marks_of (facts_in d f) f i) f i o none in
           let before : switched_over (each_before i) false ≡ Some false = quiet (sources_of d f) (facts_in d f) f o field (accesses_in d f i) unmade in
           let after : switched_over (each_after i) false ≡ Some false =
           quiet (sources_of d g) (facts_in d g) g o field (accesses_in d g i)
-          (allocates_alike o c v (accesses_in d f i) (accesses_in d g i) (alike.accesses i) ∙ unmade) in
+          (allocates_alike o c v (accesses_in d f i) (accesses_in d g i) (alike.accesses i is) ∙ unmade) in
           ap (switched_over (each_after i)) off ∙ after ∙ sym before ∙ sym (ap (switched_over (each_before i)) off) ∙ s
 
       lent_object : (b : Bool) → is_object_of o (cond b (Some v) None) ≡ true → (b ≡ true) × (v ≡ o)
@@ -133,13 +133,13 @@ module _ (d : Declarations) (f g : Function) (c v : ValueId) (alike : AreLentAli
         where
           at : (lends (sources_of d f) v o ≡ true) ⊎ (lends (sources_of d f) v o ≡ false)
               → (list_any (mentions c) (accesses_in d f i) ≡ true) ⊎ (list_any (mentions c) (accesses_in d f i) ≡ false) → LeavesAlike i on b
-          at (inr none) m = over_asking i on b s (inr none)
-          at (inl is) (inr none) = over_asking i on b s (inl none)
+          at (inr none) m = over_asking i (turned_item f i t h) on b s (inr none)
+          at (inl is) (inr none) = over_asking i (turned_item f i t h) on b s (inl none)
           at (inl is) (inl mentioned) =
               let object = lent_object (is_object (source_at (sources_of d f) v)) is in
               let Q : ValueId → Type 0 = λ w. IsPartOf d f (Building w field) → (switched (marks_before (Building w field)) t ≡ Some false) × (makes f w i ≡ false) in
               let w = subst Q object.1 (λ part. written_where_taken d f accepted c v (copies object.0) field part t i h mentioned) there in
-              over_written i on b s (same_Some on false (sym was ∙ w.0)) w.1
+              over_written i (turned_item f i t h) on b s (same_Some on false (sym was ∙ w.0)) w.1
 
       follows : (t : List Item) → IsTurnedTrail f t → switched (marks_after (Building o field)) t ≡ switched (marks_before (Building o field)) t
       follows [] h = refl

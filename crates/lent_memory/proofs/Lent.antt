@@ -31,7 +31,7 @@ use Rattle.sil_ast.specs.declared.module.Module.{Module}
 use Rattle.sil_ast.specs.declared.operands.Operand.{Operand}
 use Rattle.sil_ast.specs.declared.place.PointId.{PointId}
 use Rattle.sil_ast.specs.declared.place.ValueId.{ValueId}
-use Rattle.sil_cfg.specs.Items.{point_at}
+use Rattle.sil_cfg.specs.Items.{IsItem, point_at}
 use Rattle.sil_cfg.specs.declared.item.Item.{Item}
 use Rattle.type_definitions.specs.Declarations.{Declarations, declarations_of}
 use Rattle.type_definitions.specs.declared.kind.Kind.TheVariants as kind
@@ -195,7 +195,7 @@ module _ (m : Module) (n : ℕ) (f : Function) (a : IsAcceptedBody m n f) (p : P
 
   module _ (same_facts : (w : ValueId) → (w.0 ≡ c.0 → ⊥) → facts_in d (lent c f) w ≡ facts_in d f w)
       (own_facts : facts_in d (lent c f) c ≡ Some (facts_with kind.Guaranteed (c ∷ [])))
-      (same_marks : (i : Item) → marks_of (facts_in d (lent c f)) (lent c f) i ≡ marks_of (facts_in d f) f i) where
+      (same_marks : (i : Item) → IsItem f i → marks_of (facts_in d (lent c f)) (lent c f) i ≡ marks_of (facts_in d f) f i) where
     facts_lent : AreLentFacts (known_or (facts_in d f)) (known_or (facts_in d (lent c f))) c
     facts_lent = record {
       others = λ w other. ap (λ o. unwrap_or o (facts_with kind.Plain [])) (same_facts w other);

@@ -3,6 +3,7 @@ pub mod Means
 pub mod Parts
 pub mod Items
 pub mod Alike
+pub mod Transport
 pub mod Slots
 pub mod Statics
 pub mod Becoming
