@@ -47,7 +47,7 @@ made_alike S T c v h ws = ap (λ (one : ValueId → List Access). flat_map one w
 -- ---- an instruction with one operand
 
 -- what it takes, where its row has one role
-taken_one : (i : Inst) (o : Operand) (x : Op) (r : Role) → i.operands ≡ o ∷ [] → i.op ≡ x → roles_for (roles_of x) (conventions_in i) 1 ≡ by_row r ∷ [] → taken_by i ≡ taken_as o (by_row r) ∷ []
+pub taken_one : (i : Inst) (o : Operand) (x : Op) (r : Role) → i.operands ≡ o ∷ [] → i.op ≡ x → roles_for (roles_of x) (conventions_in i) 1 ≡ by_row r ∷ [] → taken_by i ≡ taken_as o (by_row r) ∷ []
 taken_one i o x r operands is row =
     ap₂ (λ os (y : Op). taken_each os (roles_for (roles_of y) (conventions_in i) (length os))) operands is
     ∙ ap (taken_each (o ∷ [])) row
@@ -60,7 +60,7 @@ module _ (i : Inst) (o : Operand) (x : Op) (r : Role) (is : i.op ≡ x) (taken :
   deallocates_none : deallocates_by (access_kind_of x) ≡ false → deallocates i ≡ false
   deallocates_none none = ap (λ (y : Op). deallocates_by (access_kind_of y)) is ∙ none
 
-  mentions_one : deallocates_by (access_kind_of x) ≡ false → mentions_of (Some i) (taken_by i ++ []) ≡ Mentions o.value (allowance_of x) ∷ []
+  pub mentions_one : deallocates_by (access_kind_of x) ≡ false → mentions_of (Some i) (taken_by i ++ []) ≡ Mentions o.value (allowance_of x) ∷ []
   mentions_one none =
       ap₂ (λ (y : Op) ts. cond (deallocates_by (access_kind_of y)) [] (map (mentioned (allowance_of y)) (ts ++ []))) is taken
       ∙ ap (λ b. cond b [] (Mentions o.value (allowance_of x) ∷ [])) none

@@ -17,4 +17,5 @@ pub mod Copied
 pub mod Made
 pub mod Stays
 pub mod Objects
+pub mod Marks
 pub mod Lent
