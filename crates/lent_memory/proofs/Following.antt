@@ -12,6 +12,7 @@ use Rattle.memory_parts.specs.Shown.{marks_of_access, part_marks}
 use Rattle.memory_parts.specs.declared.part.Part.TheVariants.{Building}
 use Rattle.ownership_chains.specs.Facts.{has}
 use Rattle.ownership_kinds.specs.Facts.{facts_in}
+use Rattle.ownership_marks.specs.Marks.{marks_of}
 use Rattle.path_patterns.specs.declared.mark.Mark.{Mark}
 use Rattle.sil_ast.specs.declared.function.Function.{Function}
 use Rattle.sil_ast.specs.declared.place.ValueId.{ValueId}
@@ -113,7 +114,7 @@ module _ (d : Declarations) (f : Function) (accepted : IsAcceptedIn d f) (c v : 
 
   stays_off : (i : Item) → makes f v i ≡ false → (on b : Bool) → on ≡ false → switched_over (each_marked i) on ≡ Some b → b ≡ false
   stays_off i none on b off e =
-      sym (same_Some false b (sym (quiet (sources_of d f) (facts_in d f) f v field (accesses_in d f i) (unallocated (sources_of d f) _ f i v none))
+      sym (same_Some false b (sym (quiet (sources_of d f) (facts_in d f) f v field (accesses_in d f i) (unallocated (sources_of d f) (marks_of (facts_in d f) f i) f i v none))
       ∙ ap (switched_over (each_marked i)) (sym off) ∙ e))
 
   abbrev IsWritten : List Item → Type 0
@@ -122,33 +123,30 @@ module _ (d : Declarations) (f : Function) (accepted : IsAcceptedIn d f) (c v : 
   -- while c is held v is, and the field is written
   written : (t : List Item) → IsTurnedTrail f t → is_held d f c t ≡ Some true → IsWritten t
   written [] h held = absurd (false≢true (same_Some false true held))
-  written (i ∷ t) h held = at (or_cases (list_any (is_begin facts c) (item_defined f i)) (left_by facts c f i (pass_copy t i h).on) is_behind) (written t (turned_older f i t h))
+  written (i ∷ t) h held = at (or_cases (list_any (is_begin (facts_in d f) c) (item_defined f i)) (left_by (facts_in d f) c f i (pass_copy t i h).on) is_behind) (written t (turned_older f i t h))
     where
-      abbrev facts : ValueId → Option _
-      facts = facts_in d f
+      is_behind : behind (facts_in d f) c f i (pass_copy t i h).on ≡ true
+      is_behind = same_Some (behind (facts_in d f) c f i (pass_copy t i h).on) true (sym (pass_copy t i h).is_left ∙ held)
 
-      is_behind : behind facts c f i (pass_copy t i h).on ≡ true
-      is_behind = same_Some (behind facts c f i (pass_copy t i h).on) true (sym (pass_copy t i h).is_left ∙ held)
+      still : left_by (facts_in d f) v f i (pass_object t i h).on ≡ true → is_held d f v (i ∷ t) ≡ Some true
+      still left = (pass_object t i h).is_left ∙ ap (λ b. Some b) (or_right (list_any (is_begin (facts_in d f) v) (item_defined f i)) (left_by (facts_in d f) v f i (pass_object t i h).on) left)
 
-      still : left_by facts v f i (pass_object t i h).on ≡ true → is_held d f v (i ∷ t) ≡ Some true
-      still left = (pass_object t i h).is_left ∙ ap (λ b. Some b) (or_right (list_any (is_begin facts v) (item_defined f i)) (left_by facts v f i (pass_object t i h).on) left)
-
-      at : (list_any (is_begin facts c) (item_defined f i) ≡ true) ⊎ (left_by facts c f i (pass_copy t i h).on ≡ true)
+      at : (list_any (is_begin (facts_in d f) c) (item_defined f i) ≡ true) ⊎ (left_by (facts_in d f) c f i (pass_copy t i h).on ≡ true)
           → (is_held d f c t ≡ Some true → IsWritten t) → IsWritten (i ∷ t)
       at (inl begins) more =
           let is = turned_item f i t h in
-          let made = made_where_begun facts c f i begins in
+          let made = made_where_begun (facts_in d f) c f i begins in
           let left = (pass_object t i h).found.used (copy.uses i is made) in
           let s = stepped t i h in
-          let off = off_behind (sources_of d f) facts f v field (accesses_in d f i) (unallocated (sources_of d f) _ f i v (not_made t i h left)) (copy.refused i is made) s.0 s.1 s.4 in
+          let off = off_behind (sources_of d f) (facts_in d f) f v field (accesses_in d f i) (unallocated (sources_of d f) (marks_of (facts_in d f) f i) f i v (not_made t i h left)) (copy.refused i is made) s.0 s.1 s.4 in
           (still left, s.3 ∙ ap (λ b. Some b) off)
       at (inr left) more =
-          let parts = and_parts (pass_copy t i h).on (not (list_any (is_end facts c) (item_taken f i))) left in
+          let parts = and_parts (pass_copy t i h).on (not (list_any (is_end (facts_in d f) c) (item_taken f i))) left in
           let was : is_held d f c t ≡ Some true = (pass_copy t i h).was ∙ ap (λ b. Some b) parts.0 in
           let before = more was in
-          let none = copy.stays t i h was (from_not (list_any (is_end facts c) (item_taken f i)) parts.1) in
+          let none = copy.stays t i h was (from_not (list_any (is_end (facts_in d f) c) (item_taken f i)) parts.1) in
           let on : (pass_object t i h).on ≡ true = same_Some (pass_object t i h).on true (sym (pass_object t i h).was ∙ before.0) in
-          let goes : left_by facts v f i (pass_object t i h).on ≡ true = ap (λ x. x && not (list_any (is_end facts v) (item_taken f i))) on ∙ ap not none in
+          let goes : left_by (facts_in d f) v f i (pass_object t i h).on ≡ true = ap (λ x. x && not (list_any (is_end (facts_in d f) v) (item_taken f i))) on ∙ ap not none in
           let s = stepped t i h in
           let off : s.0 ≡ false = same_Some s.0 false (sym s.2 ∙ before.1) in
           (still goes, s.3 ∙ ap (λ b. Some b) (stays_off i (not_made t i h goes) s.0 s.1 off s.4))
@@ -170,7 +168,7 @@ module _ (d : Declarations) (f : Function) (accepted : IsAcceptedIn d f) (c v : 
   pub written_where_taken : (t : List Item) (i : Item) → IsTurnedTrail f (i ∷ t) → list_any (mentions c) (accesses_in d f i) ≡ true
       → (switched marks t ≡ Some false) × (makes f v i ≡ false)
   written_where_taken t i h mentioned =
-      let takes = taken_where_mentioned (sources_of d f) _ f i c mentioned in
+      let takes = taken_where_mentioned (sources_of d f) (marks_of (facts_in d f) f i) f i c mentioned in
       ((written t (turned_older f i t h) (held_where_taken t i h takes)).1, at (cases_Bool (makes f v i)) takes)
     where
       at : (makes f v i ≡ true) ⊎ (makes f v i ≡ false) → list_any (takes_value c) (item_taken f i) ≡ true → makes f v i ≡ false

@@ -1,5 +1,5 @@
 -- No part of memory is broken where a copy is lent.
-use Rattle.std.proofs.Common.{◌≡◌, ◌⊎◌, inl, inr, ℕ, List, [], ◌∷◌, ◌++◌, refl, sym, ap, ap₂, ◌∙◌, subst, Bool, true, false, cond, ◌&&◌, ◌||◌, Option, Some, None, Contains}
+use Rattle.std.proofs.Common.{◌≡◌, ◌⊎◌, inl, inr, ℕ, List, [], ◌∷◌, ◌++◌, refl, sym, ap, ap₂, ◌∙◌, subst, Bool, true, false, cond, ◌&&◌, ◌||◌, Option, Some, None, Contains, reverse}
 use Rattle.std.specs.Prelude.{◌==◌, flat_map, option_and_then, option_to_list}
 use Rattle.std.specs.List.{list_any}
 use Rattle.std.proofs.lemmas.Bool.{cases_Bool, eqb-true, false≢true}
@@ -59,7 +59,7 @@ module _ (d : Declarations) (f g : Function) (c v : ValueId) (alike : AreLentAli
 
   pub trail_before : (t : List Item) → IsTurnedTrail g t → IsTurnedTrail f t
   trail_before [] h = tt
-  trail_before (i ∷ t) h = (h.0, subst (λ (x : Flow Item). IsTrail x h.0 _) alike.flow h.1)
+  trail_before (i ∷ t) h = (h.0, subst (λ (x : Flow Item). IsTrail x h.0 (reverse t ++ i ∷ [])) alike.flow h.1)
 
   -- ---- a part that goes by no object
 

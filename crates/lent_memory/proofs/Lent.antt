@@ -7,7 +7,7 @@ use Rattle.std.proofs.lemmas.List.{length-replicate}
 use Rattle.std.proofs.lemmas.List.FromFn.{length-map-range_with_len}
 use Rattle.std.proofs.lemmas.Option.{same_Some, slice_get-map}
 use Rattle.argument_conventions.specs.Arguments.{arguments_of}
-use Rattle.instruction_table.specs.declared.entries.Part.TheVariants as part
+use Rattle.instruction_table.specs.declared.forms.Part.TheVariants as part
 use Rattle.instruction_table.specs.declared.op.Op.{Op}
 use Rattle.instruction_table.specs.declared.op.Op.TheVariants as op
 use Rattle.item_operands.specs.Parts.{inst_at, inst_in}
@@ -137,7 +137,7 @@ module _ (m : Module) (n : ℕ) (f : Function) (a : IsAcceptedBody m n f) (p : P
 
   -- what the copy becomes
   copy_becomes : lent_inst c copy.inst ≡ with_op op.BeginBorrow copy.inst
-  copy_becomes = ap (λ b. cond b (with_op op.BeginBorrow copy.inst) _) (ap₂ (λ x y. x && y) copy.copies.copies made)
+  copy_becomes = ap (λ b. cond b (with_op op.BeginBorrow copy.inst) (cond (is_op op.DestroyValue copy.inst && takes c copy.inst) (with_op op.EndBorrow copy.inst) copy.inst)) (ap₂ (λ x y. x && y) copy.copies.copies made)
     where
       made : makes c copy.inst ≡ true
       made = ap (λ ws. list_any (λ (w : ValueId). w.0 == c.0) ws) copy.copies.result ∙ ap (λ b. b || false) (eq-eqb c.0 c.0 refl)
