@@ -1,12 +1,13 @@
 -- A function and the one where a copy that can become a borrow is lent, to memory.
-use Rattle.std.proofs.Common.{◌≡◌, ◌⊎◌, inl, inr, ℕ, zero, suc, List, [], ◌∷◌, ◌++◌, length, map, refl, sym, ap, ap₂, ◌∙◌, subst, arith, Bool, true, false, ◌&&◌, ◌||◌, Option, Some, None, eq-eqb}
+use Rattle.std.proofs.Common.{◌≡◌, ◌⊎◌, inl, inr, ℕ, zero, suc, ◌<◌, List, [], ◌∷◌, ◌++◌, length, map, refl, sym, ap, ap₂, ◌∙◌, subst, arith, Bool, true, false, ◌&&◌, ◌||◌, Option, Some, None, eq-eqb, ne_eqb}
 use Rattle.std.specs.Prelude.{◌==◌, cond, option_map, replicate, slice_get, unwrap_or}
 use Rattle.std.specs.List.{list_any}
 use Rattle.std.proofs.lemmas.Bool.{and_parts, eqb-true, false≢true, or_cases}
 use Rattle.std.proofs.lemmas.List.{length-replicate}
 use Rattle.std.proofs.lemmas.List.FromFn.{length-map-range_with_len}
-use Rattle.std.proofs.lemmas.Option.{same_Some, slice_get-map}
+use Rattle.std.proofs.lemmas.Option.{same_Some, slice_get-map, slice_get_within}
 use Rattle.argument_conventions.specs.Arguments.{arguments_of}
+use Rattle.instruction_table.specs.Forms.{results_of}
 use Rattle.instruction_table.specs.declared.forms.Part.TheVariants as part
 use Rattle.instruction_table.specs.declared.op.Op.{Op}
 use Rattle.instruction_table.specs.declared.op.Op.TheVariants as op
@@ -33,6 +34,8 @@ use Rattle.sil_ast.specs.declared.place.PointId.{PointId}
 use Rattle.sil_ast.specs.declared.place.ValueId.{ValueId}
 use Rattle.sil_cfg.specs.Items.{IsItem, point_at}
 use Rattle.sil_cfg.specs.declared.item.Item.{Item}
+use Rattle.sil_types.specs.Typing.ResultCounts.{is_count_by}
+use Rattle.sil_types.specs.Typing.RowTypes.{row_types}
 use Rattle.type_definitions.specs.Declarations.{Declarations, declarations_of}
 use Rattle.type_definitions.specs.declared.kind.Kind.TheVariants as kind
 use Rattle.value_tables.specs.FirstValue.{first_value, value_of}
@@ -47,14 +50,21 @@ use Rattle.run_typing_laws.proofs.Rows.Shares.{of_parts}
 use Rattle.run_typing_laws.proofs.Rows.Tables.{row_at, told_of_results}
 use Rattle.accepted_trails.specs.inner.Accepted.{IsAcceptedIn}
 use Rattle.accepted_trails.proofs.Unbroken.{are_accepted}
-use Rattle.accepted_values.specs.inner.Known.{IsAcceptedBody, kind_at}
-use Rattle.accepted_values.proofs.Accepted.{counted}
+use Rattle.accepted_values.specs.inner.Known.{IsAcceptedBody, facts_at}
+use Rattle.accepted_values.proofs.Accepted.{counted, has_kinds, in_range, typed}
+use Rattle.accepted_values.proofs.Facts.{facts_so, known, told_so}
 use Rattle.copy_removal.specs.Copies.{IsCopy, is_op}
 use Rattle.copy_removal.specs.Removable.{IsBorrowable}
 use Rattle.copy_removal.specs.Rewritten.{lent, lent_block, lent_inst, makes, takes, with_op}
 use Rattle.lent_functions.proofs.Graph.{block_lent, flow_lent, return_lent}
 use Rattle.lent_functions.proofs.Insts.{Becomes, becomes, borrows, ends, stays}
+use Rattle.lowering_laws.proofs.Rings.{defined_somewhere}
+use Rattle.lent_functions.proofs.Facts.{other_facts}
+use Rattle.lent_functions.proofs.Facts as lent_facts
+use Rattle.lent_functions.proofs.Marks.{marks_lent}
 use Rattle.lent_functions.proofs.Parts.{values_lent}
+use Rattle.lent_functions.proofs.Ready.{Ready}
+use Rattle.lent_memory.specs.inner.Laws.{LentMemoryIsClean}
 use Rattle.lent_memory.proofs.Accesses.{accesses_alike}
 use Rattle.lent_memory.proofs.Becoming.{HasOperands, does_alike, lent_alike}
 use Rattle.lent_memory.proofs.Copied.{copies, copy_facts, copy_owned, copy_source, known_as, place}
@@ -191,40 +201,74 @@ module _ (m : Module) (n : ℕ) (f : Function) (a : IsAcceptedBody m n f) (p : P
     no_field = λ is w k trivial e. no_field m n f a p c v copy w k trivial e;
   }
 
-  -- ---- the whole, by the facts and the marks of the lent function
+  -- ---- the whole
 
-  module _ (same_facts : (w : ValueId) → (w.0 ≡ c.0 → ⊥) → facts_in d (lent c f) w ≡ facts_in d f w)
-      (own_facts : facts_in d (lent c f) c ≡ Some (facts_with kind.Guaranteed (c ∷ [])))
-      (same_marks : (i : Item) → IsItem f i → marks_of (facts_in d (lent c f)) (lent c f) i ≡ marks_of (facts_in d f) f i) where
-    facts_lent : AreLentFacts (known_or (facts_in d f)) (known_or (facts_in d (lent c f))) c
-    facts_lent = record {
-      others = λ w other. ap (λ o. unwrap_or o (facts_with kind.Plain [])) (same_facts w other);
-      own = ap (λ (o : Option Facts). (unwrap_or o (facts_with kind.Plain [])).bases) (copy_facts m n f a p c v copy);
-      bases = ap (λ (o : Option Facts). (unwrap_or o (facts_with kind.Plain [])).bases) own_facts;
-      alone = base_alone m n f a p c v copy;
-      owned = ap is_guaranteed (copy_owned m n f a p c v copy);
-    }
+  pub ready : Ready (declarations_of m) f p c v
+  ready = record {
+    formed = record {
+      counted = counted m n f a;
+      inside = λ q i e. ((typed m n f a).inside q i e).0;
+      ends = λ b i e. ((typed m n f a).ends b i e).1;
+      parts = λ b k i at. ((typed m n f a).insts b k i at).parts;
+      one_result = λ b k i at is.
+          eqb-true (length i.results) 1
+          (subst (λ x. is_count_by (results_of x) (row_types (declarations_of m) i) (length i.results) ≡ true) is ((typed m n f a).insts b k i at).results);
+      defined = λ w lt. defined_somewhere w f (counted m n f a) lt;
+    };
+    facts = record {
+      kinds = has_kinds m n f a;
+      ranged = in_range m n f a;
+      known = λ w lt. (facts_at (declarations_of m) f w, told_so m n f a w lt ∙ ap (λ x. Some x) (sym (facts_so m n f a w lt)), known m n f a w lt);
+    };
+    copy = copy;
+    owned = copy_facts m n f a p c v copy;
+    lends = free;
+  }
 
-    pub lent_as_was : AreLentAlike d f (lent c f) c v
-    lent_as_was = record {
-      sources = sources_lent;
-      facts = facts_lent;
-      accesses = accesses_alike d f c v sources_lent same_marks operands_are;
-      returns = return_lent c f;
-      flow = flow_lent c f;
-    }
+  facts_lent : AreLentFacts (known_or (facts_in (declarations_of m) f)) (known_or (facts_in (declarations_of m) (lent c f))) c
+  facts_lent = record {
+    others = λ w other. ap (λ o. unwrap_or o (facts_with kind.Plain [])) (other_facts (declarations_of m) f p c v ready w (ne_eqb w.0 c.0 other));
+    own = ap (λ (o : Option Facts). (unwrap_or o (facts_with kind.Plain [])).bases) (copy_facts m n f a p c v copy);
+    bases = ap (λ (o : Option Facts). (unwrap_or o (facts_with kind.Plain [])).bases) (lent_facts.copy_facts (declarations_of m) f p c v ready);
+    alone = base_alone m n f a p c v copy;
+    owned = ap is_guaranteed (copy_owned m n f a p c v copy);
+  }
 
-    accepted : IsAcceptedIn d f
-    accepted = are_accepted m n f a.verified a.body
+  pub lent_as_was : AreLentAlike (declarations_of m) f (lent c f) c v
+  lent_as_was = record {
+    sources = sources_lent;
+    facts = facts_lent;
+    accesses = accesses_alike (declarations_of m) f c v sources_lent (λ i is. marks_lent (declarations_of m) f p c v ready i) operands_are;
+    returns = return_lent c f;
+    flow = flow_lent c f;
+  }
 
-    -- no rule on memory is broken
-    pub clean : (s : RuleFault) → IsBroken (sources_of d (lent c f)) (facts_in d (lent c f)) (lent c f) s → ⊥
-    clean s (at_part shown) =
-        unbroken_lent d f (lent c f) c v lent_as_was accepted (λ object. copy_of_object m n f a p c v copy object free) shown.part shown.there s.rule s.walk s.point shown.item shown.shown
-    clean s (crossing later rule other shown) =
-        let x = crossing_before d f (lent c f) c v lent_as_was _ shown in
-        accepted.clean (record { rule = s.rule; subject = s.subject; other = s.other; point = point_of (flow_of f) shown.item; walk = s.walk })
-        (memory (crossing later rule other x))
-    clean s (static none broken) =
-        accepted.clean s
-        (memory (static none (static_before (sources_of d f) (sources_of d (lent c f)) c v sources_lent f (lent c f) (stands_alike f c v operands_are) s.rule s.subject s.other s.point.block.0 s.point.index broken)))
+  accepted : IsAcceptedIn (declarations_of m) f
+  accepted = are_accepted m n f a.verified a.body
+
+  -- no rule on memory is broken
+  pub clean : (s : RuleFault) → IsBroken (sources_of (declarations_of m) (lent c f)) (facts_in (declarations_of m) (lent c f)) (lent c f) s → ⊥
+  clean s (at_part shown) =
+      unbroken_lent (declarations_of m) f (lent c f) c v lent_as_was accepted (λ object. copy_of_object m n f a p c v copy object free) shown.part shown.there s.rule s.walk
+      s.point shown.item shown.shown
+  clean s (crossing later rule other shown) =
+      let x = crossing_before (declarations_of m) f (lent c f) c v lent_as_was _ shown in
+      accepted.clean (record { rule = s.rule; subject = s.subject; other = s.other; point = point_of (flow_of f) shown.item; walk = s.walk })
+      (memory (crossing later rule other x))
+  clean s (static none broken) =
+      accepted.clean s
+      (memory (static none
+      (static_before (sources_of (declarations_of m) f) (sources_of (declarations_of m) (lent c f)) c v sources_lent f (lent c f) (stands_alike f c v operands_are) s.rule s.subject
+      s.other s.point.block.0 s.point.index broken)))
+
+-- a function with an instruction has a body
+has_body : (f : Function) (p : PointId) (i : Inst) → inst_at f p ≡ Some i → 0 < length f.blocks
+has_body f p i e = at (slice_get f.blocks p.block.0) refl e
+  where
+    at : (o : Option Block) → slice_get f.blocks p.block.0 ≡ o → inst_in o p.index ≡ Some i → 0 < length f.blocks
+    at None there h = cc
+    at (Some b) there h = let lt = slice_get_within f.blocks p.block.0 b there in omega arith
+
+pub memory_is_clean : LentMemoryIsClean
+memory_is_clean m n f p c v verified there copy free s =
+    clean m n f (record { verified = verified; body = record { there = there; body = has_body f p copy.inst copy.stands } }) p c v copy free s

@@ -17,5 +17,4 @@ pub mod Copied
 pub mod Made
 pub mod Stays
 pub mod Objects
-pub mod Marks
 pub mod Lent
