@@ -1,10 +1,10 @@
 -- What each item does to memory where a copy is lent.
-use Rattle.std.proofs.Common.{◌≡◌, ℕ, List, [], ◌∷◌, ◌++◌, map, refl, sym, ap, ap₂, ◌∙◌, subst, Bool, true, false, cond, Option, Some, None}
-use Rattle.std.specs.Prelude.{flat_map, option_map, slice_get}
+use Rattle.std.proofs.Common.{◌≡◌, List, [], ◌++◌, map, refl, sym, ap, ap₂, ◌∙◌, subst, Bool, true, false, cond, Option, Some, None}
+use Rattle.std.specs.Prelude.{flat_map, option_map}
 use Rattle.item_operands.specs.Items.{item_defined, item_taken, taken_along_in, taken_in}
 use Rattle.item_operands.specs.Parts.{inst_at, item_inst}
 use Rattle.memory_accesses.specs.Accesses.{accesses_of, begun, deallocations_of, does_of, ended, made, mentions_of}
-use Rattle.memory_accesses.specs.Operations.{addresses_of, deallocates, operations_of}
+use Rattle.memory_accesses.specs.Operations.{addresses_of, deallocates}
 use Rattle.memory_accesses.specs.Sources.{sources_of}
 use Rattle.memory_accesses.specs.declared.access.Access.{Access}
 use Rattle.memory_accesses.specs.declared.access.Access.TheVariants.{Deallocates, Does}
@@ -21,7 +21,7 @@ use Rattle.sil_cfg.specs.declared.item.Item.TheVariants.{Edge, Entry, Exit, Inst
 use Rattle.type_definitions.specs.Declarations.{Declarations}
 use Rattle.copy_removal.specs.Rewritten.{lent, lent_inst}
 use Rattle.lent_functions.proofs.Parts.{defined_lent, edge_lent, inst_at_lent, terminator_lent}
-use Rattle.lent_memory.proofs.Becoming.{HasOperands, alike_append, alike_equal, alike_same, lent_alike, made_alike}
+use Rattle.lent_memory.proofs.Becoming.{HasOperands, alike_append, alike_equal, lent_alike, made_alike}
 use Rattle.lent_memory.proofs.Means.{AreAlike}
 use Rattle.lent_memory.proofs.Sources.{AreLentSources}
 

@@ -1,5 +1,5 @@
 -- What an instruction does to memory where a copy is lent.
-use Rattle.std.proofs.Common.{◌≡◌, ℕ, suc, List, [], ◌∷◌, ◌++◌, length, map, refl, sym, ap, ap₂, ◌∙◌, subst, Bool, true, false, cond, Option, Some, None}
+use Rattle.std.proofs.Common.{◌≡◌, List, [], ◌∷◌, ◌++◌, length, map, refl, sym, ap, ap₂, ◌∙◌, subst, true, false, cond, Some}
 use Rattle.std.specs.Prelude.{flat_map}
 use Rattle.instruction_table.specs.Forms.{roles_of}
 use Rattle.instruction_table.specs.declared.entries.Role.{Role}
@@ -7,13 +7,10 @@ use Rattle.instruction_table.specs.declared.entries.Role.TheVariants as role
 use Rattle.instruction_table.specs.declared.op.Op.{Op}
 use Rattle.instruction_table.specs.declared.op.Op.TheVariants as op
 use Rattle.item_operands.specs.Roles.{by_row, conventions_in, roles_for, taken_as, taken_by, taken_each}
-use Rattle.item_operands.specs.declared.taken.Taken.{Taken}
-use Rattle.memory_accesses.specs.Accesses.{allowance_of, deallocations_of, does_of, made, made_by, mentioned, mentions_of}
+use Rattle.memory_accesses.specs.Accesses.{allowance_of, made, made_by, mentioned, mentions_of}
 use Rattle.memory_accesses.specs.Operations.{access_kind_of, addresses_of, deallocates, deallocates_by, operated_at, operations_of}
 use Rattle.memory_accesses.specs.declared.access.Access.{Access}
-use Rattle.memory_accesses.specs.declared.access.Access.TheVariants.{Deallocates, Does, Mentions}
-use Rattle.memory_accesses.specs.declared.access.Operated.{Operated}
-use Rattle.memory_accesses.specs.declared.columns.Allowance.{Allowance}
+use Rattle.memory_accesses.specs.declared.access.Access.TheVariants.{Mentions}
 use Rattle.memory_accesses.specs.declared.columns.Allowance.TheVariants.{BuildingBorrow, FreshObject, NeitherOfThem}
 use Rattle.memory_accesses.specs.declared.source.Source.{Source}
 use Rattle.sil_ast.specs.declared.inst.Inst.{Inst}
@@ -21,7 +18,7 @@ use Rattle.sil_ast.specs.declared.operands.Operand.{Operand}
 use Rattle.sil_ast.specs.declared.place.ValueId.{ValueId}
 use Rattle.copy_removal.specs.Rewritten.{lent_inst, makes, takes, with_op}
 use Rattle.lent_functions.proofs.Insts.{Becomes, becomes, borrows, ends, stays}
-use Rattle.lent_memory.proofs.Means.{AlikeAccess, AreAlike, copied, destroyed, same}
+use Rattle.lent_memory.proofs.Means.{AreAlike, copied, destroyed, same}
 use Rattle.lent_memory.proofs.Sources.{AreLentSources, told_alike}
 use Rattle.lent_memory.proofs.Statics.{DoesAlike}
 

@@ -1,45 +1,41 @@
 -- A copy in an accepted function, what it takes, and the kinds of both.
-use Rattle.std.proofs.Common.{◌≡◌, ◌⊎◌, inl, inr, ℕ, List, [], ◌∷◌, ◌++◌, length, map, refl, sym, ap, ap₂, ◌∙◌, subst, Bool, true, false, cond, not, ◌&&◌, Option, Some, None}
-use Rattle.std.specs.Prelude.{◌==◌, Contains, is_some, option_and_then, slice_get, unwrap_or}
-use Rattle.std.specs.List.{list_all, list_any}
-use Rattle.std.proofs.lemmas.Bool.{and_parts, eqb-true, false≢true, not-true}
-use Rattle.std.proofs.lemmas.Option.{same_Some}
-use Rattle.instruction_table.specs.Forms.{number_of, result_kind_of, roles_of}
+use Rattle.std.proofs.Common.{◌≡◌, ℕ, [], ◌∷◌, ◌++◌, refl, sym, ap, ◌∙◌, subst, true, false, cond, not, Some}
+use Rattle.std.specs.Prelude.{option_and_then, slice_get, unwrap_or}
+use Rattle.std.specs.List.{list_all}
+use Rattle.std.proofs.lemmas.Bool.{and_parts, not-true}
+use Rattle.instruction_table.specs.Forms.{result_kind_of}
 use Rattle.instruction_table.specs.declared.op.Op.{Op}
 use Rattle.instruction_table.specs.declared.op.Op.TheVariants as op
 use Rattle.instruction_table.specs.declared.entries.Role.TheVariants as role
 use Rattle.item_operands.specs.Items.{item_taken, taken_in}
 use Rattle.item_operands.specs.Parts.{inst_at}
-use Rattle.item_operands.specs.Roles.{by_row, conventions_in, taken_as, taken_by}
+use Rattle.item_operands.specs.Roles.{by_row, taken_as}
 use Rattle.memory_accesses.specs.Sources.{result_source, source_at, sources_of}
-use Rattle.ownership_chains.specs.Facts.{facts_with, known_or}
-use Rattle.ownership_chains.specs.declared.facts.Facts.{Facts}
+use Rattle.ownership_chains.specs.Facts.{facts_with}
 use Rattle.ownership_kinds.specs.Facts.{facts_in}
 use Rattle.ownership_origins.specs.Origins.{is_trivial_or_untyped}
 use Rattle.point_checks.specs.Points.{IsAt}
 use Rattle.sil_ast.specs.declared.function.Function.{Function}
 use Rattle.sil_ast.specs.declared.inst.Inst as inst
 use Rattle.sil_ast.specs.declared.module.Module.{Module}
-use Rattle.sil_ast.specs.declared.operands.Operand.{Operand}
 use Rattle.sil_ast.specs.declared.place.PointId.{PointId}
 use Rattle.sil_ast.specs.declared.place.ValueId.{ValueId}
 use Rattle.sil_ast.specs.declared.type_name.TypeName.{TypeName}
 use Rattle.sil_cfg.specs.declared.item.Item.TheVariants.{Inst}
 use Rattle.sil_types.specs.Typing.OperandTypes.{are_as_written, is_as_written, is_as_written_by}
-use Rattle.sil_types.specs.Typing.RowTypes.{MadeTypes, gives, given_by, made_types, row_types, type_of, written}
+use Rattle.sil_types.specs.Typing.RowTypes.{MadeTypes, gives, given_by, type_of, written}
 use Rattle.sil_types.specs.Typing.Same.{is_same_type}
 use Rattle.sil_types.specs.Typing.Shapes.{is_nontrivial, is_object, where_it}
 use Rattle.sil_types.specs.Typing.Values.{type_of_value, value_types}
 use Rattle.type_definitions.specs.Declarations.{Declarations, declarations_of}
 use Rattle.type_definitions.specs.Measures.{is_trivial}
-use Rattle.type_definitions.specs.declared.kind.Kind.{Kind}
 use Rattle.type_definitions.specs.declared.kind.Kind.TheVariants as kind
 use Rattle.run_typing_laws.proofs.Rows.Finding.{passed, where_found}
 use Rattle.run_typing_laws.proofs.Rows.Known.{Known, known}
 use Rattle.run_typing_laws.proofs.Rows.Shares.{given_one}
 use Rattle.run_typing_laws.proofs.ShapeFacts.{same_types}
 use Rattle.accepted_values.specs.inner.Known.{IsAcceptedBody, kind_at, type_in}
-use Rattle.accepted_values.specs.inner.Operands.{kind_by_row, kind_of_result, kind_together}
+use Rattle.accepted_values.specs.inner.Operands.{kind_by_row, kind_together}
 use Rattle.accepted_values.specs.inner.Rows.{IsResult}
 use Rattle.accepted_values.proofs.Accepted.{typed, well_typed}
 use Rattle.accepted_values.proofs.Based.{owned_own_bases}

@@ -1,8 +1,8 @@
 -- While the copy of a new object is held, all fields of the object are written: the object is held too, and isn't allocated anew.
-use Rattle.std.proofs.Common.{◌≡◌, ◌⊎◌, inl, inr, ℕ, List, [], ◌∷◌, ◌++◌, refl, sym, ap, ap₂, ◌∙◌, subst, Bool, true, false, cond, not, ◌&&◌, ◌||◌, Option, Some, None}
-use Rattle.std.specs.Prelude.{◌==◌, flat_map, option_and_then, option_to_list}
+use Rattle.std.proofs.Common.{◌≡◌, ◌⊎◌, inl, inr, ℕ, List, [], ◌∷◌, ◌++◌, refl, sym, ap, ◌∙◌, Bool, true, false, cond, not, ◌&&◌, Some}
+use Rattle.std.specs.Prelude.{◌==◌, flat_map, option_and_then}
 use Rattle.std.specs.List.{list_any}
-use Rattle.std.proofs.lemmas.Bool.{and_parts, cases_Bool, eqb-true, false≢true, or_cases, true≢false}
+use Rattle.std.proofs.lemmas.Bool.{and_parts, cases_Bool, false≢true, or_cases, true≢false}
 use Rattle.std.proofs.lemmas.List.{append-nil}
 use Rattle.std.proofs.lemmas.Option.{same_Some}
 use Rattle.item_operands.specs.Items.{item_defined, item_taken}
@@ -10,7 +10,6 @@ use Rattle.item_operands.specs.declared.taken.Taken.{Taken}
 use Rattle.memory_accesses.specs.Sources.{sources_of}
 use Rattle.memory_parts.specs.Shown.{marks_of_access, part_marks}
 use Rattle.memory_parts.specs.declared.part.Part.TheVariants.{Building}
-use Rattle.ownership_chains.specs.Facts.{has}
 use Rattle.ownership_kinds.specs.Facts.{facts_in}
 use Rattle.ownership_marks.specs.Marks.{marks_of}
 use Rattle.path_patterns.specs.declared.mark.Mark.{Mark}
@@ -33,7 +32,6 @@ use Rattle.accepted_trails.proofs.LivesPassed.{lives_passed}
 use Rattle.accepted_trails.proofs.Tests.{first_of, or_right, or_second}
 use Rattle.accepted_memory.specs.inner.PartTrails.{IsPartOf, accesses_in}
 use Rattle.accepted_memory.proofs.PartsFollowed.{part_unbroken}
-use Rattle.accepted_memory.proofs.Switching.{and_then_some}
 use Rattle.lent_memory.proofs.Items.{taken_where_mentioned, unallocated}
 use Rattle.lent_memory.proofs.Means.{mentions}
 use Rattle.lent_memory.proofs.Quiet.{off_behind, quiet, refuses}
@@ -138,7 +136,8 @@ module _ (d : Declarations) (f : Function) (accepted : IsAcceptedIn d f) (c v : 
           let made = made_where_begun (facts_in d f) c f i begins in
           let left = (pass_object t i h).found.used (copy.uses i is made) in
           let s = stepped t i h in
-          let off = off_behind (sources_of d f) (facts_in d f) f v field (accesses_in d f i) (unallocated (sources_of d f) (marks_of (facts_in d f) f i) f i v (not_made t i h left)) (copy.refused i is made) s.0 s.1 s.4 in
+          let none = unallocated (sources_of d f) (marks_of (facts_in d f) f i) f i v (not_made t i h left) in
+          let off = off_behind (sources_of d f) (facts_in d f) f v field (accesses_in d f i) none (copy.refused i is made) s.0 s.1 s.4 in
           (still left, s.3 ∙ ap (λ b. Some b) off)
       at (inr left) more =
           let parts = and_parts (pass_copy t i h).on (not (list_any (is_end (facts_in d f) c) (item_taken f i))) left in

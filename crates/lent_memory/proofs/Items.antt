@@ -1,8 +1,8 @@
 -- What an item takes, makes and asks of memory, read off its accesses.
-use Rattle.std.proofs.Common.{◌≡◌, ◌⊎◌, inl, inr, ℕ, List, [], ◌∷◌, ◌++◌, map, refl, sym, ap, ap₂, ◌∙◌, Bool, true, false, cond, not, ◌&&◌, ◌||◌, Option, Some, None}
+use Rattle.std.proofs.Common.{◌≡◌, List, [], ◌∷◌, ◌++◌, map, refl, sym, ap, ap₂, ◌∙◌, Bool, true, false, cond, ◌||◌, Option, Some, None}
 use Rattle.std.specs.Prelude.{◌==◌, flat_map}
 use Rattle.std.specs.List.{list_any}
-use Rattle.std.proofs.lemmas.Bool.{false≢true, or_cases}
+use Rattle.std.proofs.lemmas.Bool.{false≢true}
 use Rattle.std.proofs.lemmas.List.Folds.{list_any-append}
 use Rattle.sil_ast.specs.declared.function.Function.{Function}
 use Rattle.sil_ast.specs.declared.inst.Inst.{Inst}
@@ -16,7 +16,6 @@ use Rattle.memory_accesses.specs.Operations.{addresses_of, deallocates, operatio
 use Rattle.memory_accesses.specs.Sources.{source_at}
 use Rattle.memory_accesses.specs.declared.access.Access.{Access}
 use Rattle.memory_accesses.specs.declared.access.Access.TheVariants.{Allocates, Begins, Deallocates, Does, Ends, Given, Mentions}
-use Rattle.memory_accesses.specs.declared.access.Operated.{Operated}
 use Rattle.memory_accesses.specs.declared.columns.Allowance.{Allowance}
 use Rattle.memory_accesses.specs.declared.source.Source.{Source}
 use Rattle.memory_accesses.specs.declared.source.Source.TheVariants as source
@@ -126,9 +125,9 @@ module _ (sources : List Source) (marks : List Mark) (f : Function) (i : Item) w
     taken_where_mentioned e =
         let inst = item_inst f i in
         let is = six (mentions c) (flat_map ended marks) (mentions_of inst (item_taken f i)) (does_of inst) (deallocations_of inst) (flat_map (made sources) (item_defined f i))
-            (flat_map begun marks) false (list_any (mentions c) (mentions_of inst (item_taken f i))) false false false false
-            (none_in (mentions c) ended no_end marks) refl (no_does inst) (no_deallocation inst) (none_in (mentions c) (made sources) no_made (item_defined f i))
-            (none_in (mentions c) begun no_begin marks) in
+        (flat_map begun marks) false (list_any (mentions c) (mentions_of inst (item_taken f i))) false false false false
+        (none_in (mentions c) ended no_end marks) refl (no_does inst) (no_deallocation inst) (none_in (mentions c) (made sources) no_made (item_defined f i))
+        (none_in (mentions c) begun no_begin marks) in
         mentioned_taken inst (item_taken f i) (sym (or_nothing (list_any (mentions c) (mentions_of inst (item_taken f i)))) ∙ sym is ∙ e)
 
   -- ---- what is allocated is made

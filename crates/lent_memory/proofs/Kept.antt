@@ -1,11 +1,10 @@
 -- No part of memory is broken where a copy is lent.
-use Rattle.std.proofs.Common.{◌≡◌, ◌⊎◌, inl, inr, ℕ, List, [], ◌∷◌, ◌++◌, refl, sym, ap, ap₂, ◌∙◌, subst, Bool, true, false, cond, ◌&&◌, ◌||◌, Option, Some, None, Contains, reverse}
-use Rattle.std.specs.Prelude.{◌==◌, flat_map, option_and_then, option_to_list}
+use Rattle.std.proofs.Common.{◌≡◌, ◌⊎◌, inl, inr, ℕ, List, [], ◌∷◌, ◌++◌, refl, sym, ap, ap₂, ◌∙◌, subst, Bool, true, false, cond, Some, None, Contains, reverse}
+use Rattle.std.specs.Prelude.{flat_map, option_and_then, option_to_list}
 use Rattle.std.specs.List.{list_any}
 use Rattle.std.proofs.lemmas.Bool.{cases_Bool, eqb-true, false≢true}
 use Rattle.std.proofs.lemmas.List.{append-nil}
 use Rattle.std.proofs.lemmas.Option.{same_Some}
-use Rattle.memory_accesses.specs.Accesses.{accesses_of}
 use Rattle.memory_accesses.specs.Locations.{is_object}
 use Rattle.memory_accesses.specs.Sources.{source_at, sources_of}
 use Rattle.memory_accesses.specs.declared.access.Access.{Access}
@@ -17,12 +16,10 @@ use Rattle.memory_parts.specs.declared.part.Part.TheVariants.{Allocation, Buildi
 use Rattle.ownership_chains.specs.Facts.{known_or}
 use Rattle.ownership_kinds.specs.Facts.{facts_in}
 use Rattle.ownership_marks.specs.Marks.{marks_of}
-use Rattle.path_checks.specs.First.{IsBreakShown}
 use Rattle.path_patterns.specs.Along.{Shows}
 use Rattle.path_patterns.specs.Switch.{IsInPlace, code_of}
 use Rattle.path_patterns.specs.declared.mark.Mark.{Mark}
 use Rattle.sil_ast.specs.declared.function.Function.{Function}
-use Rattle.sil_ast.specs.declared.place.EdgeId.{EdgeId}
 use Rattle.sil_ast.specs.declared.place.ValueId.{ValueId}
 use Rattle.sil_cfg.specs.Flow.{Flow, point_of}
 use Rattle.sil_cfg.specs.Items.{IsItem, flow_of}
@@ -30,7 +27,6 @@ use Rattle.sil_cfg.specs.Returns.{is_return}
 use Rattle.sil_cfg.specs.Walk.{IsTrail}
 use Rattle.sil_cfg.specs.declared.item.Item.{Item}
 use Rattle.sil_rules.specs.Rules.{index_of}
-use Rattle.sil_rules.specs.declared.rule.Rule.{Rule}
 use Rattle.type_definitions.specs.Declarations.{Declarations}
 use Rattle.run_trails.specs.inner.RunTrails.{IsTurnedTrail}
 use Rattle.run_trails.specs.inner.Switched.{IsFollowed, IsUnbroken, switched, switched_over}

@@ -1,5 +1,6 @@
 -- A function and the one where a copy that can become a borrow is lent, to memory.
-use Rattle.std.proofs.Common.{◌≡◌, ◌⊎◌, inl, inr, ℕ, zero, suc, ◌<◌, List, [], ◌∷◌, ◌++◌, length, map, refl, sym, ap, ap₂, ◌∙◌, subst, arith, Bool, true, false, ◌&&◌, ◌||◌, Option, Some, None, eq-eqb, ne_eqb}
+use Rattle.std.proofs.Common.{◌≡◌, ◌⊎◌, inl, inr, ℕ, zero, suc, ◌<◌, List, [], ◌∷◌, ◌++◌, length, map, refl, sym, ap, ap₂, ◌∙◌, subst, arith, true, false, Option, Some, None, eq-eqb, ne_eqb}
+use Rattle.std.specs.Prelude.{◌&&◌, ◌||◌}
 use Rattle.std.specs.Prelude.{◌==◌, cond, option_map, replicate, slice_get, unwrap_or}
 use Rattle.std.specs.List.{list_any}
 use Rattle.std.proofs.lemmas.Bool.{and_parts, eqb-true, false≢true, or_cases}
@@ -12,17 +13,15 @@ use Rattle.instruction_table.specs.declared.forms.Part.TheVariants as part
 use Rattle.instruction_table.specs.declared.op.Op.{Op}
 use Rattle.instruction_table.specs.declared.op.Op.TheVariants as op
 use Rattle.item_operands.specs.Parts.{inst_at, inst_in}
-use Rattle.memory_accesses.specs.Locations.{is_object}
 use Rattle.memory_accesses.specs.Operations.{access_kind_of}
 use Rattle.memory_accesses.specs.Sources.{arg_sources, argument_source_or, borrow_source, result_source, result_sources, source_at, source_by, sources_of}
-use Rattle.memory_accesses.specs.declared.source.Source.TheVariants.{Borrow, Field, Other, Upcast}
+use Rattle.memory_accesses.specs.declared.source.Source.TheVariants.{Borrow, Other}
 use Rattle.numbered_form.specs.Insts.{insts_of}
 use Rattle.numbered_form.specs.Numbering.{AreCountedFrom, values_of}
-use Rattle.numbered_form.specs.inner.Parts.{are_of_parts, has_operands, is_typed}
+use Rattle.numbered_form.specs.inner.Parts.{are_of_parts, is_typed}
 use Rattle.ownership_chains.specs.Facts.{facts_with, is_guaranteed, known_or}
 use Rattle.ownership_chains.specs.declared.facts.Facts.{Facts}
 use Rattle.ownership_kinds.specs.Facts.{facts_in}
-use Rattle.ownership_marks.specs.Marks.{marks_of}
 use Rattle.point_checks.specs.Points.{IsAt}
 use Rattle.sil_ast.specs.declared.function.Block.{Block}
 use Rattle.sil_ast.specs.declared.function.BlockArg.{BlockArg}
@@ -32,17 +31,14 @@ use Rattle.sil_ast.specs.declared.module.Module.{Module}
 use Rattle.sil_ast.specs.declared.operands.Operand.{Operand}
 use Rattle.sil_ast.specs.declared.place.PointId.{PointId}
 use Rattle.sil_ast.specs.declared.place.ValueId.{ValueId}
-use Rattle.sil_cfg.specs.Items.{IsItem, point_at}
-use Rattle.sil_cfg.specs.declared.item.Item.{Item}
+use Rattle.sil_cfg.specs.Items.{point_at}
 use Rattle.sil_types.specs.Typing.ResultCounts.{is_count_by}
 use Rattle.sil_types.specs.Typing.RowTypes.{row_types}
 use Rattle.type_definitions.specs.Declarations.{Declarations, declarations_of}
 use Rattle.type_definitions.specs.declared.kind.Kind.TheVariants as kind
 use Rattle.value_tables.specs.FirstValue.{first_value, value_of}
 use Rattle.rule_faults.specs.declared.fault.RuleFault.{RuleFault}
-use Rattle.memory_parts.specs.Shown.{IsShown}
 use Rattle.memory_rules.specs.Broken.{IsBroken, at_part, crossing, static}
-use Rattle.memory_slots.specs.Pairs.{IsCrossing}
 use Rattle.sil_cfg.specs.Flow.{point_of}
 use Rattle.sil_cfg.specs.Items.{flow_of}
 use Rattle.sil_verifier.specs.Shown.{memory}
@@ -57,7 +53,6 @@ use Rattle.copy_removal.specs.Copies.{IsCopy, is_op}
 use Rattle.copy_removal.specs.Removable.{IsBorrowable}
 use Rattle.copy_removal.specs.Rewritten.{lent, lent_block, lent_inst, makes, takes, with_op}
 use Rattle.lent_functions.proofs.Graph.{block_lent, flow_lent, return_lent}
-use Rattle.lent_functions.proofs.Insts.{Becomes, becomes, borrows, ends, stays}
 use Rattle.lowering_laws.proofs.Rings.{defined_somewhere}
 use Rattle.lent_functions.proofs.Facts.{other_facts}
 use Rattle.lent_functions.proofs.Facts as lent_facts
@@ -147,7 +142,9 @@ module _ (m : Module) (n : ℕ) (f : Function) (a : IsAcceptedBody m n f) (p : P
 
   -- what the copy becomes
   copy_becomes : lent_inst c copy.inst ≡ with_op op.BeginBorrow copy.inst
-  copy_becomes = ap (λ b. cond b (with_op op.BeginBorrow copy.inst) (cond (is_op op.DestroyValue copy.inst && takes c copy.inst) (with_op op.EndBorrow copy.inst) copy.inst)) (ap₂ (λ x y. x && y) copy.copies.copies made)
+  copy_becomes =
+      ap (λ b. cond b (with_op op.BeginBorrow copy.inst) (cond (is_op op.DestroyValue copy.inst && takes c copy.inst) (with_op op.EndBorrow copy.inst) copy.inst))
+      (ap₂ (λ x y. x && y) copy.copies.copies made)
     where
       made : makes c copy.inst ≡ true
       made = ap (λ ws. list_any (λ (w : ValueId). w.0 == c.0) ws) copy.copies.result ∙ ap (λ b. b || false) (eq-eqb c.0 c.0 refl)
@@ -180,7 +177,7 @@ module _ (m : Module) (n : ℕ) (f : Function) (a : IsAcceptedBody m n f) (p : P
   source_lent : source_at (sources_of d (lent c f)) c ≡ Borrow v
   source_lent =
       let rows = told_of_results (arg_sources d f.signature) (result_sources d) args_long (λ i. length-replicate (length i.results) (result_source d i)) Other (lent c f) counted_lent
-          p.block.0 p.index (lent_inst c copy.inst) place_lent in
+      p.block.0 p.index (lent_inst c copy.inst) place_lent in
       let results : (lent_inst c copy.inst).results ≡ c ∷ [] = ap (λ (i : Inst). i.results) copy_becomes ∙ copy.copies.result in
       let one : row_at Other (sources_of d (lent c f)) c ∷ [] ≡ result_source d (lent_inst c copy.inst) ∷ [] =
       sym (ap (map (row_at Other (sources_of d (lent c f)))) results) ∙ rows

@@ -1,10 +1,10 @@
 -- By which instruction a value is what it is to memory, in an accepted function.
-use Rattle.std.proofs.Common.{◌≡◌, ◌⊎◌, inl, inr, ℕ, zero, suc, ◌<◌, ◌≤◌, List, [], ◌∷◌, length, map, refl, sym, ap, ◌∙◌, subst, arith, Bool, true, false, not, ◌||◌, Option, Some, None}
+use Rattle.std.proofs.Common.{◌≡◌, ◌⊎◌, inl, inr, ℕ, zero, suc, ◌<◌, ◌≤◌, List, [], ◌∷◌, length, map, refl, sym, ap, ◌∙◌, arith, Bool, true, false, not, ◌||◌, Option, Some, None}
 use Rattle.std.specs.Prelude.{◌==◌, Contains, slice_get, unwrap_or}
 use Rattle.std.proofs.lemmas.Bool.{cases_lt, false≢true, true≢false}
 use Rattle.std.proofs.lemmas.List.{length-replicate}
 use Rattle.std.proofs.lemmas.List.FromFn.{length-map-range_with_len}
-use Rattle.std.proofs.lemmas.Option.{slice_get-map, slice_get_past}
+use Rattle.std.proofs.lemmas.Option.{slice_get_past}
 use Rattle.argument_conventions.specs.Arguments.{Told, arguments_of}
 use Rattle.argument_conventions.specs.Rows.{address_row}
 use Rattle.argument_conventions.specs.declared.row.AddressRow.{AddressRow}
@@ -15,7 +15,8 @@ use Rattle.item_operands.specs.Items.{arg_value}
 use Rattle.item_operands.specs.Parts.{inst_at}
 use Rattle.memory_accesses.specs.Operations.{access_kind_of}
 use Rattle.memory_accesses.specs.Locations.{is_object}
-use Rattle.memory_accesses.specs.Sources.{arg_sources, argument_source_or, borrow_source, element_place, field_source, handed_source, is_trivial_member, loan_source, member_place, object_source, part_source}
+use Rattle.memory_accesses.specs.Sources.{arg_sources, argument_source_or, borrow_source, element_place, field_source, handed_source}
+use Rattle.memory_accesses.specs.Sources.{is_trivial_member, loan_source, member_place, object_source, part_source}
 use Rattle.memory_accesses.specs.Sources.{result_source, result_sources, slot_source, source_at, source_by, sources_of, upcast_source}
 use Rattle.memory_accesses.specs.declared.columns.AccessKind.{AccessKind}
 use Rattle.memory_accesses.specs.declared.columns.AccessKind.TheVariants as access

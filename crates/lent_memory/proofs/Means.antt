@@ -1,18 +1,18 @@
 -- What an access means to each part of memory, in a function and in the one where the copy c of v is lent.
-use Rattle.std.proofs.Common.{◌≡◌, ◌⊎◌, inl, inr, ℕ, List, [], ◌∷◌, refl, sym, ap, ap₂, ◌∙◌, subst, Bool, true, false, cond, not, ◌&&◌, ◌||◌, Option, Some, None, ne_eqb, eq-eqb}
+use Rattle.std.proofs.Common.{◌≡◌, ◌⊎◌, inl, inr, ℕ, List, [], ◌∷◌, refl, sym, ap, ap₂, ◌∙◌, subst, Bool, true, false, cond, not, ◌&&◌, ◌||◌, Option, Some, None}
 use Rattle.std.specs.Prelude.{◌==◌}
 use Rattle.std.specs.List.{list_any}
-use Rattle.std.proofs.lemmas.Bool.{cases_eq, eqb-false, eqb-true, false≢true}
+use Rattle.std.proofs.lemmas.Bool.{cases_eq, eqb-false, false≢true}
 use Rattle.sil_ast.specs.declared.place.ValueId.{ValueId}
 use Rattle.sil_rules.specs.declared.rule.Rule.TheVariants as rule
-use Rattle.memory_accesses.specs.Locations.{do_overlap, is_object, location_of, object_built}
+use Rattle.memory_accesses.specs.Locations.{is_object, location_of}
 use Rattle.memory_accesses.specs.Rows.{is_part}
 use Rattle.memory_accesses.specs.Sources.{source_at}
 use Rattle.memory_accesses.specs.declared.access.Access.{Access}
 use Rattle.memory_accesses.specs.declared.access.Access.TheVariants.{Allocates, Begins, Deallocates, Does, Ends, Given, Mentions}
 use Rattle.memory_accesses.specs.declared.access.Operation.{Operation}
 use Rattle.memory_accesses.specs.declared.columns.Allowance.{Allowance}
-use Rattle.memory_accesses.specs.declared.columns.Allowance.TheVariants.{BothOfThem, BuildingBorrow, FreshObject, NeitherOfThem}
+use Rattle.memory_accesses.specs.declared.columns.Allowance.TheVariants.{BuildingBorrow, FreshObject, NeitherOfThem}
 use Rattle.memory_accesses.specs.declared.location.Cell.{Cell}
 use Rattle.memory_accesses.specs.declared.location.Location.{Location}
 use Rattle.memory_accesses.specs.declared.source.Source.{Source}
@@ -27,7 +27,7 @@ use Rattle.ownership_chains.specs.Facts.{has, is_guaranteed}
 use Rattle.ownership_chains.specs.declared.facts.Facts.{Facts}
 use Rattle.path_patterns.specs.Marks.{needs_off, turns_off}
 use Rattle.path_patterns.specs.declared.mark.Mark.{Mark}
-use Rattle.lent_memory.proofs.Sources.{AreLentSources, built_alike, cell_alike, copy_built, copy_unbuilt, has_alike, location_alike, overlap_alike, same_value, slot_alike, trivial_alike}
+use Rattle.lent_memory.proofs.Sources.{AreLentSources, built_alike, cell_alike, copy_built, has_alike, location_alike, overlap_alike, same_value, slot_alike, trivial_alike}
 
 -- an access of an item, and what it becomes where the copy is lent: the copy takes v as a borrow does, and a destroy takes c as the end of one
 pub data AlikeAccess (c v : ValueId) : Access → Access → Type 0 where
@@ -230,7 +230,7 @@ module _ (S T : List Source) (F G : ValueId → Facts) (c v : ValueId) (h : AreL
       where
         at : (v.0 ≡ c.0) ⊎ (v.0 ≡ c.0 → ⊥) → (is_same v c ≡ false) ⊎ (lends S v o ≡ false) → WeakerMark (asks (is_forbidden S F o v NeitherOfThem)) (asks (is_forbidden T G o v FreshObject))
         at (inl is) (inl e) = absurd (eqb-false v.0 c.0 e is)
-        at (inl is) (inr none) = 
+        at (inl is) (inr none) =
             let P : ValueId → Type 0 = λ x. WeakerMark (asks (is_forbidden S F o x NeitherOfThem)) (asks (is_forbidden T G o x FreshObject)) in
             subst P (sym (same_value v c is))
             (subst (λ g. WeakerMark (asks ((is_same c o && true) || (g && not (builds S o c && false)))) (asks ((is_same c o && false) || (goes_by_borrow T (G c) o && not (builds T o c && false)))))

@@ -1,5 +1,5 @@
 -- What a copy that can become a borrow is to memory: nothing goes on from it, and where it copies a new object, that is held as long.
-use Rattle.std.proofs.Common.{◌≡◌, ◌⊎◌, inl, inr, ℕ, suc, List, [], ◌∷◌, ◌++◌, length, map, refl, sym, ap, ap₂, ◌∙◌, subst, arith, Bool, true, false, cond, not, ◌&&◌, ◌||◌, Option, Some, None, eq-eqb}
+use Rattle.std.proofs.Common.{◌≡◌, ◌⊎◌, inl, inr, ℕ, suc, List, [], ◌∷◌, ◌++◌, length, map, refl, sym, ap, ap₂, ◌∙◌, subst, arith, Bool, true, false, cond, ◌&&◌, ◌||◌, Option, Some, None, eq-eqb}
 use Rattle.std.specs.Prelude.{◌==◌, ◌<◌, Contains, IsSomeAnd, option_map, replicate, slice_get}
 use Rattle.std.specs.List.{flat_map, list_any}
 use Rattle.std.proofs.lemmas.Bool.{eqb-true, false≢true, or_cases, true≢false}
@@ -18,7 +18,7 @@ use Rattle.item_operands.specs.declared.taken.Treatment.{Treatment}
 use Rattle.argument_conventions.specs.declared.convention.ArgumentConvention.{ArgumentConvention}
 use Rattle.memory_accesses.specs.Accesses.{begun, deallocations_of, does_of, ended, made, mentions_of}
 use Rattle.memory_accesses.specs.Locations.{is_object}
-use Rattle.memory_accesses.specs.Sources.{result_source, source_at, sources_of}
+use Rattle.memory_accesses.specs.Sources.{source_at, sources_of}
 use Rattle.memory_accesses.specs.declared.access.Access.TheVariants.{Mentions}
 use Rattle.memory_accesses.specs.declared.columns.Allowance.TheVariants.{NeitherOfThem}
 use Rattle.memory_accesses.specs.declared.source.Source.{Source}
@@ -30,7 +30,6 @@ use Rattle.ownership_marks.specs.Marks as marks
 use Rattle.ownership_marks.specs.Marks.{end_of, ended_by, ended_with, ends_owned, marks_of, use_of, used_with}
 use Rattle.ownership_marks.specs.declared.mark.Mark.{Mark}
 use Rattle.ownership_marks.specs.declared.mark.MarkSort.TheVariants.{End}
-use Rattle.point_checks.specs.Points.{IsAt}
 use Rattle.sil_ast.specs.Blocks.{args_of}
 use Rattle.sil_ast.specs.declared.function.Block.{Block}
 use Rattle.sil_ast.specs.declared.function.Function.{Function}
@@ -43,7 +42,7 @@ use Rattle.sil_ast.specs.declared.place.ValueId.{ValueId}
 use Rattle.sil_cfg.specs.Items.{IsItem}
 use Rattle.sil_cfg.specs.declared.item.Item.{Item}
 use Rattle.sil_cfg.specs.declared.item.Item.TheVariants.{Edge, Entry, Exit, Inst}
-use Rattle.type_definitions.specs.Declarations.{Declarations, declarations_of}
+use Rattle.type_definitions.specs.Declarations.{declarations_of}
 use Rattle.type_definitions.specs.declared.kind.Kind.{Kind}
 use Rattle.type_definitions.specs.declared.kind.Kind.TheVariants as kind
 use Rattle.value_tables.specs.FirstValue.{first_value, value_of}
@@ -66,10 +65,10 @@ use Rattle.accepted_values.proofs.TableRows.{result_rows}
 use Rattle.copy_removal.specs.Copies.{IsCopy, is_op}
 use Rattle.copy_removal.specs.Removable.{IsBorrowable, is_destroy, is_mark}
 use Rattle.lent_memory.proofs.Becoming.{mentions_one, taken_one}
-use Rattle.lent_memory.proofs.Copied.{copies, copy_facts, copy_owned, copy_source, operand_owned, place, takes_copied}
+use Rattle.lent_memory.proofs.Copied.{copies, copy_facts, copy_owned, operand_owned, place, takes_copied}
 use Rattle.lent_memory.proofs.Following.{IsCopyOfObject, takes_value}
 use Rattle.lent_memory.proofs.Items.{six}
-use Rattle.lent_memory.proofs.Made.{IsResultOf, argument_so, field_row, is_by_inst, object_row, result_of, result_so, upcast_row}
+use Rattle.lent_memory.proofs.Made.{argument_so, field_row, is_by_inst, object_row, result_of, upcast_row}
 use Rattle.lent_memory.proofs.Quiet.{refuses}
 use Rattle.lent_memory.proofs.Stays.{base_stays}
 
@@ -112,6 +111,9 @@ takes_first i x r c is first row = at i.operands refl first
           taken = ap₂ (λ os (y : Op). taken_each os (roles_for (roles_of y) (conventions_in i) (length os))) e is ∙ ap (taken_each (o ∷ os)) it.1;
           is = same_Some o.value c h;
         }
+
+first_in : {A : Type 0} (x : A) (xs : List A) → Contains (x ∷ xs) x
+first_in x xs = (0, omega arith, refl)
 
 none_taken : (os : List Operand) → taken_each os [] ≡ []
 none_taken [] = refl
@@ -184,7 +186,8 @@ module _ (m : Module) (n : ℕ) (f : Function) (a : IsAcceptedBody m n f) (p : P
       let r = result_of m n f a w (ap is_by_inst e) in
       let row = upcast_row (declarations_of m) r.inst c (sym r.source_is ∙ e) in
       let t = takes_first r.inst op.Upcast role.Forwarded c row.0 row.1 (λ cs k. (replicate k (by_row role.Forwarded), refl)) in
-      let ends = ends_first facts f c c_facts (Inst r.point) (taken_as t.operand (by_row role.Forwarded)) (t.rest ++ []) (taken_at r.point r.inst _ t.rest r.there t.taken) t.is refl in
+      let ends = ends_first facts f c c_facts (Inst r.point) (taken_as t.operand (by_row role.Forwarded)) (t.rest ++ [])
+      (taken_at r.point r.inst (taken_as t.operand (by_row role.Forwarded)) t.rest r.there t.taken) t.is (refl {a = true}) in
       let destroys : is_op op.DestroyValue r.inst ≡ true =
       sym (ap is_destroy r.there) ∙ free.destroyed (Inst r.point) (item_there f r.point r.inst r.there) ends in
       let not_so : is_op op.DestroyValue r.inst ≡ false = ap (λ (o : Op). number_of o == number_of op.DestroyValue) row.0 in
@@ -196,8 +199,7 @@ module _ (m : Module) (n : ℕ) (f : Function) (a : IsAcceptedBody m n f) (p : P
       let row = field_row (declarations_of m) r.inst c k trivial (sym r.source_is ∙ e) in
       let t = takes_first r.inst op.RefElementAddr role.Lent c row.0 row.1 (λ cs k. (replicate k (by_row role.Lent), refl)) in
       let x : Taken = taken_as t.operand (by_row role.Lent) in
-      let first : Contains (x ∷ (t.rest ++ [])) x = (0, omega arith, refl) in
-      let there : Contains (item_taken f (Inst r.point)) x = subst (λ ts. Contains ts x) (sym (taken_at r.point r.inst x t.rest r.there t.taken)) first in
+      let there : Contains (item_taken f (Inst r.point)) x = subst (λ ts. Contains ts x) (sym (taken_at r.point r.inst x t.rest r.there t.taken)) (first_in x (t.rest ++ [])) in
       let lent : MayLend (declarations_of m) f t.operand.value = suited m n f a (Inst r.point) x there in
       let own : MayLend (declarations_of m) f c = subst (MayLend (declarations_of m) f) t.is lent in
       at own
@@ -229,7 +231,7 @@ module _ (m : Module) (n : ℕ) (f : Function) (a : IsAcceptedBody m n f) (p : P
   argument_of : (b : ℕ) → Contains (map arg_value (args_of f b)) c → ⊥
   argument_of b h =
       no_argument_and_result f (counted m n f a) c b p.block.0 p.index copy.inst h (place m n f a p copy.inst copy.stands)
-      (subst (λ ws. Contains ws c) (sym copy.copies.result) (0, omega arith, refl))
+      (subst (λ ws. Contains ws c) (sym copy.copies.result) (first_in c []))
 
   pub copy_item : (i : Item) → makes f c i ≡ true → i ≡ Inst p
   copy_item Entry e = absurd (argument_of 0 (makes_so f c Entry e))
@@ -239,7 +241,7 @@ module _ (m : Module) (n : ℕ) (f : Function) (a : IsAcceptedBody m n f) (p : P
       at None is h = absurd (nothing_in c h)
       at (Some x) is h =
           let both = results_once f (counted m n f a) c q.block.0 p.block.0 q.index p.index x copy.inst (place m n f a q x is) (place m n f a p copy.inst copy.stands) h
-              (subst (λ ws. Contains ws c) (sym copy.copies.result) (0, omega arith, refl)) in
+          (subst (λ ws. Contains ws c) (sym copy.copies.result) (first_in c [])) in
           ap₂ (λ b k. let r : PointId = record { block = record { 0 = b }; index = k } in Inst r) both.0 both.1
   copy_item (Edge e) made = at (edge_at f e) refl (makes_so f c (Edge e) made)
     where

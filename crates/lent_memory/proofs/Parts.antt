@@ -9,7 +9,7 @@ use Rattle.memory_accesses.specs.Sources.{source_at}
 use Rattle.memory_accesses.specs.declared.location.Location.{Location}
 use Rattle.memory_accesses.specs.declared.source.Source.{Source}
 use Rattle.memory_accesses.specs.declared.source.Source.TheVariants.{Slot, Argument, Object, Borrow, Upcast, Loan, Field, Part, Other}
-use Rattle.memory_parts.specs.Parts.{address_parts, is_scope_source, parts_at, parts_by, parts_of, scope_part, scope_parts, slot_part, slot_part_at, whole_cell}
+use Rattle.memory_parts.specs.Parts.{address_parts, is_scope_source, parts_at, parts_by, parts_of, scope_parts, slot_part, slot_part_at, whole_cell}
 use Rattle.memory_parts.specs.declared.part.Part as part
 use Rattle.memory_parts.specs.declared.part.Part.TheVariants.{Allocation, Contents, InScope}
 use Rattle.ownership_chains.specs.Facts.{has, value_of}

@@ -1,5 +1,5 @@
 -- What the values are to memory where a copy is lent: row by row the same, but for the copy.
-use Rattle.std.proofs.Common.{◌≡◌, ℕ, zero, suc, ◌+◌, List, [], ◌∷◌, ◌++◌, length, map, replicate, refl, sym, ap, ap₂, ◌∙◌, subst, arith, Bool, true, false, Option, Some, None}
+use Rattle.std.proofs.Common.{◌≡◌, ℕ, zero, suc, ◌+◌, List, [], ◌∷◌, ◌++◌, length, map, replicate, refl, sym, ap, ◌∙◌, subst, arith, true, Some}
 use Rattle.std.specs.Prelude.{slice_get, unwrap_or, flat_map}
 use Rattle.std.proofs.lemmas.List.{length-map, length-replicate}
 use Rattle.std.proofs.lemmas.List.FromFn.{length-map-range_with_len}
@@ -24,7 +24,7 @@ use Rattle.sil_ast.specs.declared.signature.Signature.{Signature}
 use Rattle.sil_cfg.specs.Items.{point_at}
 use Rattle.type_definitions.specs.Declarations.{Declarations}
 use Rattle.value_tables.specs.ValueRows.{block_rows, rows_from}
-use Rattle.copy_removal.specs.Rewritten.{lent, lent_block, lent_inst, makes, takes, with_op}
+use Rattle.copy_removal.specs.Rewritten.{lent, lent_block, lent_inst, makes, with_op}
 use Rattle.lent_functions.proofs.Insts.{Becomes, becomes, borrows, ends, stays}
 
 -- the rows of these values are the same, but for c's

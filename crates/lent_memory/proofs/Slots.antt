@@ -1,8 +1,7 @@
 -- Slots are allocated and deallocated where they were where a copy is lent.
-use Rattle.std.proofs.Common.{◌≡◌, List, [], ◌∷◌, refl, sym, ap, ap₂, ◌∙◌, subst, Bool, true, Option, Some, None}
+use Rattle.std.proofs.Common.{◌≡◌, List, [], ◌∷◌, refl, sym, ap₂, ◌∙◌, subst}
 use Rattle.std.specs.Prelude.{filter_map}
 use Rattle.std.specs.List.{cons_option}
-use Rattle.memory_accesses.specs.Accesses.{accesses_of}
 use Rattle.memory_accesses.specs.Sources.{sources_of}
 use Rattle.memory_accesses.specs.declared.access.Access.{Access}
 use Rattle.memory_slots.specs.Marks.{pair_mark}

@@ -1,5 +1,5 @@
 -- What values are to memory in a function and in the one where the copy c of v is lent: the same, but for c, which borrows v there.
-use Rattle.std.proofs.Common.{◌≡◌, ◌⊎◌, inl, inr, ℕ, zero, suc, List, length, refl, sym, ap, ◌∙◌, subst, Bool, true, false, cond, Option, Some, None}
+use Rattle.std.proofs.Common.{◌≡◌, ◌⊎◌, inl, inr, ℕ, zero, suc, List, length, refl, sym, ap, ◌∙◌, Bool, true, false, cond, Option, Some, None}
 use Rattle.std.specs.Prelude.{is_some}
 use Rattle.std.proofs.lemmas.Bool.{cases_eq}
 use Rattle.sil_ast.specs.declared.place.ValueId.{ValueId}
@@ -7,7 +7,6 @@ use Rattle.memory_accesses.specs.Locations.{below, below_by, cell_by, cell_of, d
 use Rattle.memory_accesses.specs.Rows.{field_has, has_by, has_operation, is_part}
 use Rattle.memory_accesses.specs.Sources.{is_slot, is_slot_source, is_trivial_at, is_trivial_source, source_at}
 use Rattle.memory_accesses.specs.declared.access.Operation.{Operation}
-use Rattle.memory_accesses.specs.declared.location.Cell.{Cell}
 use Rattle.memory_accesses.specs.declared.location.Location.{Location}
 use Rattle.memory_accesses.specs.declared.source.Source.{Source}
 use Rattle.memory_accesses.specs.declared.source.Source.TheVariants.{Slot, Argument, Object, Borrow, Upcast, Loan, Field, Part, Other}

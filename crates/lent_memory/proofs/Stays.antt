@@ -1,8 +1,9 @@
 -- While a copy that can become a borrow is held, no base of what it copies ends.
-use Rattle.std.proofs.Common.{◌≡◌, ◌⊎◌, inl, inr, ℕ, List, [], ◌∷◌, ◌++◌, length, refl, sym, ap, ap₂, ◌∙◌, subst, Bool, true, false, cond, not, ◌&&◌, ◌||◌, reverse, Option, Some, None, append-nil, append_assoc, eq-eqb}
+use Rattle.std.proofs.Common.{◌≡◌, ◌⊎◌, inl, inr, ℕ, List, [], ◌∷◌, ◌++◌, length, refl, sym, ap, ap₂, ◌∙◌, subst, Bool, true, false, cond, reverse, Option, Some, None, append-nil, append_assoc}
+use Rattle.std.specs.Prelude.{◌&&◌, ◌||◌}
 use Rattle.std.specs.Prelude.{◌==◌, filter_map, flat_map}
 use Rattle.std.specs.List.{cons_option, list_any}
-use Rattle.std.proofs.lemmas.Bool.{and_parts, cases_Bool, eqb-true, false≢true, true≢false}
+use Rattle.std.proofs.lemmas.Bool.{and_parts, cases_Bool, eqb-true, true≢false}
 use Rattle.std.proofs.lemmas.Grind.{flat_map-append}
 use Rattle.std.proofs.lemmas.List.Elements.{filter_map-append}
 use Rattle.item_operands.specs.Items.{item_defined, item_taken}
@@ -11,7 +12,7 @@ use Rattle.borrow_scopes.specs.inner.Runs as scopes
 use Rattle.lifetime_worklist.specs.inner.Runs as lives
 use Rattle.lifetime_worklist.proofs.LivesAreRuns.{held_while_on}
 use Rattle.numbered_form.specs.Numbering.{values_of}
-use Rattle.ownership_chains.specs.Facts.{has, known_or}
+use Rattle.ownership_chains.specs.Facts.{has}
 use Rattle.ownership_chains.specs.declared.facts.Facts.{Facts}
 use Rattle.ownership_kinds.specs.Facts.{facts_in}
 use Rattle.ownership_marks.specs.Marks.{begun, end_of, ended, ended_with, marks_of, used}
@@ -31,8 +32,8 @@ use Rattle.run_trails.proofs.SwitchedTrails.{turned_on}
 use Rattle.accepted_trails.specs.inner.Lives.{is_held}
 use Rattle.accepted_trails.specs.inner.Passing.{is_end}
 use Rattle.accepted_trails.proofs.Reading.{end_with}
-use Rattle.accepted_trails.proofs.Tests.{first_of, same_value}
-use Rattle.copy_removal.specs.Removable.{IsFreeAt, is_mark}
+use Rattle.accepted_trails.proofs.Tests.{first_of}
+use Rattle.copy_removal.specs.Removable.{IsFreeAt}
 
 -- ---- the two tables read a value's marks alike
 

@@ -1,10 +1,9 @@
 -- A switch that is followed along every trail is broken on none.
-use Rattle.std.proofs.Common.{◌≡◌, List, [], ◌∷◌, ◌++◌, refl, sym, ap, ◌∙◌, subst, Bool, true, false, not, reverse, Option, Some, None, append-nil, append_assoc}
+use Rattle.std.proofs.Common.{◌≡◌, List, [], ◌∷◌, ◌++◌, refl, sym, ap, ◌∙◌, subst, Bool, true, false, reverse, Option, Some, None, append-nil, append_assoc}
 use Rattle.std.specs.Prelude.{◌↔◌, flat_map, option_and_then, unwrap_or}
 use Rattle.std.proofs.lemmas.Bool.{false≢true}
 use Rattle.std.proofs.lemmas.List.{reverse-reverse}
 use Rattle.std.proofs.lemmas.Option.{none-some, same_Some}
-use Rattle.path_checks.specs.First.{IsBreakShown}
 use Rattle.path_patterns.specs.Switch.{Finds, IsOn}
 use Rattle.path_patterns.specs.declared.mark.Mark.{Mark}
 use Rattle.path_patterns.proofs.SwitchDecided.{pop_none, push_none, push_off, push_on}
@@ -13,7 +12,7 @@ use Rattle.sil_cfg.specs.Items.{flow_of}
 use Rattle.sil_cfg.specs.Walk.{IsTrail}
 use Rattle.sil_cfg.specs.declared.item.Item.{Item}
 use Rattle.run_trails.specs.inner.RunTrails.{IsTurnedTrail}
-use Rattle.run_trails.specs.inner.Switched.{IsFollowed, IsUnbroken, finds, switched, switched_by, switched_over}
+use Rattle.run_trails.specs.inner.Switched.{IsFollowed, IsUnbroken, finds, switched_by, switched_over}
 use Rattle.run_trails.proofs.SwitchedTrails.{turned_on}
 use Rattle.run_trails.proofs.TurnedTrails.{turned_older}
 use Rattle.accepted_memory.proofs.Switching.{and_then_some, mark_found, over_append}
@@ -65,11 +64,11 @@ unbroken_where_followed f marks followed rule walk point item shown =
     let is = followed (item ∷ t) trail in
     let over : switched_over (marks item) was.0 ≡ Some is.0 = ap (option_and_then (switched_over (marks item))) (sym was.1) ∙ is.1 in
     let told : Tells (flat_map marks s.before) was.0 =
-        subst (λ b. Tells (flat_map marks b) was.0) turned
-        (λ h. same_Some was.0 true (sym was.1 ∙ (turned_on marks t was.0 was.1).0 h), λ h. (turned_on marks t was.0 was.1).1 (was.1 ∙ ap Some h)) in
+    subst (λ b. Tells (flat_map marks b) was.0) turned
+    (λ h. same_Some was.0 true (sym was.1 ∙ (turned_on marks t was.0 was.1).0 h), λ h. (turned_on marks t was.0 was.1).1 (was.1 ∙ ap Some h)) in
     let b = s.breaks in
     let parts : option_and_then (switched_over (b.mark ∷ b.rest)) (switched_over b.front was.0) ≡ Some is.0 =
-        sym (over_append b.front (b.mark ∷ b.rest) was.0) ∙ ap (λ ms. switched_over ms was.0) (sym b.parts) ∙ over in
+    sym (over_append b.front (b.mark ∷ b.rest) was.0) ∙ ap (λ ms. switched_over ms was.0) (sym b.parts) ∙ over in
     let first = and_then_some (switched_over (b.mark ∷ b.rest)) (switched_over b.front was.0) is.0 parts in
     let next = and_then_some (switched_over b.rest) (switched_by b.mark first.0) is.0 first.2 in
     b.out_of_place
