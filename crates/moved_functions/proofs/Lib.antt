@@ -4,3 +4,14 @@ pub mod Places
 pub mod Items
 pub mod KeptOnWalks
 pub mod Walks
+pub mod ValueRows
+pub mod InModule
+pub mod TheCopy
+pub mod SameFacts
+pub mod Marks
+pub mod Turnings
+pub mod Undefined
+pub mod Lives
+pub mod Scopes
+pub mod Kinds
+pub mod Clean
