@@ -2,7 +2,7 @@
 use Rattle.std.proofs.Common.{refl}
 use Rattle.copy_removal.specs.Copies.{IsCopy}
 use Rattle.moved_functions.specs.inner.Laws.{MovedValuesAreClean}
-use Rattle.moved_functions.proofs.Kinds.{kinds_kept}
+use Rattle.moved_functions.proofs.KindsKept.{kinds_kept}
 use Rattle.moved_functions.proofs.Lives.{none_of_lives}
 use Rattle.moved_functions.proofs.Scopes.{none_of_scopes}
 use Rattle.moved_functions.proofs.Split.{split}

@@ -1,7 +1,7 @@
 -- What is known of a function of an accepted module in numbered form: its values are counted, its rows are typed, and nothing is shown.
 use Rattle.std.proofs.Common.{◌≡◌, ℕ, zero, suc, ◌<◌, List, [], ◌∷◌, ◌++◌, length, refl, sym, ap, ◌∙◌, subst, append_assoc, Bool, true, false, None, Some, arith}
 use Rattle.std.specs.Prelude.{◌&&◌, is_some, not, Option}
-use Rattle.std.specs.List.{flat_map, slice_get}
+use Rattle.std.specs.List.{list_all, slice_get}
 use Rattle.std.proofs.lemmas.Bool.{and_parts, not-false, true_from_ne_false, not_from_false}
 use Rattle.std.proofs.lemmas.Option.{same_Some, slice_get_within}
 use Rattle.numbered_form.specs.Insts.{insts_of}
@@ -47,7 +47,10 @@ module _ (m : Module) (n : ℕ) (f : Function) (verified : IsVerified m) (there 
       let all : has_operand_types (declarations_of m) types i ≡ true = true_from_ne_false (has_operand_types (declarations_of m) types i)
       (λ wrong. verified.accepted.types.typed (at_point n block index) rule.OperandType
       (point n f block index i rule.OperandType there here (operand_type (not_from_false (has_operand_types (declarations_of m) types i) wrong)))) in
-      (and_parts (keeps_row (declarations_of m) i) _ all).0
+      let edges = list_all (edge_is_as_written types) i.edges in
+      let one = and_parts (keeps_row (declarations_of m) i && are_as_written types i.operands && edges) (are_as_asked types i) all in
+      let two = and_parts (keeps_row (declarations_of m) i && are_as_written types i.operands) edges one.0 in
+      (and_parts (keeps_row (declarations_of m) i) (are_as_written types i.operands) two.0).0
 
   -- 202
   pub count_kept : (block index : ℕ) (i : Inst) → IsAt f block index i → is_count_by (results_of i.op) (row_types (declarations_of m) i) (length i.results) ≡ true

@@ -13,5 +13,5 @@ pub mod Turnings
 pub mod Undefined
 pub mod Lives
 pub mod Scopes
-pub mod Kinds
+pub mod KindsKept
 pub mod Clean

@@ -71,8 +71,8 @@ module _ (known : ValueId → Facts) (c v : ValueId) where
       ∙ ap₂ (λ x y. x ++ y) (one (is_owned (known m.subject).kind) own.0) (spared ms parts.1)
     where
       one : (b : Bool) → (m.subject.0 == v.0) ≡ false → filter_map (means v.0) (cond b (entry_of m ∷ []) []) ≡ []
-      one false no = refl
-      one true no = ap (λ (t : Bool). cons_option (cond t (Some (entry_of m).mark) None) []) no
+      one false e = refl
+      one true e = ap (λ (t : Bool). cons_option (cond t (Some (entry_of m).mark) None) []) e
 
 -- ---- the two marks of what is copied
 

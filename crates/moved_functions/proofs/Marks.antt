@@ -99,9 +99,9 @@ module _ {f : Function} {p : PointId} {last : ℕ} {c v : ValueId} (s : IsSplit 
       of_operand x e = ap (λ w. is_owned (known_or facts w).kind) e ∙ v_owned
 
       taken_marks : (x : Operand) (r : Role) → x.value ≡ v → (defined : List ValueId) → marks_with facts (taken_as x (by_row r) ∷ []) defined
-          ≡ cond (ends_owned r) (end_of v ∷ []) [] ++ (cond (ends_owned r) [] (use_of v ∷ []) ++ flat_map (begun facts) defined)
+          ≡ (cond (ends_owned r) (end_of v ∷ []) [] ++ cond (ends_owned r) [] (use_of v ∷ [])) ++ flat_map (begun facts) defined
       taken_marks x r e defined =
-          ap₂ (λ a b. a ++ (b ++ flat_map (begun facts) defined))
+          ap₂ (λ a b. (a ++ b) ++ flat_map (begun facts) defined)
           (append-nil (ended facts (taken_as x (by_row r))) ∙ ended_so (facts x.value) (of_operand x e) (taken_as x (by_row r)) ∙ ap (λ w. cond (ends_owned r) (end_of w ∷ []) []) e)
           (append-nil (used facts (taken_as x (by_row r))) ∙ used_so (facts x.value) (of_operand x e) (taken_as x (by_row r)) ∙ ap (λ w. cond (ends_owned r) [] (use_of w ∷ [])) e)
 

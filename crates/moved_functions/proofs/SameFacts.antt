@@ -6,7 +6,7 @@ use Rattle.std.proofs.lemmas.Bool.{lt-ltb}
 use Rattle.std.proofs.lemmas.List.{length-map, length-replicate}
 use Rattle.std.proofs.lemmas.List.FromFn.{length-map-range_with_len}
 use Rattle.std.proofs.lemmas.Option.{slice_get-map, slice_get_within}
-use Rattle.sil_ast.specs.declared.function.BlockArg.{BlockArg}
+use Rattle.instruction_table.specs.Forms.{result_kind_of}
 use Rattle.sil_ast.specs.declared.function.Function.{Function}
 use Rattle.sil_ast.specs.declared.inst.Inst.{Inst}
 use Rattle.sil_ast.specs.declared.module.Module.{Module}
@@ -17,8 +17,8 @@ use Rattle.numbered_form.specs.Numbering.{values_of}
 use Rattle.type_definitions.specs.Declarations.{Declarations, declarations_of}
 use Rattle.type_definitions.specs.declared.kind.Kind.TheVariants as kind
 use Rattle.sil_types.specs.Typing.RowTypes.{row_types}
-use Rattle.value_tables.specs.Borrows.{arg_borrows, borrows_of, result_borrows}
-use Rattle.value_tables.specs.ValueRows.{value_rows}
+use Rattle.value_tables.specs.Borrows.{arg_borrows, borrow_by, borrows_of, result_borrows}
+use Rattle.value_tables.specs.FirstValue.{value_of}
 use Rattle.ownership_chains.specs.Chains.{Chain, operands_at}
 use Rattle.ownership_chains.specs.Chains.Chain.{one}
 use Rattle.ownership_chains.specs.Facts.{facts_with, is_known, known_or, origin_at, told_by}
@@ -28,7 +28,7 @@ use Rattle.ownership_chains.specs.declared.definition.Origin.{Origin}
 use Rattle.ownership_chains.specs.declared.definition.Origin.TheVariants as origin
 use Rattle.ownership_chains.specs.declared.facts.Facts.{Facts}
 use Rattle.ownership_origins.specs.Origins.{arg_definition, arg_definitions, defined, definitions_of, is_zero, result_definition, result_definitions}
-use Rattle.ownership_origins.specs.Renamings.{arg_renaming, arg_renamings, renamed, renamings_of, result_renamings}
+use Rattle.ownership_origins.specs.Renamings.{arg_renaming, arg_renamings, renamed, renames, renamings_of, result_renamings}
 use Rattle.ownership_origins.specs.Switched.{switch_to, switches_from}
 use Rattle.ownership_kinds.specs.Facts.{facts_by, facts_in}
 use Rattle.ownership_kinds.specs.Statics.IsBroken.{on_ring}
@@ -97,12 +97,12 @@ module _ (m : Module) (n : ℕ) (f : Function) (verified : IsVerified m) (in_mod
   renamings_are =
       rows_same s (arg_renamings f) (arg_renamings (after s)) result_renamings
       (λ k xs. ap (λ o. map (arg_renaming o) xs) (switch_same k)) (renamings_told s)
-      (ap (λ (rs : List ValueId). replicate (length rs) _) destroy_makes_none)
+      (ap (λ (rs : List ValueId). replicate (length rs) (renamed (cond (renames s.destroy.op) (map value_of s.destroy.operands) []))) destroy_makes_none)
 
   pub borrows_are : borrows_of (after s) ≡ borrows_of f
   borrows_are =
       rows_same s arg_borrows arg_borrows result_borrows (λ k xs. refl) (borrows_told s)
-      (ap (λ (rs : List ValueId). replicate (length rs) _) destroy_makes_none)
+      (ap (λ (rs : List ValueId). replicate (length rs) (borrow_by (result_kind_of s.destroy.op) s.destroy)) destroy_makes_none)
 
   pub facts_are : facts_in d (after s) ≡ facts_in d f
   facts_are = ap (λ defs w. facts_by defs w) definitions_are

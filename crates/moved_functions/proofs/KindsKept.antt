@@ -40,7 +40,7 @@ use Rattle.ownership_origins.specs.Switched.{switch_to}
 use Rattle.ownership_kinds.specs.Facts.{facts_in, kind_in, kind_of_facts}
 use Rattle.ownership_kinds.specs.Statics.{HasKinds, IsBroken, IsDefinedAt, IsOnRing, all_taken, is_annotated_well, is_guaranteed, is_lacking_default, is_mismatch, lacks_argument, lacks_by, mixed_operand, needs_argument, no_arguments}
 use Rattle.ownership_kinds.specs.Statics.IsBroken.{annotated, lacking, mismatch, mixed, on_ring}
-use Rattle.ownership_kinds.specs.Statics.IsDefinedAt as place
+use Rattle.ownership_kinds.specs.Statics.IsDefinedAt.{argument, result}
 use Rattle.sil_verifier.specs.Shown.IsShownIn.{kind as shown_kind}
 use Rattle.sil_verifier.specs.inner.Checked.{IsVerified}
 use Rattle.copy_removal.specs.Optimised.{facts_of}
@@ -63,7 +63,7 @@ pub data Stood (f : Function) (i moved : Inst) : Type 0 where
   move : i ≡ moved → Stood f i moved
 
 module _ {f : Function} {p : PointId} {last : ℕ} {c v : ValueId} (s : IsSplit f p last c v) where
-  tail_of : List Inst
+  abbrev tail_of : List Inst
   tail_of = s.back ++ s.block.terminator ∷ []
 
   new_there : insts_of (new_block s) ≡ s.front ++ move_of s.copy ∷ (s.middle ++ tail_of)
@@ -140,14 +140,14 @@ module _ (m : Module) (n : ℕ) (f : Function) (verified : IsVerified m) (in_mod
   ring_same w (inr h) = inr (subst (λ defs. IsCyclic defs w) (renamings_are m n f verified in_module s) h)
 
   defined_before : (w : ValueId) (b k : ℕ) → IsDefinedAt (after s) w b k → (b' : ℕ) × (k' : ℕ) × IsDefinedAt f w b' k'
-  defined_before w b k (place.result _ _ i here has) = by (stood s b k i here)
+  defined_before w b k (result _ _ i here has) = by (stood s b k i here)
     where
       by : Stood f i (move_of s.copy) → (b' : ℕ) × (k' : ℕ) × IsDefinedAt f w b' k'
-      by (before b' k' there) = (b', k', place.result b' k' i there has)
-      by (move e) = (p.block.0, p.index, place.result p.block.0 p.index s.copy (copy_at s) (subst (λ (x : Inst). Contains x.results w) e has))
-  defined_before w b k (place.argument _ block a there has is) =
+      by (before b' k' there) = (b', k', result b' k' i there has)
+      by (move e) = (p.block.0, p.index, result p.block.0 p.index s.copy (copy_at s) (subst (λ (x : Inst). Contains x.results w) e has))
+  defined_before w b k (argument _ block a there has is) =
       let it = arg_block s b block there in
-      (b, 0, place.argument b it.block a it.there (subst (λ args. Contains args a) (sym it.same) has) is)
+      (b, 0, argument b it.block a it.there (subst (λ args. Contains args a) (sym it.same) has) is)
 
   -- ---- lacking defaults
 
