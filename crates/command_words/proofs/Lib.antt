@@ -4,4 +4,5 @@ pub mod Sorts
 pub mod Steps
 pub mod Taken
 pub mod Read
+pub mod Flags
 pub mod Lines

@@ -4,14 +4,14 @@ use Rattle.std.specs.Prelude.{Bool, false}
 use Rattle.clap.specs.Faults.{option_fault, other_fault, settle_fault, step_fault, turn_fault, use_fault, walk_fault}
 use Rattle.clap.specs.Lexer.{name_and_value}
 use Rattle.clap.specs.Walk.{Held, Text, Waiting, Walk, arg_by_index, arg_by_long, idle, option, to_positional, value as a_value, walked}
-use Rattle.command_words.specs.CommandLines.{Argument, mode, Given, Gives, nothing, alone, apart, joined, behind, as_mode, is_option, is_value, name_of}
+use Rattle.command_words.specs.CommandLines.{Argument, mode, optimize, Given, Gives, nothing, alone, apart, joined, flag, behind, as_flag, as_mode, is_option, is_value, name_of}
 use Rattle.command_words.proofs.Rows.{AtMostOnce, once_more, rows}
-use Rattle.command_words.proofs.Parsed.{Holds, all_used, one_pending, Named, of_option, of_nothing, named, cons_not_nil, held, is_held, none_of, rule_for}
-use Rattle.command_words.proofs.Parsed.{rules, settled_rows_are, settles_once, top, use_is_new}
+use Rattle.command_words.proofs.Parsed.{Holds, all_used, one_pending, Named, of_option, of_flag, of_nothing, named, cons_not_nil, flag_is_new, held, is_held, none_of, option_takes_word, rule_for}
+use Rattle.command_words.proofs.Parsed.{rules, settled_rows_are, settles_once, takes_word, top, use_is_new}
 use Rattle.command_words.proofs.Sorts.{Sort, value, hyphens, long, short, sort_of, Cut, whole, parts, cut_of}
 use Rattle.command_words.proofs.Steps.{stands, turn_is, trailing_turn, trailing_next, first_place, mode_taken, no_short, no_value, unknown_option}
-use Rattle.command_words.proofs.Steps.{option_fault_is, waiting_turn, joined_turn, waits, value_turn, value_next, awaited_next}
-use Rattle.command_words.proofs.Taken.{Ends, IsPlace, hyphens_from, hyphens_next, joined_next_is, next_place, place_behind_mode, waits_next}
+use Rattle.command_words.proofs.Steps.{flag_alone, flag_turn, flag_valued, option_fault_is, waiting_turn, joined_turn, waits, value_turn, value_next, awaited_next}
+use Rattle.command_words.proofs.Taken.{Ends, IsPlace, flag_next_is, hyphens_from, hyphens_next, joined_next_is, next_place, place_behind_mode, place_beside, waits_next}
 
 -- nothing is wrong with the words, nor with what is still to be used after them
 pub record IsClear (w : Walk) (words : List Text) : Type 0 where
@@ -57,7 +57,7 @@ read_behind (word ∷ words) h p given holds place clear =
     trailing_next h idle p word ∙ ap (λ k. to_positional rules (arg_by_index rules k) word (stands h idle k true) h) once.0
     ∙ mode_taken h idle word given true holds once.1 in
     ends_before _ _ word words given (as_mode word) (map as_mode words) after
-    (read_behind words _ 2 (given ++ as_mode word ∷ []) (one_pending given mode word once.1) (place_behind_mode given word) (rest_clear _ _ word words after clear))
+    (read_behind words _ 2 (given ++ as_mode word ∷ []) (one_pending given mode word refl once.1) (place_behind_mode given word) (rest_clear _ _ word words after clear))
 
 -- ---- words in order
 
@@ -82,12 +82,12 @@ Reader words = (w : Walk) (given : List Given) (awaited : Option Argument) → S
 
 -- ---- an option that waits for its value
 
-module _ (a : Argument) (p : ℕ) (given : List Given) where
+module _ (a : Argument) (valued : takes_word a ≡ true) (p : ℕ) (given : List Given) where
   abbrev waiting_walk : Bool → Walk
   waiting_walk t = stands (waits a (rows given)) (option (name_of a)) p t
 
   still_waits : settle_fault rules false (waits a (rows given)) ≡ [] → ⊥
-  still_waits none = cons_not_nil _ _ (sym (no_value a (rows given)) ∙ none)
+  still_waits none = cons_not_nil _ _ (sym (no_value a (rows given) valued) ∙ none)
 
   -- no word stands by itself while the option waits
   no_mode : IsPlace p given → step_fault top p (waits a (rows given)) a_value ≡ [] → ⊥
@@ -112,7 +112,11 @@ module _ (a : Argument) (p : ℕ) (given : List Given) where
       cons_not_nil _ _ (sym (unknown_option idle p (waits a (rows given)) y ys (ap (λ (c : Text × Option Text). arg_by_long rules c.0) is ∙ none)) ∙ clear)
   no_long y ys name v is (of_option b opt found name_is) clear =
       no_option_here b v
-      (sym (option_fault_is idle p (waits a (rows given)) y ys b v (is ∙ ap (λ n. (n, v)) name_is) (ap (arg_by_long rules) (sym name_is) ∙ found)) ∙ clear)
+      (sym (option_fault_is idle p (waits a (rows given)) y ys b v (is ∙ ap (λ n. (n, v)) name_is) (ap (arg_by_long rules) (sym name_is) ∙ found) (option_takes_word b opt)) ∙ clear)
+  no_long y ys name None is (of_flag found name_is) clear =
+      still_waits (none_of _ _ (sym (flag_alone (waits a (rows given)) p y ys (ap (arg_by_long rules) (sym name_is) ∙ found) (is ∙ ap (λ n. (n, None)) name_is)) ∙ clear)).0
+  no_long y ys name (Some v) is (of_flag found name_is) clear =
+      cons_not_nil _ _ (sym (flag_valued (waits a (rows given)) p y ys (ap (arg_by_long rules) (sym name_is) ∙ found) v (is ∙ ap (λ n. (n, Some v)) name_is)) ∙ clear)
 
   long_clear : (y : ℕ) (ys : List ℕ) → other_fault top None (45 ∷ 45 ∷ y ∷ ys) (waits a (rows given)) ≡ [] → ⊥
   long_clear y ys clear = go (cut_of (y ∷ ys))
@@ -125,7 +129,7 @@ module _ (a : Argument) (p : ℕ) (given : List Given) where
       → Reads (waiting_walk false) (word ∷ words) given (Some a)
   read_awaited _ words opt once place rec clear (value word is) =
       let after = awaited_next a given p word is in
-      let rest = rec _ (given ++ (a, word) ∷ []) None (between _ p _ (one_pending given a word once) (next_place p given a word opt place)) (rest_clear _ _ word words after clear) in
+      let rest = rec _ (given ++ (a, word) ∷ []) None (between _ p _ (one_pending given a word valued once) (next_place p given a word opt place)) (rest_clear _ _ word words after clear) in
       record {
         more = (a, word) ∷ rest.more;
         gives = (word, words, rest.more, refl, refl, is, rest.gives);
@@ -151,7 +155,7 @@ module _ (h : Held) (p : ℕ) (given : List Given) (holds : Holds h given) (plac
       let after : walked rules [] here word ≡ stands (held (rows given) (Some (name_of mode, word ∷ []))) idle 2 false =
       value_next h given holds p word is ∙ ap (λ k. to_positional rules (arg_by_index rules k) word (stands h idle k false) h) once.0
       ∙ mode_taken h idle word given false holds once.1 in
-      let rest = rec _ (given ++ as_mode word ∷ []) None (between _ 2 _ (one_pending given mode word once.1) (place_behind_mode given word)) (rest_clear _ _ word words after clear) in
+      let rest = rec _ (given ++ as_mode word ∷ []) None (between _ 2 _ (one_pending given mode word refl once.1) (place_behind_mode given word)) (rest_clear _ _ word words after clear) in
       record {
         more = as_mode word ∷ rest.more;
         gives = alone word words rest.more is rest.gives;
@@ -161,8 +165,8 @@ module _ (h : Held) (p : ℕ) (given : List Given) (holds : Holds h given) (plac
   read_apart : (y : ℕ) (ys : List ℕ) (a : Argument) → is_option a ≡ true → name_and_value (y ∷ ys) ≡ (name_of a, None) → arg_by_long rules (name_of a) ≡ Some (rule_for a)
       → y ∷ ys ≡ name_of a → IsClear here ((45 ∷ 45 ∷ y ∷ ys) ∷ words) → Reads here ((45 ∷ 45 ∷ y ∷ ys) ∷ words) given None
   read_apart y ys a opt is found all clear =
-      let once = settles_once h given holds (none_of _ _ (sym (waiting_turn h p y ys a found is) ∙ first_clear _ (45 ∷ 45 ∷ y ∷ ys) words clear)).0 in
-      let after = waits_next h p given holds once a found y ys is in
+      let once = settles_once h given holds (none_of _ _ (sym (waiting_turn h p y ys a (option_takes_word a opt) found is) ∙ first_clear _ (45 ∷ 45 ∷ y ∷ ys) words clear)).0 in
+      let after = waits_next h p given holds once a (option_takes_word a opt) found y ys is in
       let rest = rec _ given (Some a) (awaits a p given opt once place) (rest_clear _ _ (45 ∷ 45 ∷ y ∷ ys) words after clear) in
       let g = rest.gives in
       record {
@@ -177,17 +181,32 @@ module _ (h : Held) (p : ℕ) (given : List Given) (holds : Holds h given) (plac
       → arg_by_long rules (name_of a) ≡ Some (rule_for a) → y ∷ ys ≡ name_of a ++ 61 ∷ v → IsClear here ((45 ∷ 45 ∷ y ∷ ys) ∷ words)
       → Reads here ((45 ∷ 45 ∷ y ∷ ys) ∷ words) given None
   read_joined y ys a v opt is found all clear =
-      let uses = (none_of _ _ (sym (joined_turn h p y ys a found v is) ∙ first_clear _ (45 ∷ 45 ∷ y ∷ ys) words clear)).0 in
+      let uses = (none_of _ _ (sym (joined_turn h p y ys a (option_takes_word a opt) found v is) ∙ first_clear _ (45 ∷ 45 ∷ y ∷ ys) words clear)).0 in
       let once = settles_once h given holds (none_of _ _ uses).0 in
-      let new = use_is_new a v given
+      let new = use_is_new a v given (option_takes_word a opt)
       (subst (λ rs. use_fault false (rule_for a) (v ∷ []) rs ≡ []) (settled_rows_are h given holds once) (none_of _ _ uses).1) in
-      let after = joined_next_is h p given holds once a found y ys v is new in
+      let after = joined_next_is h p given holds once a (option_takes_word a opt) found y ys v is new in
       let rest = rec _ (given ++ (a, v) ∷ []) None (between _ p _ (all_used _ (once_more given (a, v) once new)) (next_place p given a v opt place))
       (rest_clear _ _ (45 ∷ 45 ∷ y ∷ ys) words after clear) in
       record {
         more = (a, v) ∷ rest.more;
         gives = subst (λ l. Gives ((45 ∷ 45 ∷ l) ∷ words) ((a, v) ∷ rest.more)) (sym (all ∙ sym (append_assoc (name_of a) (61 ∷ []) v))) (joined a v words rest.more opt rest.gives);
         ends = ends_before _ _ (45 ∷ 45 ∷ y ∷ ys) words given (a, v) rest.more after rest.ends;
+      }
+
+  read_flag : (y : ℕ) (ys : List ℕ) → name_and_value (y ∷ ys) ≡ (name_of optimize, None) → arg_by_long rules (name_of optimize) ≡ Some (rule_for optimize)
+      → y ∷ ys ≡ name_of optimize → IsClear here ((45 ∷ 45 ∷ y ∷ ys) ∷ words) → Reads here ((45 ∷ 45 ∷ y ∷ ys) ∷ words) given None
+  read_flag y ys is found all clear =
+      let uses = (none_of _ _ (sym (flag_turn h p y ys found is) ∙ first_clear _ (45 ∷ 45 ∷ y ∷ ys) words clear)).0 in
+      let once = settles_once h given holds (none_of _ _ uses).0 in
+      let new = flag_is_new given (subst (λ rs. use_fault false (rule_for optimize) [] rs ≡ []) (settled_rows_are h given holds once) (none_of _ _ uses).1) in
+      let after = flag_next_is h p given holds once found y ys is new in
+      let rest = rec _ (given ++ as_flag ∷ []) None (between _ p _ (all_used _ (once_more given as_flag once new)) (place_beside p given as_flag refl place))
+      (rest_clear _ _ (45 ∷ 45 ∷ y ∷ ys) words after clear) in
+      record {
+        more = as_flag ∷ rest.more;
+        gives = subst (λ l. Gives ((45 ∷ 45 ∷ l) ∷ words) (as_flag ∷ rest.more)) (sym all) (flag words rest.more rest.gives);
+        ends = ends_before _ _ (45 ∷ 45 ∷ y ∷ ys) words given as_flag rest.more after rest.ends;
       }
 
   no_such_option : (y : ℕ) (ys : List ℕ) (name : Text) (v : Option Text) → name_and_value (y ∷ ys) ≡ (name, v) → arg_by_long rules name ≡ None
@@ -202,12 +221,15 @@ module _ (h : Held) (p : ℕ) (given : List Given) (holds : Holds h given) (plac
       by_whole is (of_nothing none) = absurd (no_such_option y ys (y ∷ ys) None is none clear)
       by_whole is (of_option a opt found name_is) =
           read_apart y ys a opt (is ∙ ap (λ n. (n, None)) name_is) (ap (arg_by_long rules) (sym name_is) ∙ found) name_is clear
+      by_whole is (of_flag found name_is) = read_flag y ys (is ∙ ap (λ n. (n, None)) name_is) (ap (arg_by_long rules) (sym name_is) ∙ found) name_is clear
 
       by_parts : (name v : Text) → name_and_value (y ∷ ys) ≡ (name, Some v) → y ∷ ys ≡ name ++ 61 ∷ v → Named name
           → Reads here ((45 ∷ 45 ∷ y ∷ ys) ∷ words) given None
       by_parts name v is all (of_nothing none) = absurd (no_such_option y ys name (Some v) is none clear)
       by_parts name v is all (of_option a opt found name_is) =
           read_joined y ys a v opt (is ∙ ap (λ n. (n, Some v)) name_is) (ap (arg_by_long rules) (sym name_is) ∙ found) (all ∙ ap (λ n. n ++ 61 ∷ v) name_is) clear
+      by_parts name v is all (of_flag found name_is) = absurd (cons_not_nil _ _
+          (sym (flag_valued h p y ys (ap (arg_by_long rules) (sym name_is) ∙ found) v (is ∙ ap (λ n. (n, Some v)) name_is)) ∙ clear_alone (45 ∷ 45 ∷ y ∷ ys) clear))
 
       by_cut : Cut (y ∷ ys) → Reads here ((45 ∷ 45 ∷ y ∷ ys) ∷ words) given None
       by_cut (whole is) = by_whole is (named (y ∷ ys))
@@ -230,6 +252,6 @@ module _ (h : Held) (p : ℕ) (given : List Given) (holds : Holds h given) (plac
 
 pub read_all : (words : List Text) → Reader words
 read_all [] _ _ _ (between h p given holds place) clear = record { more = []; gives = nothing; ends = ends_here h idle p false given holds }
-read_all [] _ _ _ (awaits a p given opt once place) clear = absurd (still_waits a p given clear.settles)
+read_all [] _ _ _ (awaits a p given opt once place) clear = absurd (still_waits a (option_takes_word a opt) p given clear.settles)
 read_all (word ∷ words) _ _ _ (between h p given holds place) clear = read_word h p given holds place words (read_all words) word clear (sort_of word)
-read_all (word ∷ words) _ _ _ (awaits a p given opt once place) clear = read_awaited a p given word words opt once place (read_all words) clear (sort_of word)
+read_all (word ∷ words) _ _ _ (awaits a p given opt once place) clear = read_awaited a (option_takes_word a opt) p given word words opt once place (read_all words) clear (sort_of word)

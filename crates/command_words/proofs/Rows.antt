@@ -8,7 +8,7 @@ use Rattle.std.specs.Option.{option_map_or}
 use Rattle.std.specs.Str.{bytes_eq}
 use Rattle.clap.specs.Facts.{explicit_source}
 use Rattle.clap.specs.Values.{reading_of}
-use Rattle.clap.specs.Walk.{Row, Text, at_row, first_of, has_row}
+use Rattle.clap.specs.Walk.{Row, Text, at_row, first_of, has_row, one_of, row_text}
 use Rattle.clap.specs.Takes.{is_given}
 use Rattle.clap.specs.declared.builder.value_parser.ValueParser.TheVariants as vp
 use Rattle.clap.specs.declared.parser.matches.ValueSource.TheVariants.{CommandLine}
@@ -67,6 +67,16 @@ first_of_values a (g ∷ given) = go (bytes_eq (name_of g.0) (name_of a)) (first
   where
     go : (b : Bool) → first_of (name_of a) (rows given) ≡ slice_get (values_of a given) 0
         → option_and_then (λ (r : Row). slice_get r.values 0) (cond b (Some (row g)) (find (λ r. bytes_eq r.id (name_of a)) (rows given)))
+        ≡ slice_get (map (λ (x : Given). x.1) (cond b (g ∷ filter (λ x. bytes_eq (name_of x.0) (name_of a)) given) (filter (λ x. bytes_eq (name_of x.0) (name_of a)) given))) 0
+    go true rest = refl
+    go false rest = rest
+
+pub one_of_values : (a : Argument) (given : List Given) → one_of (name_of a) (rows given) ≡ slice_get (values_of a given) 0
+one_of_values a [] = refl
+one_of_values a (g ∷ given) = go (bytes_eq (name_of g.0) (name_of a)) (one_of_values a given)
+  where
+    go : (b : Bool) → one_of (name_of a) (rows given) ≡ slice_get (values_of a given) 0
+        → option_and_then row_text (cond b (Some (row g)) (find (λ r. bytes_eq r.id (name_of a)) (rows given)))
         ≡ slice_get (map (λ (x : Given). x.1) (cond b (g ∷ filter (λ x. bytes_eq (name_of x.0) (name_of a)) given) (filter (λ x. bytes_eq (name_of x.0) (name_of a)) given))) 0
     go true rest = refl
     go false rest = rest
@@ -138,6 +148,12 @@ once_more given g once new a =
     go true e all =
         let none : length (values_of a given) ≡ 0 = subst (λ n. length (named_values n given) ≡ 0) (same_name _ _ e) (none_given g.0 given new) in
         omega (arith, all, none)
+
+-- how many values there are of which there is at most one
+pub once_length : (vs : List (List ℕ)) → length vs ≤ 1 → length vs ≡ cond (is_there vs) 1 0
+once_length [] most = refl
+once_length (v ∷ []) most = refl
+once_length (v ∷ w ∷ vs) most = absurd (omega arith)
 
 -- what values of which there is at most one are
 pub only_value : (vs : List (List ℕ)) → length vs ≤ 1 → vs ≡ option_to_list (slice_get vs 0)

@@ -13,9 +13,9 @@ use Rattle.clap.specs.Walk.{Held, Outcome, Row, Step, Text, Waiting, Walk, after
 use Rattle.clap.specs.Walk.{bundle_step, idle, is_pending, long_met, long_or_other, option, option_met, plain as plain_outcome, short_or_plain}
 use Rattle.clap.specs.Walk.{next, plain_word, pushed, settled, subcommand_met, subcommand_or_other, to_positional, trailing, used, value as a_value, walked}
 use Rattle.clap.specs.declared.error.kind.ErrorKind.TheVariants as kind
-use Rattle.command_words.specs.CommandLines.{Argument, mode, turns, entry, Given, is_value, name_of}
+use Rattle.command_words.specs.CommandLines.{Argument, mode, turns, entry, optimize, Given, is_value, name_of}
 use Rattle.command_words.proofs.Rows.{AtMostOnce, rows}
-use Rattle.command_words.proofs.Parsed.{Holds, held, is_held, nothing_skipped, rule_for, rules, settled_rows_are, top}
+use Rattle.command_words.proofs.Parsed.{Holds, held, is_held, nothing_skipped, rule_for, rules, settled_rows_are, takes_word, top}
 
 -- where a parse stands between two words
 abbrev pub stands : Held → Waiting → ℕ → Bool → Walk
@@ -177,39 +177,59 @@ module _ (waiting : Waiting) (p : ℕ) (h : Held) (y : ℕ) (ys : List ℕ) wher
   pub unknown_option : arg_by_long rules cut.0 ≡ None → other_fault top None word h ≡ kind.UnknownArgument ∷ []
   unknown_option none = long_fault_is ∙ ap (λ found. long_fault rules false found cut.1 h) none
 
+  abbrev after : Held × Outcome → Held × Step
+  after o = after_flag rules waiting word o.0 o.1
+
   module _ (a : Argument) (v : Option Text) (is : cut ≡ (name_of a, v)) (found : arg_by_long rules (name_of a) ≡ Some (rule_for a)) where
-    pub option_fault_is : other_fault top None word h ≡ option_fault rules false (rule_for a) v h
-    option_fault_is =
-        long_fault_is ∙ ap (λ (c : Text × Option Text). long_fault rules false (arg_by_long rules c.0) c.1 h) is ∙ ap (λ f. long_fault rules false f v h) found ∙ go a
-      where
-        go : (b : Argument) → long_fault rules false (Some (rule_for b)) v h ≡ option_fault rules false (rule_for b) v h
-        go mode = refl
-        go turns = refl
-        go entry = refl
+    abbrev met_named : Held × Step
+    met_named = after (long_met rules (Some (rule_for a)) v h)
 
-    abbrev after : Held × Outcome → Held × Step
-    after o = after_flag rules waiting word o.0 o.1
+    pub named_fault : other_fault top None word h ≡ long_fault rules false (Some (rule_for a)) v h
+    named_fault = long_fault_is ∙ ap (λ (c : Text × Option Text). long_fault rules false (arg_by_long rules c.0) c.1 h) is ∙ ap (λ f. long_fault rules false f v h) found
 
-    option_met_is : subcommand_or_other rules None waiting p word h ≡ after (option_met rules (rule_for a) v h)
-    option_met_is =
-        long_met_is ∙ ap (λ (c : Text × Option Text). after (long_met rules (arg_by_long rules c.0) c.1 h)) is
-        ∙ ap (λ f. after (long_met rules f v h)) found ∙ ap after (go a)
-      where
-        go : (b : Argument) → long_met rules (Some (rule_for b)) v h ≡ option_met rules (rule_for b) v h
-        go mode = refl
-        go turns = refl
-        go entry = refl
+    named_met : subcommand_or_other rules None waiting p word h ≡ met_named
+    named_met =
+        long_met_is ∙ ap (λ (c : Text × Option Text). after (long_met rules (arg_by_long rules c.0) c.1 h)) is ∙ ap (λ f. after (long_met rules f v h)) found
 
-    pub option_turn : turn_fault top [] (stands h waiting p false) word
-        ≡ or_else (option_fault rules false (rule_for a) v h) (step_fault top p (after (option_met rules (rule_for a) v h)).0 (after (option_met rules (rule_for a) v h)).1)
-    option_turn = turn_is h waiting p word ∙ ap₂ (λ ks (m : Held × Step). or_else ks (step_fault top p m.0 m.1)) option_fault_is option_met_is
+    pub named_turn : turn_fault top [] (stands h waiting p false) word ≡ or_else (long_fault rules false (Some (rule_for a)) v h) (step_fault top p met_named.0 met_named.1)
+    named_turn = turn_is h waiting p word ∙ ap₂ (λ ks (m : Held × Step). or_else ks (step_fault top p m.0 m.1)) named_fault named_met
 
-    pub option_next : walked rules [] (stands h waiting p false) word
-        ≡ after_step rules word (stands h waiting p false) (after (option_met rules (rule_for a) v h)).0 (after (option_met rules (rule_for a) v h)).1
-    option_next = next_is h waiting p word ∙ ap (λ (m : Held × Step). after_step rules word (stands h waiting p false) m.0 m.1) option_met_is
+    pub named_next : walked rules [] (stands h waiting p false) word ≡ after_step rules word (stands h waiting p false) met_named.0 met_named.1
+    named_next = next_is h waiting p word ∙ ap (λ (m : Held × Step). after_step rules word (stands h waiting p false) m.0 m.1) named_met
+
+    module _ (valued : takes_word a ≡ true) where
+      fault_by_option : long_fault rules false (Some (rule_for a)) v h ≡ option_fault rules false (rule_for a) v h
+      fault_by_option = go a valued
+        where
+          go : (b : Argument) → takes_word b ≡ true → long_fault rules false (Some (rule_for b)) v h ≡ option_fault rules false (rule_for b) v h
+          go mode w = refl
+          go turns w = refl
+          go entry w = refl
+          go optimize w = absurd (true≢false (sym w))
+
+      met_by_option : long_met rules (Some (rule_for a)) v h ≡ option_met rules (rule_for a) v h
+      met_by_option = go a valued
+        where
+          go : (b : Argument) → takes_word b ≡ true → long_met rules (Some (rule_for b)) v h ≡ option_met rules (rule_for b) v h
+          go mode w = refl
+          go turns w = refl
+          go entry w = refl
+          go optimize w = absurd (true≢false (sym w))
+
+      pub option_fault_is : other_fault top None word h ≡ option_fault rules false (rule_for a) v h
+      option_fault_is = named_fault ∙ fault_by_option
+
+      pub option_turn : turn_fault top [] (stands h waiting p false) word
+          ≡ or_else (option_fault rules false (rule_for a) v h) (step_fault top p (after (option_met rules (rule_for a) v h)).0 (after (option_met rules (rule_for a) v h)).1)
+      option_turn = named_turn
+          ∙ ap₂ (λ ks (o : Held × Outcome). or_else ks (step_fault top p (after o).0 (after o).1)) fault_by_option met_by_option
+
+      pub option_next : walked rules [] (stands h waiting p false) word
+          ≡ after_step rules word (stands h waiting p false) (after (option_met rules (rule_for a) v h)).0 (after (option_met rules (rule_for a) v h)).1
+      option_next = named_next ∙ ap (λ (o : Held × Outcome). after_step rules word (stands h waiting p false) (after o).0 (after o).1) met_by_option
 
 -- an option, with its value in the next word or in the same
-module _ (h : Held) (p : ℕ) (y : ℕ) (ys : List ℕ) (a : Argument) (found : arg_by_long rules (name_of a) ≡ Some (rule_for a)) where
+module _ (h : Held) (p : ℕ) (y : ℕ) (ys : List ℕ) (a : Argument) (valued : takes_word a ≡ true) (found : arg_by_long rules (name_of a) ≡ Some (rule_for a)) where
   abbrev option_text : Text
   option_text = 45 ∷ 45 ∷ y ∷ ys
 
@@ -220,23 +240,44 @@ module _ (h : Held) (p : ℕ) (y : ℕ) (ys : List ℕ) (a : Argument) (found : 
       go mode = refl
       go turns = refl
       go entry = refl
+      go optimize = refl
 
   pub waiting_turn : name_and_value (y ∷ ys) ≡ (name_of a, None) → turn_fault top [] (stands h idle p false) option_text ≡ or_else (settle_fault rules false h) []
-  waiting_turn is = option_turn idle p h y ys a None is found
+  waiting_turn is = option_turn idle p h y ys a None is found valued
 
   pub waiting_next : name_and_value (y ∷ ys) ≡ (name_of a, None)
       → walked rules [] (stands h idle p false) option_text ≡ stands (record (settled rules h) { pending = Some (name_of a, []) }) (option (name_of a)) p false
   waiting_next is =
-      option_next idle p h y ys a None is found
+      option_next idle p h y ys a None is found valued
       ∙ ap (λ id. stands (record (settled rules h) { pending = Some (id, []) }) (option id) p false) id_is
 
   pub joined_turn : (v : Text) → name_and_value (y ∷ ys) ≡ (name_of a, Some v) → turn_fault top [] (stands h idle p false) option_text
       ≡ or_else (or_else (settle_fault rules false h) (use_fault false (rule_for a) (v ∷ []) (settled rules h).rows)) []
-  joined_turn v is = option_turn idle p h y ys a (Some v) is found
+  joined_turn v is = option_turn idle p h y ys a (Some v) is found valued
 
   pub joined_next : (v : Text) → name_and_value (y ∷ ys) ≡ (name_of a, Some v) → walked rules [] (stands h idle p false) option_text
       ≡ stands (record h { rows = used (rule_for a) (v ∷ []) (settled rules h).rows; pending = None }) idle p false
-  joined_next v is = option_next idle p h y ys a (Some v) is found
+  joined_next v is = option_next idle p h y ys a (Some v) is found valued
+
+-- the flag, which has no value
+module _ (h : Held) (p : ℕ) (y : ℕ) (ys : List ℕ) (found : arg_by_long rules (name_of optimize) ≡ Some (rule_for optimize)) where
+  abbrev flag_text : Text
+  flag_text = 45 ∷ 45 ∷ y ∷ ys
+
+  pub flag_turn : name_and_value (y ∷ ys) ≡ (name_of optimize, None) → turn_fault top [] (stands h idle p false) flag_text
+      ≡ or_else (or_else (settle_fault rules false h) (use_fault false (rule_for optimize) [] (settled rules h).rows)) []
+  flag_turn is = named_turn idle p h y ys optimize None is found
+
+  pub flag_next : name_and_value (y ∷ ys) ≡ (name_of optimize, None) → walked rules [] (stands h idle p false) flag_text
+      ≡ stands (record h { rows = used (rule_for optimize) [] (settled rules h).rows; pending = None }) idle p false
+  flag_next is = named_next idle p h y ys optimize None is found
+
+  pub flag_alone : name_and_value (y ∷ ys) ≡ (name_of optimize, None)
+      → other_fault top None flag_text h ≡ or_else (settle_fault rules false h) (use_fault false (rule_for optimize) [] (settled rules h).rows)
+  flag_alone is = named_fault idle p h y ys optimize None is found
+
+  pub flag_valued : (v : Text) → name_and_value (y ∷ ys) ≡ (name_of optimize, Some v) → other_fault top None flag_text h ≡ kind.TooManyValues ∷ []
+  flag_valued v is = named_fault idle p h y ys optimize (Some v) is found
 
 -- ---- an option that waits for its value
 
@@ -245,13 +286,14 @@ waits a rs = held rs (Some (name_of a, []))
 
 module _ (a : Argument) (rs : List Row) where
   -- without one the use is at fault
-  pub no_value : settle_fault rules false (waits a rs) ≡ kind.InvalidValue ∷ []
+  pub no_value : takes_word a ≡ true → settle_fault rules false (waits a rs) ≡ kind.InvalidValue ∷ []
   no_value = go a
     where
-      go : (b : Argument) → settle_fault rules false (held rs (Some (name_of b, []))) ≡ kind.InvalidValue ∷ []
-      go mode = refl
-      go turns = refl
-      go entry = refl
+      go : (b : Argument) → takes_word b ≡ true → settle_fault rules false (held rs (Some (name_of b, []))) ≡ kind.InvalidValue ∷ []
+      go mode w = refl
+      go turns w = refl
+      go entry w = refl
+      go optimize w = absurd (true≢false (sym w))
 
   pub value_word : (word : Text) → plain_word rules (option (name_of a)) word (waits a rs) ≡ (held rs (Some (name_of a, word ∷ [])), next idle)
   value_word word = go a
@@ -260,6 +302,7 @@ module _ (a : Argument) (rs : List Row) where
       go mode = refl
       go turns = refl
       go entry = refl
+      go optimize = refl
 
 -- ---- a value by itself
 

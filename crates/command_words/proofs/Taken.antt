@@ -6,13 +6,13 @@ use Rattle.clap.specs.Kinds.{or_else}
 use Rattle.clap.specs.Lexer.{name_and_value}
 use Rattle.clap.specs.Faults.{step_fault}
 use Rattle.clap.specs.Walk.{Held, Text, Waiting, Walk, arg_by_index, arg_by_long, idle, option, settled, to_positional, used, value as a_value, walked}
-use Rattle.command_words.specs.CommandLines.{Argument, mode, turns, entry, Given, Gives, nothing, alone, apart, joined, behind, as_mode, is_option}
+use Rattle.command_words.specs.CommandLines.{Argument, mode, turns, entry, optimize, Given, Gives, nothing, alone, apart, joined, flag, behind, as_flag, as_mode, is_option}
 use Rattle.command_words.specs.CommandLines.{name_of, option_word, values_of}
 use Rattle.command_words.proofs.Rows.{AtMostOnce, first_once, last_new, rows, values-append, IsNew}
-use Rattle.command_words.proofs.Parsed.{Holds, all_used, one_pending, held, new_is_use, is_held, nothing_skipped, once_settles, rule_for, rules}
-use Rattle.command_words.proofs.Parsed.{settled_rows_are, top, used_row}
+use Rattle.command_words.proofs.Parsed.{Holds, all_used, one_pending, flag_row, held, new_is_flag, new_is_use, is_held, nothing_skipped, once_settles, option_takes_word, rule_for, rules}
+use Rattle.command_words.proofs.Parsed.{settled_rows_are, takes_word, top, used_row}
 use Rattle.command_words.proofs.Steps.{stands, next_is, trailing_turn, trailing_next, first_place, mode_taken, waiting_turn, waiting_next, joined_turn}
-use Rattle.command_words.proofs.Steps.{joined_next, waits, value_turn, value_next, awaited_turn, awaited_next}
+use Rattle.command_words.proofs.Steps.{flag_next, flag_turn, joined_next, waits, value_turn, value_next, awaited_turn, awaited_next}
 
 -- the place of the next word that stands by itself
 abbrev pub IsPlace : ℕ → List Given → Type 0
@@ -38,16 +38,21 @@ unfolding walk_fault
 passes_more w after word words given none is rest =
     (rw (none, is) rest.0, rw is rest.1)
 
-pub next_place : (p : ℕ) (given : List Given) (a : Argument) (v : Text) → is_option a ≡ true → IsPlace p given → IsPlace p (given ++ (a, v) ∷ [])
-next_place p given a v opt place =
-    let same : values_of mode (given ++ (a, v) ∷ []) ≡ values_of mode given =
-    values-append mode given ((a, v) ∷ []) ∙ ap (λ l. values_of mode given ++ l) (none a opt) ∙ append-nil (values_of mode given) in
+-- the place stays behind what is no mode
+pub place_beside : (p : ℕ) (given : List Given) (g : Given) → values_of mode (g ∷ []) ≡ [] → IsPlace p given → IsPlace p (given ++ g ∷ [])
+place_beside p given g none place =
+    let same : values_of mode (given ++ g ∷ []) ≡ values_of mode given =
+    values-append mode given (g ∷ []) ∙ ap (λ l. values_of mode given ++ l) none ∙ append-nil (values_of mode given) in
     subst (λ vs. ((p ≡ 1) × (length vs ≡ 0)) ⊎ ((p ≡ 2) × (1 ≤ length vs))) (sym same) place
+
+pub next_place : (p : ℕ) (given : List Given) (a : Argument) (v : Text) → is_option a ≡ true → IsPlace p given → IsPlace p (given ++ (a, v) ∷ [])
+next_place p given a v opt place = place_beside p given (a, v) (none a opt) place
   where
     none : (b : Argument) → is_option b ≡ true → values_of mode ((b, v) ∷ []) ≡ []
     none mode e = absurd (true≢false (sym e))
     none turns e = refl
     none entry e = refl
+    none optimize e = refl
 
 pub place_behind_mode : (given : List Given) (v : Text) → IsPlace 2 (given ++ as_mode v ∷ [])
 place_behind_mode given v =
@@ -100,7 +105,7 @@ all_behind (word ∷ words) h p given holds place once =
     let step = mode_passes h p true given word holds place so_far (trailing_turn h idle p word) (trailing_next h idle p word) in
     regroup _ _ given (as_mode word) (map as_mode words)
     (passes_more _ _ word words _ step.0 step.1
-    (all_behind words _ 2 (given ++ as_mode word ∷ []) (one_pending given mode word (first_once given (as_mode word ∷ []) so_far)) (place_behind_mode given word)
+    (all_behind words _ 2 (given ++ as_mode word ∷ []) (one_pending given mode word refl (first_once given (as_mode word ∷ []) so_far)) (place_behind_mode given word)
     (once_again given (as_mode word) (map as_mode words) once)))
 
 module _ (h : Held) (p : ℕ) (given : List Given) (holds : Holds h given) (once : AtMostOnce given) where
@@ -110,45 +115,63 @@ module _ (h : Held) (p : ℕ) (given : List Given) (holds : Holds h given) (once
   settled_is : settled rules h ≡ held (rows given) None
   settled_is = nothing_skipped h given holds ∙ ap (λ rs. held rs None) (settled_rows_are h given holds once)
 
-  module _ (a : Argument) (found : arg_by_long rules (name_of a) ≡ Some (rule_for a)) (y : ℕ) (ys : List ℕ) where
+  module _ (a : Argument) (valued : takes_word a ≡ true) (found : arg_by_long rules (name_of a) ≡ Some (rule_for a)) (y : ℕ) (ys : List ℕ) where
     pub waits_passes : name_and_value (y ∷ ys) ≡ (name_of a, None) → turn_fault top [] (stands h idle p false) (45 ∷ 45 ∷ y ∷ ys) ≡ []
-    waits_passes is = waiting_turn h p y ys a found is ∙ ap (λ ks. or_else ks []) settles
+    waits_passes is = waiting_turn h p y ys a valued found is ∙ ap (λ ks. or_else ks []) settles
 
     pub waits_next : name_and_value (y ∷ ys) ≡ (name_of a, None)
         → walked rules [] (stands h idle p false) (45 ∷ 45 ∷ y ∷ ys) ≡ stands (waits a (rows given)) (option (name_of a)) p false
-    waits_next is = waiting_next h p y ys a found is
+    waits_next is = waiting_next h p y ys a valued found is
         ∙ ap (λ (k : Held). stands (record k { pending = Some (name_of a, []) }) (option (name_of a)) p false) settled_is
 
     module _ (v : Text) (is : name_and_value (y ∷ ys) ≡ (name_of a, Some v)) (new : IsNew (a, v) given) where
       pub joined_passes : turn_fault top [] (stands h idle p false) (45 ∷ 45 ∷ y ∷ ys) ≡ []
-      joined_passes = joined_turn h p y ys a found v is
+      joined_passes = joined_turn h p y ys a valued found v is
           ∙ ap₂ (λ ks rs. or_else (or_else ks (use_fault false (rule_for a) (v ∷ []) rs)) []) settles (settled_rows_are h given holds once)
-          ∙ ap (λ ks. or_else ks []) (new_is_use a v given new)
+          ∙ ap (λ ks. or_else ks []) (new_is_use a v given valued new)
 
       pub joined_next_is : walked rules [] (stands h idle p false) (45 ∷ 45 ∷ y ∷ ys) ≡ stands (held (rows (given ++ (a, v) ∷ [])) None) idle p false
-      joined_next_is = joined_next h p y ys a found v is
+      joined_next_is = joined_next h p y ys a valued found v is
           ∙ ap₂ (λ (k : Held) rs. stands (record k { rows = used (rule_for a) (v ∷ []) rs; pending = None }) idle p false) (is_held h given holds) (settled_rows_are h given holds once)
-          ∙ ap (λ rs. stands (held rs None) idle p false) (used_row a v given new)
+          ∙ ap (λ rs. stands (held rs None) idle p false) (used_row a v given valued new)
 
--- `--turns` and `--entry` are found, alone and with `=`
+  module _ (found : arg_by_long rules (name_of optimize) ≡ Some (rule_for optimize)) (y : ℕ) (ys : List ℕ) (is : name_and_value (y ∷ ys) ≡ (name_of optimize, None))
+      (new : IsNew as_flag given) where
+    pub flag_passes : turn_fault top [] (stands h idle p false) (45 ∷ 45 ∷ y ∷ ys) ≡ []
+    flag_passes = flag_turn h p y ys found is
+        ∙ ap₂ (λ ks rs. or_else (or_else ks (use_fault false (rule_for optimize) [] rs)) []) settles (settled_rows_are h given holds once)
+        ∙ ap (λ ks. or_else ks []) (new_is_flag given new)
+
+    pub flag_next_is : walked rules [] (stands h idle p false) (45 ∷ 45 ∷ y ∷ ys) ≡ stands (held (rows (given ++ as_flag ∷ [])) None) idle p false
+    flag_next_is = flag_next h p y ys found is
+        ∙ ap₂ (λ (k : Held) rs. stands (record k { rows = used (rule_for optimize) [] rs; pending = None }) idle p false) (is_held h given holds) (settled_rows_are h given holds once)
+        ∙ ap (λ rs. stands (held rs None) idle p false) (flag_row given new)
+
+-- `--turns` and `--entry` are found, alone and with `=`, and `--optimize` alone
 module _ (h : Held) (p : ℕ) (given : List Given) (holds : Holds h given) (once : AtMostOnce given) where
   option_waits : (a : Argument) → is_option a ≡ true → (turn_fault top [] (stands h idle p false) (option_word a) ≡ [])
       × (walked rules [] (stands h idle p false) (option_word a) ≡ stands (waits a (rows given)) (option (name_of a)) p false)
   option_waits mode opt = absurd (true≢false (sym opt))
-  option_waits turns opt = (waits_passes h p given holds once turns refl 116 (codes "urns") refl, waits_next h p given holds once turns refl 116 (codes "urns") refl)
-  option_waits entry opt = (waits_passes h p given holds once entry refl 101 (codes "ntry") refl, waits_next h p given holds once entry refl 101 (codes "ntry") refl)
+  option_waits turns opt = (waits_passes h p given holds once turns refl refl 116 (codes "urns") refl, waits_next h p given holds once turns refl refl 116 (codes "urns") refl)
+  option_waits entry opt = (waits_passes h p given holds once entry refl refl 101 (codes "ntry") refl, waits_next h p given holds once entry refl refl 101 (codes "ntry") refl)
+  option_waits optimize opt = absurd (true≢false (sym opt))
 
   option_joined : (a : Argument) (v : Text) → is_option a ≡ true → IsNew (a, v) given → (turn_fault top [] (stands h idle p false) (option_word a ++ codes "=" ++ v) ≡ [])
       × (walked rules [] (stands h idle p false) (option_word a ++ codes "=" ++ v) ≡ stands (held (rows (given ++ (a, v) ∷ [])) None) idle p false)
   option_joined mode v opt new = absurd (true≢false (sym opt))
   option_joined turns v opt new = (
-    joined_passes h p given holds once turns refl 116 (codes "urns=" ++ v) v refl new,
-    joined_next_is h p given holds once turns refl 116 (codes "urns=" ++ v) v refl new,
+    joined_passes h p given holds once turns refl refl 116 (codes "urns=" ++ v) v refl new,
+    joined_next_is h p given holds once turns refl refl 116 (codes "urns=" ++ v) v refl new,
   )
   option_joined entry v opt new = (
-    joined_passes h p given holds once entry refl 101 (codes "ntry=" ++ v) v refl new,
-    joined_next_is h p given holds once entry refl 101 (codes "ntry=" ++ v) v refl new,
+    joined_passes h p given holds once entry refl refl 101 (codes "ntry=" ++ v) v refl new,
+    joined_next_is h p given holds once entry refl refl 101 (codes "ntry=" ++ v) v refl new,
   )
+  option_joined optimize v opt new = absurd (true≢false (sym opt))
+
+  flag_stands : IsNew as_flag given → (turn_fault top [] (stands h idle p false) (option_word optimize) ≡ [])
+      × (walked rules [] (stands h idle p false) (option_word optimize) ≡ stands (held (rows (given ++ as_flag ∷ [])) None) idle p false)
+  flag_stands new = (flag_passes h p given holds once refl 111 (codes "ptimize") refl new, flag_next_is h p given holds once refl 111 (codes "ptimize") refl new)
 
 pub all_pass : (words : List Text) (more : List Given) → Gives words more → (h : Held) (p : ℕ) (given : List Given) → Holds h given → IsPlace p given
     → AtMostOnce (given ++ more) → Passes (stands h idle p false) words (given ++ more)
@@ -158,7 +181,7 @@ all_pass _ _ (alone word words more is gives) h p given holds place once =
     let step = mode_passes h p false given word holds place so_far (value_turn h given holds p word is) (value_next h given holds p word is) in
     regroup _ _ given (as_mode word) more
     (passes_more _ _ word words _ step.0 step.1
-    (all_pass words more gives _ 2 (given ++ as_mode word ∷ []) (one_pending given mode word (first_once given (as_mode word ∷ []) so_far)) (place_behind_mode given word)
+    (all_pass words more gives _ 2 (given ++ as_mode word ∷ []) (one_pending given mode word refl (first_once given (as_mode word ∷ []) so_far)) (place_behind_mode given word)
     (once_again given (as_mode word) more once)))
 all_pass _ _ (apart a word words more opt is gives) h p given holds place once =
     let so_far : AtMostOnce given = first_once given ((a, word) ∷ more) once in
@@ -166,7 +189,7 @@ all_pass _ _ (apart a word words more opt is gives) h p given holds place once =
     regroup _ _ given (a, word) more
     (passes_more _ _ (option_word a) (word ∷ words) _ first.0 first.1
     (passes_more _ _ word words _ (awaited_turn a given p word is) (awaited_next a given p word is)
-    (all_pass words more gives _ p (given ++ (a, word) ∷ []) (one_pending given a word so_far) (next_place p given a word opt place)
+    (all_pass words more gives _ p (given ++ (a, word) ∷ []) (one_pending given a word (option_takes_word a opt) so_far) (next_place p given a word opt place)
     (once_again given (a, word) more once))))
 all_pass _ _ (joined a word words more opt gives) h p given holds place once =
     let so_far = once_so_far given (a, word) more once in
@@ -175,5 +198,12 @@ all_pass _ _ (joined a word words more opt gives) h p given holds place once =
     (passes_more _ _ (option_word a ++ codes "=" ++ word) words _ step.0 step.1
     (all_pass words more gives _ p (given ++ (a, word) ∷ []) (all_used (given ++ (a, word) ∷ []) so_far) (next_place p given a word opt place)
     (once_again given (a, word) more once)))
+all_pass _ _ (flag words more gives) h p given holds place once =
+    let so_far = once_so_far given as_flag more once in
+    let step = flag_stands h p given holds (first_once given (as_flag ∷ []) so_far) (last_new given as_flag so_far) in
+    regroup _ _ given as_flag more
+    (passes_more _ _ (option_word optimize) words _ step.0 step.1
+    (all_pass words more gives _ p (given ++ as_flag ∷ []) (all_used (given ++ as_flag ∷ []) so_far) (place_beside p given as_flag refl place)
+    (once_again given as_flag more once)))
 all_pass _ _ (behind words) h p given holds place once =
     passes_more _ _ (codes "--") words _ refl (hyphens_next h p) (all_behind words h p given holds place once)

@@ -1,4 +1,4 @@
-//! The words of a command line: which word names the mode, and what the options are given. `clap` reads them.
+//! The words of a command line: which word names the mode, what the options are given, and whether the flag is there. `clap` reads them.
 //! What a mode is, and which options it takes, isn't asked here.
 #![tactic(auto)]
 

@@ -20,6 +20,8 @@ pub struct CommandWords<'a> {
     pub turns: Option<&'a str>,
     /// The value of `--entry`.
     pub entry: Option<&'a str>,
+    /// Whether `--optimize` is there.
+    pub optimize: bool,
 }
 
 /// What these words say, or none where they are no command line. The program's name isn't among them.
@@ -28,7 +30,7 @@ pub fn read_words<'a>(
     words: &'a [&'a str],
 ) -> Result<Option<CommandWords<'a>>, Exhausted>
     ensures { IfOk result (λ read. MatchOption read (¬ IsCommandLine (map (λ w. w.now) words.entry.now))
-        (λ r. Says (map (λ w. w.now) words.entry.now) r.mode.now (option_map (λ v. v.now) r.turns) (option_map (λ v. v.now) r.entry))) }
+        (λ r. Says (map (λ w. w.now) words.entry.now) r.mode.now (option_map (λ v. v.now) r.turns) (option_map (λ v. v.now) r.entry) r.optimize)) }
 {
     match declared_command(alloc)?.try_get_matches_from(words) {
         Ok(matches) => Ok(matched_words(&matches)),
@@ -40,11 +42,12 @@ pub fn read_words<'a>(
 /// The words that were matched, where the mode is among them.
 fn matched_words<'a>(matches: &ArgMatches<'a>) -> Option<CommandWords<'a>>
     ensures { MatchOption result (first_value (found_of matches.now) (codes "mode") ≡ None)
-        (λ r. Matches (found_of matches.now) r.mode.now (option_map (λ v. v.now) r.turns) (option_map (λ v. v.now) r.entry)) }
+        (λ r. Matches (found_of matches.now) r.mode.now (option_map (λ v. v.now) r.turns) (option_map (λ v. v.now) r.entry) r.optimize) }
 {
     Some(CommandWords {
         mode: matches.get_str("mode")?,
         turns: matches.get_str("turns"),
         entry: matches.get_str("entry"),
+        optimize: matches.get_flag("optimize"),
     })
 }

@@ -1,9 +1,10 @@
 -- What a user of command lines may rely on.
-use Rattle.std.specs.Prelude.{◌≡◌, ℕ, List, Option}
+use Rattle.std.specs.Prelude.{◌≡◌, ℕ, Bool, List, Option}
 use Rattle.command_words.specs.CommandLines.{Says}
 
 -- a command line says one thing
 abbrev pub SayOneThing : Type 0
-SayOneThing = (words : List (List ℕ)) (mode_word other_word : List ℕ) (turns_value other_turns entry_value other_entry : Option (List ℕ))
-    → Says words mode_word turns_value entry_value → Says words other_word other_turns other_entry
-    → (mode_word ≡ other_word) × (turns_value ≡ other_turns) × (entry_value ≡ other_entry)
+SayOneThing =
+    (words : List (List ℕ)) (mode_word other_word : List ℕ) (turns_value other_turns entry_value other_entry : Option (List ℕ))
+    (optimises other_optimises : Bool) → Says words mode_word turns_value entry_value optimises → Says words other_word other_turns other_entry other_optimises
+    → (mode_word ≡ other_word) × (turns_value ≡ other_turns) × (entry_value ≡ other_entry) × (optimises ≡ other_optimises)
