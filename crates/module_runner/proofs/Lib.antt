@@ -1,3 +1,4 @@
 mod Entering
+mod Optimising
 mod OneEntry
 mod Reported

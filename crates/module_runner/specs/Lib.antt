@@ -1,5 +1,7 @@
 pub mod Entries
+pub mod Optimising
 pub mod inner
+pub use Rattle.copy_removal.specs.Optimised
 pub use Rattle.holder_model.specs.Outcomes
 pub use Rattle.holder_model.specs.States
 pub use Rattle.lowered_run.specs.LowOutcomes

@@ -1,15 +1,17 @@
-//! Runs accepted modules: lowers one, runs the lowered module from an entry function, and reports the run.
-//! What lowering makes, how a run goes and how a report is written, isn't said here.
+//! Runs accepted modules: lowers one, optimised first where that is asked for, runs the lowered module from an entry function, and
+//! reports the run. What is optimised, what lowering makes, how a run goes and how a report is written, isn't said here.
 #![tactic(auto)]
 
 mod ending;
 mod entry;
 mod laws;
+mod optimising;
 mod report;
 mod runner;
 
-pub use laws::names_have_one_entry;
+pub use laws::{names_have_one_entry, one_module_is_lowered};
 pub use lowered_run::lowered_runs_end_once;
+pub use optimising::optimised_if;
 pub use ownership_lowering::lower;
 pub use report::{RunReport, report_text};
 pub use report_writing::Ending;

@@ -8,9 +8,9 @@ ghost use Rattle.module_runner.specs.declared.runner.RunEnd.TheVariants.{NoEntry
 
 use crate::ending::reported;
 use crate::entry::{Entry, entry_named};
+use crate::optimising::lowered_if;
 use crate::report::RunReport;
 use count_machine::{LowRun, run};
-use ownership_lowering::lower;
 use sil_ast::{Boxed, Exhausted, Given, List, Signature, TryClone, TypeName};
 use sil_types::only_direct_type;
 use sil_verifier::Checked;
@@ -25,15 +25,17 @@ pub enum RunEnd {
     Memory,
 }
 
-/// Lowers an accepted module, and runs the lowered one from the function with the name `entry`, for a bound on turns.
+/// Lowers an accepted module, optimised first where that is asked for, and runs the lowered one from the function with the name
+/// `entry`, for a bound on turns.
 pub fn run_checked<'c>(
     alloc: Global,
     c: &'c Checked,
     entry: &[u8],
     turns: u32,
+    optimise: bool,
 ) -> Result<RunReport<'c>, RunEnd>
     requires { 1 ≤ turns }
-    ensures run { IfOk result (TellsOfRun c.now entry.now turns) }
+    ensures run { IfOk result (TellsOfRun c.now entry.now turns optimise) }
     ensures heap { IfOk result HeapIsAsTold }
     ensures reportable { IfOk result IsReportable }
     ensures no_entry { (result ≡ Err NoEntry) ↔ ¬ HasEntry c.now entry.now }
@@ -41,7 +43,7 @@ pub fn run_checked<'c>(
     let Some(entry) = entry_named(c.module(), entry) else {
         return Err(RunEnd::NoEntry);
     };
-    match run_from(alloc, c, entry, turns) {
+    match run_from(alloc, c, entry, turns, optimise) {
         Ok(report) => Ok(report),
         Err(Exhausted) => Err(RunEnd::Memory),
     }
@@ -52,15 +54,16 @@ fn run_from<'c>(
     c: &'c Checked,
     entry: Entry<'_>,
     turns: u32,
+    optimise: bool,
 ) -> Result<RunReport<'c>, Exhausted>
     requires entry { (name : List ℕ) × IsEntry c.now name entry.id entry.function.now }
     requires some_turns { 1 ≤ turns }
-    ensures run { IfOk result (TellsOfRunFrom c.now entry.entry.id entry.entry.function.now turns) }
+    ensures run { IfOk result (TellsOfRunFrom c.now entry.entry.id entry.entry.function.now turns optimise) }
     ensures heap { IfOk result HeapIsAsTold }
     ensures reportable { IfOk result IsReportable }
 {
     let result_type = given_type(alloc, &entry.function.signature)?;
-    let module = lower(alloc, c)?;
+    let module = lowered_if(alloc, c, optimise)?;
     let LowRun {
         events,
         ending,

@@ -1,11 +1,12 @@
 -- How an answer follows from what was read.
 use Rattle.std.proofs.Common.{◌≡◌, inl, inr, ℕ, ◌+◌, ◌≤◌, List, [], ◌++◌, length, refl, sym, ap, subst, ◌∙◌, arith, length-append, Result, Ok, Err}
-use Rattle.std.specs.Prelude.{Option, Some, None, IfSome, IfOk}
+use Rattle.std.specs.Prelude.{Bool, Option, Some, None, IfSome, IfOk}
 use Rattle.std.specs.Io.KnownBytes.{Consumes}
 use Rattle.std.proofs.KnownBytes.{Consumes-nil, Consumes-trans}
 use Rattle.std.proofs.lemmas.List.{append-nil}
 use Rattle.std.proofs.lemmas.Result.{IfOk-weaker}
 use Rattle.sil_io.specs.Reading.{Gives, nothing, piece, GivesToEnd}
+use Rattle.module_runner.specs.Optimising.{IsOptimisedIf}
 use Rattle.sil_ast.specs.declared.module.Module.{Module}
 use Rattle.sil_grammar.specs.declared.refusal.ReadRefusal.{ReadRefusal}
 use Rattle.sil_grammar.specs.Refusals.{IsRefusalOf}
@@ -19,7 +20,7 @@ use Rattle.sil_command.specs.Texts.{limit_text, usage_text}
 use Rattle.sil_command.specs.declared.answer.Answer.{Answer}
 use Rattle.sil_command.specs.declared.words.Mode.{Mode}
 use Rattle.sil_command.specs.Words.{AsksFor, IsCommandLine}
-use Rattle.sil_command.specs.Answers.{AnswersChecked, AnswersModule, AnswersText, AnswersWrong, usage, in_mode, too_long, unread, spelled, wrong, accepted}
+use Rattle.sil_command.specs.Answers.{AnswersChecked, AnswersModule, AnswersText, AnswersWrong, Writes, WritesOf, usage, in_mode, too_long, unread, spelled, wrong, accepted}
 use Rattle.sil_command.specs.Reading.{AnswersRefusal}
 use Rattle.sil_command.specs.Ends.{IsAnswer, MayHave, TakesText}
 
@@ -86,6 +87,11 @@ module _ (AnswersAccepted : List ℕ → ℕ → Type 0) {E : Type 0} (r : Resul
 
   pub accepted_answer : Accepted m → IfOk r (Tells AnswersAccepted) → IfOk r (Tells (AnswersChecked m AnswersAccepted))
   accepted_answer all = IfOk-weaker r (Tells AnswersAccepted) (Tells (AnswersChecked m AnswersAccepted)) (λ a answers. accepted _ _ all answers)
+
+-- a text of the module that is left is written
+pub written_of : (text : Module → List ℕ) (optimises : Bool) (m k : Module) {E : Type 0} (r : Result Answer E) → IsOptimisedIf optimises m k
+    → IfOk r (Tells (Writes (text k))) → IfOk r (Tells (WritesOf text optimises m))
+written_of text optimises m k r left = IfOk-weaker r (Tells (Writes (text k))) (Tells (WritesOf text optimises m)) (λ a writes. (k, left, writes))
 
 -- what is told of a line and a status is told of a result with that line and that status
 pub told_line : {E : Type 0} (Told : List ℕ → ℕ → Type 0) (r : Result Answer E) (status : Status) {text : List ℕ} → Told text (code_of status)

@@ -1,5 +1,5 @@
 -- What follows from how a call of the command ends: the clauses of the public call.
-use Rattle.std.proofs.Common.{◌≡◌, ◌⊎◌, inl, inr, ℕ, ◌<◌, List, refl, arith}
+use Rattle.std.proofs.Common.{◌≡◌, ◌⊎◌, inl, inr, ℕ, ◌<◌, Bool, List, refl, arith}
 use Rattle.module_runner.specs.States as ending
 use Rattle.module_runner.specs.States.{Ending}
 use Rattle.module_runner.specs.LowFault.{LowFault}
@@ -9,9 +9,9 @@ use Rattle.sil_command.specs.declared.status.Status.TheVariants.{Done, Refused, 
 use Rattle.sil_command.specs.Statuses.{code_of}
 use Rattle.sil_command.specs.Texts.{read_fault_text}
 use Rattle.sil_command.specs.declared.words.Mode.{Mode}
-use Rattle.sil_command.specs.declared.words.Mode.TheVariants.{Check, Lower, Print, Run}
+use Rattle.sil_command.specs.declared.words.Mode.TheVariants.{Check, Lower, Optimize, Print, Run}
 use Rattle.sil_command.specs.Answers.{Answers, usage, in_mode, AnswersText, too_long, unread, spelled, AnswersModule, AnswersChecked, AnswersRun, AnswersWrong, limit_passed, refused, wrong, accepted}
-use Rattle.sil_command.specs.Answers.{Writes, written, no_entry, ran, status_of}
+use Rattle.sil_command.specs.Answers.{Writes, WritesOf, written, no_entry, ran, status_of}
 use Rattle.sil_command.specs.Ends.{Call, Ends, answered, read_failed, exhausted, whole, front, WritesAnswer, Exhausts, WritesWhole, WritesFrontOfAnswer, IsStatus}
 use Rattle.sil_command.proofs.Unread.{unread_status}
 
@@ -52,6 +52,9 @@ wrong_status m _ _ (limit_passed what first) = eight_is
 written_status : (text answer : List ℕ) (status : ℕ) → Writes text answer status → IsAnswerStatus status
 written_status text _ _ written = zero_is
 
+of_status : (text : Module → List ℕ) (optimises : Bool) (m : Module) (answer : List ℕ) (status : ℕ) → WritesOf text optimises m answer status → IsAnswerStatus status
+of_status text optimises m answer status (k, left, writes) = written_status (text k) answer status writes
+
 checked_status : (m : Module) (AnswersAccepted : List ℕ → ℕ → Type 0) → ((answer : List ℕ) (status : ℕ) → AnswersAccepted answer status → IsAnswerStatus status)
     → (answer : List ℕ) (status : ℕ) → AnswersChecked m AnswersAccepted answer status → IsAnswerStatus status
 checked_status m A of_accepted answer status (wrong _ _ answers) = wrong_status m answer status answers
@@ -63,15 +66,17 @@ ending_status (ending.Trapped t) = six_is
 ending_status ending.OutOfTurns = seven_is
 ending_status (ending.Faulted x) = twelve_is
 
-run_status : (m : Module) (name : List ℕ) (bound : ℕ) (answer : List ℕ) (status : ℕ) → AnswersRun m name bound answer status → IsAnswerStatus status
-run_status m name bound _ _ (no_entry none) = ten_is
-run_status m name bound _ _ (ran e f x entry ends) = ending_status x.ending
+run_status : (m : Module) (name : List ℕ) (bound : ℕ) (optimises : Bool) (answer : List ℕ) (status : ℕ) → AnswersRun m name bound optimises answer status
+    → IsAnswerStatus status
+run_status m name bound optimises _ _ (no_entry none) = ten_is
+run_status m name bound optimises _ _ (ran k e f x left entry ends) = ending_status x.ending
 
 module_status : (mode : Mode) (m : Module) (answer : List ℕ) (status : ℕ) → AnswersModule mode m answer status → IsAnswerStatus status
 module_status Check m = checked_status m _ (written_status _)
 module_status Print m = written_status _
-module_status Lower m = checked_status m _ (written_status _)
-module_status (Run entry turns) m = checked_status m _ (run_status m entry turns)
+module_status (Lower optimises) m = checked_status m _ (of_status _ optimises m)
+module_status Optimize m = checked_status m _ (of_status _ _ m)
+module_status (Run entry turns optimises) m = checked_status m _ (run_status m entry turns optimises)
 
 unread_is : (status : ℕ) → (status ≡ code_of NotAModule) ⊎ (status ≡ code_of Limit) → IsAnswerStatus status
 unread_is status (inl three) = inr (inr (inr (inl three)))

@@ -1,5 +1,5 @@
 -- For the laws on refusals: what `check` writes of a module, and which texts are answered as no module.
-use Rattle.std.proofs.Common.{◌≡◌, ℕ, ◌≤◌, List, length, refl, sym, subst, arith}
+use Rattle.std.proofs.Common.{◌≡◌, ℕ, ◌≤◌, Bool, List, length, refl, sym, subst, arith}
 use Rattle.command_words.specs.inner.Laws.{SayOneThing}
 use Rattle.module_runner.specs.States as ending
 use Rattle.module_runner.specs.States.{Ending}
@@ -12,8 +12,8 @@ use Rattle.sil_rules.specs.declared.limits.TheConstants.{TEXT_BYTES}
 use Rattle.sil_command.specs.declared.status.Status.TheVariants.{NotAModule}
 use Rattle.sil_command.specs.Statuses.{code_of}
 use Rattle.sil_command.specs.declared.words.Mode.{Mode}
-use Rattle.sil_command.specs.declared.words.Mode.TheVariants.{Check, Lower, Print, Run}
-use Rattle.sil_command.specs.Answers.{AnswersChecked, AnswersModule, AnswersRun, AnswersText, AnswersWrong, Writes, status_of}
+use Rattle.sil_command.specs.declared.words.Mode.TheVariants.{Check, Lower, Optimize, Print, Run}
+use Rattle.sil_command.specs.Answers.{AnswersChecked, AnswersModule, AnswersRun, AnswersText, AnswersWrong, Writes, WritesOf, status_of}
 use Rattle.sil_command.specs.Answers.{limit_passed, refused, wrong, accepted, written, no_entry, ran, too_long, unread, spelled}
 use Rattle.sil_command.specs.Laws.{AreRefusedForTheFirst, AreReportedRightly, ChecksRules}
 use Rattle.sil_command.specs.RefusalTexts.{refusal_text}
@@ -37,8 +37,9 @@ mode_written : (mode : Mode) → ChecksRules mode → (m : Module) (answer : Lis
     → WritesFirst m answer
 mode_written Check checks m = first_written m _
 mode_written Print checks m = absurd checks
-mode_written Lower checks m = first_written m _
-mode_written (Run entry turns) checks m = first_written m _
+mode_written (Lower optimises) checks m = first_written m _
+mode_written Optimize checks m = first_written m _
+mode_written (Run entry turns optimises) checks m = first_written m _
 
 module _ (once : AreSpelledOnce) (mode : Mode) (checks : ChecksRules mode) (m : Module) where
   text_written : (text answer : List ℕ) (status : ℕ) → length text ≤ TEXT_BYTES → AnswersText mode text answer status → Spells m text
@@ -66,21 +67,27 @@ checked_reported m A none answer status (accepted _ _ all answers) three = none 
 written_reported : (text answer : List ℕ) (status : ℕ) → Writes text answer status → status ≡ code_of NotAModule → ⊥
 written_reported text _ _ written three = omega arith
 
+of_reported : (text : Module → List ℕ) (optimises : Bool) (m : Module) (answer : List ℕ) (status : ℕ) → WritesOf text optimises m answer status
+    → status ≡ code_of NotAModule → ⊥
+of_reported text optimises m answer status (k, left, writes) = written_reported (text k) answer status writes
+
 ending_reported : (x : Ending LowFault) → code_of (status_of x) ≡ code_of NotAModule → ⊥
 ending_reported (ending.Returned x) three = omega arith
 ending_reported (ending.Trapped t) three = omega arith
 ending_reported ending.OutOfTurns three = omega arith
 ending_reported (ending.Faulted x) three = omega arith
 
-run_reported : (m : Module) (name : List ℕ) (bound : ℕ) (answer : List ℕ) (status : ℕ) → AnswersRun m name bound answer status → status ≡ code_of NotAModule → ⊥
-run_reported m name bound _ _ (no_entry none) three = omega arith
-run_reported m name bound _ _ (ran e f x entry ends) three = ending_reported x.ending three
+run_reported : (m : Module) (name : List ℕ) (bound : ℕ) (optimises : Bool) (answer : List ℕ) (status : ℕ) → AnswersRun m name bound optimises answer status
+    → status ≡ code_of NotAModule → ⊥
+run_reported m name bound optimises _ _ (no_entry none) three = omega arith
+run_reported m name bound optimises _ _ (ran k e f x left entry ends) three = ending_reported x.ending three
 
 module_reported : (mode : Mode) (m : Module) (answer : List ℕ) (status : ℕ) → AnswersModule mode m answer status → status ≡ code_of NotAModule → ⊥
 module_reported Check m = checked_reported m _ (written_reported _)
 module_reported Print m = written_reported _
-module_reported Lower m = checked_reported m _ (written_reported _)
-module_reported (Run entry turns) m = checked_reported m _ (run_reported m entry turns)
+module_reported (Lower optimises) m = checked_reported m _ (of_reported _ optimises m)
+module_reported Optimize m = checked_reported m _ (of_reported _ _ m)
+module_reported (Run entry turns optimises) m = checked_reported m _ (run_reported m entry turns optimises)
 
 text_reported : (mode : Mode) (text answer : List ℕ) (status : ℕ) → AnswersText mode text answer status → status ≡ code_of NotAModule → SpellsNone text
 text_reported mode text _ _ (too_long long) three = absurd (omega arith)

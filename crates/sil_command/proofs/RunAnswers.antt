@@ -1,5 +1,5 @@
 -- The answer of `run`, by what is reported of the run.
-use Rattle.std.proofs.Common.{◌≡◌, ◌∙◌, ◌≤◌, ℕ, List, Option, Some, None, Result, ap, arith, subst, sym}
+use Rattle.std.proofs.Common.{◌≡◌, ◌∙◌, ◌≤◌, ℕ, Bool, List, Option, Some, None, Result, ap, arith, subst, sym}
 use Rattle.std.specs.Prelude.{IfOk}
 use Rattle.module_runner.specs.Declarations.{declarations_of}
 use Rattle.module_runner.specs.LowReports.{low_report}
@@ -22,19 +22,22 @@ bound_some None bound is = omega (arith, is)
 bound_some (Some digits) bound is = is.some
 
 -- a bound that is asked for is of one turn at least
-pub some_turns : (entry : List ℕ) (bound : ℕ) → IsAskedFor (Run entry bound) → 1 ≤ bound
-some_turns entry bound (words, asks) = bound_some asks.turns bound asks.takes.0
+pub some_turns : (entry : List ℕ) (bound : ℕ) (optimises : Bool) → IsAskedFor (Run entry bound optimises) → 1 ≤ bound
+some_turns entry bound optimises (words, asks) = bound_some asks.turns bound asks.takes.0
 
-module _ (m : Module) (name : List ℕ) (bound : ℕ) (report : RunReport) (tells : TellsOfRun m name bound report) where
-  text_told : text_of report ≡ low_report (lowered m) (shape_of (declarations_of (lowered m)) (given_type tells.function.signature)) (outcome_of report)
+module _ (m : Module) (name : List ℕ) (bound : ℕ) (optimises : Bool) (report : RunReport) (tells : TellsOfRun m name bound optimises report) where
+  abbrev left : Module
+  left = tells.tells.left
+
+  text_told : text_of report ≡ low_report (lowered left) (shape_of (declarations_of (lowered left)) (given_type tells.function.signature)) (outcome_of report)
   text_told =
       ap (λ k. low_report k (shape_of (declarations_of k) report.result_type) (outcome_of report)) tells.tells.ran
-      ∙ ap (λ t. low_report (lowered m) (shape_of (declarations_of (lowered m)) t) (outcome_of report)) tells.tells.result_type
+      ∙ ap (λ t. low_report (lowered left) (shape_of (declarations_of (lowered left)) t) (outcome_of report)) tells.tells.result_type
 
   pub reported_answer : {E : Type 0} (r : Result Answer E) → IfOk r (λ a. a.text.items ≡ text_of report)
-      → IfOk r (λ a. a.status ≡ status_of (ending_of report.ending)) → IfOk r (λ a. AnswersRun m name bound a.text.items (code_of a.status))
+      → IfOk r (λ a. a.status ≡ status_of (ending_of report.ending)) → IfOk r (λ a. AnswersRun m name bound optimises a.text.items (code_of a.status))
   reported_answer r text status =
-      told_line (AnswersRun m name bound) r (status_of (ending_of report.ending))
-      (subst (λ t. AnswersRun m name bound t (code_of (status_of (ending_of report.ending)))) (sym text_told)
-      (ran tells.entry tells.function (outcome_of report) tells.begins tells.tells.ends))
+      told_line (AnswersRun m name bound optimises) r (status_of (ending_of report.ending))
+      (subst (λ t. AnswersRun m name bound optimises t (code_of (status_of (ending_of report.ending)))) (sym text_told)
+      (ran left tells.entry tells.function (outcome_of report) tells.tells.optimised tells.begins tells.tells.ends))
       text status

@@ -1,5 +1,5 @@
 -- For the laws on the statuses of `run`: which texts it answers with the status of an ending, and which with that of no entry function.
-use Rattle.std.proofs.Common.{◌≡◌, ◌↔◌, ◌⊎◌, ◌∙◌, inl, inr, ℕ, List, refl, ap, subst, arith}
+use Rattle.std.proofs.Common.{◌≡◌, ◌↔◌, ◌⊎◌, ◌∙◌, inl, inr, ℕ, Bool, List, refl, ap, subst₂, arith}
 use Rattle.command_words.specs.inner.Laws.{SayOneThing}
 use Rattle.module_runner.specs.Outcomes.{Outcome}
 use Rattle.module_runner.specs.States as ending
@@ -9,7 +9,8 @@ use Rattle.module_runner.specs.LowFault.{LowFault}
 use Rattle.module_runner.specs.Laws.{LoweredRunsEndOnce}
 use Rattle.module_runner.specs.LoweredModules.{lowered}
 use Rattle.module_runner.specs.Entries.{HasEntry, IsEntry}
-use Rattle.module_runner.specs.inner.Laws.{HaveOneEntry}
+use Rattle.module_runner.specs.Optimising.{IsOptimisedIf}
+use Rattle.module_runner.specs.inner.Laws.{HaveOneEntry, IsOne}
 use Rattle.numbered_form.specs.inner.NumberedForm.{IsNumbered}
 use Rattle.sil_ast.specs.declared.function.Function.{Function}
 use Rattle.sil_ast.specs.declared.module.Module.{Module}
@@ -58,42 +59,45 @@ module _ (law : AreAcceptedWhereNothingIsFound) where
   never_wrong m _ _ (refused x first rule) known = (law m).0 known x first.shown
   never_wrong m _ _ (limit_passed what first) known = (law m).0 known (found_limit what) first.shown
 
-  module _ (name : List ℕ) (bound : ℕ) where
+  module _ (name : List ℕ) (bound : ℕ) (optimises : Bool) where
     -- a run of which an ending is told ends with its status
-    module _ (one_entry : HaveOneEntry) (once : LoweredRunsEndOnce) (x : Ending LowFault) (m : Module) (numbered : IsNumbered m) where
-      ends_same : (e : FuncId) (f : Function) (y : Outcome LowFault) → IsEntry m name e f → LowEndsSo (lowered m) e bound y → RunsTo name bound (status_of x) m
-          → code_of (status_of y.ending) ≡ code_of (status_of x)
-      ends_same e f y entry ends (other, g, z, again, ends_so, same) =
-          let number : other ≡ e = (one_entry m name e other f g numbered entry again).0 in
-          let outcome : y ≡ z = once (lowered m) e bound y z ends (subst (λ i. LowEndsSo (lowered m) i bound z) number ends_so) in
+    module _ (one_entry : HaveOneEntry) (is_one : IsOne) (once : LoweredRunsEndOnce) (x : Ending LowFault) (m : Module) (numbered : IsNumbered m) where
+      ends_same : (k : Module) (e : FuncId) (f : Function) (y : Outcome LowFault) → IsOptimisedIf optimises m k → IsEntry m name e f → LowEndsSo (lowered k) e bound y
+          → RunsTo name bound optimises (status_of x) m → code_of (status_of y.ending) ≡ code_of (status_of x)
+      ends_same k e f y left entry ends (other, i, g, z, also_left, again, ends_so, same) =
+          let number : i ≡ e = (one_entry m name e i f g numbered entry again).0 in
+          let run : other ≡ k = is_one optimises m other k also_left left in
+          let outcome : y ≡ z = once (lowered k) e bound y z ends (subst₂ (λ l n. LowEndsSo (lowered l) n bound z) run number ends_so) in
           ap (λ (o : Outcome LowFault). code_of (status_of o.ending)) outcome ∙ ap code_of same
 
-      run_tells : (answer : List ℕ) (status : ℕ) → AnswersRun m name bound answer status → RunsTo name bound (status_of x) m ↔ (status ≡ code_of (status_of x))
-      run_tells _ _ (no_entry none) = (λ known. absurd (none (known.0, known.1, known.3)), λ ten. absurd (omega (arith, ten, ending_code x)))
-      run_tells _ _ (ran e f y entry ends) = (ends_same e f y entry ends, λ same. (e, f, y, entry, ends, same_status y.ending x same))
+      run_tells : (answer : List ℕ) (status : ℕ) → AnswersRun m name bound optimises answer status
+          → RunsTo name bound optimises (status_of x) m ↔ (status ≡ code_of (status_of x))
+      run_tells _ _ (no_entry none) = (λ known. absurd (none (known.1, known.2, known.5)), λ ten. absurd (omega (arith, ten, ending_code x)))
+      run_tells _ _ (ran k e f y left entry ends) =
+          (ends_same k e f y left entry ends, λ same. (k, e, f, y, left, entry, ends, same_status y.ending x same))
 
-      tells : (answer : List ℕ) (status : ℕ) → AnswersModule (Run name bound) m answer status
-          → (Accepted m × RunsTo name bound (status_of x) m) ↔ (status ≡ code_of (status_of x))
+      tells : (answer : List ℕ) (status : ℕ) → AnswersModule (Run name bound optimises) m answer status
+          → (Accepted m × RunsTo name bound optimises (status_of x) m) ↔ (status ≡ code_of (status_of x))
       tells answer status (wrong _ _ answers) =
           (λ known. absurd (never_wrong m answer status answers known.0), λ same. absurd (omega (arith, same, ending_code x, wrong_code m answer status answers)))
       tells answer status (accepted _ _ all answers) =
           let told = run_tells answer status answers in (λ known. told.0 known.1, λ same. (all, told.1 same))
 
-    no_entry_tells : (m : Module) (answer : List ℕ) (status : ℕ) → AnswersModule (Run name bound) m answer status
+    no_entry_tells : (m : Module) (answer : List ℕ) (status : ℕ) → AnswersModule (Run name bound optimises) m answer status
         → (Accepted m × (HasEntry m name → ⊥)) ↔ (status ≡ code_of NoEntry)
     no_entry_tells m answer status (wrong _ _ answers) =
         (λ known. absurd (never_wrong m answer status answers known.0), λ ten. absurd (omega (arith, ten, wrong_code m answer status answers)))
     no_entry_tells m _ _ (accepted _ _ all (no_entry none)) = (λ known. refl, λ ten. (all, none))
-    no_entry_tells m _ _ (accepted _ _ all (ran e f y entry ends)) =
+    no_entry_tells m _ _ (accepted _ _ all (ran k e f y left entry ends)) =
         (λ known. absurd (known.1 (e, f, entry)), λ ten. absurd (omega (arith, ten, ending_code y.ending)))
 
-pub run_exactly : SayOneThing → AreSpelledOnce → AreAcceptedWhereNothingIsFound → AreSpelledNumbered → HaveOneEntry → LoweredRunsEndOnce → AreRunExactly
-run_exactly one once law numbered one_entry ends_once name bound x =
-    answers_exactly one once (Run name bound) (code_of (status_of x)) (λ m. Accepted m × RunsTo name bound (status_of x) m)
-    (λ m text spells. tells law name bound one_entry ends_once x m (numbered m text spells))
+pub run_exactly : SayOneThing → AreSpelledOnce → AreAcceptedWhereNothingIsFound → AreSpelledNumbered → HaveOneEntry → IsOne → LoweredRunsEndOnce → AreRunExactly
+run_exactly one once law numbered one_entry is_one ends_once name bound optimises x =
+    answers_exactly one once (Run name bound optimises) (code_of (status_of x)) (λ m. Accepted m × RunsTo name bound optimises (status_of x) m)
+    (λ m text spells. tells law name bound optimises one_entry is_one ends_once x m (numbered m text spells))
     (λ e. omega (arith, e, ending_code x), λ e. omega (arith, e, ending_code x))
 
 pub no_entry_exactly : SayOneThing → AreSpelledOnce → AreAcceptedWhereNothingIsFound → HaveNoEntryExactly
-no_entry_exactly one once law name bound =
-    answers_exactly one once (Run name bound) (code_of NoEntry) (λ m. Accepted m × (HasEntry m name → ⊥))
-    (λ m text spells. no_entry_tells law name bound m) (λ e. omega arith, λ e. omega arith)
+no_entry_exactly one once law name bound optimises =
+    answers_exactly one once (Run name bound optimises) (code_of NoEntry) (λ m. Accepted m × (HasEntry m name → ⊥))
+    (λ m text spells. no_entry_tells law name bound optimises m) (λ e. omega arith, λ e. omega arith)

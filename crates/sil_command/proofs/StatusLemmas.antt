@@ -1,6 +1,6 @@
 -- For the laws on statuses: which texts a mode answers with a status.
 use Rattle.std.proofs.Common.{◌≡◌, ◌↔◌, ◌⊎◌, inl, inr, ℕ, ◌≤◌, List, length, refl, sym, subst, ◌∙◌, arith}
-use Rattle.std.specs.Prelude.{⊤}
+use Rattle.std.specs.Prelude.{Bool, true, ⊤}
 use Rattle.command_words.specs.inner.Laws.{SayOneThing}
 use Rattle.sil_ast.specs.declared.module.Module.{Module}
 use Rattle.module_runner.specs.LoweredModules.{lowered}
@@ -11,12 +11,12 @@ use Rattle.sil_rules.specs.declared.limits.TheConstants.{TEXT_BYTES}
 use Rattle.sil_command.specs.declared.status.Status.TheVariants.{Done, NotAModule, Limit}
 use Rattle.sil_command.specs.Statuses.{code_of}
 use Rattle.sil_command.specs.declared.words.Mode.{Mode}
-use Rattle.sil_command.specs.declared.words.Mode.TheVariants.{Check, Lower, Print}
+use Rattle.sil_command.specs.declared.words.Mode.TheVariants.{Check, Lower, Optimize, Print}
 use Rattle.sil_command.specs.Texts.{accepted_text}
 use Rattle.sil_command.specs.Words.{AsksFor}
 use Rattle.sil_command.specs.Answers.{Answers, usage, in_mode, AnswersText, too_long, unread, spelled, AnswersModule, AnswersChecked, AnswersWrong}
-use Rattle.sil_command.specs.Answers.{limit_passed, refused, wrong, accepted, Writes, written}
-use Rattle.sil_command.specs.Laws.{AnswersExactly, AreAcceptedExactly, AreLoweredExactly, ArePrintedExactly}
+use Rattle.sil_command.specs.Answers.{limit_passed, refused, wrong, accepted, Writes, WritesOf, written}
+use Rattle.sil_command.specs.Laws.{AnswersExactly, AreAcceptedExactly, AreLoweredExactly, AreOptimisedExactly, ArePrintedExactly}
 use Rattle.sil_verifier.specs.Findings.{Accepted, limit as found_limit}
 use Rattle.sil_verifier.specs.inner.Laws.{AreAcceptedWhereNothingIsFound}
 use Rattle.sil_command.proofs.Asked.{asks_for_one}
@@ -60,21 +60,33 @@ wrong_done law m _ _ (limit_passed what first) = (λ known. absurd ((law m).0 kn
 written_done : (text answer : List ℕ) (status : ℕ) → Writes text answer status → status ≡ code_of Done
 written_done text _ _ written = refl
 
--- where a text is written of each accepted module
-accepted_done : AreAcceptedWhereNothingIsFound → (text : Module → List ℕ) (m : Module) (answer : List ℕ) (status : ℕ) → AnswersChecked m (Writes (text m)) answer status
-    → Accepted m ↔ (status ≡ code_of Done)
-accepted_done law text m answer status (wrong _ _ answers) = wrong_done law m answer status answers
-accepted_done law text m answer status (accepted _ _ all answers) = (λ known. written_done (text m) answer status answers, λ zero. all)
+of_done : (text : Module → List ℕ) (optimises : Bool) (m : Module) (answer : List ℕ) (status : ℕ) → WritesOf text optimises m answer status → status ≡ code_of Done
+of_done text optimises m answer status (k, left, writes) = written_done (text k) answer status writes
+
+-- where each accepted module is answered with that status
+accepted_done : AreAcceptedWhereNothingIsFound → (m : Module) (A : List ℕ → ℕ → Type 0) → ((answer : List ℕ) (status : ℕ) → A answer status → status ≡ code_of Done)
+    → (answer : List ℕ) (status : ℕ) → AnswersChecked m A answer status → Accepted m ↔ (status ≡ code_of Done)
+accepted_done law m A is_done answer status (wrong _ _ answers) = wrong_done law m answer status answers
+accepted_done law m A is_done answer status (accepted _ _ all answers) = (λ known. is_done answer status answers, λ zero. all)
 
 printed_done : (m : Module) (answer : List ℕ) (status : ℕ) → Writes (canonical_text m) answer status → ⊤ ↔ (status ≡ code_of Done)
 printed_done m answer status answers = (λ known. written_done (canonical_text m) answer status answers, λ zero. tt)
 
 pub accepted_exactly : SayOneThing → AreSpelledOnce → AreAcceptedWhereNothingIsFound → AreAcceptedExactly
-accepted_exactly one once law = answers_exactly one once Check (code_of Done) Accepted (λ m text spells. accepted_done law (λ m. accepted_text) m) (λ e. omega arith, λ e. omega arith)
+accepted_exactly one once law =
+    answers_exactly one once Check (code_of Done) Accepted (λ m text spells. accepted_done law m (Writes accepted_text) (written_done accepted_text))
+    (λ e. omega arith, λ e. omega arith)
 
 pub printed_exactly : SayOneThing → AreSpelledOnce → ArePrintedExactly
 printed_exactly one once = answers_exactly one once Print (code_of Done) (λ m. ⊤) (λ m text spells. printed_done m) (λ e. omega arith, λ e. omega arith)
 
 pub lowered_exactly : SayOneThing → AreSpelledOnce → AreAcceptedWhereNothingIsFound → AreLoweredExactly
-lowered_exactly one once law =
-    answers_exactly one once Lower (code_of Done) Accepted (λ m text spells. accepted_done law (λ m. canonical_text (lowered m)) m) (λ e. omega arith, λ e. omega arith)
+lowered_exactly one once law optimises =
+    answers_exactly one once (Lower optimises) (code_of Done) Accepted
+    (λ m text spells. accepted_done law m (WritesOf (λ k. canonical_text (lowered k)) optimises m) (of_done (λ k. canonical_text (lowered k)) optimises m))
+    (λ e. omega arith, λ e. omega arith)
+
+pub optimised_exactly : SayOneThing → AreSpelledOnce → AreAcceptedWhereNothingIsFound → AreOptimisedExactly
+optimised_exactly one once law =
+    answers_exactly one once Optimize (code_of Done) Accepted
+    (λ m text spells. accepted_done law m (WritesOf canonical_text true m) (of_done canonical_text true m)) (λ e. omega arith, λ e. omega arith)

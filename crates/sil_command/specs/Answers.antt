@@ -1,5 +1,5 @@
 -- The answer to a command line and a text: the bytes that are written, and the status.
-use Rattle.std.specs.Prelude.{ℕ, ◌<◌, ◌≤◌, List, length}
+use Rattle.std.specs.Prelude.{ℕ, ◌<◌, ◌≤◌, Bool, true, List, length}
 use Rattle.sil_ast.specs.declared.function.Function.{Function}
 use Rattle.sil_ast.specs.declared.module.Module.{Module}
 use Rattle.sil_ast.specs.declared.place.FuncId.{FuncId}
@@ -13,6 +13,7 @@ use Rattle.module_runner.specs.LowOutcomes.{LowEndsSo}
 use Rattle.module_runner.specs.LowFault.{LowFault}
 use Rattle.module_runner.specs.LoweredModules.{lowered}
 use Rattle.module_runner.specs.Entries.{HasEntry, IsEntry}
+use Rattle.module_runner.specs.Optimising.{IsOptimisedIf}
 use Rattle.module_runner.specs.LowReports.{low_report}
 use Rattle.module_runner.specs.Mentions.{given_type}
 use Rattle.module_runner.specs.Shapes.{shape_of}
@@ -25,7 +26,7 @@ use Rattle.sil_command.specs.declared.status.Status.TheVariants.{Done, Refused, 
 use Rattle.sil_command.specs.Statuses.{code_of}
 use Rattle.sil_verifier.specs.Findings.{Accepted, Finding, IsLimit, Refusal, limit}
 use Rattle.sil_command.specs.declared.words.Mode.{Mode}
-use Rattle.sil_command.specs.declared.words.Mode.TheVariants.{Check, Lower, Print, Run}
+use Rattle.sil_command.specs.declared.words.Mode.TheVariants.{Check, Lower, Optimize, Print, Run}
 use Rattle.sil_command.specs.Words.{AsksFor, IsCommandLine}
 use Rattle.sil_command.specs.Reading.{AnswersRefusal}
 use Rattle.sil_command.specs.Texts.{usage_text, limit_text, type_limit_text, accepted_text, no_entry_text}
@@ -45,6 +46,10 @@ pub data AnswersChecked (m : Module) (AnswersAccepted : List ℕ → ℕ → Typ
 pub data Writes (text : List ℕ) : List ℕ → ℕ → Type 0 where
   written : Writes text text (code_of Done)
 
+-- this text of the module is written, or where that is asked for of the optimised module
+abbrev pub WritesOf : (Module → List ℕ) → Bool → Module → List ℕ → ℕ → Type 0
+WritesOf text optimises m answer status = (k : Module) × IsOptimisedIf optimises m k × Writes (text k) answer status
+
 -- the status of a run, by its ending
 abbrev pub status_of : Ending LowFault → Status
 status_of (ending.Returned x) = Done
@@ -52,20 +57,23 @@ status_of (ending.Trapped t) = Trapped
 status_of ending.OutOfTurns = OutOfTurns
 status_of (ending.Faulted x) = Faulted
 
--- what `run` answers to an accepted module: the report of the run of its lowered module from the entry function with this name, for this
--- bound on turns; or that it has no such function
-pub data AnswersRun (m : Module) (name : List ℕ) (bound : ℕ) : List ℕ → ℕ → Type 0 where
-  no_entry : (HasEntry m name → ⊥) → AnswersRun m name bound (no_entry_text name) (code_of NoEntry)
-  ran : (e : FuncId) (f : Function) (x : Outcome LowFault) → IsEntry m name e f → LowEndsSo (lowered m) e bound x
-      → AnswersRun m name bound (low_report (lowered m) (shape_of (declarations_of (lowered m)) (given_type f.signature)) x) (code_of (status_of x.ending))
+-- what `run` answers to an accepted module: the report of the run of its lowered module, optimised first where that is asked for, from the
+-- entry function with this name, for this bound on turns; or that it has no such function
+pub data AnswersRun (m : Module) (name : List ℕ) (bound : ℕ) (optimises : Bool) : List ℕ → ℕ → Type 0 where
+  no_entry : (HasEntry m name → ⊥) → AnswersRun m name bound optimises (no_entry_text name) (code_of NoEntry)
+  ran : (k : Module) (e : FuncId) (f : Function) (x : Outcome LowFault) → IsOptimisedIf optimises m k → IsEntry m name e f
+      → LowEndsSo (lowered k) e bound x → AnswersRun m name bound optimises
+      (low_report (lowered k) (shape_of (declarations_of (lowered k)) (given_type f.signature)) x) (code_of (status_of x.ending))
 
 -- what each mode answers to a module: `check` that it is accepted; `print` its canonical text, whatever rules it breaks; `lower` the
--- canonical text of the lowered module; and `run` the report of its run
+-- canonical text of the lowered module, and `run` the report of its run, of the optimised module where that is asked for; and `optimize` the
+-- canonical text of the optimised module
 abbrev pub AnswersModule : Mode → Module → List ℕ → ℕ → Type 0
 AnswersModule Check m = AnswersChecked m (Writes accepted_text)
 AnswersModule Print m = Writes (canonical_text m)
-AnswersModule Lower m = AnswersChecked m (Writes (canonical_text (lowered m)))
-AnswersModule (Run entry turns) m = AnswersChecked m (AnswersRun m entry turns)
+AnswersModule (Lower optimises) m = AnswersChecked m (WritesOf (λ k. canonical_text (lowered k)) optimises m)
+AnswersModule Optimize m = AnswersChecked m (WritesOf canonical_text true m)
+AnswersModule (Run entry turns optimises) m = AnswersChecked m (AnswersRun m entry turns optimises)
 
 -- the answer of a mode to a text; one that is too long or isn't read is answered alike in all modes
 pub data AnswersText (mode : Mode) (text : List ℕ) : List ℕ → ℕ → Type 0 where

@@ -1,11 +1,12 @@
 -- What the answers of each mode tell of a text.
-use Rattle.std.specs.Prelude.{◌≡◌, ◌↔◌, ℕ, ◌≤◌, List, length, ⊤}
+use Rattle.std.specs.Prelude.{◌≡◌, ◌↔◌, ℕ, ◌≤◌, Bool, List, length, ⊤}
 use Rattle.module_runner.specs.Outcomes.{Outcome}
 use Rattle.module_runner.specs.States.{Ending}
 use Rattle.module_runner.specs.LowOutcomes.{LowEndsSo}
 use Rattle.module_runner.specs.LowFault.{LowFault}
 use Rattle.module_runner.specs.LoweredModules.{lowered}
 use Rattle.module_runner.specs.Entries.{HasEntry, IsEntry}
+use Rattle.module_runner.specs.Optimising.{IsOptimisedIf}
 use Rattle.sil_ast.specs.declared.function.Function.{Function}
 use Rattle.sil_ast.specs.declared.module.Module.{Module}
 use Rattle.sil_ast.specs.declared.place.FuncId.{FuncId}
@@ -17,7 +18,7 @@ use Rattle.sil_command.specs.declared.status.Status.TheVariants.{Done, NotAModul
 use Rattle.sil_command.specs.Statuses.{code_of}
 use Rattle.sil_verifier.specs.Findings.{Accepted, Finding, Refusal}
 use Rattle.sil_command.specs.declared.words.Mode.{Mode}
-use Rattle.sil_command.specs.declared.words.Mode.TheVariants.{Check, Lower, Print, Run}
+use Rattle.sil_command.specs.declared.words.Mode.TheVariants.{Check, Lower, Optimize, Print, Run}
 use Rattle.sil_command.specs.Words.{AsksFor}
 use Rattle.sil_command.specs.Answers.{Answers, status_of}
 use Rattle.sil_command.specs.RefusalTexts.{refusal_text}
@@ -32,31 +33,39 @@ AnswersExactly mode wanted IsSuch =
 abbrev pub AreAcceptedExactly : Type 0
 AreAcceptedExactly = AnswersExactly Check (code_of Done) Accepted
 
--- so does `lower`
+-- so does `lower`, optimised or not
 abbrev pub AreLoweredExactly : Type 0
-AreLoweredExactly = AnswersExactly Lower (code_of Done) Accepted
+AreLoweredExactly = (optimises : Bool) → AnswersExactly (Lower optimises) (code_of Done) Accepted
 
--- there is an entry function with this name, and the run of the lowered module from there, for this bound on turns, ends with this status
-abbrev pub RunsTo : List ℕ → ℕ → Status → Module → Type 0
-RunsTo name bound s m =
-    (e : FuncId) × (f : Function) × (x : Outcome LowFault) × IsEntry m name e f × LowEndsSo (lowered m) e bound x × (status_of x.ending ≡ s)
+-- so does `optimize`
+abbrev pub AreOptimisedExactly : Type 0
+AreOptimisedExactly = AnswersExactly Optimize (code_of Done) Accepted
+
+-- there is an entry function with this name, and the run of the lowered module from there, optimised first where that is asked for, ends with
+-- this status for this bound on turns
+abbrev pub RunsTo : List ℕ → ℕ → Bool → Status → Module → Type 0
+RunsTo name bound optimises s m = (k : Module) × (e : FuncId) × (f : Function) × (x : Outcome LowFault)
+    × IsOptimisedIf optimises m k × IsEntry m name e f × LowEndsSo (lowered k) e bound x × (status_of x.ending ≡ s)
 
 -- `run` answers with the status of an ending just for the texts that spell an accepted module whose run ends so
 abbrev pub AreRunExactly : Type 0
 AreRunExactly =
-    (name : List ℕ) (bound : ℕ) (x : Ending LowFault)
-    → AnswersExactly (Run name bound) (code_of (status_of x)) (λ m. Accepted m × RunsTo name bound (status_of x) m)
+    (name : List ℕ) (bound : ℕ) (optimises : Bool) (x : Ending LowFault)
+    → AnswersExactly (Run name bound optimises) (code_of (status_of x)) (λ m. Accepted m × RunsTo name bound optimises (status_of x) m)
 
 -- and with NoEntry just for those that spell an accepted module without such a function
 abbrev pub HaveNoEntryExactly : Type 0
-HaveNoEntryExactly = (name : List ℕ) (bound : ℕ) → AnswersExactly (Run name bound) (code_of NoEntry) (λ m. Accepted m × (HasEntry m name → ⊥))
+HaveNoEntryExactly =
+    (name : List ℕ) (bound : ℕ) (optimises : Bool)
+    → AnswersExactly (Run name bound optimises) (code_of NoEntry) (λ m. Accepted m × (HasEntry m name → ⊥))
 
 -- all modes but `print` check the rules of a module
 abbrev pub ChecksRules : Mode → Type 0
 ChecksRules Check = ⊤
 ChecksRules Print = ⊥
-ChecksRules Lower = ⊤
-ChecksRules (Run entry turns) = ⊤
+ChecksRules (Lower optimises) = ⊤
+ChecksRules Optimize = ⊤
+ChecksRules (Run entry turns optimises) = ⊤
 
 -- where a text spells a module that isn't accepted, these modes write the first of all that is wrong with the module
 abbrev pub AreRefusedForTheFirst : Type 0

@@ -1,13 +1,13 @@
 //! The answer to a text: what is written, and the status. No byte is read or written here.
 
-ghost use Rattle.std.specs.Prelude.{◌≡◌, ◌≤◌, IfOk, length};
+ghost use Rattle.std.specs.Prelude.{◌≡◌, ◌≤◌, IfOk, length, true};
 ghost use Rattle.module_runner.specs.LoweredModules.{lowered};
 ghost use Rattle.sil_printer.specs.CanonicalModules.{canonical_text};
 ghost use Rattle.sil_rules.specs.declared.limits.TheConstants.{TEXT_BYTES};
 ghost use Rattle.sil_command.specs.Statuses.{code_of};
 ghost use Rattle.numbered_form.specs.inner.NumberedForm.{IsNumbered};
-ghost use Rattle.sil_command.specs.declared.words.Mode.TheVariants.{Check, Lower, Run};
-ghost use Rattle.sil_command.specs.Answers.{AnswersModule, AnswersText, Writes};
+ghost use Rattle.sil_command.specs.declared.words.Mode.TheVariants.{Check, Lower, Optimize, Run};
+ghost use Rattle.sil_command.specs.Answers.{AnswersModule, AnswersText, Writes, WritesOf};
 ghost use Rattle.sil_command.specs.Words.{IsAskedFor};
 
 use crate::reading::answer_refusal;
@@ -16,7 +16,7 @@ use crate::status::Status;
 use crate::texts;
 use crate::verified::answer_end;
 use crate::words::Mode;
-use module_runner::lower;
+use module_runner::{lower, optimised_if};
 use sil_ast::{Exhausted, Module};
 use sil_grammar::read_owned;
 use sil_printer::print;
@@ -56,8 +56,13 @@ fn answer_module(alloc: Global, mode: Mode, module: Module) -> Result<Answer, Ex
             forget(module);
             answer
         }
-        Mode::Lower => lower_module(alloc, module),
-        Mode::Run { entry, turns } => run_module(alloc, module, entry.as_slice(), turns),
+        Mode::Lower { optimise } => lower_module(alloc, module, optimise),
+        Mode::Optimize => optimize_module(alloc, module),
+        Mode::Run {
+            entry,
+            turns,
+            optimise,
+        } => run_module(alloc, module, entry.as_slice(), turns, optimise),
     }
 }
 
@@ -77,13 +82,40 @@ fn check_module(alloc: Global, module: Module) -> Result<Answer, Exhausted>
     }
 }
 
-fn lower_module(alloc: Global, module: Module) -> Result<Answer, Exhausted>
+fn lower_module(alloc: Global, module: Module, optimise: bool) -> Result<Answer, Exhausted>
     requires { IsNumbered «module» }
-    ensures { IfOk result (λ a. AnswersModule Lower «module» a.text.items (code_of a.status)) }
+    ensures { IfOk result (λ a. AnswersModule (Lower optimise) «module» a.text.items (code_of a.status)) }
+{
+    match verify(alloc, module) {
+        Ok(checked) => write_lowered(alloc, checked, optimise),
+        Err(end) => answer_end(alloc, end),
+    }
+}
+
+fn optimize_module(alloc: Global, module: Module) -> Result<Answer, Exhausted>
+    requires { IsNumbered «module» }
+    ensures { IfOk result (λ a. AnswersModule Optimize «module» a.text.items (code_of a.status)) }
+{
+    match verify(alloc, module) {
+        Ok(checked) => write_optimised(alloc, checked),
+        Err(end) => answer_end(alloc, end),
+    }
+}
+
+fn run_module(
+    alloc: Global,
+    module: Module,
+    entry: &[u8],
+    turns: u32,
+    optimise: bool,
+) -> Result<Answer, Exhausted>
+    requires numbered { IsNumbered «module» }
+    requires some_turns { 1 ≤ turns }
+    ensures { IfOk result (λ a. AnswersModule (Run entry.now turns optimise) «module» a.text.items (code_of a.status)) }
 {
     match verify(alloc, module) {
         Ok(checked) => {
-            let answer = print_lowered(alloc, &checked);
+            let answer = answer_run(alloc, &checked, entry, turns, optimise);
             forget(checked);
             answer
         }
@@ -91,19 +123,22 @@ fn lower_module(alloc: Global, module: Module) -> Result<Answer, Exhausted>
     }
 }
 
-fn run_module(alloc: Global, module: Module, entry: &[u8], turns: u32) -> Result<Answer, Exhausted>
-    requires numbered { IsNumbered «module» }
-    requires some_turns { 1 ≤ turns }
-    ensures { IfOk result (λ a. AnswersModule (Run entry.now turns) «module» a.text.items (code_of a.status)) }
+fn write_lowered(alloc: Global, checked: Checked, optimise: bool) -> Result<Answer, Exhausted>
+    ensures { IfOk result (λ a. WritesOf (λ k. canonical_text (lowered k)) optimise checked a.text.items (code_of a.status)) }
 {
-    match verify(alloc, module) {
-        Ok(checked) => {
-            let answer = answer_run(alloc, &checked, entry, turns);
-            forget(checked);
-            answer
-        }
-        Err(end) => answer_end(alloc, end),
-    }
+    let left = optimised_if(alloc, checked, optimise)?;
+    let answer = print_lowered(alloc, &left);
+    forget(left);
+    answer
+}
+
+fn write_optimised(alloc: Global, checked: Checked) -> Result<Answer, Exhausted>
+    ensures { IfOk result (λ a. WritesOf canonical_text true checked a.text.items (code_of a.status)) }
+{
+    let left = optimised_if(alloc, checked, true)?;
+    let answer = print_module(alloc, left.module());
+    forget(left);
+    answer
 }
 
 fn print_lowered(alloc: Global, checked: &Checked) -> Result<Answer, Exhausted>

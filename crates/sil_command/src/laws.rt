@@ -1,10 +1,10 @@
 //! What follows from the definition of answers, on calls that do nothing.
 
-ghost use Rattle.sil_command.specs.Laws.{AreAcceptedExactly, AreLoweredExactly, ArePrintedExactly, ArePrintedReadBack};
+ghost use Rattle.sil_command.specs.Laws.{AreAcceptedExactly, AreLoweredExactly, AreOptimisedExactly, ArePrintedExactly, ArePrintedReadBack};
 ghost use Rattle.sil_command.specs.Laws.{AreRefusedForTheFirst, AreReportedRightly, AreRunExactly, HaveNoEntryExactly};
 
 use command_words::command_lines_say_one_thing;
-use module_runner::{lowered_runs_end_once, names_have_one_entry};
+use module_runner::{lowered_runs_end_once, names_have_one_entry, one_module_is_lowered};
 use printed_reading_laws::printed_modules_are_spelled;
 use sil_grammar::{spelled_modules_are_numbered, spelled_once};
 use sil_verifier::accepted_where_nothing_is_found;
@@ -18,9 +18,18 @@ pub fn accepted_exactly()
     accepted_where_nothing_is_found();
 }
 
-/// `lower` answers a text that spells an accepted module with status 0, and one that is answered so spells such a module.
+/// `lower` answers a text that spells an accepted module with status 0, optimised or not, and one that is answered so spells such a module.
 pub fn lowered_exactly()
     ensures { AreLoweredExactly }
+{
+    command_lines_say_one_thing();
+    spelled_once();
+    accepted_where_nothing_is_found();
+}
+
+/// `optimize` answers a text that spells an accepted module with status 0, and one that is answered so spells such a module.
+pub fn optimised_exactly()
+    ensures { AreOptimisedExactly }
 {
     command_lines_say_one_thing();
     spelled_once();
@@ -36,6 +45,7 @@ pub fn run_exactly()
     spelled_modules_are_numbered();
     accepted_where_nothing_is_found();
     names_have_one_entry();
+    one_module_is_lowered();
     lowered_runs_end_once();
 }
 

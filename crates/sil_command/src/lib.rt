@@ -16,8 +16,8 @@ mod verified;
 mod words;
 
 pub use laws::{
-    accepted_exactly, lowered_exactly, no_entry_exactly, printed_exactly, printed_texts_read_back,
-    refused_for_the_first, reported_rightly, run_exactly,
+    accepted_exactly, lowered_exactly, no_entry_exactly, optimised_exactly, printed_exactly,
+    printed_texts_read_back, refused_for_the_first, reported_rightly, run_exactly,
 };
 pub use status::Status;
 pub use top_call::command;

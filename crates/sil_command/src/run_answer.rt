@@ -16,17 +16,19 @@ use sil_verifier::Checked;
 use std::alloc::Global;
 use std::mem::forget;
 
-/// The answer to an accepted module, from the function with the name `entry`, for a bound on turns.
+/// The answer to an accepted module, optimised first where that is asked for, from the function with the name `entry`, for a bound on
+/// turns.
 pub(crate) fn answer_run(
     alloc: Global,
     checked: &Checked,
     entry: &[u8],
     turns: u32,
+    optimise: bool,
 ) -> Result<Answer, Exhausted>
     requires { 1 ≤ turns }
-    ensures { IfOk result (λ a. AnswersRun checked.now entry.now turns a.text.items (code_of a.status)) }
+    ensures { IfOk result (λ a. AnswersRun checked.now entry.now turns optimise a.text.items (code_of a.status)) }
 {
-    match run_checked(alloc, checked, entry, turns) {
+    match run_checked(alloc, checked, entry, turns, optimise) {
         Ok(report) => {
             let answer = answer_report(alloc, &report);
             forget(report);

@@ -16,10 +16,19 @@ pub enum Mode {
     Check,
     /// Its canonical text is written, and no rule is checked.
     Print,
-    /// Its rules are checked, and what lowering makes of it is written.
-    Lower,
-    /// Its rules are checked, and what lowering makes of it is run, from the function with this name, for this bound on turns.
-    Run { entry: Text, turns: u32 },
+    /// Its rules are checked, and what lowering makes of it is written, or of the optimised module.
+    Lower {
+        optimise: bool,
+    },
+    /// Its rules are checked, and the optimised module is written.
+    Optimize,
+    /// Its rules are checked, and what lowering makes of it, or of the optimised module, is run, from the function with this name, for this
+    /// bound on turns.
+    Run {
+        entry: Text,
+        turns: u32,
+        optimise: bool,
+    },
 }
 
 /// The mode that the words ask for, or none where they are no command line.
@@ -37,43 +46,52 @@ pub fn mode_of<'a>(alloc: Global, words: &'a [&'a str]) -> Result<Option<Mode>, 
 fn mode_said(alloc: Global, said: CommandWords<'_>) -> Result<Option<Mode>, Exhausted>
     ensures { IfOk result (λ found. MatchOption found
         ((mode : Mode) → said.entry.mode.now ≡ word_of mode
-        → ¬ Takes mode (option_map (λ v. v.now) said.entry.turns) (option_map (λ v. v.now) said.entry.entry))
-        (λ mode. (said.entry.mode.now ≡ word_of mode) × Takes mode (option_map (λ v. v.now) said.entry.turns) (option_map (λ v. v.now) said.entry.entry))) }
+        → ¬ Takes mode (option_map (λ v. v.now) said.entry.turns) (option_map (λ v. v.now) said.entry.entry) said.entry.optimize)
+        (λ mode. (said.entry.mode.now ≡ word_of mode)
+        × Takes mode (option_map (λ v. v.now) said.entry.turns) (option_map (λ v. v.now) said.entry.entry) said.entry.optimize)) }
 {
     if said.mode == "run" {
-        return run_mode(alloc, said.turns, said.entry);
+        return run_mode(alloc, said.turns, said.entry, said.optimize);
     }
     if said.turns.is_some() || said.entry.is_some() {
         return Ok(None);
     }
-    Ok(mode_named(said.mode))
+    Ok(mode_named(said.mode, said.optimize))
 }
 
 fn run_mode(
     alloc: Global,
     turns: Option<&str>,
     entry: Option<&str>,
+    optimise: bool,
 ) -> Result<Option<Mode>, Exhausted>
     ensures { IfOk result (λ found. MatchOption found
-        ((mode : Mode) → word_of mode ≡ codes "run" → ¬ Takes mode (option_map (λ v. v.now) turns.entry) (option_map (λ v. v.now) entry.entry))
-        (λ mode. (word_of mode ≡ codes "run") × Takes mode (option_map (λ v. v.now) turns.entry) (option_map (λ v. v.now) entry.entry))) }
+        ((mode : Mode) → word_of mode ≡ codes "run" → ¬ Takes mode (option_map (λ v. v.now) turns.entry) (option_map (λ v. v.now) entry.entry) optimise)
+        (λ mode. (word_of mode ≡ codes "run") × Takes mode (option_map (λ v. v.now) turns.entry) (option_map (λ v. v.now) entry.entry) optimise)) }
 {
     let Some(turns) = bound_of(turns) else {
         return Ok(None);
     };
     let entry = Text::from_slice(alloc, entry_name(entry).as_bytes())?;
-    Ok(Some(Mode::Run { entry, turns }))
+    Ok(Some(Mode::Run {
+        entry,
+        turns,
+        optimise,
+    }))
 }
 
-/// The mode of this word that takes no option.
-fn mode_named(word: &str) -> Option<Mode>
+/// The mode of this word that takes no value of an option, but maybe the flag.
+fn mode_named(word: &str, optimise: bool) -> Option<Mode>
     requires { ¬ word.now ≡ codes "run" }
-    ensures { MatchOption result ((mode : Mode) → ¬ word.now ≡ word_of mode) (λ mode. (word.now ≡ word_of mode) × Takes mode None None) }
+    ensures { MatchOption result ((mode : Mode) → word.now ≡ word_of mode → ¬ Takes mode None None optimise)
+        (λ mode. (word.now ≡ word_of mode) × Takes mode None None optimise) }
 {
     match word {
+        "lower" => Some(Mode::Lower { optimise }),
+        _ if optimise => None,
         "check" => Some(Mode::Check),
         "print" => Some(Mode::Print),
-        "lower" => Some(Mode::Lower),
+        "optimize" => Some(Mode::Optimize),
         _ => None,
     }
 }

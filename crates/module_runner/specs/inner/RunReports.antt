@@ -1,5 +1,5 @@
 -- What a report tells of a run.
-use Rattle.std.specs.Prelude.{◌≡◌, ℕ, List}
+use Rattle.std.specs.Prelude.{◌≡◌, ℕ, Bool, List}
 use Rattle.holder_model.specs.Outcomes.{Outcome}
 use Rattle.lowered_run.specs.declared.low_fault.LowFault.{LowFault}
 use Rattle.lowered_run.specs.LowOutcomes.{LowEndsSo}
@@ -18,24 +18,35 @@ use Rattle.sil_ast.specs.declared.place.FuncId.{FuncId}
 use Rattle.type_definitions.specs.Declarations.{declarations_of}
 use Rattle.type_definitions.specs.Mentions.{given_type}
 use Rattle.module_runner.specs.Entries.{IsEntry}
+use Rattle.module_runner.specs.Optimising.{IsOptimisedIf}
 use Rattle.module_runner.specs.declared.report.RunReport.{RunReport}
 
 -- the outcome that is reported
 abbrev pub outcome_of : RunReport → Outcome LowFault
 outcome_of r = record { events = r.events; ending = ending_of r.ending; left = r.left; retains = r.retains; releases = r.releases }
 
+-- what is lowered of the module: it can be run, and declares what the module does
+pub record IsLoweredIf (optimises : Bool) (m made : Module) : Type 0 where
+  pub left : Module
+  pub optimised : IsOptimisedIf optimises m left
+  pub lowered : made ≡ lowered left
+  pub runnable : IsRunnable made
+  pub declares : declarations_of made ≡ declarations_of m
+
 -- the report tells of the run of the lowered module from this function, for this bound on turns
-pub record TellsOfRunFrom (m : Module) (e : FuncId) (f : Function) (bound : ℕ) (r : RunReport) : Type 0 where
-  pub ran : r.module ≡ lowered m
+pub record TellsOfRunFrom (m : Module) (e : FuncId) (f : Function) (bound : ℕ) (optimises : Bool) (r : RunReport) : Type 0 where
+  pub left : Module
+  pub optimised : IsOptimisedIf optimises m left
+  pub ran : r.module ≡ lowered left
   pub result_type : r.result_type ≡ given_type f.signature
-  pub ends : LowEndsSo (lowered m) e bound (outcome_of r)
+  pub ends : LowEndsSo (lowered left) e bound (outcome_of r)
 
 -- the report tells of the run of the lowered module from the entry function with this name, for this bound on turns
-pub record TellsOfRun (m : Module) (name : Name) (bound : ℕ) (r : RunReport) : Type 0 where
+pub record TellsOfRun (m : Module) (name : Name) (bound : ℕ) (optimises : Bool) (r : RunReport) : Type 0 where
   pub entry : FuncId
   pub function : Function
   pub begins : IsEntry m name entry function
-  pub tells : TellsOfRunFrom m entry function bound r
+  pub tells : TellsOfRunFrom m entry function bound optimises r
 
 -- the heap of the run has the totals that are told, and after a return its unfreed objects are those that are left
 pub record HeapIsAsTold (r : RunReport) : Type 0 where

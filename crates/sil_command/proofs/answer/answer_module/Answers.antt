@@ -11,10 +11,13 @@ returns-in-Print c = rw c.in-Print.is c.print_module-answer.ensures
 pub returns-in-Lower : goal.returns-in-Lower
 returns-in-Lower c = rw c.in-Lower.is c.lower_module.ensures
 
+pub returns-in-Optimize : goal.returns-in-Optimize
+returns-in-Optimize c = rw c.in-Optimize.is c.optimize_module.ensures
+
 pub run_module-requires : goal.run_module-requires
 run_module-requires c = record {
   numbered = c.requires.numbered;
-  some_turns = some_turns c.in-Run.entry c.in-Run.turns (rw c.in-Run.is at c.requires.asked);
+  some_turns = some_turns c.in-Run.entry c.in-Run.turns c.in-Run.optimise (rw c.in-Run.is at c.requires.asked);
 }
 
 pub returns-in-Run : goal.returns-in-Run

@@ -4,9 +4,9 @@ use Rattle.sil_command.proofs.AnswerLemmas.{accepted_answer, wrong_answer}
 use Rattle.sil_command.proofs.answer.run_module.Goals as goal
 
 pub returns-in-Ok : goal.returns-in-Ok
-returns-in-Ok c = accepted_answer (AnswersRun c.args.«module» c.args.entry.now c.args.turns) c.answer_run-answer.result c.args.«module» c.in-Ok.ensures.accepted
+returns-in-Ok c = accepted_answer (AnswersRun c.args.«module» c.args.entry.now c.args.turns c.args.optimise) c.answer_run-answer.result c.args.«module» c.in-Ok.ensures.accepted
     (rw c.in-Ok.ensures.ok at c.answer_run-answer.ensures)
 
 pub returns-in-Err : goal.returns-in-Err
-returns-in-Err c = wrong_answer (AnswersRun c.args.«module» c.args.entry.now c.args.turns) c.answer_end.result c.args.«module»
+returns-in-Err c = wrong_answer (AnswersRun c.args.«module» c.args.entry.now c.args.turns c.args.optimise) c.answer_end.result c.args.«module»
     (c.answer_end.ensures c.args.«module» c.in-Err.ensures.err)
