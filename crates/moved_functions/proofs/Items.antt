@@ -176,7 +176,7 @@ module _ {f : Function} {p : PointId} {last : ℕ} {c v : ValueId} (s : IsSplit 
         let second : length s.front + suc (length s.middle) ≡ last = s.at_destroy in
         flat_map-append new (entry_of p.block.0) (insts_from p.block.0 0 s.front)
         ∙ ap₂ (λ u w. u ++ w) (at_entry p.block.0)
-            (along p.block.0 0 s.front 0 0 refl (λ j j' le lt is. stayed j j' (λ e. let no : ⊥ = omega arith in no) (omega arith) is))
+        (along p.block.0 0 s.front 0 0 refl (λ j j' le lt is. stayed j j' (λ e. let no : ⊥ = omega arith in no) (omega arith) is))
         ∙ sym (flat_map-append old (entry_of p.block.0) (insts_from p.block.0 0 s.front))
 
     pub inside_alike : flat_map new inside ≡ flat_map old inside
@@ -208,9 +208,9 @@ module _ {f : Function} {p : PointId} {last : ℕ} {c v : ValueId} (s : IsSplit 
         let exit = exit_of (point_at n (length b.insts)) (ends_function b.terminator.op) in
         flat_map-append new (entry_of n) (insts_from n 0 b.insts ++ exit)
         ∙ ap₂ (λ u w. u ++ w) (at_entry n)
-            (flat_map-append new (insts_from n 0 b.insts) exit
-            ∙ ap₂ (λ u w. u ++ w) (along n 0 b.insts 0 0 refl (λ j j' le lt is. there j j' is)) (exit_elsewhere (point_at n (length b.insts)) ne (ends_function b.terminator.op))
-            ∙ sym (flat_map-append old (insts_from n 0 b.insts) exit))
+        (flat_map-append new (insts_from n 0 b.insts) exit
+        ∙ ap₂ (λ u w. u ++ w) (along n 0 b.insts 0 0 refl (λ j j' le lt is. there j j' is)) (exit_elsewhere (point_at n (length b.insts)) ne (ends_function b.terminator.op))
+        ∙ sym (flat_map-append old (insts_from n 0 b.insts) exit))
         ∙ sym (flat_map-append old (entry_of n) (insts_from n 0 b.insts ++ exit))
       where
         there : (j j' : ℕ) → j' ≡ 0 + j → new (item.Inst (point_at n j)) ≡ old (item.Inst (point_at n j'))

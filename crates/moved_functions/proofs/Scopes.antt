@@ -246,7 +246,7 @@ module _ (m : Module) (n : ℕ) (f : Function) (verified : IsVerified m) (in_mod
         items = append_assoc (passed (flow_of f) w) (head s) (item.Inst p ∷ []) ∙ ap (λ xs. passed (flow_of f) w ++ xs)
             (sym (take_front (head s ++ item.Inst p ∷ []) (inside s ++ gone s ∷ old_tail s))
             ∙ ap (take (length (head s ++ item.Inst p ∷ [])))
-                (append_assoc (head s) (item.Inst p ∷ []) (inside s ++ gone s ∷ old_tail s) ∙ sym (old_items s) ∙ ap (items_at (flow_of f)) (sym ends)));
+            (append_assoc (head s) (item.Inst p ∷ []) (inside s ++ gone s ∷ old_tail s) ∙ sym (old_items s) ∙ ap (items_at (flow_of f)) (sym ends)));
       }
 
       not_own : is_scope f known (value_of u) ≡ true → (v.0 == u) ≡ false

@@ -27,11 +27,11 @@ module _ {f : Function} {p : PointId} {last : ℕ} {c v : ValueId} (s : IsSplit 
   insts_told tell same none =
       flat_map-append tell (new_block s).insts (s.block.terminator ∷ [])
       ∙ ap (λ xs. xs ++ flat_map tell (s.block.terminator ∷ []))
-          (ap (flat_map tell) (insts_moved s) ∙ flat_map-append tell s.front (move_of s.copy ∷ (s.middle ++ s.back))
-          ∙ ap₂ (λ x y. flat_map tell s.front ++ (x ++ y)) same
-              (flat_map-append tell s.middle s.back ∙ ap (λ x. flat_map tell s.middle ++ (x ++ flat_map tell s.back)) (sym none)
-              ∙ sym (flat_map-append tell s.middle (s.destroy ∷ s.back)))
-          ∙ sym (flat_map-append tell s.front (s.copy ∷ (s.middle ++ s.destroy ∷ s.back))) ∙ ap (flat_map tell) (sym s.insts))
+      (ap (flat_map tell) (insts_moved s) ∙ flat_map-append tell s.front (move_of s.copy ∷ (s.middle ++ s.back))
+      ∙ ap₂ (λ x y. flat_map tell s.front ++ (x ++ y)) same
+      (flat_map-append tell s.middle s.back ∙ ap (λ x. flat_map tell s.middle ++ (x ++ flat_map tell s.back)) (sym none)
+      ∙ sym (flat_map-append tell s.middle (s.destroy ∷ s.back)))
+      ∙ sym (flat_map-append tell s.front (s.copy ∷ (s.middle ++ s.destroy ∷ s.back))) ∙ ap (flat_map tell) (sym s.insts))
       ∙ sym (flat_map-append tell s.block.insts (s.block.terminator ∷ []))
 
   pub values_same : s.destroy.results ≡ [] → values_of (after s).blocks ≡ values_of f.blocks

@@ -108,5 +108,5 @@ module _ {f : Function} {p : PointId} {last : ℕ} {c v : ValueId} (s : IsSplit 
         let h = kept_leads old (flow_of f) kept w was in (
           h.0,
           ap (λ n. run mark_step (Go 0) (flat_map new (passed (flow_of (after s)) w ++ items_at (flow_of (after s)) n))) (same_end s 0 w)
-          ∙ onwards [] w 0 0 h.0 tt refl refl was h.1,
+              ∙ onwards [] w 0 0 h.0 tt refl refl was h.1,
         ))
