@@ -33,11 +33,21 @@ impl Model for Checked {
 }
 
 impl Checked {
-    pub(crate) fn with(m: Module, table: TypeTable) -> Checked
+    /// A module of which it is proved that it is accepted, with its own table.
+    pub fn of_verified(m: Module, table: TypeTable) -> Checked
         requires { IsVerifiedWith m table }
         ensures { result ≡ m }
     {
         Checked { inner: m, table }
+    }
+
+    /// The module and its table.
+    pub fn into_parts(self) -> (Module, TypeTable)
+        ensures module { result.0 ≡ self }
+        ensures verified { IsVerifiedWith result.0 result.1 }
+    {
+        let Checked { inner, table } = self;
+        (inner, table)
     }
 
     /// The module.

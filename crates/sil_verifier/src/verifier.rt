@@ -45,7 +45,7 @@ pub fn verify(alloc: Global, m: Module) -> Result<Checked, VerifyEnd>
         Err(reason) => return Err(end_of_types(alloc, m, reason)),
     };
     match check_values(alloc, &m, &table) {
-        Ok(()) => Ok(Checked::with(m, table)),
+        Ok(()) => Ok(Checked::of_verified(m, table)),
         Err(reason) => Err(end_of_values(m, reason)),
     }
 }

@@ -1,0 +1,17 @@
+pub mod Lists
+pub mod Split
+pub mod Places
+pub mod Items
+pub mod KeptOnWalks
+pub mod Walks
+pub mod ValueRows
+pub mod InModule
+pub mod TheCopy
+pub mod SameFacts
+pub mod Marks
+pub mod Turnings
+pub mod Undefined
+pub mod Lives
+pub mod Scopes
+pub mod KindsKept
+pub mod Clean

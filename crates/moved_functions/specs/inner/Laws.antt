@@ -1,0 +1,32 @@
+-- The law of moved values.
+use Rattle.std.specs.Prelude.{◌≡◌, ℕ, List, Some, None, slice_get}
+use Rattle.sil_ast.specs.declared.function.Function.{Function}
+use Rattle.sil_ast.specs.declared.module.Module.{Module}
+use Rattle.sil_ast.specs.declared.place.EdgeId.{EdgeId}
+use Rattle.sil_ast.specs.declared.place.PointId.{PointId}
+use Rattle.sil_ast.specs.declared.place.ValueId.{ValueId}
+use Rattle.sil_cfg.specs.declared.item.Item.{Item}
+use Rattle.sil_rules.specs.declared.rule.Rule.{Rule}
+use Rattle.type_definitions.specs.Declarations.{Declarations, declarations_of}
+use Rattle.path_checks.specs.First.{IsFirst}
+use Rattle.value_availability.specs.Accesses.{accesses_of}
+use Rattle.ownership_kinds.specs.Statics.{HasKinds}
+use Rattle.sil_verifier.specs.Shown.{lives_in, scopes_in}
+use Rattle.sil_verifier.specs.inner.Checked.{IsVerified}
+use Rattle.copy_removal.specs.Copies.{IsCopy}
+use Rattle.copy_removal.specs.Optimised.{facts_of}
+use Rattle.copy_removal.specs.Removable.{IsMovable}
+use Rattle.copy_removal.specs.Rewritten.{moved}
+
+-- no rule on the values of the function is broken, but for those on memory: no walk shows an operand before its definition, no rule on kinds
+-- is broken, and no walk breaks a life or a scope
+pub record AreValuesClean (d : Declarations) (f : Function) : Type 0 where
+  pub defined : IsFirst f (accesses_of f) None
+  pub kinds : HasKinds d f
+  pub lives : IsFirst f (lives_in d f) None
+  pub scopes : IsFirst f (scopes_in d f) None
+
+-- an accepted function keeps these rules where a copy that can become a move does
+abbrev pub MovedValuesAreClean : Type 0
+MovedValuesAreClean = (m : Module) (n : ℕ) (f : Function) (p : PointId) (c v : ValueId) → IsVerified m → slice_get m.functions n ≡ Some f → IsCopy f p c v
+    → (h : IsMovable (facts_of m f) f p c v) → AreValuesClean (declarations_of m) (moved p h.last f)

@@ -1,0 +1,9 @@
+mod Lists
+mod Alike
+mod Rows
+mod Made
+mod Numbered
+mod Mentioned
+mod Points
+mod Rules
+mod Kept
