@@ -1,6 +1,6 @@
 -- A switch along the walks of the function without the copy: where its marks are those of the old items, but for the move, and turn it
 -- alike from the copy to the gone destroy, it keeps its pattern if it did.
-use Rattle.std.proofs.Common.{◌≡◌, ◌≢◌, ◌⊎◌, inl, inr, ℕ, List, [], ◌∷◌, ◌++◌, refl, sym, ap, ◌∙◌, subst, append_assoc}
+use Rattle.std.proofs.Common.{◌≡◌, ◌≢◌, ◌⊎◌, inl, inr, ℕ, List, [], ◌∷◌, ◌++◌, refl, sym, ap, ◌∙◌, append_assoc}
 use Rattle.std.specs.List.{flat_map}
 use Rattle.std.proofs.lemmas.Bool.{cases_eq}
 use Rattle.std.proofs.lemmas.List.{append-nil}
@@ -20,7 +20,7 @@ use Rattle.path_patterns.specs.Switch.{IsInPlace}
 use Rattle.path_patterns.specs.declared.mark.Mark.{Mark}
 use Rattle.path_patterns.specs.inner.Automaton.{mark_step}
 use Rattle.moved_functions.specs.inner.Structure.{old_item}
-use Rattle.moved_functions.proofs.Items.{edge_alike, elsewhere_alike, gone, head, head_alike, inside, inside_alike, new_items, new_tail, old_items, old_tail, old_walk, same_end, same_edge_to, tail_alike}
+use Rattle.moved_functions.proofs.Items.{edge_alike, elsewhere_alike, gone, head, head_alike, inside, inside_alike, new_items, new_tail, old_items, old_tail, old_walk, same_end, tail_alike}
 use Rattle.moved_functions.proofs.KeptOnWalks.{Leads, Turns, kept_leads, leads_join, leads_kept, leads_split, turns_join, turns_split}
 use Rattle.moved_functions.proofs.Places.{after}
 use Rattle.moved_functions.proofs.Split.{IsSplit}
@@ -108,5 +108,5 @@ module _ {f : Function} {p : PointId} {last : ℕ} {c v : ValueId} (s : IsSplit 
         let h = kept_leads old (flow_of f) kept w was in (
           h.0,
           ap (λ n. run mark_step (Go 0) (flat_map new (passed (flow_of (after s)) w ++ items_at (flow_of (after s)) n))) (same_end s 0 w)
-          ∙ onwards [] w 0 0 h.0 tt refl refl was h.1,
+              ∙ onwards [] w 0 0 h.0 tt refl refl was h.1,
         ))
