@@ -32,7 +32,8 @@ use Rattle.item_operands.specs.declared.taken.Taken.{Taken}
 use Rattle.value_tables.specs.Borrows.{is_borrow, is_borrow_in}
 use Rattle.ownership_chains.specs.Chains.{IsCyclic}
 use Rattle.ownership_kinds.specs.Facts.{facts_in, kind_in, kind_of_facts}
-use Rattle.ownership_kinds.specs.Statics.{HasKinds, IsBroken, IsDefinedAt, IsOnRing, all_taken, is_annotated_well, is_guaranteed, is_lacking_default, is_mismatch, lacks_argument, lacks_by, mixed_operand, needs_argument, no_arguments}
+use Rattle.ownership_kinds.specs.Statics.{HasKinds, IsBroken, IsDefinedAt, IsOnRing, all_taken, is_annotated_well, is_guaranteed}
+use Rattle.ownership_kinds.specs.Statics.{is_lacking_default, is_mismatch, lacks_argument, lacks_by, mixed_operand, needs_argument, no_arguments}
 use Rattle.ownership_kinds.specs.Statics.IsBroken.{annotated, lacking, mismatch, mixed, on_ring}
 use Rattle.ownership_kinds.specs.Statics.IsDefinedAt.{argument, result}
 use Rattle.sil_verifier.specs.Shown.IsShownIn.{kind as shown_kind}

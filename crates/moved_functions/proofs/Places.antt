@@ -15,7 +15,8 @@ use Rattle.sil_cfg.specs.Items.{point_at}
 use Rattle.sil_cfg.specs.Returns.{is_return, returns_in}
 use Rattle.sil_cfg.specs.declared.item.Item.{Item}
 use Rattle.sil_cfg.specs.declared.item.Item.TheVariants as item
-use Rattle.item_operands.specs.Parts.{args_behind, edge_at, edge_in, handover_in, inst_at, inst_in, item_arguments, item_edge, item_handover, item_inst, item_operands, item_results, operands_in, results_in, terminator_in, terminator_of}
+use Rattle.item_operands.specs.Parts.{args_behind, edge_at, edge_in, handover_in, inst_at, inst_in, item_arguments, item_edge}
+use Rattle.item_operands.specs.Parts.{item_handover, item_inst, item_operands, item_results, operands_in, results_in, terminator_in, terminator_of}
 use Rattle.item_operands.specs.Items.{arg_value, item_defined, item_taken, taken_along_in, taken_in}
 use Rattle.copy_removal.specs.Rewritten.{moved, moved_block}
 use Rattle.moved_functions.specs.inner.Structure.{old_item, old_point, stood_at}

@@ -1,5 +1,6 @@
 -- 501 to 505: no scope that borrows from what is moved is open at the move, and all else is the same.
-use Rattle.std.proofs.Common.{◌≡◌, ◌≢◌, ℕ, zero, suc, ◌+◌, List, [], ◌∷◌, ◌++◌, length, take, refl, sym, ap, ap₂, ◌∙◌, subst, append-nil, append_assoc, length-append, Bool, true, false, cond, Option, None, Some, arith}
+use Rattle.std.proofs.Common.{◌≡◌, ◌≢◌, ℕ, zero, suc, ◌+◌, List, [], ◌∷◌, ◌++◌, length, take, refl, sym}
+use Rattle.std.proofs.Common.{ap, ap₂, ◌∙◌, subst, append-nil, append_assoc, length-append, Bool, true, false, cond, Option, None, Some, arith}
 use Rattle.std.specs.Prelude.{◌&&◌, ◌==◌, ◌||◌, filter_map, unwrap_or}
 use Rattle.std.specs.List.{cons_option, flat_map, range_with_len, slice_get}
 use Rattle.std.proofs.lemmas.Bool.{eq-eqb, eqb-true}
@@ -43,7 +44,8 @@ use Rattle.ownership_marks.specs.declared.mark.MarkSort.TheVariants.{Begin, End,
 use Rattle.ownership_kinds.specs.Facts.{facts_in}
 use Rattle.value_tables.specs.Borrows.{borrow_in, borrows_of, is_borrow, is_borrow_in, lends}
 use Rattle.borrow_scopes.specs.Others.{other_of}
-use Rattle.borrow_scopes.specs.Scopes.{bases_in, entry_of, is_scope, leaves, left_at_return, lent_bases, lost_at_end, lost_entries, lost_from, lost_with, mark_entries, returned, scope_entries, scopes_of}
+use Rattle.borrow_scopes.specs.Scopes.{bases_in, entry_of, is_scope, leaves, left_at_return, lent_bases, lost_at_end}
+use Rattle.borrow_scopes.specs.Scopes.{lost_entries, lost_from, lost_with, mark_entries, returned, scope_entries, scopes_of}
 use Rattle.borrow_scopes.specs.inner.Runs.{scope_along, sort_for, sort_of, sorts_along}
 use Rattle.borrow_scopes.proofs.ScopesAreRuns.{open_while_on}
 use Rattle.sil_verifier.specs.Shown.{scopes_in}

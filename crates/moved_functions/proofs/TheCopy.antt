@@ -110,7 +110,8 @@ module _ {f : Function} {p : PointId} {last : ℕ} {c v : ValueId} (s : IsSplit 
     move_makes : made_types d (move_of s.copy) ≡ type_written.ty ∷ []
     move_makes = ap (λ (o : MadeTypes). unwrap_or o []) (given_object d (written 0 s.copy) type_written)
 
-    owned_by : (i : Inst) (k : ℕ) → result_kind_of i.op ≡ result_kind_of op.CopyValue → result_definition d i k ≡ result_definition_by (result_kind_of op.CopyValue) i (is_trivial_or_untyped d (slice_get (made_types d i) k))
+    owned_by : (i : Inst) (k : ℕ) → result_kind_of i.op ≡ result_kind_of op.CopyValue
+        → result_definition d i k ≡ result_definition_by (result_kind_of op.CopyValue) i (is_trivial_or_untyped d (slice_get (made_types d i) k))
     owned_by i k e = ap (λ x. result_definition_by x i (is_trivial_or_untyped d (slice_get (made_types d i) k))) e
 
     definition_same : (k : ℕ) → result_definition d (move_of s.copy) k ≡ result_definition d s.copy k

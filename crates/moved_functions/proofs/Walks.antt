@@ -88,7 +88,8 @@ module _ {f : Function} {p : PointId} {last : ℕ} {c v : ValueId} (s : IsSplit 
         let new_own = items_at (flow_of (after s)) e.block.0 in
         let new_rest = passed (flow_of (after s)) todo ++ items_at (flow_of (after s)) (end_from (flow_of f) (edge_to (flow_of f) e) todo) in
         let by = leads_split old own (item.Edge e ∷ rest) a b
-        (ap (λ xs. run mark_step (Go a) (flat_map old xs)) (sym (append_assoc own (item.Edge e ∷ passed (flow_of f) todo) (items_at (flow_of f) (end_from (flow_of f) (edge_to (flow_of f) e) todo)))) ∙ h) in
+        (ap (λ xs. run mark_step (Go a) (flat_map old xs))
+        (sym (append_assoc own (item.Edge e ∷ passed (flow_of f) todo) (items_at (flow_of f) (end_from (flow_of f) (edge_to (flow_of f) e) todo)))) ∙ h) in
         let over = turns_split (old (item.Edge e)) (flat_map old rest) by.0 b by.2 in
         let block = by_block e.block.0 done a by.0 walk (ends ∙ sym more.0) to by.1 in
         let edge : Turns (new (item.Edge e)) by.0 over.0 = ap (run mark_step (Go by.0)) (edge_alike s old new same e) ∙ over.1 in
@@ -99,7 +100,8 @@ module _ {f : Function} {p : PointId} {last : ℕ} {c v : ValueId} (s : IsSplit 
         ∙ leads_join old (passed (flow_of f) done) (own ++ item.Edge e ∷ []) 0 a over.0 to (leads_join old own (item.Edge e ∷ []) a by.0 over.0 by.1 one) in
         let later = onwards (done ++ e ∷ []) todo (edge_to (flow_of f) e) over.0 b (walk_join (flow_of f) 0 done (e ∷ []) walk step)
         (end_join (flow_of f) 0 done (e ∷ [])) come more.2 over.2 in
-        ap (λ xs. run mark_step (Go a) (flat_map new xs)) (append_assoc new_own (item.Edge e ∷ passed (flow_of (after s)) todo) (items_at (flow_of (after s)) (end_from (flow_of f) (edge_to (flow_of f) e) todo)))
+        ap (λ xs. run mark_step (Go a) (flat_map new xs))
+        (append_assoc new_own (item.Edge e ∷ passed (flow_of (after s)) todo) (items_at (flow_of (after s)) (end_from (flow_of f) (edge_to (flow_of f) e) todo)))
         ∙ leads_join new new_own (item.Edge e ∷ new_rest) a by.0 b block (turns_join (new (item.Edge e)) (flat_map new new_rest) by.0 over.0 b edge later)
 
     pub kept_after : IsKept (flow_of f) old IsInPlace → IsKept (flow_of (after s)) new IsInPlace
