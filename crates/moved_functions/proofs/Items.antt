@@ -1,5 +1,6 @@
 -- The items of blocks, in order: without the gone destroy those of the block of the copy, and the same in each other block. Walks are the same.
-use Rattle.std.proofs.Common.{◌≡◌, ◌≢◌, ℕ, zero, suc, ◌+◌, ◌<◌, ◌≤◌, List, [], ◌∷◌, ◌++◌, length, refl, sym, ap, ap₂, ◌∙◌, subst, append_assoc, Bool, true, false, Option, Some, None, arith, length-append}
+use Rattle.std.proofs.Common.{◌≡◌, ◌≢◌, ℕ, zero, suc, ◌+◌, ◌<◌, ◌≤◌, List, [], ◌∷◌, ◌++◌, length, refl}
+use Rattle.std.proofs.Common.{sym, ap, ap₂, ◌∙◌, subst, append_assoc, Bool, true, false, Option, Some, None, arith, length-append}
 use Rattle.std.specs.Prelude.{unwrap_or}
 use Rattle.std.specs.List.{flat_map, slice_get}
 use Rattle.std.proofs.lemmas.Grind.{flat_map-append}
@@ -14,7 +15,7 @@ use Rattle.sil_cfg.specs.Items.{ends_function, entry_of, exit_of, flow_of, insts
 use Rattle.sil_cfg.specs.Walk.{IsWalkFrom, end_from}
 use Rattle.sil_cfg.specs.declared.item.Item.{Item}
 use Rattle.sil_cfg.specs.declared.item.Item.TheVariants as item
-use Rattle.moved_functions.specs.inner.Structure.{old_item, old_point, stood_at}
+use Rattle.moved_functions.specs.inner.Structure.{old_item}
 use Rattle.moved_functions.proofs.Lists.{stood_before, stood_behind}
 use Rattle.moved_functions.proofs.Split.{IsSplit, insts_moved, move_of, moved_insts}
 use Rattle.moved_functions.proofs.Places.{after, block_elsewhere, block_there, new_block, old_elsewhere, old_here, told_of_block}
