@@ -32,18 +32,18 @@ index_passed m n p none before k q other r =
 block_passed : (m : Module) (n b i : ℕ) → length (insts_at m n b) ≤ i → NoneBefore m n (point_at b i) → NoneBefore m n (point_at (b + 1) 0)
 block_passed m n b i most before k q other r =
     next_block n b i k q.block.0 q.index (before k q other r)
-    (λ a e le. let there : StandsAt m n (point_at b q.index) = stands_at m other n (point_at b q.index) (same_place m other n k (point_at b q.index) q a e refl r) in absurd (omega (arith, there.index)))
+    (λ a e le. let there : StandsAt m n (point_at b q.index) = stands_at m n (point_at b q.index) other (same_place m other n k (point_at b q.index) q a e refl r) in absurd (omega (arith, there.index)))
 
 function_passed : (m : Module) (n b : ℕ) → length (blocks_at m n) ≤ b → NoneBefore m n (point_at b 0) → NoneBefore m (n + 1) (point_at 0 0)
 function_passed m n b most before k q other r =
     next_function n b k q.block.0 q.index (before k q other r)
-    (λ a le. let there : StandsAt m n q = stands_at m other n q (same_place m other n k q q a refl refl r) in absurd (omega (arith, there.block)))
+    (λ a le. let there : StandsAt m n q = stands_at m n q other (same_place m other n k q q a refl refl r) in absurd (omega (arith, there.block)))
 
 none_left : (m : Module) (n : ℕ) → length m.functions ≤ n → NoneBefore m n (point_at 0 0) → HasNoRemovable m
 none_left m n most before k q other r = at (before k q other r)
   where
     there : StandsAt m k q
-    there = stands_at m other k q r
+    there = stands_at m k q other r
     at : NotAfter (place n 0 0) (text_key k q) → ⊥
     at (inl lt) = absurd (omega (arith, there.function))
     at (inr h) = absurd (let same : n ≡ k = h.0 in omega (arith, there.function))
@@ -61,7 +61,7 @@ passed_on a b c i j k p q r one other = record {
 }
 
 module _ (keeps : RewritingKeepsVerified) (later : LaterOnesAreLeft) where
-  first_by : (m next : Module) (n : ℕ) (p : PointId) → Rewrites m n p next → NoneBefore m n p → RewritesFirst m next
+  abbrev first_by : (m next : Module) (n : ℕ) (p : PointId) → Rewrites m n p next → NoneBefore m n p → RewritesFirst m next
   first_by m next n p r before = record { function = n; point = p; rewrites = r; first = before }
 
   rewritten_passed : (m next : Module) (n : ℕ) (p : PointId) → IsVerified m → Rewrites m n p next → NoneBefore m n p → NoneBefore next n (point_at p.block.0 (p.index + 1))
@@ -79,8 +79,8 @@ module _ (keeps : RewritingKeepsVerified) (later : LaterOnesAreLeft) where
   }
   turned_passed m _ n p verified (turns next r) = record {
     verified = keeps m next n p verified r;
-    declarations = rewritten_declares m next n p r;
-    shape = rewritten_shape m next n p r;
+    declarations = rewritten_declares m n p next r;
+    shape = rewritten_shape m n p next r;
     none = rewritten_passed m next n p verified r;
     leads = λ before last h. more m next last (first_by m next n p r before) h;
   }

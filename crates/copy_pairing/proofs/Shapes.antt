@@ -99,14 +99,14 @@ module _ (m : Module) (n : ℕ) (change : Function → Function) (f : Function) 
   no_longer : IsNoLonger m (with_function n change m)
   no_longer = record { functions = length_changed change n m.functions; blocks = as_many; insts = no_more }
 
-pub rewritten_shape : (m next : Module) (n : ℕ) (p : PointId) → Rewrites m n p next → IsNoLonger m next
-rewritten_shape m _ n p (lends f c v there copy h) = no_longer m n (lent c) f there (length-map f.blocks (lent_block c)) (map_shorter (lent_block c) (lent_shorter c) f.blocks)
-rewritten_shape m _ n p (moves f c v there copy not h) =
+pub rewritten_shape : (m : Module) (n : ℕ) (p : PointId) (next : Module) → Rewrites m n p next → IsNoLonger m next
+rewritten_shape m n p _ (lends f c v there copy h) = no_longer m n (lent c) f there (length-map f.blocks (lent_block c)) (map_shorter (lent_block c) (lent_shorter c) f.blocks)
+rewritten_shape m n p _ (moves f c v there copy not h) =
     no_longer m n (moved p h.last) f there (length_changed (moved_block p.index h.last) p.block.0 f.blocks) (changed_shorter (moved_block p.index h.last) (moved_shorter p.index h.last) p.block.0 f.blocks)
 
-pub rewritten_declares : (m next : Module) (n : ℕ) (p : PointId) → Rewrites m n p next → declarations_of next ≡ declarations_of m
-rewritten_declares m _ n p (lends f c v there copy h) = refl
-rewritten_declares m _ n p (moves f c v there copy not h) = refl
+pub rewritten_declares : (m : Module) (n : ℕ) (p : PointId) (next : Module) → Rewrites m n p next → declarations_of next ≡ declarations_of m
+rewritten_declares m n p _ (lends f c v there copy h) = refl
+rewritten_declares m n p _ (moves f c v there copy not h) = refl
 
 pub same_shape : (m : Module) → IsNoLonger m m
 same_shape m = record { functions = refl; blocks = λ n. refl; insts = λ n b. omega arith }
@@ -148,6 +148,6 @@ stands_by m n p f c v there copy = record {
   index = subst (λ o. p.index < length (insts_in (slice_get (blocks_in o) p.block.0))) (sym there) (copy_index f p c v copy);
 }
 
-pub stands_at : (m next : Module) (n : ℕ) (p : PointId) → Rewrites m n p next → StandsAt m n p
-stands_at m _ n p (lends f c v there copy h) = stands_by m n p f c v there copy
-stands_at m _ n p (moves f c v there copy not h) = stands_by m n p f c v there copy
+pub stands_at : (m : Module) (n : ℕ) (p : PointId) (next : Module) → Rewrites m n p next → StandsAt m n p
+stands_at m n p _ (lends f c v there copy h) = stands_by m n p f c v there copy
+stands_at m n p _ (moves f c v there copy not h) = stands_by m n p f c v there copy

@@ -13,11 +13,11 @@ returns-then-not-is_owned-clause-none c = λ count facts by.
 pub destroyed_next-requires-clause-owned : goal.destroyed_next-requires-clause-owned
 destroyed_next-requires-clause-owned c = sym (c.is_owned.ensures ∙ ap is_owned c.kind.ensures) ∙ c.if-not-is_owned.false
 
-pub returns-in-None-clause-none : goal.returns-in-None-clause-none
-returns-in-None-clause-none c = λ count facts by.
+pub returns-in_default-clause-none : goal.returns-in_default-clause-none
+returns-in_default-clause-none c = λ count facts by.
     not_movable c.args.f.now c.args.g.now c.args.k.now count facts by c.args.p c.args.copied.value c.args.copied.operand
     (subst (λ (o : Option ℕ). IfNone o ((last : ℕ) → IsDestroyedNext (told_at c.args.k.now.table) c.args.f.now c.args.p c.args.copied.value c.args.copied.operand last → ⊥))
-    c.in-None.is c.in_ok-next.ensures.none)
+    c.in_default.is c.in_ok-next.ensures.none)
 
 pub returns-then-unlent-clause-some : goal.returns-then-unlent-clause-some
 returns-then-unlent-clause-some c = λ count facts by.

@@ -10,7 +10,7 @@ loop-index-init c = passed_same c.args.m.now c.args.function (point_at c.args.bl
 
 pub overflow_cast-p : goal.overflow_cast-p
 overflow_cast-p c =
-    let few : length (insts_at c.args.m.now c.args.function c.args.block.0) < 2 ^ 32 = short_insts c.args.m.now c.args.function c.args.block.0 c.requires.verified in
+    let few : length (insts_at c.args.m.now c.args.function c.args.block.0) < 2 ^ 32 = short_insts c.args.m.now c.args.function c.requires.verified c.args.block.0 in
     omega arith
 
 pub rewrite_at-requires-clause-verified : goal.rewrite_at-requires-clause-verified

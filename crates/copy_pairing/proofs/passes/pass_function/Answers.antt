@@ -8,8 +8,8 @@ use Rattle.copy_pairing.proofs.passes.pass_function.Goals as goal
 pub loop-b-init : goal.loop-b-init
 loop-b-init c = passed_same c.args.m.now c.args.function (point_at 0 0) c.requires.verified
 
-pub overflow_cast-pass_block : goal.overflow_cast-pass_block
-overflow_cast-pass_block c =
+pub overflow_cast-b : goal.overflow_cast-b
+overflow_cast-b c =
     let few : length (blocks_at c.args.m.now c.args.function) < 2 ^ 32 = few_blocks c.args.m.now c.args.function c.requires.verified in
     omega arith
 

@@ -9,9 +9,9 @@ returns-in-Stay c = stays (subst (IsTurn c.args.m.now c.args.function c.args.p) 
 pub lend-requires : goal.lend-requires
 lend-requires c = (subst (IsTurn c.args.m.now c.args.function c.args.p) c.in-Lend.is c.in_ok-turn.ensures).0
 
-pub returns-in-Lend : goal.returns-in-Lend
-returns-in-Lend c =
-    subst (Turned c.args.m.now c.args.function c.args.p) (sym c.in_ok-lend.ensures)
+pub returns-in_ok-lend-in-Lend : goal.returns-in_ok-lend-in-Lend
+returns-in_ok-lend-in-Lend c =
+    subst (Turned c.args.m.now c.args.function c.args.p) (sym c.in_ok-lend-in-Lend.ensures)
     (turns (with_function c.args.function (lent c.in-Lend.value) c.args.m.now) (subst (IsTurn c.args.m.now c.args.function c.args.p) c.in-Lend.is c.in_ok-turn.ensures).1)
 
 pub move_copy-requires-clause-behind : goal.move_copy-requires-clause-behind
@@ -20,7 +20,7 @@ move_copy-requires-clause-behind c = (subst (IsTurn c.args.m.now c.args.function
 pub move_copy-requires-clause-there : goal.move_copy-requires-clause-there
 move_copy-requires-clause-there c = (subst (IsTurn c.args.m.now c.args.function c.args.p) c.in-Move.is c.in_ok-turn.ensures).0.there
 
-pub returns-in-Move : goal.returns-in-Move
-returns-in-Move c =
-    subst (Turned c.args.m.now c.args.function c.args.p) (sym c.in_ok-move_copy.ensures)
+pub returns-in_ok-move_copy-in-Move : goal.returns-in_ok-move_copy-in-Move
+returns-in_ok-move_copy-in-Move c =
+    subst (Turned c.args.m.now c.args.function c.args.p) (sym c.in_ok-move_copy-in-Move.ensures)
     (turns (with_function c.args.function (moved c.args.p c.in-Move.last) c.args.m.now) (subst (IsTurn c.args.m.now c.args.function c.args.p) c.in-Move.is c.in_ok-turn.ensures).1)
