@@ -77,10 +77,12 @@ behind n b i k c j not = at (cases_lt n k) (cases_lt k n)
     in_block e f (inl lt) h = inr (e, inr (f, after_index i j lt))
     in_block e f (inr le) (inl lt) = absurd (not (inr (omega arith, inr (omega arith, inl lt))))
     in_block e f (inr le) (inr ge) = absurd (not (inr (omega arith, inr (omega arith, inr (omega arith, tt)))))
+
     in_function : n ≡ k → (b < c) ⊎ (c ≤ b) → (c < b) ⊎ (b ≤ c) → NotAfter (place n b (i + 1)) (place k c j)
     in_function e (inl lt) h = inr (e, inl lt)
     in_function e (inr le) (inl lt) = absurd (not (inr (omega arith, inl lt)))
     in_function e (inr le) (inr ge) = in_block e (omega arith) (cases_lt i j) (cases_lt j i)
+
     at : (n < k) ⊎ (k ≤ n) → (k < n) ⊎ (n ≤ k) → NotAfter (place n b (i + 1)) (place k c j)
     at (inl lt) h = inl lt
     at (inr le) (inl lt) = absurd (not (inl lt))

@@ -44,6 +44,7 @@ none_left m n most before k q other r = at (before k q other r)
   where
     there : StandsAt m k q
     there = stands_at m k q other r
+
     at : NotAfter (place n 0 0) (text_key k q) → ⊥
     at (inl lt) = absurd (omega (arith, there.function))
     at (inr h) = absurd (let same : n ≡ k = h.0 in omega (arith, there.function))

@@ -36,6 +36,7 @@ module _ (m : Module) (n : ℕ) (verified : IsVerified m) where
       in_function : (f : Function) → slice_get m.functions n ≡ Some f → (0 < length f.blocks) ⊎ (length f.blocks ≤ 0) → length f.blocks < 2 ^ 32
       in_function f there (inl body) = (graph_of f there body).few_blocks
       in_function f there (inr none) = omega arith
+
       at : (o : Option Function) → slice_get m.functions n ≡ o → length (blocks_at m n) < 2 ^ 32
       at None e = subst (λ o. length (blocks_in o) < 2 ^ 32) (sym e) (let none : 0 < 2 ^ 32 = omega arith in none)
       at (Some f) e = subst (λ o. length (blocks_in o) < 2 ^ 32) (sym e) (in_function f e (cases_lt 0 (length f.blocks)))
@@ -49,6 +50,7 @@ module _ (m : Module) (n : ℕ) (verified : IsVerified m) where
           let within : b < length f.blocks = slice_get_within f.blocks b block e in
           let body : 0 < length f.blocks = omega arith in
           short_block f b block (graph_of f there body) e
+
       at : (o : Option Function) → slice_get m.functions n ≡ o → length (insts_at m n b) < 2 ^ 32
       at None e = subst (λ o. length (insts_in (slice_get (blocks_in o) b)) < 2 ^ 32) (sym e) (let none : 0 < 2 ^ 32 = omega arith in none)
       at (Some f) e = subst (λ o. length (insts_in (slice_get (blocks_in o) b)) < 2 ^ 32) (sym e) (in_block f e (slice_get f.blocks b) refl)

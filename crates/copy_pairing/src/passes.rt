@@ -123,11 +123,7 @@ fn pass_function(
 }
 
 /// Passes the copies of a module.
-pub(crate) fn pass_module(
-    alloc: Global,
-    types: &TypeTable,
-    m: &mut Module,
-) -> Result<(), Exhausted>
+pub(crate) fn pass_module(alloc: Global, types: &TypeTable, m: &mut Module) -> Result<(), Exhausted>
     requires verified { IsVerified m.old }
     requires types { types.now ≡ declarations_of m.old }
     ensures { OnOk result (ArePassed m.old 0 (point_at 0 0) m.new (length m.old.functions) (point_at 0 0)) }

@@ -12,8 +12,8 @@ ghost use Rattle.ownership_marks.specs.Known.{AreKindsBy};
 ghost use Rattle.copy_pairing.specs.inner.Turns.{IsTurnIn, IsTurnOf};
 
 use crate::copies::{Copied, copy_at};
-use crate::moves::moves_to;
 use crate::lending::is_borrowable;
+use crate::moves::moves_to;
 use ownership_kinds::kinds_in;
 use ownership_marks::Kinds;
 use sil_ast::{Exhausted, Function, PointId, ValueId};
