@@ -1,5 +1,4 @@
-use Rattle.std.proofs.Common.{◌≡◌, sym, Some}
-use Rattle.std.specs.List.{slice_get}
+use Rattle.std.proofs.Common.{sym}
 use Rattle.std.proofs.lemmas.Result.{IfOk-weaker}
 use Rattle.typed_graph_laws.proofs.Functions.{graphs_by_blocks}
 use Rattle.copy_pairing.proofs.Answered.{contains_at}

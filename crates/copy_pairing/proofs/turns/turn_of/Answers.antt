@@ -1,5 +1,4 @@
-use Rattle.std.proofs.Common.{◌≡◌, refl, subst, true, false, Option}
-use Rattle.std.specs.Prelude.{ℕ, IfNone, IfSome}
+use Rattle.std.proofs.Common.{◌≡◌, refl, true, false}
 use Rattle.copy_pairing.proofs.TurnsThere.{moved_turn, still_turn}
 use Rattle.copy_pairing.proofs.turns.turn_of.Goals as goal
 

@@ -1,7 +1,7 @@
 use Rattle.std.proofs.Common.{◌≡◌, sym, ap, ◌∙◌, subst, true, false, Option}
 use Rattle.std.specs.Prelude.{ℕ, IfNone, IfSome}
 use Rattle.ownership_chains.specs.Facts.{is_owned, told_at}
-use Rattle.copy_removal.specs.Removable.{IsDestroyedNext, IsMovable}
+use Rattle.copy_removal.specs.Removable.{IsDestroyedNext}
 use Rattle.copy_pairing.proofs.MovedCopies.{moves_by, not_movable, not_owned}
 use Rattle.copy_pairing.proofs.moves.moves_to.Goals as goal
 
