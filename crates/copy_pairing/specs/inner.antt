@@ -1,2 +1,5 @@
-pub mod Watched
 pub mod Asked
+pub mod Watched
+pub mod Turns
+pub mod Passes
+pub mod Cited

@@ -10,11 +10,7 @@ use sil_ast::{Block, Boxed, Exhausted, Inst, List, ValueId};
 use std::alloc::Global;
 use std::mem;
 
-fn lend_insts(
-    alloc: Global,
-    insts: &mut Vec<Boxed<Inst>>,
-    value: ValueId,
-) -> Result<(), Exhausted>
+fn lend_insts(alloc: Global, insts: &mut Vec<Boxed<Inst>>, value: ValueId) -> Result<(), Exhausted>
     ensures { OnOk result (insts.new.items ≡ map (lent_inst value) insts.old.items) }
 {
     for k in 0..insts.len() {
@@ -24,11 +20,7 @@ fn lend_insts(
 }
 
 /// The block where the value becomes a borrow. Where memory runs out, instructions are lost.
-pub(crate) fn lend_block(
-    alloc: Global,
-    block: &mut Block,
-    value: ValueId,
-) -> Result<(), Exhausted>
+pub(crate) fn lend_block(alloc: Global, block: &mut Block, value: ValueId) -> Result<(), Exhausted>
     ensures { OnOk result (block.new ≡ lent_block value block.old) }
 {
     let mut insts = mem::replace(&mut block.insts, List::new(alloc)).into_vec();

@@ -39,7 +39,12 @@ pub(crate) fn move_in(
     ensures { OnOk result (f.new ≡ moved p last f.old) }
 {
     let mut blocks = mem::replace(&mut f.blocks, List::new(alloc)).into_vec();
-    move_in_block(alloc, &mut blocks[p.block.0 as usize], p.index as usize, last)?;
+    move_in_block(
+        alloc,
+        &mut blocks[p.block.0 as usize],
+        p.index as usize,
+        last,
+    )?;
     f.blocks = List::from_vec(blocks);
     Ok(())
 }

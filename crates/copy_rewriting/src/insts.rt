@@ -21,10 +21,7 @@ fn is_op(op: Op, inst: &Inst) -> bool
 fn makes(value: ValueId, inst: &Inst) -> bool
     ensures { result ≡ rewritten.makes value inst.now }
 {
-    inst.results
-        .as_slice()
-        .iter()
-        .any(|made| made.0 == value.0)
+    inst.results.as_slice().iter().any(|made| made.0 == value.0)
 }
 
 /// Whether the value is an operand of the instruction.

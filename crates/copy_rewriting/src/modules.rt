@@ -10,12 +10,7 @@ use std::alloc::Global;
 use std::mem;
 
 /// In the function with this number the value, which a `copy_value` makes, becomes a borrow. Where memory runs out, functions are lost.
-pub fn lend(
-    alloc: Global,
-    m: &mut Module,
-    function: usize,
-    value: ValueId,
-) -> Result<(), Exhausted>
+pub fn lend(alloc: Global, m: &mut Module, function: usize, value: ValueId) -> Result<(), Exhausted>
     requires { function < length m.old.functions }
     ensures { OnOk result (m.new ≡ with_function function (lent value) m.old) }
 {

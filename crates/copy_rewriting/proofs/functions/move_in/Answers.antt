@@ -10,7 +10,7 @@ returns c =
     let with_blocks : List Block → Function = λ blocks. record c.args.f.now { blocks = blocks } in
     let within : c.args.p.block.0 < length c.args.f.now.blocks = below_some (λ (block : Block). c.args.last < length block.insts) c.args.f.now.blocks c.args.p.block.0 c.requires.there in
     ap with_blocks (
-      c.from_vec.ensures
-      ∙ set_changed_in (moved_block c.args.p.index c.args.last) c.args.f.now.blocks c.into_vec-blocks.result.items c.args.p.block.0 c.index_mut.result.now c.move_in_block.new.block
-      (c.into_vec-blocks.ensures ∙ c.replace.ensures.value) within c.index_mut.ensures.value c.in_ok-move_in_block.ensures
+    c.from_vec.ensures
+    ∙ set_changed_in (moved_block c.args.p.index c.args.last) c.args.f.now.blocks c.into_vec-blocks.result.items c.args.p.block.0 c.index_mut.result.now c.move_in_block.new.block
+    (c.into_vec-blocks.ensures ∙ c.replace.ensures.value) within c.index_mut.ensures.value c.in_ok-move_in_block.ensures
     )

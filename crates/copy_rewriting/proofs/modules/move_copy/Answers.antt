@@ -13,7 +13,7 @@ returns c =
     let within : c.args.function < length c.args.m.now.functions =
     below_some (λ (f : Function). IsSomeAnd (slice_get f.blocks c.args.p.block.0) (λ (block : Block). c.args.last < length block.insts)) c.args.m.now.functions c.args.function c.requires.there in
     ap with_functions (
-      c.from_vec.ensures
-      ∙ set_changed_in (moved c.args.p c.args.last) c.args.m.now.functions c.into_vec-functions.result.items c.args.function c.index_mut.result.now c.move_in.new.f
-      (c.into_vec-functions.ensures ∙ c.replace.ensures.value) within c.index_mut.ensures.value c.in_ok-move_in.ensures
+    c.from_vec.ensures
+    ∙ set_changed_in (moved c.args.p c.args.last) c.args.m.now.functions c.into_vec-functions.result.items c.args.function c.index_mut.result.now c.move_in.new.f
+    (c.into_vec-functions.ensures ∙ c.replace.ensures.value) within c.index_mut.ensures.value c.in_ok-move_in.ensures
     )

@@ -2,7 +2,7 @@ use Rattle.std.proofs.Common.{ap, ◌∙◌}
 use Rattle.std.proofs.lemmas.Result.{IfOk-weaker}
 use Rattle.ownership_chains.specs.declared.facts.Facts.{Facts}
 use Rattle.copy_pairing.proofs.BorrowedCopies.{borrowable_by, not_borrowable}
-use Rattle.copy_pairing.proofs.removals.is_borrowable.Goals as goal
+use Rattle.copy_pairing.proofs.lending.is_borrowable.Goals as goal
 
 pub returns-then-not-is_only_destroyed : goal.returns-then-not-is_only_destroyed
 returns-then-not-is_only_destroyed c = λ count facts by.
