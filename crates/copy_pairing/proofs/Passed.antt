@@ -9,7 +9,7 @@ use Rattle.type_definitions.specs.Rules.{AreDeclarationsOf}
 use Rattle.copy_removal.specs.Optimised.{HasNoRemovable, IsOptimised, Rewrites, RewritesFirst, done, more, text_key}
 use Rattle.sil_verifier.specs.inner.Checked.{IsVerified}
 use Rattle.rewriting_order.specs.inner.Laws.{LaterOnesAreLeft}
-use Rattle.copy_pairing.specs.inner.Cited.{RewritingKeepsVerified}
+use Rattle.rewriting_laws.specs.inner.Laws.{RewritingKeepsVerified}
 use Rattle.copy_pairing.specs.inner.Passes.{ArePassed, IsNoLonger, NoneBefore, blocks_at, insts_at}
 use Rattle.copy_pairing.specs.inner.Turns.{Turned, stays, turns}
 use Rattle.copy_pairing.proofs.Keys.{behind, first_place, next_block, next_function, next_index, place}
@@ -79,7 +79,7 @@ module _ (keeps : RewritingKeepsVerified) (later : LaterOnesAreLeft) where
     leads = λ before last h. h;
   }
   turned_passed m _ n p verified (turns next r) = record {
-    verified = keeps m next n p verified r;
+    verified = (keeps m n p next verified r).verified;
     declarations = rewritten_declares m n p next r;
     shape = rewritten_shape m n p next r;
     none = rewritten_passed m next n p verified r;

@@ -2,4 +2,3 @@ pub mod Asked
 pub mod Watched
 pub mod Turns
 pub mod Passes
-pub mod Cited

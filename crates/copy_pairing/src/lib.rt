@@ -2,7 +2,6 @@
 //! What can go is defined in `copy_removal`. It knows of no run and no text.
 #![tactic(auto)]
 
-mod cited;
 mod consumers;
 mod copies;
 mod held;

@@ -7,9 +7,10 @@ ghost use Rattle.sil_verifier.specs.inner.Checked.{IsVerified};
 ghost use Rattle.copy_pairing.specs.inner.Passes.{ArePassed, blocks_at, insts_at};
 ghost use Rattle.copy_pairing.specs.inner.Turns.{IsTurn, Turned};
 
-use crate::cited::{later_ones_are_left, rewriting_keeps_verified};
 use crate::turns::{Turn, turn_in};
 use copy_rewriting::{lend, move_copy};
+use rewriting_laws::rewriting_keeps_verified;
+use rewriting_order::later_ones_are_left;
 use sil_ast::{BlockId, Exhausted, Module, PointId};
 use sil_types::TypeTable;
 use std::alloc::Global;
