@@ -32,7 +32,8 @@ index_passed m n p none before k q other r =
 block_passed : (m : Module) (n b i : ℕ) → length (insts_at m n b) ≤ i → NoneBefore m n (point_at b i) → NoneBefore m n (point_at (b + 1) 0)
 block_passed m n b i most before k q other r =
     next_block n b i k q.block.0 q.index (before k q other r)
-    (λ a e le. let there : StandsAt m n (point_at b q.index) = stands_at m n (point_at b q.index) other (same_place m other n k (point_at b q.index) q a e refl r) in absurd (omega (arith, there.index)))
+    (λ a e le. let there : StandsAt m n (point_at b q.index) = stands_at m n (point_at b q.index) other (same_place m other n k (point_at b q.index) q a e refl r) in
+    absurd (omega (arith, there.index)))
 
 function_passed : (m : Module) (n b : ℕ) → length (blocks_at m n) ≤ b → NoneBefore m n (point_at b 0) → NoneBefore m (n + 1) (point_at 0 0)
 function_passed m n b most before k q other r =

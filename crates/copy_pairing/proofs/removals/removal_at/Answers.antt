@@ -5,10 +5,13 @@ use Rattle.copy_pairing.proofs.TurnsThere.{lend_removal, move_removal, stay_remo
 use Rattle.copy_pairing.proofs.removals.removal_at.Goals as goal
 
 pub returns-in-Stay : goal.returns-in-Stay
-returns-in-Stay c = stay_removal (facts_in c.args.types.now c.args.f.now) c.args.f.now c.args.p (subst (IsTurnIn (facts_in c.args.types.now c.args.f.now) c.args.f.now c.args.p) c.in-Stay.is c.in_ok-turn.ensures)
+returns-in-Stay c = stay_removal (facts_in c.args.types.now c.args.f.now) c.args.f.now c.args.p
+    (subst (IsTurnIn (facts_in c.args.types.now c.args.f.now) c.args.f.now c.args.p) c.in-Stay.is c.in_ok-turn.ensures)
 
 pub returns-in-Lend : goal.returns-in-Lend
-returns-in-Lend c = lend_removal (facts_in c.args.types.now c.args.f.now) c.args.f.now c.args.p _ (subst (IsTurnIn (facts_in c.args.types.now c.args.f.now) c.args.f.now c.args.p) c.in-Lend.is c.in_ok-turn.ensures)
+returns-in-Lend c = lend_removal (facts_in c.args.types.now c.args.f.now) c.args.f.now c.args.p _
+    (subst (IsTurnIn (facts_in c.args.types.now c.args.f.now) c.args.f.now c.args.p) c.in-Lend.is c.in_ok-turn.ensures)
 
 pub returns-in-Move : goal.returns-in-Move
-returns-in-Move c = move_removal (facts_in c.args.types.now c.args.f.now) c.args.f.now c.args.p _ (subst (IsTurnIn (facts_in c.args.types.now c.args.f.now) c.args.f.now c.args.p) c.in-Move.is c.in_ok-turn.ensures)
+returns-in-Move c = move_removal (facts_in c.args.types.now c.args.f.now) c.args.f.now c.args.p _
+    (subst (IsTurnIn (facts_in c.args.types.now c.args.f.now) c.args.f.now c.args.p) c.in-Move.is c.in_ok-turn.ensures)
