@@ -102,7 +102,8 @@ module _ (m : Module) (n : ℕ) (change : Function → Function) (f : Function) 
 pub rewritten_shape : (m : Module) (n : ℕ) (p : PointId) (next : Module) → Rewrites m n p next → IsNoLonger m next
 rewritten_shape m n p _ (lends f c v there copy h) = no_longer m n (lent c) f there (length-map f.blocks (lent_block c)) (map_shorter (lent_block c) (lent_shorter c) f.blocks)
 rewritten_shape m n p _ (moves f c v there copy not h) =
-    no_longer m n (moved p h.last) f there (length_changed (moved_block p.index h.last) p.block.0 f.blocks) (changed_shorter (moved_block p.index h.last) (moved_shorter p.index h.last) p.block.0 f.blocks)
+    no_longer m n (moved p h.last) f there (length_changed (moved_block p.index h.last) p.block.0 f.blocks)
+    (changed_shorter (moved_block p.index h.last) (moved_shorter p.index h.last) p.block.0 f.blocks)
 
 pub rewritten_declares : (m : Module) (n : ℕ) (p : PointId) (next : Module) → Rewrites m n p next → declarations_of next ≡ declarations_of m
 rewritten_declares m n p _ (lends f c v there copy h) = refl
