@@ -19,7 +19,8 @@ use Rattle.path_patterns.specs.Switch.{IsInPlace}
 use Rattle.path_patterns.specs.declared.mark.Mark.{Mark}
 use Rattle.path_patterns.specs.inner.Automaton.{mark_step}
 use Rattle.moved_functions.specs.inner.Structure.{old_item}
-use Rattle.moved_functions.proofs.Items.{edge_alike, elsewhere_alike, gone, head, head_alike, inside, inside_alike, new_items, new_tail, old_items, old_tail, same_end, same_edge_to, same_targets, tail_alike}
+use Rattle.moved_functions.proofs.Items.{edge_alike, elsewhere_alike, head_alike, inside_alike, tail_alike}
+use Rattle.moved_functions.proofs.Items.{gone, head, inside, new_items, new_tail, old_items, old_tail, same_end, same_edge_to, same_targets}
 use Rattle.moved_functions.proofs.KeptOnWalks.{Leads, Turns, kept_leads, leads_join, leads_kept, leads_split, turns_join, turns_split}
 use Rattle.moved_functions.proofs.Places.{after}
 use Rattle.moved_functions.proofs.Split.{IsSplit}
