@@ -1,0 +1,3 @@
+pub mod EntriesSettled
+pub mod Rows
+pub mod Marked
