@@ -1,4 +1,4 @@
-use Rattle.std.proofs.Common.{◌≡◌, ◌+◌, ◌<◌, ◌≤◌, ◌^◌, length, sym, ◌∙◌, arith}
+use Rattle.std.proofs.Common.{◌+◌, ◌<◌, ◌≤◌, ◌^◌, length, sym, ◌∙◌, arith}
 use Rattle.sil_cfg.specs.Items.{point_at}
 use Rattle.copy_pairing.specs.inner.Passes.{insts_at}
 use Rattle.copy_pairing.proofs.Sizes.{short_insts}
@@ -25,9 +25,9 @@ rewrite_at-requires-clause-kept c = c.loop-index.invariant.kept
 pub loop-index-preserved : goal.loop-index-preserved
 loop-index-preserved c = record {
   passed = passed_on c.args.m.now c.loop-index.m c.rewrite_at.new.m c.args.function c.args.function c.args.function (point_at c.args.block.0 0) (point_at c.args.block.0 c.loop-index.index)
-    (point_at c.args.block.0 (c.loop-index.index + 1)) c.loop-index.invariant.passed
-    (turned_passed c.rewriting_keeps_verified.ensures c.later_ones_are_left.ensures c.loop-index.m c.rewrite_at.new.m c.args.function (point_at c.args.block.0 c.loop-index.index)
-    c.loop-index.invariant.passed.verified c.in_ok-kept.ensures.turned);
+      (point_at c.args.block.0 (c.loop-index.index + 1)) c.loop-index.invariant.passed
+      (turned_passed c.rewriting_keeps_verified.ensures c.later_ones_are_left.ensures c.loop-index.m c.rewrite_at.new.m c.args.function (point_at c.args.block.0 c.loop-index.index)
+      c.loop-index.invariant.passed.verified c.in_ok-kept.ensures.turned);
   kept = c.in_ok-kept.ensures.kept;
 }
 

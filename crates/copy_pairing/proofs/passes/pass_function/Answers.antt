@@ -1,4 +1,4 @@
-use Rattle.std.proofs.Common.{◌≡◌, ◌+◌, ◌<◌, ◌≤◌, ◌^◌, length, sym, ◌∙◌, arith, tt}
+use Rattle.std.proofs.Common.{◌+◌, ◌<◌, ◌≤◌, ◌^◌, length, sym, ◌∙◌, arith}
 use Rattle.sil_cfg.specs.Items.{point_at}
 use Rattle.copy_pairing.specs.inner.Passes.{blocks_at}
 use Rattle.copy_pairing.proofs.Sizes.{few_blocks}
@@ -25,7 +25,7 @@ pass_block-requires-clause-kept c = c.loop-b.invariant.kept
 pub loop-b-preserved : goal.loop-b-preserved
 loop-b-preserved c = record {
   passed = passed_on c.args.m.now c.loop-b.m c.pass_block.new.m c.args.function c.args.function c.args.function (point_at 0 0) (point_at c.loop-b.b 0) (point_at (c.loop-b.b + 1) 0)
-    c.loop-b.invariant.passed c.in_ok-kept.ensures.passed;
+      c.loop-b.invariant.passed c.in_ok-kept.ensures.passed;
   kept = c.in_ok-kept.ensures.kept;
 }
 
