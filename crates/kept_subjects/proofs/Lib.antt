@@ -1,3 +1,4 @@
 pub mod EntriesSettled
 pub mod Rows
 pub mod Marked
+pub mod BlocksBroken

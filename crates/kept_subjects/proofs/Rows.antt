@@ -52,3 +52,21 @@ module _ (a b c : List ℕ) (width : ℕ) (one : length a ≡ width) (two : leng
   third_row u lt =
       let place : cell width 2 u ≡ 64 * length (a ++ b) + u = omega (arith, both) in
       bit_right (a ++ b) c u (cell width 2 u) place
+
+-- the three rows of a block, each cut to its first words
+module _ (words off on broken : List ℕ) (wide width block states : ℕ) (few : width ≤ wide) (three : states ≡ 3) where
+  abbrev IsRow : List ℕ → ℕ → Type 0
+  IsRow row s = (u : ℕ) → u < 64 * wide → bit_in row u ≡ bit_in words (cell wide (block * states + s) u)
+
+  cut_at : (row : List ℕ) (s u : ℕ) → IsRow row s → u < 64 * width → bit_in (take width row) u ≡ bit_in words (cell wide (block * 3 + s) u)
+  cut_at row s u h lt =
+      let within : u < 64 * wide = omega arith in
+      bit_front row width u lt ∙ h u within ∙ ap (λ n. bit_in words (cell wide (block * n + s) u)) three
+
+  module _ (one : length (take width off) ≡ width) (two : length (take width on) ≡ width) (last : length (take width broken) ≡ width) where
+    pub rows_cut : IsRow off 0 → IsRow on 1 → IsRow broken 2 → (s u : ℕ) → s < 3 → u < 64 * width
+        → bit_in ((take width off ++ take width on) ++ take width broken) (cell width s u) ≡ bit_in words (cell wide (block * 3 + s) u)
+    rows_cut a b c zero u ls lt = first_row (take width off) (take width on) (take width broken) width one two last u lt ∙ cut_at off 0 u a lt
+    rows_cut a b c (suc zero) u ls lt = second_row (take width off) (take width on) (take width broken) width one two last u lt ∙ cut_at on 1 u b lt
+    rows_cut a b c (suc (suc zero)) u ls lt = third_row (take width off) (take width on) (take width broken) width one two last u lt ∙ cut_at broken 2 u c lt
+    rows_cut a b c (suc (suc (suc s))) u ls lt = absurd (omega arith)

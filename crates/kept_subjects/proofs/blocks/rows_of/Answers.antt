@@ -1,4 +1,6 @@
-use Rattle.std.proofs.Common.{◌≡◌}
+use Rattle.std.proofs.Common.{◌≡◌, ◌≤◌, ◌*◌, ◌++◌, length, take, sym, ap, ◌∙◌, arith}
+use Rattle.std.proofs.lemmas.List.{length-take-le}
+use Rattle.kept_subjects.proofs.Rows.{rows_cut}
 use Rattle.kept_subjects.proofs.blocks.rows_of.Goals as goal
 
 pub returns-clause-rows : goal.returns-clause-rows
