@@ -23,4 +23,12 @@ loop-b-preserved c =
     }
 
 pub returns : goal.returns
-returns c = ?
+returns c =
+    let f : ℕ → ℕ → ℕ → Step = λ u. subject_settled (list_at c.args.family.now.entries.now) (c.args.family.now.first + u) in
+    let many : c.blocks-b-end.result ≡ block_count (numbered c.args.g.now) = c.blocks-b-end.ensures.count in
+    let most : c.loop-b.b ≤ c.blocks-b-end.result = c.loop-b.auto.b-end in
+    let end : c.blocks-b-end.result ≤ c.loop-b.b = c.loop-b-test.false in
+    let all : c.loop-b.b ≡ block_count (numbered c.args.g.now) = omega arith in
+    subst
+    (λ n. AreMarked c.args.family.now.first c.args.family.now.count (GoesBrokenBefore (numbered c.args.g.now) f c.args.map.now.width c.args.map.now.words n) c.args.broken.now c.loop-b.broken)
+    all c.loop-b.invariant.marked
