@@ -64,12 +64,15 @@ marked_either first count One Two Either old mid new one two split a b v = (λ t
     earlier : (is_broken old v ≡ true) ⊎ ((u : ℕ) × (u < count) × (v ≡ first + u) × One u) → (is_broken old v ≡ true) ⊎ ((u : ℕ) × (u < count) × (v ≡ first + u) × Either u)
     earlier (inl e) = inl e
     earlier (inr p) = inr (p.0, p.1, p.2, one p.0 p.3)
+
     forth : (is_broken mid v ≡ true) ⊎ ((u : ℕ) × (u < count) × (v ≡ first + u) × Two u) → (is_broken old v ≡ true) ⊎ ((u : ℕ) × (u < count) × (v ≡ first + u) × Either u)
     forth (inl e) = earlier ((a v).0 e)
     forth (inr p) = inr (p.0, p.1, p.2, two p.0 p.3)
+
     of : (u : ℕ) → u < count → v ≡ first + u → One u ⊎ Two u → is_broken new v ≡ true
     of u lt e (inl h) = (b v).1 (inl ((a v).1 (inr (u, lt, e, h))))
     of u lt e (inr h) = (b v).1 (inr (u, lt, e, h))
+
     back : (is_broken old v ≡ true) ⊎ ((u : ℕ) × (u < count) × (v ≡ first + u) × Either u) → is_broken new v ≡ true
     back (inl e) = (b v).1 (inl ((a v).1 (inl e)))
     back (inr p) = of p.0 p.1 p.2 (split p.0 p.3)

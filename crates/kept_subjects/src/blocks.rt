@@ -81,13 +81,7 @@ fn rows_of(
 }
 
 /// Moves each subject over the items, one after another.
-fn pass_items(
-    family: &Settling,
-    width: usize,
-    items: &[usize],
-    bundle: &mut [u64],
-    bad: &mut [u64],
-)
+fn pass_items(family: &Settling, width: usize, items: &[usize], bundle: &mut [u64], bad: &mut [u64])
     requires fits { family.now.count ≤ 64 * width }
     requires width { width ≤ 16 }
     requires items { All (λ i. i < length family.now.entries.now) items.now }

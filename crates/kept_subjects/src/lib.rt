@@ -4,4 +4,3 @@
 
 mod blocks;
 mod settling;
-

@@ -19,9 +19,9 @@ loop-u-preserved c =
     record {
       size = c.if-has_bit.auto.broken ∙ c.loop-u.invariant.size;
       marked = elim c.if-has_bit.branch [
-        then-has_bit w ↦ subst P (sym w.broken-is)
+        | then-has_bit w ↦ subst P (sym w.broken-is)
             (marked_yes c.args.first IsSo c.args.broken.now c.loop-u.u c.loop-u.broken c.loop-u.invariant.marked within (c.has_bit.ensures.0 w.if-has_bit.true))
-      | else-has_bit w ↦ subst P (sym w.broken-is)
+        | else-has_bit w ↦ subst P (sym w.broken-is)
             (marked_no c.args.first IsSo c.args.broken.now c.loop-u.u c.loop-u.broken c.loop-u.invariant.marked
             (λ h. let so : c.has_bit.result ≡ true = c.has_bit.ensures.1 h in let not_so : c.has_bit.result ≡ false = w.if-has_bit.false in cc))
       ];
