@@ -7,3 +7,7 @@ mod Turning
 mod ItemsBack
 mod MovedBack
 mod Later
+mod Ends
+mod LentForth
+mod Lending
+mod MovedForth
