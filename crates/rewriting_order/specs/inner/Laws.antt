@@ -25,20 +25,22 @@ pub record IsVerifiedIn (m : Module) (f : Function) : Type 0 where
 
 -- a borrow changes for no other copy whether it can be a borrow
 abbrev pub LendingKeepsBorrowable : Type 0
-LendingKeepsBorrowable = (m : Module) (f : Function) (p q : PointId) (c v d w : ValueId) → IsVerifiedIn m f → IsCopy f p c v → IsBorrowable (facts_of m f) f c v
+LendingKeepsBorrowable = (m : Module) (f : Function) (p q : PointId) (c v d w : ValueId) → IsVerifiedIn m f → IsCopy f p c v
+    → IsBorrowable (facts_of m f) f c v
     → let g : Function = lent c f in IsCopy g q d w → IsBorrowable (facts_of m g) g d w ↔ IsBorrowable (facts_of m f) f d w
 
 -- a move of a copy of v changes that at most for v itself, which the move ends, and for the copies of values that have v as a base
 abbrev pub MovingKeepsBorrowable : Type 0
-MovingKeepsBorrowable = (m : Module) (f : Function) (p q : PointId) (c v d w : ValueId) → IsVerifiedIn m f → IsCopy f p c v → ¬ IsBorrowable (facts_of m f) f c v
-    → (h : IsMovable (facts_of m f) f p c v) → let g : Function = moved p h.last f in IsCopy g q d w → d.0 ≢ v.0 → has (known_or (facts_of m f) w).bases v.0 ≡ false
+MovingKeepsBorrowable = (m : Module) (f : Function) (p q : PointId) (c v d w : ValueId) → IsVerifiedIn m f → IsCopy f p c v
+    → ¬ IsBorrowable (facts_of m f) f c v → (h : IsMovable (facts_of m f) f p c v)
+    → let g : Function = moved p h.last f in IsCopy g q d w → d.0 ≢ v.0 → has (known_or (facts_of m f) w).bases v.0 ≡ false
     → IsBorrowable (facts_of m g) g d w ↔ IsBorrowable (facts_of m f) f d w
 
 -- and no copy can be a borrow behind it that couldn't before
 abbrev pub MovingLetsNoneBorrow : Type 0
-MovingLetsNoneBorrow = (m : Module) (f : Function) (p q : PointId) (c v d w : ValueId) → IsVerifiedIn m f → IsCopy f p c v → ¬ IsBorrowable (facts_of m f) f c v
-    → (h : IsMovable (facts_of m f) f p c v) → let g : Function = moved p h.last f in IsCopy g q d w → IsBorrowable (facts_of m g) g d w
-    → IsBorrowable (facts_of m f) f d w
+MovingLetsNoneBorrow = (m : Module) (f : Function) (p q : PointId) (c v d w : ValueId) → IsVerifiedIn m f → IsCopy f p c v
+    → ¬ IsBorrowable (facts_of m f) f c v → (h : IsMovable (facts_of m f) f p c v)
+    → let g : Function = moved p h.last f in IsCopy g q d w → IsBorrowable (facts_of m g) g d w → IsBorrowable (facts_of m f) f d w
 
 -- all values keep their bases
 abbrev pub LendingKeepsBases : Type 0
