@@ -6,7 +6,7 @@ mod Apart
 mod Turning
 mod ItemsBack
 mod MovedBack
-mod Later
+pub mod Later
 mod Ends
 mod LentForth
 mod Lending
