@@ -23,5 +23,6 @@ IsShared st fr l o =
 -- steps led on, with less work left. With as many tasks as before, the frame stands behind its instruction
 abbrev pub HasAdvanced : ReadyModule → ℕ → MachineView → Frame → List Task → Result (Unit {0}) Stop → MachineView → Type 0
 HasAdvanced ready bound old fr rest (Ok u) new =
-    Leads ready bound old (Goes new) × (work ready bound new < work ready bound old) × (length new.tasks ≡ length old.tasks → new.tasks ≡ Runs (behind_op fr) ∷ rest)
+    Leads ready bound old (Goes new) × (work ready bound new < work ready bound old)
+    × (length new.tasks ≡ length old.tasks → new.tasks ≡ Runs (behind_op fr) ∷ rest)
 HasAdvanced ready bound old fr rest (Err stop) new = HasEnded ready bound old stop new
