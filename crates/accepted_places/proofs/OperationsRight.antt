@@ -1,5 +1,5 @@
 -- What an item does breaks neither 608 nor 611, which hold at each point whether a walk goes there or not.
-use Rattle.std.proofs.Common.{◌≡◌, ℕ, zero, suc, List, [], ◌∷◌, ◌++◌, find, length, map, refl, sym, ap, ◌∙◌, subst, arith, Bool, true, false, ◌⊎◌, inl, inr, Option, Some, None}
+use Rattle.std.proofs.Common.{◌≡◌, ℕ, List, [], ◌∷◌, ◌++◌, find, length, map, refl, sym, ap, ◌∙◌, subst, arith, Bool, true, false, inl, inr, Option, Some, None}
 use Rattle.std.specs.Prelude.{Contains, ◌&&◌, ◌==◌, cond, filter, not, option_map, slice_get}
 use Rattle.std.specs.List.{flat_map}
 use Rattle.std.proofs.lemmas.Bool.{false≢true}
@@ -7,16 +7,15 @@ use Rattle.std.proofs.lemmas.Bool.Decides.{nat_tests}
 use Rattle.std.proofs.lemmas.Option.{none-some, same_Some}
 use Rattle.argument_conventions.specs.declared.row.AddressRow.{AddressRow}
 use Rattle.item_operands.specs.Parts.{inst_in, item_inst, terminator_in}
-use Rattle.memory_accesses.specs.Locations.{do_overlap, location_of}
+use Rattle.memory_accesses.specs.Locations.{do_overlap}
 use Rattle.memory_accesses.specs.Operations.{addresses_of, deallocates, operations_of}
 use Rattle.memory_accesses.specs.Rows.{has_operation}
 use Rattle.memory_accesses.specs.Sources.{is_slot, sources_of}
 use Rattle.memory_accesses.specs.declared.access.Operated.{Operated}
 use Rattle.memory_accesses.specs.declared.access.Operation.{Operation}
 use Rattle.memory_accesses.specs.declared.access.Operation.TheVariants.{FirstWrite, Handed, Lend, Read, Take, TrivialStore, Write}
-use Rattle.memory_accesses.specs.declared.location.Location.{Location}
 use Rattle.memory_rules.specs.Broken.{static}
-use Rattle.memory_rules.specs.Statics.{AddressPair, IsBrokenAt, address_in, crossed_with, crosses, do_clash, handed, handed_by, handed_of, is_no_slot}
+use Rattle.memory_rules.specs.Statics.{AddressPair, IsBrokenAt, address_in, crosses, do_clash, handed, handed_by, handed_of, is_no_slot}
 use Rattle.memory_rules.specs.Statics.{lacking_at, lacks, pair, pairs_of, second_of}
 use Rattle.memory_rules.specs.Statics.IsBrokenAt.{lacking, overlapping}
 use Rattle.point_checks.specs.Points.{IsAt}
