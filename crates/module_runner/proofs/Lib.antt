@@ -1,4 +1,4 @@
 mod Entering
-mod Optimising
+mod Stays
 mod OneEntry
 mod Reported

@@ -1,4 +1,4 @@
-use Rattle.module_runner.proofs.Optimising.{is_one}
+use Rattle.module_runner.proofs.Stays.{is_one}
 use Rattle.module_runner.proofs.laws.one_module_is_lowered.Goals as goal
 
 pub returns : goal.returns

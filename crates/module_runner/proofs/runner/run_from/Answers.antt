@@ -3,7 +3,7 @@ use Rattle.std.proofs.Common.{◌∙◌, sym, subst}
 use Rattle.count_machine.specs.LowRuns.{MayStartAt}
 use Rattle.lowering_model.specs.LoweredModules.{lowered}
 use Rattle.module_runner.proofs.Entering.{lowered_starts}
-use Rattle.module_runner.proofs.Optimising.{left_enters}
+use Rattle.module_runner.proofs.Stays.{left_enters}
 use Rattle.module_runner.proofs.Reported.{ends_reported}
 use Rattle.module_runner.proofs.runner.run_from.Goals as goal
 

@@ -1,14 +1,15 @@
 -- What is left of a module that is optimised: its declarations, and its entry functions.
-use Rattle.std.proofs.Common.{◌≡◌, ◌∙◌, ◌⊎◌, inl, inr, ℕ, true, false, not, ◌&&◌, refl, sym, ap, List, [], ◌∷◌, map, Some, slice_get, zero, suc}
-use Rattle.std.specs.Prelude.{Bool}
+use Rattle.std.proofs.Common.{◌≡◌, ◌∙◌, ◌⊎◌, inl, inr, ℕ, true, false, not, ◌&&◌, refl, sym, ap, List, [], ◌∷◌, map, Some, slice_get, true≢false, zero, suc}
+use Rattle.std.specs.Prelude.{Bool, IfOk, Result, Ok, Err}
 use Rattle.argument_conventions.specs.Arguments.{arguments_of}
-use Rattle.copy_removal.specs.Optimised.{IsOptimised, Rewrites, RewritesFirst, done, lends, more, moves}
+use Rattle.copy_removal.specs.Optimised.{IsOptimised, Rewrites, done, lends, more, moves}
 use Rattle.copy_removal.specs.Rewritten.{changed_at, lent, lent_block, moved, moved_block, with_function}
 use Rattle.copy_removal.specs.inner.Laws.{AreUnique}
 use Rattle.holder_model.specs.Frames.{has_any}
 use Rattle.holder_model.specs.Outcomes.{may_start}
+use Rattle.lowering_model.specs.LoweredModules.{lowered}
 use Rattle.numbered_form.specs.Names.{Name}
-use Rattle.ownership_chains.specs.declared.facts.Facts.{Facts}
+use Rattle.run_typing.specs.Runnable.{IsRunnable}
 use Rattle.sil_ast.specs.declared.function.Block.{Block}
 use Rattle.sil_ast.specs.declared.function.Function.{Function}
 use Rattle.sil_ast.specs.declared.module.Module.{Module}
@@ -19,6 +20,7 @@ use Rattle.type_definitions.specs.Declarations.{declarations_of}
 use Rattle.module_runner.specs.Entries.{IsEntry}
 use Rattle.module_runner.specs.Optimising.{IsOptimisedIf}
 use Rattle.module_runner.specs.inner.Laws.{IsOne}
+use Rattle.module_runner.specs.inner.RunReports.{IsLoweredIf}
 
 pub is_one : AreUnique → IsOne
 is_one unique true m k other one two = unique m k other one two
@@ -38,6 +40,20 @@ optimised_declares m k (more _ next _ first rest) =
 pub left_declares : (optimises : Bool) (m k : Module) → IsOptimisedIf optimises m k → declarations_of k ≡ declarations_of m
 left_declares true m k left = optimised_declares m k left
 left_declares false m k left = ap declarations_of left
+
+-- what is lowered of the module that is left
+pub lowered_left : {E : Type 0} (optimises : Bool) (m k : Module) (r : Result Module E) → optimises ≡ true → IsOptimisedIf true m k
+    → IfOk r (λ made. made ≡ lowered k) → IfOk r (λ made. IsRunnable made) → IfOk r (λ made. declarations_of made ≡ declarations_of k)
+    → IfOk r (λ made. IsLoweredIf optimises m made)
+lowered_left false m k r asked left value runnable declares = absurd (true≢false (sym asked))
+lowered_left true m k (Ok made) asked left value runnable declares = record {
+  left = k;
+  optimised = left;
+  lowered = value;
+  runnable = runnable;
+  declares = declares ∙ optimised_declares m k left;
+}
+lowered_left true m k (Err e) asked left value runnable declares = tt
 
 -- entry functions
 
