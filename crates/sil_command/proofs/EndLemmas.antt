@@ -1,5 +1,5 @@
 -- What follows from how a call of the command ends: the clauses of the public call.
-use Rattle.std.proofs.Common.{◌≡◌, ◌⊎◌, inl, inr, ℕ, ◌<◌, Bool, List, refl, arith}
+use Rattle.std.proofs.Common.{◌≡◌, ◌⊎◌, inl, inr, ℕ, ◌<◌, Bool, true, List, refl, arith}
 use Rattle.module_runner.specs.States as ending
 use Rattle.module_runner.specs.States.{Ending}
 use Rattle.module_runner.specs.LowFault.{LowFault}
@@ -75,7 +75,7 @@ module_status : (mode : Mode) (m : Module) (answer : List ℕ) (status : ℕ) �
 module_status Check m = checked_status m _ (written_status _)
 module_status Print m = written_status _
 module_status (Lower optimises) m = checked_status m _ (of_status _ optimises m)
-module_status Optimize m = checked_status m _ (of_status _ _ m)
+module_status Optimize m = checked_status m _ (of_status _ true m)
 module_status (Run entry turns optimises) m = checked_status m _ (run_status m entry turns optimises)
 
 unread_is : (status : ℕ) → (status ≡ code_of NotAModule) ⊎ (status ≡ code_of Limit) → IsAnswerStatus status

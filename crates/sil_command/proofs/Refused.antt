@@ -1,5 +1,5 @@
 -- For the laws on refusals: what `check` writes of a module, and which texts are answered as no module.
-use Rattle.std.proofs.Common.{◌≡◌, ℕ, ◌≤◌, Bool, List, length, refl, sym, subst, arith}
+use Rattle.std.proofs.Common.{◌≡◌, ℕ, ◌≤◌, Bool, true, List, length, refl, sym, subst, arith}
 use Rattle.command_words.specs.inner.Laws.{SayOneThing}
 use Rattle.module_runner.specs.States as ending
 use Rattle.module_runner.specs.States.{Ending}
@@ -86,7 +86,7 @@ module_reported : (mode : Mode) (m : Module) (answer : List ℕ) (status : ℕ) 
 module_reported Check m = checked_reported m _ (written_reported _)
 module_reported Print m = written_reported _
 module_reported (Lower optimises) m = checked_reported m _ (of_reported _ optimises m)
-module_reported Optimize m = checked_reported m _ (of_reported _ _ m)
+module_reported Optimize m = checked_reported m _ (of_reported _ true m)
 module_reported (Run entry turns optimises) m = checked_reported m _ (run_reported m entry turns optimises)
 
 text_reported : (mode : Mode) (text answer : List ℕ) (status : ℕ) → AnswersText mode text answer status → status ≡ code_of NotAModule → SpellsNone text
