@@ -1,8 +1,8 @@
 #!/usr/bin/env python3
 """Compares the runs and the lowering of a built program with those of the model, on random modules.
 
-    bench/model/compare_runs.py PATH-TO-SIL [--from A] [--accepted N] [--processes P] [--modules FOLDER]
-    bench/model/compare_runs.py --show NUMBER
+    bench/model/compare_runs.py PATH-TO-SIL [--optimize] [--from A] [--accepted N] [--processes P] [--modules FOLDER]
+    bench/model/compare_runs.py [--optimize] --show NUMBER
 
 Each number from A on stands for one module, which `--show` writes: every fourth an example below FOLDER with one to four changes
 (`changes.py`), each other one a random program (`programs.py`), half of them with a change or two. The program's `check` says which of them
@@ -10,6 +10,8 @@ are accepted; it goes on until so many are. Of an accepted module `run` with fiv
 takes, up to 2,000, those beside it, one, and one between) and `lower` have to answer as the model does, whose two runs have to be the same.
 Of a refused one `run` and `lower` have to answer as `check` does. Each answer that differs is printed. The last lines count the modules, and
 how often an accepted one ended in each way.
+
+With `--optimize` copies are put into the modules (`optimise.py`), and `optimize`, `lower --optimize` and `run --optimize` are compared.
 """
 import argparse
 import collections
@@ -25,6 +27,7 @@ import changes
 import counts
 import holders
 import lower
+import optimise
 import programs
 import run
 import text
@@ -44,8 +47,8 @@ def examples(folder):
     return found
 
 
-def one(number, known):
-    """The text and the entry of the module for which a number stands."""
+def one(number, known, with_copies=False):
+    """The text and the entry of the module for which a number stands, with more copies if it is asked for and the model accepts the module."""
     r = random.Random(number)
     if number % 4 == 0:
         module, entry = r.choice(known)
@@ -55,7 +58,11 @@ def one(number, known):
         count = r.choice([0, 0, 1, 2])
     for _ in range(count):
         changes.change(module, r)
-    return lower.canonical(module), entry
+    source = lower.canonical(module)
+    if with_copies:
+        more = optimise.accepted(text.read(source), r)
+        source = source if more is None else lower.canonical(more)
+    return source, entry
 
 
 def bounds(turns, r):
@@ -67,8 +74,9 @@ def bounds(turns, r):
 class Comparison:
     """Asks one program of modules by their numbers."""
 
-    def __init__(self, program, known):
-        self.program, self.known = program, known
+    def __init__(self, program, known, is_optimising):
+        self.program, self.known, self.is_optimising = program, known, is_optimising
+        self.option = ['--optimize'] if is_optimising else []
 
     def asked(self, words, source):
         try:
@@ -80,19 +88,24 @@ class Comparison:
     def __call__(self, number):
         """What becomes of a module, and the lines that tell the answers that differ."""
         try:
-            source, entry = one(number, self.known)
+            source, entry = one(number, self.known, self.is_optimising)
         except (KeyError, RecursionError):
             return 'left out', []         # a value is used that the change before took away, or values are made of one another without end
         checked = self.asked(['check'], source)
+        modes = ['optimize'] * self.is_optimising
         if checked[1] != 0:
-            return 'refused', self.differing(number, source, [(words, checked) for words in (['lower'], ['run', '--entry', entry])])
+            asked = [[mode] for mode in modes] + [['lower'] + self.option, ['run', '--entry', entry] + self.option]
+            return 'refused', self.differing(number, source, [(words, checked) for words in asked])
         module = text.read(source)
+        if self.is_optimising:
+            module = optimise.optimised(module)
         lowered = lower.lower(module)
         whole = holders.run(module, entry, TURNS)
-        wanted = [(['lower'], (lower.canonical(lowered), 0))]
+        wanted = [([mode], (lower.canonical(module), 0)) for mode in modes]
+        wanted.append((['lower'] + self.option, (lower.canonical(lowered), 0)))
         for n in bounds(whole.turns, random.Random(number)):
             answer = run.compared_runs(module, entry, holders.run(module, entry, n), counts.run(lowered, entry, n))
-            wanted.append((['run', '--turns', str(n), '--entry', entry], answer))
+            wanted.append((['run', '--turns', str(n), '--entry', entry] + self.option, answer))
         return ended(whole.ending), self.differing(number, source, wanted)
 
     def differing(self, number, source, wanted):
@@ -116,10 +129,10 @@ def ended(ending):
     return ' '.join(ending[:2]) if ending[0] in ('trap', 'fault') else ending[0]
 
 
-def begin(program, folder):
+def begin(program, folder, is_optimising):
     """Makes a process ready to compare: the examples are read in each of them."""
     global comparison
-    comparison = Comparison(program, examples(folder))
+    comparison = Comparison(program, examples(folder), is_optimising)
 
 
 def compare(number):
@@ -134,13 +147,14 @@ def main():
     words.add_argument('--processes', type=int, default=1)
     words.add_argument('--modules', default=str(MODULES))
     words.add_argument('--show', type=int)
+    words.add_argument('--optimize', action='store_true')
     words = words.parse_args()
     if words.show is not None:
-        print(one(words.show, examples(words.modules))[0], end='')
+        print(one(words.show, examples(words.modules), words.optimize)[0], end='')
         return
 
     kinds, differ = collections.Counter(), 0
-    with multiprocessing.Pool(words.processes, begin, (words.program, words.modules)) as pool:
+    with multiprocessing.Pool(words.processes, begin, (words.program, words.modules, words.optimize)) as pool:
         for first in itertools.count(words.first, BATCH):
             for kind, lines in pool.imap(compare, range(first, first + BATCH), 10):
                 kinds[kind] += 1

@@ -9,3 +9,7 @@ pub mod Sizes
 pub mod BorrowedCopies
 pub mod Answered
 pub mod CopyFacts
+pub mod Keys
+pub mod Shapes
+pub mod Passed
+pub mod TurnsThere

@@ -1,6 +1,6 @@
 -- When a copy can become a move.
 use Rattle.std.proofs.Common.{◌≡◌, ◌≢◌, ◌⊎◌, inl, inr, ℕ, ◌+◌, ◌<◌, ◌≤◌, get_or, List, [], ◌∷◌, ◌++◌, length, refl, sym, ap, ap₂, ◌∙◌, subst, Bool, true, false, Option, Some, None, arith}
-use Rattle.std.specs.Prelude.{◌&&◌, ◌||◌, ◌==◌, ◌↔◌, IfNone, IfSome, IsTrue, is_some, nat_lt, not, unwrap_or}
+use Rattle.std.specs.Prelude.{◌&&◌, ◌||◌, ◌==◌, ◌↔◌, IsTrue, nat_lt, unwrap_or}
 use Rattle.std.specs.List.{list_any, slice_get}
 use Rattle.std.proofs.lemmas.Bool.{cases_eq, cases_lt}
 use Rattle.std.proofs.lemmas.Bool.Decides.{nat_tests}
@@ -31,6 +31,7 @@ use Rattle.copy_removal.proofs.DestroyShown.{destroy_shown}
 use Rattle.copy_removal.specs.Copies.{IsDestroy}
 use Rattle.copy_removal.specs.Removable.{IsDestroyedNext, IsMovable, IsUnlent, concerns}
 use Rattle.copy_pairing.specs.inner.Asked.{AreFreeAt}
+use Rattle.copy_pairing.specs.inner.Turns.{IsMovableTo}
 
 -- the scopes that borrow from a value
 
@@ -184,28 +185,20 @@ module _ (f : Function) (g : Layout) (k : Known) (count : ℕ) (facts : ValueId 
   kind_same : (kind : Kind) → kind ≡ (facts_of k v).kind → is_owned kind ≡ is_owned (known_or facts v).kind
   kind_same kind e = ap is_owned e ∙ ap (λ (x : Facts). is_owned x.kind) (by.facts_are v)
 
-  pub not_owned : (r : Bool) (kind : Kind) → kind ≡ (facts_of k v).kind → r ≡ is_owned kind → r ≡ false → IsTrue false ↔ IsMovable facts f p c v
-  not_owned r kind e is not_so = (
-    λ t. absurd (let wrong : false ≡ true = t in cc),
-    λ h. absurd (let wrong : true ≡ false = sym h.owned ∙ sym (kind_same kind e) ∙ sym is ∙ not_so in cc),
-  )
+  pub not_owned : (r : Bool) (kind : Kind) → kind ≡ (facts_of k v).kind → r ≡ is_owned kind → r ≡ false → IsMovable facts f p c v → ⊥
+  not_owned r kind e is not_so h = absurd (let wrong : true ≡ false = sym h.owned ∙ sym (kind_same kind e) ∙ sym is ∙ not_so in cc)
 
-  pub not_movable : (o : Option ℕ) → IfNone o ((last : ℕ) → IsDestroyedNext (told_at k.table) f p c v last → ⊥) → (r : Bool) → is_some o ≡ not r → r ≡ true → IsTrue false ↔ IsMovable facts f p c v
-  not_movable None none r e so = (
-    λ t. absurd (let wrong : false ≡ true = t in cc),
-    λ h. absurd (none h.last (next_same facts (told_at k.table) (λ w. sym (by.facts_are w)) f p c v h.last h.next)),
-  )
-  not_movable (Some last) none r e so = absurd (let wrong : true ≡ false = e ∙ ap not so in cc)
+  pub not_movable : ((last : ℕ) → IsDestroyedNext (told_at k.table) f p c v last → ⊥) → IsMovable facts f p c v → ⊥
+  not_movable none h = none h.last (next_same facts (told_at k.table) (λ w. sym (by.facts_are w)) f p c v h.last h.next)
 
-  pub movable_by : (owns : Bool) (kind : Kind) → kind ≡ (facts_of k v).kind → owns ≡ is_owned kind → owns ≡ true → (o : Option ℕ) → IfSome o (IsDestroyedNext (told_at k.table) f p c v)
-      → (none : Bool) → is_some o ≡ not none → none ≡ false → (r : Bool) → IsTrue r ↔ IsUnlent facts f c v → IsTrue r ↔ IsMovable facts f p c v
-  movable_by owns kind e is so None next none some not_so r h = absurd (let wrong : false ≡ true = some ∙ ap not not_so in cc)
-  movable_by owns kind e is so (Some last) next none some not_so r h = (
-    λ t. record {
+  pub moves_by : (owns : Bool) (kind : Kind) → kind ≡ (facts_of k v).kind → owns ≡ is_owned kind → owns ≡ true → (last : ℕ) → IsDestroyedNext (told_at k.table) f p c v last
+      → IsUnlent facts f c v → IsMovableTo facts f p c v last
+  moves_by owns kind e is so last next unlent = record {
+    movable = record {
       owned = sym (kind_same kind e) ∙ sym is ∙ so;
-      unlent = h.0 t;
+      unlent = unlent;
       last = last;
       next = next_same (told_at k.table) facts by.facts_are f p c v last next;
-    },
-    λ m. h.1 m.unlent,
-  )
+    };
+    there = refl;
+  }

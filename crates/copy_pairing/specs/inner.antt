@@ -1,2 +1,4 @@
-pub mod Watched
 pub mod Asked
+pub mod Watched
+pub mod Turns
+pub mod Passes

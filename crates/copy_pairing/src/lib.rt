@@ -1,13 +1,18 @@
-//! Which copies of an accepted module can go.
+//! Which copies of an accepted module can go, and the module without them.
 //! What can go is defined in `copy_removal`. It knows of no run and no text.
 #![tactic(auto)]
 
 mod consumers;
 mod copies;
 mod held;
+mod lending;
 mod moves;
+mod optimiser;
+mod passes;
 mod removals;
+mod turns;
 mod watched;
 
 pub use copy_removal::Removal;
+pub use optimiser::{Unfinished, optimize};
 pub use removals::removable;

@@ -14,6 +14,7 @@ ghost use Rattle.ownership_marks.specs.Marks.{marks_of};
 ghost use Rattle.borrow_scopes.specs.inner.Tables.{lent_bases_in};
 ghost use Rattle.copy_removal.specs.Removable as removal;
 ghost use Rattle.copy_removal.specs.Removable.{IsDestroyedNext, IsMovable, IsUnlent};
+ghost use Rattle.copy_pairing.specs.inner.Turns.{IsMovableTo};
 
 use crate::copies::{Copied, is_destroyed_at};
 use crate::held::are_free_at;
@@ -165,8 +166,8 @@ fn destroyed_next(
     }
 }
 
-/// Whether the copy at the point can become a move.
-pub(crate) fn is_movable(
+/// The index of the destroy that goes where the copy at the point becomes a move, if it can become one.
+pub(crate) fn moves_to(
     alloc: Global,
     f: &Function,
     g: &Graph,
@@ -174,20 +175,26 @@ pub(crate) fn is_movable(
     borrows: &[Borrow],
     p: PointId,
     copied: Copied,
-) -> Result<bool, Exhausted>
+) -> Result<Option<usize>, Exhausted>
     requires has_graph { HasGraph f.now }
     requires graph { IsGraphOf g.now f.now }
     requires borrows { borrows.now ≡ borrowing.borrows_of f.now }
     requires size { length borrows.now ≡ length k.now.table }
-    ensures { IfOk result (λ r. (count : ℕ) (facts : ValueId → Option Facts) → AreKindsBy count facts f.now g.now k.now
-        → IsTrue r ↔ IsMovable facts f.now p copied.value copied.operand) }
+    ensures some { IfOk result (λ o. IfSome o (λ last. (count : ℕ) (facts : ValueId → Option Facts) → AreKindsBy count facts f.now g.now k.now
+        → IsMovableTo facts f.now p copied.value copied.operand last)) }
+    ensures none { IfOk result (λ o. IfNone o ((count : ℕ) (facts : ValueId → Option Facts) → AreKindsBy count facts f.now g.now k.now
+        → ¬ IsMovable facts f.now p copied.value copied.operand)) }
 {
     if !is_owned(k.kind(copied.operand)) {
-        return Ok(false);
+        return Ok(None);
     }
     let next = destroyed_next(alloc, f, k, p, copied)?;
-    if next.is_none() {
-        return Ok(false);
+    let Some(last) = next else {
+        return Ok(None);
+    };
+    let unlent = is_unlent(alloc, f, g, k, borrows, copied)?;
+    if unlent {
+        return Ok(Some(last));
     }
-    is_unlent(alloc, f, g, k, borrows, copied)
+    Ok(None)
 }

@@ -1,30 +1,23 @@
 -- A function and the one where a copy that can become a borrow is lent, to memory.
-use Rattle.std.proofs.Common.{◌≡◌, ◌⊎◌, inl, inr, ℕ, zero, suc, ◌<◌, List, [], ◌∷◌, ◌++◌, length, map, refl, sym, ap, ap₂, ◌∙◌, subst, arith, true, false, Option, Some, None, eq-eqb, ne_eqb}
-use Rattle.std.specs.Prelude.{◌&&◌, ◌||◌}
-use Rattle.std.specs.Prelude.{◌==◌, cond, option_map, replicate, slice_get, unwrap_or}
+use Rattle.std.proofs.Common.{◌≡◌, ◌⊎◌, inl, inr, ℕ, zero, suc, ◌<◌, List, [], ◌∷◌, ◌++◌, length, refl, sym, ap, ◌∙◌, subst, arith, true, false, Option, Some, None, ne_eqb}
+use Rattle.std.specs.Prelude.{◌==◌, slice_get, unwrap_or}
 use Rattle.std.specs.List.{list_any}
 use Rattle.std.proofs.lemmas.Bool.{and_parts, eqb-true, false≢true, or_cases}
-use Rattle.std.proofs.lemmas.List.{length-replicate}
-use Rattle.std.proofs.lemmas.List.FromFn.{length-map-range_with_len}
-use Rattle.std.proofs.lemmas.Option.{same_Some, slice_get-map, slice_get_within}
-use Rattle.argument_conventions.specs.Arguments.{arguments_of}
+use Rattle.std.proofs.lemmas.Option.{same_Some, slice_get_within}
 use Rattle.instruction_table.specs.Forms.{results_of}
 use Rattle.instruction_table.specs.declared.forms.Part.TheVariants as part
 use Rattle.instruction_table.specs.declared.op.Op.{Op}
 use Rattle.instruction_table.specs.declared.op.Op.TheVariants as op
 use Rattle.item_operands.specs.Parts.{inst_at, inst_in}
 use Rattle.memory_accesses.specs.Operations.{access_kind_of}
-use Rattle.memory_accesses.specs.Sources.{arg_sources, argument_source_or, borrow_source, result_source, result_sources, source_at, source_by, sources_of}
-use Rattle.memory_accesses.specs.declared.source.Source.TheVariants.{Borrow, Other}
-use Rattle.numbered_form.specs.Insts.{insts_of}
-use Rattle.numbered_form.specs.Numbering.{AreCountedFrom, values_of}
+use Rattle.memory_accesses.specs.Sources.{source_at, source_by, sources_of}
+use Rattle.memory_accesses.specs.declared.source.Source.TheVariants.{Other}
 use Rattle.numbered_form.specs.inner.Parts.{are_of_parts, is_typed}
 use Rattle.ownership_chains.specs.Facts.{facts_with, is_guaranteed, known_or}
 use Rattle.ownership_chains.specs.declared.facts.Facts.{Facts}
 use Rattle.ownership_kinds.specs.Facts.{facts_in}
 use Rattle.point_checks.specs.Points.{IsAt}
 use Rattle.sil_ast.specs.declared.function.Block.{Block}
-use Rattle.sil_ast.specs.declared.function.BlockArg.{BlockArg}
 use Rattle.sil_ast.specs.declared.function.Function.{Function}
 use Rattle.sil_ast.specs.declared.inst.Inst.{Inst}
 use Rattle.sil_ast.specs.declared.module.Module.{Module}
@@ -36,38 +29,36 @@ use Rattle.sil_types.specs.Typing.ResultCounts.{is_count_by}
 use Rattle.sil_types.specs.Typing.RowTypes.{row_types}
 use Rattle.type_definitions.specs.Declarations.{Declarations, declarations_of}
 use Rattle.type_definitions.specs.declared.kind.Kind.TheVariants as kind
-use Rattle.value_tables.specs.FirstValue.{first_value, value_of}
 use Rattle.rule_faults.specs.declared.fault.RuleFault.{RuleFault}
 use Rattle.memory_rules.specs.Broken.{IsBroken, at_part, crossing, static}
 use Rattle.sil_cfg.specs.Flow.{point_of}
 use Rattle.sil_cfg.specs.Items.{flow_of}
 use Rattle.sil_verifier.specs.Shown.{memory}
 use Rattle.run_typing_laws.proofs.Rows.Shares.{of_parts}
-use Rattle.run_typing_laws.proofs.Rows.Tables.{row_at, told_of_results}
 use Rattle.accepted_trails.specs.inner.Accepted.{IsAcceptedIn}
 use Rattle.accepted_trails.proofs.Unbroken.{are_accepted}
 use Rattle.accepted_values.specs.inner.Known.{IsAcceptedBody, facts_at}
 use Rattle.accepted_values.proofs.Accepted.{counted, has_kinds, in_range, typed}
 use Rattle.accepted_values.proofs.Facts.{facts_so, known, told_so}
-use Rattle.copy_removal.specs.Copies.{IsCopy, is_op}
+use Rattle.copy_removal.specs.Copies.{IsCopy}
 use Rattle.copy_removal.specs.Removable.{IsBorrowable}
-use Rattle.copy_removal.specs.Rewritten.{lent, lent_block, lent_inst, makes, takes, with_op}
-use Rattle.lent_functions.proofs.Graph.{block_lent, flow_lent, return_lent}
+use Rattle.copy_removal.specs.Rewritten.{lent, lent_inst}
+use Rattle.lent_functions.proofs.Graph.{flow_lent, return_lent}
 use Rattle.lowering_laws.proofs.Rings.{defined_somewhere}
 use Rattle.lent_functions.proofs.Facts.{other_facts}
 use Rattle.lent_functions.proofs.Facts as lent_facts
 use Rattle.lent_functions.proofs.Marks.{marks_lent}
-use Rattle.lent_functions.proofs.Parts.{values_lent}
-use Rattle.lent_functions.proofs.Ready.{Ready}
+use Rattle.lent_functions.proofs.Ready.{IsFormed, Ready}
+use Rattle.lent_functions.proofs.ValueRows.{comes_from, end_stays}
 use Rattle.lent_memory.specs.inner.Laws.{LentMemoryIsClean}
 use Rattle.lent_memory.proofs.Accesses.{accesses_alike}
 use Rattle.lent_memory.proofs.Becoming.{HasOperands, does_alike, lent_alike}
-use Rattle.lent_memory.proofs.Copied.{copies, copy_facts, copy_owned, copy_source, known_as, place}
+use Rattle.lent_memory.proofs.Copied.{copies, copy_facts, copy_owned, copy_source, known_as}
 use Rattle.lent_memory.proofs.Alike.{AreLentAlike}
 use Rattle.lent_memory.proofs.Kept.{unbroken_lent}
 use Rattle.lent_memory.proofs.Means.{AreLentFacts}
 use Rattle.lent_memory.proofs.Objects.{base_alone, copy_of_object, copy_results, no_field, no_upcast}
-use Rattle.lent_memory.proofs.Rows.{as_many_sources, other_sources}
+use Rattle.lent_memory.proofs.Rows.{as_many_sources, other_sources, source_borrowed}
 use Rattle.lent_memory.proofs.Slots.{crossing_before}
 use Rattle.lent_memory.proofs.Sources.{AreLentSources, same_value}
 use Rattle.lent_memory.proofs.Statics.{DoesAlike, StandsAlike, static_before}
@@ -88,38 +79,32 @@ takes_one c o os e h = at (or_cases (o.value.0 == c.0) false (sym (ap (list_any 
 
 -- ---- what stands at a point
 
-split_last : (c : ValueId) (is : List Inst) (t : Inst) (k : ℕ) (j : Inst) → slice_get (map (lent_inst c) is ++ t ∷ []) k ≡ Some j
-    → ((i : Inst) × (slice_get is k ≡ Some i) × (slice_get (is ++ t ∷ []) k ≡ Some i) × (j ≡ lent_inst c i)) ⊎ (slice_get (is ++ t ∷ []) k ≡ Some j)
-split_last c [] t k j e = inr e
-split_last c (i ∷ is) t zero j e = inl (i, refl, refl, sym (same_Some (lent_inst c i) j e))
-split_last c (i ∷ is) t (suc k) j e = split_last c is t k j e
+-- an instruction in a block, or its terminator
+inside_or_end : (is : List Inst) (t : Inst) (k : ℕ) (i : Inst) → slice_get (is ++ t ∷ []) k ≡ Some i → (slice_get is k ≡ Some i) ⊎ (t ≡ i)
+inside_or_end [] t zero i e = inr (same_Some t i e)
+inside_or_end [] t (suc k) i e = cc
+inside_or_end (x ∷ is) t zero i e = inl e
+inside_or_end (x ∷ is) t (suc k) i e = inside_or_end is t k i e
 
-there_lent : (c : ValueId) (o : Option Block) (b : Block) → option_map (lent_block c) o ≡ Some b → (x : Block) × (o ≡ Some x) × (lent_block c x ≡ b)
-there_lent c None b e = cc
-there_lent c (Some x) b e = (x, refl, same_Some (lent_block c x) b e)
-
-module _ (f : Function) (c v : ValueId) (operands : (p : PointId) (i : Inst) → inst_at f p ≡ Some i → HasOperands c v i) where
+module _ (f : Function) (c v : ValueId) (formed : IsFormed f) (operands : (p : PointId) (i : Inst) → inst_at f p ≡ Some i → HasOperands c v i) where
   pub stands_alike : (n k : ℕ) (j : Inst) → IsAt (lent c f) n k j → StandsAlike f (lent c f) n k j
   stands_alike n k j at =
-      let x = there_lent c (slice_get f.blocks n) at.within (sym (block_lent c f n) ∙ at.is_block) in
-      by x.0 x.1 (split_last c x.0.insts x.0.terminator k j (ap (λ (b : Block). slice_get (insts_of b) k) x.2 ∙ at.is_inst))
+      let from = comes_from c f formed n k j at in
+      record { inst = from.inst; at = from.at; does = subst (DoesAlike from.inst) (sym from.is) (become from.inst from.at) }
     where
-      by : (b : Block) → slice_get f.blocks n ≡ Some b
-          → ((i : Inst) × (slice_get b.insts k ≡ Some i) × (slice_get (b.insts ++ b.terminator ∷ []) k ≡ Some i) × (j ≡ lent_inst c i))
-          ⊎ (slice_get (b.insts ++ b.terminator ∷ []) k ≡ Some j) → StandsAlike f (lent c f) n k j
-      by b there (inl w) =
-          let here : inst_at f (point_at n k) ≡ Some w.0 = ap (λ o. inst_in o k) there ∙ w.1 in
-          let become = does_alike c v w.0 (lent_inst c w.0) (lent_alike c v w.0 (operands (point_at n k) w.0 here)) in
-          record { inst = w.0; at = record { within = b; is_block = there; is_inst = w.2 }; does = subst (DoesAlike w.0) (sym w.3) become }
-      by b there (inr e) = record { inst = j; at = record { within = b; is_block = there; is_inst = e }; does = record { operations = refl; deallocated = refl } }
+      become : (i : Inst) → IsAt f n k i → DoesAlike i (lent_inst c i)
+      become i here = by (inside_or_end here.within.insts here.within.terminator k i here.is_inst)
+        where
+          by : (slice_get here.within.insts k ≡ Some i) ⊎ (here.within.terminator ≡ i) → DoesAlike i (lent_inst c i)
+          by (inl inside) = does_alike c v i (lent_inst c i) (lent_alike c v i (operands (point_at n k) i (ap (λ o. inst_in o k) here.is_block ∙ inside)))
+          by (inr end) =
+              let stays : lent_inst c i ≡ i = subst (λ x. lent_inst c x ≡ x) end (end_stays c f formed n here.within here.is_block) in
+              subst (DoesAlike i) (sym stays) (record { operations = refl; deallocated = refl })
 
 module _ (m : Module) (n : ℕ) (f : Function) (a : IsAcceptedBody m n f) (p : PointId) (c v : ValueId) (copy : IsCopy f p c v)
     (free : IsBorrowable (facts_in (declarations_of m) f) f c v) where
   abbrev d : Declarations
   d = declarations_of m
-
-  copied_result : (q : PointId) (i : Inst) → inst_at f q ≡ Some i → i.op ≡ op.CopyValue → makes c i ≡ true → i.results ≡ c ∷ []
-  copied_result q i e is made = ap (λ (x : Inst). x.results) (copy_results m n f a p c v copy q i e made) ∙ copy.copies.result
 
   pub operands_are : (q : PointId) (i : Inst) → inst_at f q ≡ Some i → HasOperands c v i
   operands_are q i e = record {
@@ -130,75 +115,6 @@ module _ (m : Module) (n : ℕ) (f : Function) (a : IsAcceptedBody m n f) (p : P
         let o = one_of_parts i.operands (of_parts (are_of_parts (part.Typed ∷ []) i.operands) (known_as m n f a q i op.DestroyValue e is).operands) in
         (o.0, o.1, takes_one c o.0 i.operands o.1 taken);
   }
-
-  -- ---- sources
-
-  counted_lent : AreCountedFrom 0 (values_of (lent c f).blocks)
-  counted_lent = subst (AreCountedFrom 0) (sym (values_lent c f)) (counted m n f a)
-
-  args_long : (b : ℕ) (xs : List BlockArg) → length (arg_sources d f.signature b xs) ≡ length xs
-  args_long zero xs = length-map-range_with_len (λ k. argument_source_or d (slice_get (arguments_of f.signature) k)) 0 (length xs)
-  args_long (suc b) xs = length-replicate (length xs) Other
-
-  -- what the copy becomes
-  copy_becomes : lent_inst c copy.inst ≡ with_op op.BeginBorrow copy.inst
-  copy_becomes =
-      ap (λ b. cond b (with_op op.BeginBorrow copy.inst) (cond (is_op op.DestroyValue copy.inst && takes c copy.inst) (with_op op.EndBorrow copy.inst) copy.inst))
-      (ap₂ (λ x y. x && y) copy.copies.copies made)
-    where
-      made : makes c copy.inst ≡ true
-      made = ap (λ ws. list_any (λ (w : ValueId). w.0 == c.0) ws) copy.copies.result ∙ ap (λ b. b || false) (eq-eqb c.0 c.0 refl)
-
-  place_lent : IsAt (lent c f) p.block.0 p.index (lent_inst c copy.inst)
-  place_lent =
-      let at = place m n f a p copy.inst copy.stands in
-      record {
-        within = lent_block c at.within;
-        is_block = block_lent c f p.block.0 ∙ ap (option_map (lent_block c)) at.is_block;
-        is_inst = in_front (map (lent_inst c) at.within.insts) at.within.terminator (mapped at.within at.is_block);
-      }
-    where
-      in_front : (is : List Inst) (t : Inst) → slice_get is p.index ≡ Some (lent_inst c copy.inst) → slice_get (is ++ t ∷ []) p.index ≡ Some (lent_inst c copy.inst)
-      in_front is t e = ahead is t p.index e
-        where
-          ahead : (is : List Inst) (t : Inst) (k : ℕ) → slice_get is k ≡ Some (lent_inst c copy.inst) → slice_get (is ++ t ∷ []) k ≡ Some (lent_inst c copy.inst)
-          ahead [] t k e = cc
-          ahead (i ∷ is) t zero e = e
-          ahead (i ∷ is) t (suc k) e = ahead is t k e
-
-      mapped : (b : Block) → slice_get f.blocks p.block.0 ≡ Some b → slice_get (map (lent_inst c) b.insts) p.index ≡ Some (lent_inst c copy.inst)
-      mapped b e =
-          let here : slice_get b.insts p.index ≡ Some copy.inst = sym (ap (λ o. inst_in o p.index) e) ∙ copy.stands in
-          slice_get-map (lent_inst c) b.insts p.index ∙ ap (option_map (lent_inst c)) here
-
-  first_copied : first_value copy.inst ≡ Some v
-  first_copied = ap (λ os. option_map value_of (slice_get os 0)) copy.copies.operands ∙ ap (λ w. Some w) copy.copies.copied
-
-  source_lent : source_at (sources_of d (lent c f)) c ≡ Borrow v
-  source_lent =
-      let rows = told_of_results (arg_sources d f.signature) (result_sources d) args_long (λ i. length-replicate (length i.results) (result_source d i)) Other (lent c f) counted_lent
-      p.block.0 p.index (lent_inst c copy.inst) place_lent in
-      let results : (lent_inst c copy.inst).results ≡ c ∷ [] = ap (λ (i : Inst). i.results) copy_becomes ∙ copy.copies.result in
-      let one : row_at Other (sources_of d (lent c f)) c ∷ [] ≡ result_source d (lent_inst c copy.inst) ∷ [] =
-      sym (ap (map (row_at Other (sources_of d (lent c f)))) results) ∙ rows
-      ∙ ap (λ (ws : List ValueId). replicate (length ws) (result_source d (lent_inst c copy.inst))) results in
-      let first : row_at Other (sources_of d (lent c f)) c ≡ result_source d (lent_inst c copy.inst) = cc in
-      first ∙ ap (result_source d) copy_becomes ∙ ap borrow_source first_copied
-
-  source_copied : source_at (sources_of d f) c ≡ Other
-  source_copied = copy_source m n f a p c v copy ∙ ap (λ (o : Op). source_by (access_kind_of o) d copy.inst) (copies m n f a p c v copy)
-
-  pub sources_lent : AreLentSources (sources_of d f) (sources_of d (lent c f)) c v
-  sources_lent = record {
-    size = as_many_sources d f c copied_result;
-    others = other_sources d f c copied_result (counted m n f a);
-    copied = source_copied;
-    borrowed = source_lent;
-    no_upcast = λ is w e. no_upcast m n f a p c v copy free w e;
-    no_field = λ is w k trivial e. no_field m n f a p c v copy w k trivial e;
-  }
-
-  -- ---- the whole
 
   pub ready : Ready (declarations_of m) f p c v
   ready = record {
@@ -221,6 +137,21 @@ module _ (m : Module) (n : ℕ) (f : Function) (a : IsAcceptedBody m n f) (p : P
     owned = copy_facts m n f a p c v copy;
     lends = free;
   }
+
+  source_copied : source_at (sources_of d f) c ≡ Other
+  source_copied = copy_source m n f a p c v copy ∙ ap (λ (o : Op). source_by (access_kind_of o) d copy.inst) (copies m n f a p c v copy)
+
+  pub sources_lent : AreLentSources (sources_of d f) (sources_of d (lent c f)) c v
+  sources_lent = record {
+    size = as_many_sources d f p c v ready;
+    others = other_sources d f p c v ready;
+    copied = source_copied;
+    borrowed = source_borrowed d f p c v ready;
+    no_upcast = λ is w e. no_upcast m n f a p c v copy free w e;
+    no_field = λ is w k trivial e. no_field m n f a p c v copy w k trivial e;
+  }
+
+  -- ---- the whole
 
   facts_lent : AreLentFacts (known_or (facts_in (declarations_of m) f)) (known_or (facts_in (declarations_of m) (lent c f))) c
   facts_lent = record {
@@ -255,7 +186,7 @@ module _ (m : Module) (n : ℕ) (f : Function) (a : IsAcceptedBody m n f) (p : P
   clean s (static none broken) =
       accepted.clean s
       (memory (static none
-      (static_before (sources_of (declarations_of m) f) (sources_of (declarations_of m) (lent c f)) c v sources_lent f (lent c f) (stands_alike f c v operands_are) s.rule s.subject
+      (static_before (sources_of (declarations_of m) f) (sources_of (declarations_of m) (lent c f)) c v sources_lent f (lent c f) (stands_alike f c v ready.formed operands_are) s.rule s.subject
       s.other s.point.block.0 s.point.index broken)))
 
 -- a function with an instruction has a body

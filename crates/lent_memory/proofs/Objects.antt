@@ -115,6 +115,9 @@ takes_first i x r c is first row = at i.operands refl first
 first_in : {A : Type 0} (x : A) (xs : List A) → Contains (x ∷ xs) x
 first_in x xs = (0, omega arith, refl)
 
+in_item : (f : Function) (i : Item) (x : Taken) (rest : List Taken) → item_taken f i ≡ x ∷ rest → Contains (item_taken f i) x
+in_item f i x rest e = subst (λ ts. Contains ts x) (sym e) (first_in x rest)
+
 none_taken : (os : List Operand) → taken_each os [] ≡ []
 none_taken [] = refl
 none_taken (o ∷ os) = refl
@@ -199,7 +202,7 @@ module _ (m : Module) (n : ℕ) (f : Function) (a : IsAcceptedBody m n f) (p : P
       let row = field_row (declarations_of m) r.inst c k trivial (sym r.source_is ∙ e) in
       let t = takes_first r.inst op.RefElementAddr role.Lent c row.0 row.1 (λ cs k. (replicate k (by_row role.Lent), refl)) in
       let x : Taken = taken_as t.operand (by_row role.Lent) in
-      let there : Contains (item_taken f (Inst r.point)) x = subst (λ ts. Contains ts x) (sym (taken_at r.point r.inst x t.rest r.there t.taken)) (first_in x (t.rest ++ [])) in
+      let there = in_item f (Inst r.point) x (t.rest ++ []) (taken_at r.point r.inst x t.rest r.there t.taken) in
       let lent : MayLend (declarations_of m) f t.operand.value = suited m n f a (Inst r.point) x there in
       let own : MayLend (declarations_of m) f c = subst (MayLend (declarations_of m) f) t.is lent in
       at own

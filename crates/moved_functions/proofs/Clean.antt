@@ -1,6 +1,4 @@
 -- A function whose copy is a move keeps the rules on values, memory aside.
-use Rattle.std.proofs.Common.{refl}
-use Rattle.copy_removal.specs.Copies.{IsCopy}
 use Rattle.moved_functions.specs.inner.Laws.{MovedValuesAreClean}
 use Rattle.moved_functions.proofs.KindsKept.{kinds_kept}
 use Rattle.moved_functions.proofs.Lives.{none_of_lives}

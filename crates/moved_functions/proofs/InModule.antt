@@ -1,24 +1,20 @@
 -- What is known of a function of an accepted module in numbered form: its values are counted, its rows are typed, and nothing is shown.
-use Rattle.std.proofs.Common.{◌≡◌, ℕ, zero, suc, ◌<◌, List, [], ◌∷◌, ◌++◌, length, refl, sym, ap, ◌∙◌, subst, append_assoc, Bool, true, false, None, Some, arith}
-use Rattle.std.specs.Prelude.{◌&&◌, is_some, not, Option}
+use Rattle.std.proofs.Common.{◌≡◌, ℕ, zero, suc, ◌<◌, List, [], ◌∷◌, length, subst, true, None, Some, arith}
+use Rattle.std.specs.Prelude.{◌&&◌, is_some}
 use Rattle.std.specs.List.{list_all, slice_get}
-use Rattle.std.proofs.lemmas.Bool.{and_parts, not-false, true_from_ne_false, not_from_false}
+use Rattle.std.proofs.lemmas.Bool.{and_parts, true_from_ne_false, not_from_false}
 use Rattle.std.proofs.lemmas.Option.{same_Some, slice_get_within}
-use Rattle.numbered_form.specs.Insts.{insts_of}
 use Rattle.numbered_form.specs.Lists.{Each}
 use Rattle.numbered_form.specs.Numbering.{AreCountedFrom, IsFunctionNumbered, values_of}
 use Rattle.point_checks.specs.Points.{IsAt}
-use Rattle.rule_faults.specs.declared.fault.RuleFault.{RuleFault}
 use Rattle.sil_ast.specs.declared.function.Block.{Block}
 use Rattle.sil_ast.specs.declared.function.Function.{Function}
 use Rattle.sil_ast.specs.declared.inst.Inst.{Inst}
 use Rattle.sil_ast.specs.declared.module.Module.{Module}
-use Rattle.sil_ast.specs.declared.place.PointId.{PointId}
-use Rattle.sil_ast.specs.declared.place.ValueId.{ValueId}
 use Rattle.sil_rules.specs.declared.rule.Rule.TheVariants as rule
 use Rattle.instruction_table.specs.Forms.{results_of}
-use Rattle.sil_types.specs.Typing.OperandTypes.{are_as_asked, are_as_written, edge_is_as_written, has_operand_types, has_wrong_operand_type}
-use Rattle.sil_types.specs.Typing.ResultCounts.{has_wrong_result_count, is_count_by}
+use Rattle.sil_types.specs.Typing.OperandTypes.{are_as_asked, are_as_written, edge_is_as_written, has_operand_types}
+use Rattle.sil_types.specs.Typing.ResultCounts.{is_count_by}
 use Rattle.sil_types.specs.Typing.RowTypes.{keeps_row, row_types}
 use Rattle.sil_types.specs.Typing.Typed.BreaksAt.{point}
 use Rattle.sil_types.specs.Typing.Typed.BreaksAtPoint.{operand_type, result_count}

@@ -1,5 +1,6 @@
 -- The items of blocks, in order: without the gone destroy those of the block of the copy, and the same in each other block. Walks are the same.
-use Rattle.std.proofs.Common.{◌≡◌, ◌≢◌, ℕ, zero, suc, ◌+◌, ◌<◌, ◌≤◌, List, [], ◌∷◌, ◌++◌, length, refl, sym, ap, ap₂, ◌∙◌, subst, append_assoc, Bool, true, false, Option, Some, None, arith, length-append}
+use Rattle.std.proofs.Common.{◌≡◌, ◌≢◌, ℕ, zero, suc, ◌+◌, ◌<◌, ◌≤◌, List, [], ◌∷◌, ◌++◌, length, refl}
+use Rattle.std.proofs.Common.{sym, ap, ap₂, ◌∙◌, subst, append_assoc, Bool, true, false, Option, Some, None, arith, length-append}
 use Rattle.std.specs.Prelude.{unwrap_or}
 use Rattle.std.specs.List.{flat_map, slice_get}
 use Rattle.std.proofs.lemmas.Grind.{flat_map-append}
@@ -14,7 +15,7 @@ use Rattle.sil_cfg.specs.Items.{ends_function, entry_of, exit_of, flow_of, insts
 use Rattle.sil_cfg.specs.Walk.{IsWalkFrom, end_from}
 use Rattle.sil_cfg.specs.declared.item.Item.{Item}
 use Rattle.sil_cfg.specs.declared.item.Item.TheVariants as item
-use Rattle.moved_functions.specs.inner.Structure.{old_item, old_point, stood_at}
+use Rattle.moved_functions.specs.inner.Structure.{old_item}
 use Rattle.moved_functions.proofs.Lists.{stood_before, stood_behind}
 use Rattle.moved_functions.proofs.Split.{IsSplit, insts_moved, move_of, moved_insts}
 use Rattle.moved_functions.proofs.Places.{after, block_elsewhere, block_there, new_block, old_elsewhere, old_here, told_of_block}
@@ -176,7 +177,7 @@ module _ {f : Function} {p : PointId} {last : ℕ} {c v : ValueId} (s : IsSplit 
         let second : length s.front + suc (length s.middle) ≡ last = s.at_destroy in
         flat_map-append new (entry_of p.block.0) (insts_from p.block.0 0 s.front)
         ∙ ap₂ (λ u w. u ++ w) (at_entry p.block.0)
-            (along p.block.0 0 s.front 0 0 refl (λ j j' le lt is. stayed j j' (λ e. let no : ⊥ = omega arith in no) (omega arith) is))
+        (along p.block.0 0 s.front 0 0 refl (λ j j' le lt is. stayed j j' (λ e. let no : ⊥ = omega arith in no) (omega arith) is))
         ∙ sym (flat_map-append old (entry_of p.block.0) (insts_from p.block.0 0 s.front))
 
     pub inside_alike : flat_map new inside ≡ flat_map old inside
@@ -208,9 +209,9 @@ module _ {f : Function} {p : PointId} {last : ℕ} {c v : ValueId} (s : IsSplit 
         let exit = exit_of (point_at n (length b.insts)) (ends_function b.terminator.op) in
         flat_map-append new (entry_of n) (insts_from n 0 b.insts ++ exit)
         ∙ ap₂ (λ u w. u ++ w) (at_entry n)
-            (flat_map-append new (insts_from n 0 b.insts) exit
-            ∙ ap₂ (λ u w. u ++ w) (along n 0 b.insts 0 0 refl (λ j j' le lt is. there j j' is)) (exit_elsewhere (point_at n (length b.insts)) ne (ends_function b.terminator.op))
-            ∙ sym (flat_map-append old (insts_from n 0 b.insts) exit))
+        (flat_map-append new (insts_from n 0 b.insts) exit
+        ∙ ap₂ (λ u w. u ++ w) (along n 0 b.insts 0 0 refl (λ j j' le lt is. there j j' is)) (exit_elsewhere (point_at n (length b.insts)) ne (ends_function b.terminator.op))
+        ∙ sym (flat_map-append old (insts_from n 0 b.insts) exit))
         ∙ sym (flat_map-append old (entry_of n) (insts_from n 0 b.insts ++ exit))
       where
         there : (j j' : ℕ) → j' ≡ 0 + j → new (item.Inst (point_at n j)) ≡ old (item.Inst (point_at n j'))

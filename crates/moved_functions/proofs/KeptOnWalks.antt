@@ -1,15 +1,12 @@
 -- A switch along walks: each trail keeps its pattern just where the marks along each whole walk, with all items of its last block, lead
 -- from off to some state.
-use Rattle.std.proofs.Common.{◌≡◌, ℕ, zero, suc, ◌<◌, List, [], ◌∷◌, ◌++◌, length, take, drop, refl, sym, ap, ◌∙◌, subst, append_assoc, arith, take-append-drop}
+use Rattle.std.proofs.Common.{◌≡◌, ℕ, suc, ◌<◌, List, [], ◌∷◌, ◌++◌, length, take, drop, refl, sym, ap, ◌∙◌, subst, append_assoc, arith, take-append-drop}
 use Rattle.std.specs.List.{flat_map}
 use Rattle.std.proofs.lemmas.Grind.{flat_map-append}
 use Rattle.std.proofs.lemmas.List.{append-nil, take_all}
 use Rattle.sil_ast.specs.declared.place.EdgeId.{EdgeId}
-use Rattle.sil_ast.specs.declared.function.Function.{Function}
 use Rattle.sil_cfg.specs.Flow.{Flow, items_at}
-use Rattle.sil_cfg.specs.Items.{flow_of}
 use Rattle.sil_cfg.specs.Walk.{IsTrail, IsWalk, last_block, passed}
-use Rattle.sil_cfg.specs.declared.item.Item.{Item}
 use Rattle.sil_cfg.proofs.Paths.{Trail-front, some_pushed}
 use Rattle.reach_engine.specs.declared.scan.Step.{Step}
 use Rattle.reach_engine.specs.declared.scan.Step.TheVariants.{Bad, Go}

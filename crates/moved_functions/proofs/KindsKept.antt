@@ -1,6 +1,6 @@
 -- 302 to 305: what stands at a point stood at a point before, with the same kinds, but for the move, which takes an Owned value.
-use Rattle.std.proofs.Common.{◌≡◌, ◌≢◌, ◌⊎◌, inl, inr, ℕ, zero, suc, ◌+◌, ◌<◌, List, [], ◌∷◌, ◌++◌, length, map, refl, sym, ap, ap₂, ◌∙◌, subst, append_assoc, append-nil, Bool, true, false, cond, Option, None, Some, arith}
-use Rattle.std.specs.Prelude.{◌&&◌, ◌||◌, ◌==◌, Contains, find, is_none, option_map, unwrap_or}
+use Rattle.std.proofs.Common.{◌≡◌, ◌⊎◌, inl, inr, ℕ, zero, suc, ◌<◌, List, [], ◌∷◌, ◌++◌, length, refl, sym, ap, ap₂, ◌∙◌, subst, append_assoc, true, false, Option, None, Some, arith}
+use Rattle.std.specs.Prelude.{◌&&◌, ◌||◌, Contains, is_none, option_map}
 use Rattle.std.specs.List.{flat_map, list_any, slice_get}
 use Rattle.std.proofs.lemmas.Bool.{cases_eq}
 use Rattle.std.proofs.lemmas.List.Elements.{Contains-append_cases, Contains-append_right}
@@ -31,21 +31,15 @@ use Rattle.item_operands.specs.Roles.{by_row, taken_along, taken_as, taken_by}
 use Rattle.item_operands.specs.declared.taken.Taken.{Taken}
 use Rattle.value_tables.specs.Borrows.{is_borrow, is_borrow_in}
 use Rattle.ownership_chains.specs.Chains.{IsCyclic}
-use Rattle.ownership_chains.specs.Facts.{facts_with, known_or}
-use Rattle.ownership_chains.specs.Facts as chains
-use Rattle.ownership_chains.specs.declared.facts.Facts.{Facts}
-use Rattle.ownership_origins.specs.Origins.{definitions_of}
-use Rattle.ownership_origins.specs.Renamings.{renamings_of}
-use Rattle.ownership_origins.specs.Switched.{switch_to}
 use Rattle.ownership_kinds.specs.Facts.{facts_in, kind_in, kind_of_facts}
-use Rattle.ownership_kinds.specs.Statics.{HasKinds, IsBroken, IsDefinedAt, IsOnRing, all_taken, is_annotated_well, is_guaranteed, is_lacking_default, is_mismatch, lacks_argument, lacks_by, mixed_operand, needs_argument, no_arguments}
+use Rattle.ownership_kinds.specs.Statics.{HasKinds, IsBroken, IsDefinedAt, IsOnRing, all_taken, is_annotated_well, is_guaranteed}
+use Rattle.ownership_kinds.specs.Statics.{is_lacking_default, is_mismatch, lacks_argument, lacks_by, mixed_operand, needs_argument, no_arguments}
 use Rattle.ownership_kinds.specs.Statics.IsBroken.{annotated, lacking, mismatch, mixed, on_ring}
 use Rattle.ownership_kinds.specs.Statics.IsDefinedAt.{argument, result}
 use Rattle.sil_verifier.specs.Shown.IsShownIn.{kind as shown_kind}
 use Rattle.sil_verifier.specs.inner.Checked.{IsVerified}
 use Rattle.copy_removal.specs.Optimised.{facts_of}
 use Rattle.copy_removal.specs.Removable.{IsMovable}
-use Rattle.copy_removal.specs.Rewritten.{moved_block}
 use Rattle.moved_functions.specs.inner.Structure.{stood_at}
 use Rattle.moved_functions.proofs.InModule.{clean}
 use Rattle.moved_functions.proofs.Lists.{at_seam, stood_there}

@@ -1,13 +1,12 @@
 -- 401 to 404: what the copy used ends at the move, and is neither used nor ended nor begun up to where it was destroyed. All else is the same.
 use Rattle.std.proofs.Common.{◌≡◌, ◌≢◌, ℕ, zero, suc, ◌+◌, ◌<◌, ◌≤◌, List, [], ◌∷◌, ◌++◌, length, refl, sym, ap, ap₂, ◌∙◌, subst, append-nil, Bool, true, false, cond, Option, None, Some, arith}
-use Rattle.std.specs.Prelude.{◌==◌, ◌||◌, filter_map, unwrap_or}
+use Rattle.std.specs.Prelude.{◌==◌, filter_map, unwrap_or}
 use Rattle.std.specs.List.{cons_option, flat_map, list_any, slice_get}
 use Rattle.std.proofs.lemmas.Bool.{eqb-true, false_from_ne_true, or_parts}
 use Rattle.std.proofs.lemmas.List.Elements.{filter_map-append}
 use Rattle.sil_ast.specs.declared.function.Function.{Function}
 use Rattle.sil_ast.specs.declared.inst.Inst as inst
 use Rattle.sil_ast.specs.declared.module.Module.{Module}
-use Rattle.sil_ast.specs.declared.place.EdgeId.{EdgeId}
 use Rattle.sil_ast.specs.declared.place.PointId.{PointId}
 use Rattle.sil_ast.specs.declared.place.ValueId.{ValueId}
 use Rattle.sil_cfg.specs.Flow.{point_of}

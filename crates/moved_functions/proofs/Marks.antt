@@ -1,7 +1,7 @@
 -- The marks of items: those of the old ones, but for the move, which ends what the copy used, and for the gone destroy, which ended it.
-use Rattle.std.proofs.Common.{◌≡◌, ◌≢◌, ℕ, zero, suc, ◌+◌, ◌<◌, List, [], ◌∷◌, ◌++◌, length, map, refl, sym, ap, ap₂, ◌∙◌, subst, append_assoc, append-nil, Bool, true, false, cond, Option, Some, None, arith}
-use Rattle.std.specs.Prelude.{◌||◌, ◌==◌, unwrap_or}
-use Rattle.std.specs.List.{flat_map, list_any}
+use Rattle.std.proofs.Common.{◌≡◌, ◌≢◌, ℕ, List, [], ◌∷◌, ◌++◌, length, refl, ap, ap₂, ◌∙◌, append-nil, true, false, cond, Option, Some, None}
+use Rattle.std.specs.Prelude.{unwrap_or}
+use Rattle.std.specs.List.{flat_map}
 use Rattle.instruction_table.specs.Forms.{roles_of}
 use Rattle.instruction_table.specs.declared.entries.Role.{Role}
 use Rattle.instruction_table.specs.declared.entries.Role.TheVariants as role
@@ -14,7 +14,7 @@ use Rattle.sil_ast.specs.declared.place.PointId.{PointId}
 use Rattle.sil_ast.specs.declared.place.ValueId.{ValueId}
 use Rattle.sil_cfg.specs.declared.item.Item.{Item}
 use Rattle.sil_cfg.specs.declared.item.Item.TheVariants as item
-use Rattle.item_operands.specs.Parts.{item_results, results_in}
+use Rattle.item_operands.specs.Parts.{results_in}
 use Rattle.item_operands.specs.Items.{item_defined, item_taken, taken_in}
 use Rattle.item_operands.specs.Roles.{by_row, conventions_in, roles_for, taken_as, taken_by, taken_each}
 use Rattle.item_operands.specs.declared.taken.Taken.{Taken}
@@ -23,7 +23,6 @@ use Rattle.type_definitions.specs.declared.kind.Kind.TheVariants as kind
 use Rattle.ownership_chains.specs.Facts.{facts_with, is_owned, known_or}
 use Rattle.ownership_chains.specs.declared.facts.Facts.{Facts}
 use Rattle.ownership_marks.specs.Marks.{begin_of, begun, begun_with, end_of, ended, ended_by, ended_with, ends_owned, marks_of, marks_with, use_of, used, used_by, used_with}
-use Rattle.ownership_marks.specs.declared.mark.Mark.{Mark}
 use Rattle.moved_functions.specs.inner.Structure.{old_item}
 use Rattle.moved_functions.proofs.Items.{gone}
 use Rattle.moved_functions.proofs.Places.{after, copy_stood, destroy_stood, inst_there, same_defined, same_taken}

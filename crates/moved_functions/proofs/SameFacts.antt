@@ -1,6 +1,6 @@
 -- The kinds, bases, renamings and borrows of values are the same without the copy. The copy is Owned, and isn't what it copies.
-use Rattle.std.proofs.Common.{◌≡◌, ◌≢◌, ℕ, zero, suc, ◌+◌, ◌<◌, List, [], ◌∷◌, length, map, refl, sym, ap, ap₂, ◌∙◌, subst, Bool, true, false, cond, Option, Some, None, inl, inr, arith}
-use Rattle.std.specs.Prelude.{Contains, is_some, nat_lt, option_map, replicate, unwrap_or}
+use Rattle.std.proofs.Common.{◌≡◌, ◌≢◌, ℕ, zero, suc, ◌<◌, List, [], ◌∷◌, length, map, refl, sym, ap, ap₂, ◌∙◌, subst, true, cond, Option, Some, None, inr, arith}
+use Rattle.std.specs.Prelude.{Contains, is_some, option_map, replicate, unwrap_or}
 use Rattle.std.specs.List.{list_all, range_with_len, slice_get}
 use Rattle.std.proofs.lemmas.Bool.{lt-ltb}
 use Rattle.std.proofs.lemmas.List.{length-map, length-replicate}
@@ -8,7 +8,6 @@ use Rattle.std.proofs.lemmas.List.FromFn.{length-map-range_with_len}
 use Rattle.std.proofs.lemmas.Option.{slice_get-map, slice_get_within}
 use Rattle.instruction_table.specs.Forms.{result_kind_of}
 use Rattle.sil_ast.specs.declared.function.Function.{Function}
-use Rattle.sil_ast.specs.declared.inst.Inst.{Inst}
 use Rattle.sil_ast.specs.declared.module.Module.{Module}
 use Rattle.sil_ast.specs.declared.place.PointId.{PointId}
 use Rattle.sil_ast.specs.declared.place.ValueId.{ValueId}
@@ -19,7 +18,7 @@ use Rattle.type_definitions.specs.declared.kind.Kind.TheVariants as kind
 use Rattle.sil_types.specs.Typing.RowTypes.{row_types}
 use Rattle.value_tables.specs.Borrows.{arg_borrows, borrow_by, borrows_of, result_borrows}
 use Rattle.value_tables.specs.FirstValue.{value_of}
-use Rattle.ownership_chains.specs.Chains.{Chain, operands_at}
+use Rattle.ownership_chains.specs.Chains.{operands_at}
 use Rattle.ownership_chains.specs.Chains.Chain.{one}
 use Rattle.ownership_chains.specs.Facts.{facts_with, is_known, known_or, origin_at, told_by}
 use Rattle.ownership_chains.specs.Steps.{told_from, told_in}
@@ -39,7 +38,7 @@ use Rattle.copy_removal.specs.Rewritten.{moved_block}
 use Rattle.moved_functions.proofs.InModule.{clean, count_kept, counted, row_kept}
 use Rattle.moved_functions.proofs.Lists.{told_alike}
 use Rattle.moved_functions.proofs.Places.{after}
-use Rattle.moved_functions.proofs.Split.{IsSplit, move_of}
+use Rattle.moved_functions.proofs.Split.{IsSplit}
 use Rattle.moved_functions.proofs.TheCopy.{borrows_told, copy_at, copy_definition, copy_renaming, definitions_told, destroy_at, no_results, renamings_told}
 use Rattle.moved_functions.proofs.ValueRows.{row_of_result, rows_same, values_same}
 

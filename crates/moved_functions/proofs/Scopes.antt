@@ -1,5 +1,6 @@
 -- 501 to 505: no scope that borrows from what is moved is open at the move, and all else is the same.
-use Rattle.std.proofs.Common.{◌≡◌, ◌≢◌, ℕ, zero, suc, ◌+◌, ◌<◌, ◌≤◌, List, [], ◌∷◌, ◌++◌, length, take, refl, sym, ap, ap₂, ◌∙◌, subst, append-nil, append_assoc, length-append, Bool, true, false, cond, Option, None, Some, arith}
+use Rattle.std.proofs.Common.{◌≡◌, ◌≢◌, ℕ, zero, suc, ◌+◌, List, [], ◌∷◌, ◌++◌, length, take, refl, sym}
+use Rattle.std.proofs.Common.{ap, ap₂, ◌∙◌, subst, append-nil, append_assoc, length-append, Bool, true, false, cond, Option, None, Some, arith}
 use Rattle.std.specs.Prelude.{◌&&◌, ◌==◌, ◌||◌, filter_map, unwrap_or}
 use Rattle.std.specs.List.{cons_option, flat_map, range_with_len, slice_get}
 use Rattle.std.proofs.lemmas.Bool.{eq-eqb, eqb-true}
@@ -26,11 +27,10 @@ use Rattle.type_definitions.specs.declared.kind.Kind.TheVariants as kind
 use Rattle.reach_engine.specs.declared.scan.Step.TheVariants.{Go}
 use Rattle.reach_engine.specs.inner.Run.{run}
 use Rattle.path_patterns.specs.Along.{IsKept}
-use Rattle.path_patterns.specs.Marks.{needs_off, needs_on}
+use Rattle.path_patterns.specs.Marks.{needs_on}
 use Rattle.path_patterns.specs.Switch.{IsInPlace, IsOn}
-use Rattle.path_patterns.specs.declared.mark.Mark as pattern
 use Rattle.path_patterns.specs.inner.Automaton.{mark_step}
-use Rattle.path_patterns.specs.inner.Runs.{IsHeld, Sort}
+use Rattle.path_patterns.specs.inner.Runs.{IsHeld}
 use Rattle.path_patterns.proofs.SwitchDecided.{switch_decides}
 use Rattle.path_checks.specs.Entries.{marks_for, means}
 use Rattle.path_checks.specs.First.{IsShownAt}
@@ -43,16 +43,16 @@ use Rattle.ownership_marks.specs.declared.mark.MarkSort.{MarkSort}
 use Rattle.ownership_marks.specs.declared.mark.MarkSort.TheVariants.{Begin, End, Use}
 use Rattle.ownership_kinds.specs.Facts.{facts_in}
 use Rattle.value_tables.specs.Borrows.{borrow_in, borrows_of, is_borrow, is_borrow_in, lends}
-use Rattle.value_tables.specs.declared.borrows.Borrow.{Borrow}
 use Rattle.borrow_scopes.specs.Others.{other_of}
-use Rattle.borrow_scopes.specs.Scopes.{bases_in, entry_of, is_scope, leaves, left_at_return, lent_bases, lost_at_end, lost_entries, lost_from, lost_with, mark_entries, returned, scope_entries, scopes_of}
+use Rattle.borrow_scopes.specs.Scopes.{bases_in, entry_of, is_scope, leaves, left_at_return, lent_bases, lost_at_end}
+use Rattle.borrow_scopes.specs.Scopes.{lost_entries, lost_from, lost_with, mark_entries, returned, scope_entries, scopes_of}
 use Rattle.borrow_scopes.specs.inner.Runs.{scope_along, sort_for, sort_of, sorts_along}
 use Rattle.borrow_scopes.proofs.ScopesAreRuns.{open_while_on}
 use Rattle.sil_verifier.specs.Shown.{scopes_in}
 use Rattle.sil_verifier.specs.Shown.IsShownIn.{scope}
 use Rattle.sil_verifier.specs.inner.Checked.{IsVerified}
 use Rattle.copy_removal.specs.Optimised.{facts_of}
-use Rattle.copy_removal.specs.Removable.{IsMovable, IsUnlent}
+use Rattle.copy_removal.specs.Removable.{IsMovable}
 use Rattle.moved_functions.specs.inner.Structure.{old_item}
 use Rattle.moved_functions.proofs.InModule.{clean}
 use Rattle.moved_functions.proofs.Items.{gone, head, inside, old_items, old_tail}
@@ -246,7 +246,7 @@ module _ (m : Module) (n : ℕ) (f : Function) (verified : IsVerified m) (in_mod
         items = append_assoc (passed (flow_of f) w) (head s) (item.Inst p ∷ []) ∙ ap (λ xs. passed (flow_of f) w ++ xs)
             (sym (take_front (head s ++ item.Inst p ∷ []) (inside s ++ gone s ∷ old_tail s))
             ∙ ap (take (length (head s ++ item.Inst p ∷ [])))
-                (append_assoc (head s) (item.Inst p ∷ []) (inside s ++ gone s ∷ old_tail s) ∙ sym (old_items s) ∙ ap (items_at (flow_of f)) (sym ends)));
+            (append_assoc (head s) (item.Inst p ∷ []) (inside s ++ gone s ∷ old_tail s) ∙ sym (old_items s) ∙ ap (items_at (flow_of f)) (sym ends)));
       }
 
       not_own : is_scope f known (value_of u) ≡ true → (v.0 == u) ≡ false

@@ -49,8 +49,12 @@ module _ (f : Function) (p : PointId) (last : ℕ) (c v : ValueId) where
               place m n lt = let a : m + suc (n - suc m) ≡ n = omega arith in (n - suc m, a)
 
           last_seam : (j : ℕ) × (length s.front + suc j ≡ last) → (j : ℕ) × (length s.front + suc j ≡ last) × IsSeam s.back j destroy
-          last_seam (j, is) = (j, is, seam s.back j destroy
-              (sym (get_behind s.front (copy ∷ s.back) (suc j)) ∙ ap (slice_get (s.front ++ copy ∷ s.back)) is ∙ ap (λ xs. slice_get xs last) (sym s.parts) ∙ second))
+          last_seam (j, is) = (
+            j,
+            is,
+            seam s.back j destroy
+                (sym (get_behind s.front (copy ∷ s.back) (suc j)) ∙ ap (slice_get (s.front ++ copy ∷ s.back)) is ∙ ap (λ xs. slice_get xs last) (sym s.parts) ∙ second),
+          )
 
           more : (j : ℕ) × (length s.front + suc j ≡ last) × IsSeam s.back j destroy → IsSplit f p last c v
           more (j, is, t) = record {

@@ -1,6 +1,6 @@
 -- The copy and the destroy of a typed function: what they take and make, which types, and which rows they have in the tables of values.
-use Rattle.std.proofs.Common.{◌≡◌, ◌≢◌, ℕ, zero, suc, ◌+◌, ◌<◌, List, [], ◌∷◌, ◌++◌, length, map, refl, sym, ap, ap₂, ◌∙◌, subst, append_assoc, Bool, true, false, cond, Option, Some, None, arith, length-append}
-use Rattle.std.specs.Prelude.{◌&&◌, ◌==◌, is_some, not, option_map, replicate, unwrap_or}
+use Rattle.std.proofs.Common.{◌≡◌, ℕ, suc, List, [], ◌∷◌, ◌++◌, length, map, refl, sym, ap, ap₂, ◌∙◌, subst, append_assoc, Bool, true, false, cond, Option, Some, None, arith, length-append}
+use Rattle.std.specs.Prelude.{◌&&◌, ◌==◌, is_some, not, replicate, unwrap_or}
 use Rattle.std.specs.List.{range_with_len, slice_get}
 use Rattle.std.proofs.lemmas.Bool.{and_parts, eqb-true, not-true}
 use Rattle.std.proofs.lemmas.Option.{same_Some}
@@ -11,25 +11,22 @@ use Rattle.instruction_table.specs.declared.op.Op.TheVariants as op
 use Rattle.instruction_table.specs.declared.op.TheConstants.{OPS}
 use Rattle.sil_ast.specs.declared.function.Function.{Function}
 use Rattle.sil_ast.specs.declared.inst.Inst.{Inst}
-use Rattle.sil_ast.specs.declared.operands.Operand.{Operand}
 use Rattle.sil_ast.specs.declared.place.PointId.{PointId}
 use Rattle.sil_ast.specs.declared.place.ValueId.{ValueId}
 use Rattle.sil_ast.specs.declared.type_name.TypeName.{TypeName}
-use Rattle.numbered_form.specs.Insts.{insts_of}
 use Rattle.point_checks.specs.Points.{IsAt}
 use Rattle.type_definitions.specs.Declarations.{Declarations}
 use Rattle.type_definitions.specs.Measures.{is_trivial}
 use Rattle.sil_types.specs.Typing.ResultCounts.{is_count_by}
 use Rattle.sil_types.specs.Typing.RowTypes.{MadeTypes, given_by, gives, made_types, row_types, written}
 use Rattle.sil_types.specs.Typing.Shapes.{is_nontrivial, is_object, where_it}
-use Rattle.ownership_chains.specs.declared.definition.Definition.{Definition}
 use Rattle.ownership_chains.specs.declared.definition.Origin.TheVariants as origin
 use Rattle.ownership_origins.specs.Origins.{defined, is_trivial_or_untyped, result_definition, result_definition_by, result_definitions}
 use Rattle.ownership_origins.specs.Renamings.{renamed, renames, result_renamings}
 use Rattle.value_tables.specs.Borrows.{borrow_by, result_borrows}
 use Rattle.value_tables.specs.FirstValue.{value_of}
 use Rattle.copy_removal.specs.Copies.{is_op}
-use Rattle.moved_functions.proofs.Lists.{at_seam, get_behind}
+use Rattle.moved_functions.proofs.Lists.{at_seam}
 use Rattle.moved_functions.proofs.Split.{IsSplit, move_of}
 
 -- ---- ops
@@ -113,7 +110,8 @@ module _ {f : Function} {p : PointId} {last : ℕ} {c v : ValueId} (s : IsSplit 
     move_makes : made_types d (move_of s.copy) ≡ type_written.ty ∷ []
     move_makes = ap (λ (o : MadeTypes). unwrap_or o []) (given_object d (written 0 s.copy) type_written)
 
-    owned_by : (i : Inst) (k : ℕ) → result_kind_of i.op ≡ result_kind_of op.CopyValue → result_definition d i k ≡ result_definition_by (result_kind_of op.CopyValue) i (is_trivial_or_untyped d (slice_get (made_types d i) k))
+    owned_by : (i : Inst) (k : ℕ) → result_kind_of i.op ≡ result_kind_of op.CopyValue
+        → result_definition d i k ≡ result_definition_by (result_kind_of op.CopyValue) i (is_trivial_or_untyped d (slice_get (made_types d i) k))
     owned_by i k e = ap (λ x. result_definition_by x i (is_trivial_or_untyped d (slice_get (made_types d i) k))) e
 
     definition_same : (k : ℕ) → result_definition d (move_of s.copy) k ≡ result_definition d s.copy k

@@ -1,5 +1,5 @@
 -- Marks that turn no switch, and tables of which only such marks differ at the copy and go with the destroy.
-use Rattle.std.proofs.Common.{◌≡◌, ◌≢◌, ℕ, zero, suc, List, [], ◌∷◌, ◌++◌, refl, sym, ap, ◌∙◌, subst, Bool, true, false, cond, Option, Some, None}
+use Rattle.std.proofs.Common.{◌≡◌, ℕ, zero, suc, List, [], ◌∷◌, ◌++◌, sym, ap, ◌∙◌, subst, Bool, true, false, cond, Some, None}
 use Rattle.std.specs.Prelude.{◌==◌, filter_map}
 use Rattle.std.specs.List.{cons_option, flat_map}
 use Rattle.std.proofs.lemmas.List.Elements.{filter_map-append}
@@ -12,7 +12,7 @@ use Rattle.sil_cfg.specs.declared.item.Item.{Item}
 use Rattle.sil_cfg.specs.declared.item.Item.TheVariants as item
 use Rattle.sil_rules.specs.Rules.{index_of}
 use Rattle.sil_rules.specs.declared.rule.Rule.{Rule}
-use Rattle.reach_engine.specs.declared.scan.Step.TheVariants.{Bad, Go}
+use Rattle.reach_engine.specs.declared.scan.Step.TheVariants.{Go}
 use Rattle.reach_engine.specs.inner.Run.{run}
 use Rattle.reach_engine.proofs.Runs.{go-bad, same_Go}
 use Rattle.path_patterns.specs.Along.{Shows}
@@ -20,7 +20,7 @@ use Rattle.path_patterns.specs.Marks.{needs_off, needs_on}
 use Rattle.path_patterns.specs.Switch.{IsInPlace, code_of}
 use Rattle.path_patterns.specs.declared.mark.Mark.{Mark}
 use Rattle.path_patterns.specs.inner.Automaton.{mark_step}
-use Rattle.path_checks.specs.Entries.{marks_for, means}
+use Rattle.path_checks.specs.Entries.{means}
 use Rattle.path_checks.specs.declared.entry.Entry.{Entry}
 use Rattle.moved_functions.proofs.Items.{gone, inside}
 use Rattle.moved_functions.proofs.KeptOnWalks.{Turns, turns_join, turns_split}

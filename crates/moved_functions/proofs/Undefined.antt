@@ -1,10 +1,9 @@
 -- 301: no operand comes before its definition.
-use Rattle.std.proofs.Common.{◌≡◌, ◌≢◌, ℕ, List, [], ◌∷◌, ◌++◌, map, refl, sym, ap, ap₂, ◌∙◌, subst, None, Some}
+use Rattle.std.proofs.Common.{◌≡◌, ◌≢◌, ℕ, [], ◌∷◌, ◌++◌, map, refl, sym, ap, ap₂, ◌∙◌, subst, None, Some}
 use Rattle.std.specs.Prelude.{filter_map}
 use Rattle.std.specs.List.{slice_get}
 use Rattle.sil_ast.specs.declared.function.Function.{Function}
 use Rattle.sil_ast.specs.declared.module.Module.{Module}
-use Rattle.sil_ast.specs.declared.place.EdgeId.{EdgeId}
 use Rattle.sil_ast.specs.declared.place.PointId.{PointId}
 use Rattle.sil_ast.specs.declared.place.ValueId.{ValueId}
 use Rattle.sil_cfg.specs.Flow.{point_of}
@@ -16,10 +15,8 @@ use Rattle.sil_rules.specs.declared.rule.Rule.TheVariants as rule
 use Rattle.item_operands.specs.Parts.{item_arguments, item_handover, item_operands, item_results, operands_in, results_in}
 use Rattle.path_patterns.specs.Along.{IsKept}
 use Rattle.path_patterns.specs.Switch.{IsInPlace}
-use Rattle.path_patterns.specs.declared.mark.Mark.{Mark}
 use Rattle.path_checks.specs.Entries.{marks_for, means}
-use Rattle.path_checks.specs.First.{IsFirst, IsShown}
-use Rattle.path_checks.specs.declared.entry.Entry.{Entry}
+use Rattle.path_checks.specs.First.{IsFirst}
 use Rattle.ownership_chains.specs.Facts.{value_of}
 use Rattle.value_availability.specs.Accesses.{accesses_of, begun, defined, used}
 use Rattle.sil_verifier.specs.Shown.IsShownIn.{undefined}

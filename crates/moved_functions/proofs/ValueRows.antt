@@ -1,5 +1,5 @@
 -- What tables tell of the values: the same, row by row, where they tell the same of the move as of the copy.
-use Rattle.std.proofs.Common.{◌≡◌, ℕ, zero, suc, ◌+◌, ◌<◌, List, [], ◌∷◌, ◌++◌, length, map, refl, sym, ap, ap₂, ◌∙◌, append_assoc, arith, None, Some, length-append}
+use Rattle.std.proofs.Common.{◌≡◌, ℕ, zero, suc, ◌+◌, List, [], ◌∷◌, ◌++◌, length, map, refl, sym, ap, ap₂, ◌∙◌, arith, None, Some, length-append}
 use Rattle.std.specs.List.{flat_map, slice_get}
 use Rattle.std.proofs.lemmas.Grind.{flat_map-append}
 use Rattle.std.proofs.lemmas.List.{length-map}
@@ -17,7 +17,7 @@ use Rattle.value_tables.specs.ValueRows.{block_rows, rows_from, value_rows}
 use Rattle.copy_removal.specs.Rewritten.{changed_at, moved_block}
 use Rattle.moved_functions.proofs.Lists.{get_behind, told_alike}
 use Rattle.moved_functions.proofs.Places.{after, new_block}
-use Rattle.moved_functions.proofs.Split.{IsSplit, insts_moved, move_of, moved_insts}
+use Rattle.moved_functions.proofs.Split.{IsSplit, insts_moved, move_of}
 
 module _ {f : Function} {p : PointId} {last : ℕ} {c v : ValueId} (s : IsSplit f p last c v) where
   -- ---- what is told of the results of the instructions of the block
@@ -27,11 +27,11 @@ module _ {f : Function} {p : PointId} {last : ℕ} {c v : ValueId} (s : IsSplit 
   insts_told tell same none =
       flat_map-append tell (new_block s).insts (s.block.terminator ∷ [])
       ∙ ap (λ xs. xs ++ flat_map tell (s.block.terminator ∷ []))
-          (ap (flat_map tell) (insts_moved s) ∙ flat_map-append tell s.front (move_of s.copy ∷ (s.middle ++ s.back))
-          ∙ ap₂ (λ x y. flat_map tell s.front ++ (x ++ y)) same
-              (flat_map-append tell s.middle s.back ∙ ap (λ x. flat_map tell s.middle ++ (x ++ flat_map tell s.back)) (sym none)
-              ∙ sym (flat_map-append tell s.middle (s.destroy ∷ s.back)))
-          ∙ sym (flat_map-append tell s.front (s.copy ∷ (s.middle ++ s.destroy ∷ s.back))) ∙ ap (flat_map tell) (sym s.insts))
+      (ap (flat_map tell) (insts_moved s) ∙ flat_map-append tell s.front (move_of s.copy ∷ (s.middle ++ s.back))
+      ∙ ap₂ (λ x y. flat_map tell s.front ++ (x ++ y)) same
+      (flat_map-append tell s.middle s.back ∙ ap (λ x. flat_map tell s.middle ++ (x ++ flat_map tell s.back)) (sym none)
+      ∙ sym (flat_map-append tell s.middle (s.destroy ∷ s.back)))
+      ∙ sym (flat_map-append tell s.front (s.copy ∷ (s.middle ++ s.destroy ∷ s.back))) ∙ ap (flat_map tell) (sym s.insts))
       ∙ sym (flat_map-append tell s.block.insts (s.block.terminator ∷ []))
 
   pub values_same : s.destroy.results ≡ [] → values_of (after s).blocks ≡ values_of f.blocks

@@ -1,6 +1,6 @@
 -- A switch along the walks of the function without the copy: where its marks are those of the old items, but for the move, and turn it
 -- alike from the copy to the gone destroy, it keeps its pattern if it did.
-use Rattle.std.proofs.Common.{◌≡◌, ◌≢◌, ◌⊎◌, inl, inr, ℕ, List, [], ◌∷◌, ◌++◌, refl, sym, ap, ◌∙◌, subst, append_assoc}
+use Rattle.std.proofs.Common.{◌≡◌, ◌≢◌, ◌⊎◌, inl, inr, ℕ, List, [], ◌∷◌, ◌++◌, refl, sym, ap, ◌∙◌, append_assoc}
 use Rattle.std.specs.List.{flat_map}
 use Rattle.std.proofs.lemmas.Bool.{cases_eq}
 use Rattle.std.proofs.lemmas.List.{append-nil}
@@ -20,7 +20,7 @@ use Rattle.path_patterns.specs.Switch.{IsInPlace}
 use Rattle.path_patterns.specs.declared.mark.Mark.{Mark}
 use Rattle.path_patterns.specs.inner.Automaton.{mark_step}
 use Rattle.moved_functions.specs.inner.Structure.{old_item}
-use Rattle.moved_functions.proofs.Items.{edge_alike, elsewhere_alike, gone, head, head_alike, inside, inside_alike, new_items, new_tail, old_items, old_tail, old_walk, same_end, same_edge_to, tail_alike}
+use Rattle.moved_functions.proofs.Items.{edge_alike, elsewhere_alike, gone, head, head_alike, inside, inside_alike, new_items, new_tail, old_items, old_tail, old_walk, same_end, tail_alike}
 use Rattle.moved_functions.proofs.KeptOnWalks.{Leads, Turns, kept_leads, leads_join, leads_kept, leads_split, turns_join, turns_split}
 use Rattle.moved_functions.proofs.Places.{after}
 use Rattle.moved_functions.proofs.Split.{IsSplit}
@@ -88,7 +88,8 @@ module _ {f : Function} {p : PointId} {last : ℕ} {c v : ValueId} (s : IsSplit 
         let new_own = items_at (flow_of (after s)) e.block.0 in
         let new_rest = passed (flow_of (after s)) todo ++ items_at (flow_of (after s)) (end_from (flow_of f) (edge_to (flow_of f) e) todo) in
         let by = leads_split old own (item.Edge e ∷ rest) a b
-        (ap (λ xs. run mark_step (Go a) (flat_map old xs)) (sym (append_assoc own (item.Edge e ∷ passed (flow_of f) todo) (items_at (flow_of f) (end_from (flow_of f) (edge_to (flow_of f) e) todo)))) ∙ h) in
+        (ap (λ xs. run mark_step (Go a) (flat_map old xs))
+        (sym (append_assoc own (item.Edge e ∷ passed (flow_of f) todo) (items_at (flow_of f) (end_from (flow_of f) (edge_to (flow_of f) e) todo)))) ∙ h) in
         let over = turns_split (old (item.Edge e)) (flat_map old rest) by.0 b by.2 in
         let block = by_block e.block.0 done a by.0 walk (ends ∙ sym more.0) to by.1 in
         let edge : Turns (new (item.Edge e)) by.0 over.0 = ap (run mark_step (Go by.0)) (edge_alike s old new same e) ∙ over.1 in
@@ -99,7 +100,8 @@ module _ {f : Function} {p : PointId} {last : ℕ} {c v : ValueId} (s : IsSplit 
         ∙ leads_join old (passed (flow_of f) done) (own ++ item.Edge e ∷ []) 0 a over.0 to (leads_join old own (item.Edge e ∷ []) a by.0 over.0 by.1 one) in
         let later = onwards (done ++ e ∷ []) todo (edge_to (flow_of f) e) over.0 b (walk_join (flow_of f) 0 done (e ∷ []) walk step)
         (end_join (flow_of f) 0 done (e ∷ [])) come more.2 over.2 in
-        ap (λ xs. run mark_step (Go a) (flat_map new xs)) (append_assoc new_own (item.Edge e ∷ passed (flow_of (after s)) todo) (items_at (flow_of (after s)) (end_from (flow_of f) (edge_to (flow_of f) e) todo)))
+        ap (λ xs. run mark_step (Go a) (flat_map new xs))
+        (append_assoc new_own (item.Edge e ∷ passed (flow_of (after s)) todo) (items_at (flow_of (after s)) (end_from (flow_of f) (edge_to (flow_of f) e) todo)))
         ∙ leads_join new new_own (item.Edge e ∷ new_rest) a by.0 b block (turns_join (new (item.Edge e)) (flat_map new new_rest) by.0 over.0 b edge later)
 
     pub kept_after : IsKept (flow_of f) old IsInPlace → IsKept (flow_of (after s)) new IsInPlace
@@ -108,5 +110,5 @@ module _ {f : Function} {p : PointId} {last : ℕ} {c v : ValueId} (s : IsSplit 
         let h = kept_leads old (flow_of f) kept w was in (
           h.0,
           ap (λ n. run mark_step (Go 0) (flat_map new (passed (flow_of (after s)) w ++ items_at (flow_of (after s)) n))) (same_end s 0 w)
-          ∙ onwards [] w 0 0 h.0 tt refl refl was h.1,
+              ∙ onwards [] w 0 0 h.0 tt refl refl was h.1,
         ))

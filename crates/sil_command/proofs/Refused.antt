@@ -1,6 +1,7 @@
 -- For the laws on refusals: what `check` writes of a module, and which texts are answered as no module.
 use Rattle.std.proofs.Common.{◌≡◌, ℕ, ◌≤◌, Bool, true, List, length, refl, sym, subst, arith}
 use Rattle.command_words.specs.inner.Laws.{SayOneThing}
+use Rattle.module_runner.specs.LoweredModules.{lowered}
 use Rattle.module_runner.specs.States as ending
 use Rattle.module_runner.specs.States.{Ending}
 use Rattle.module_runner.specs.LowFault.{LowFault}
@@ -8,6 +9,7 @@ use Rattle.sil_ast.specs.declared.module.Module.{Module}
 use Rattle.sil_grammar.specs.Refusals.{SpellsNone}
 use Rattle.sil_grammar.specs.Spells.{Spells}
 use Rattle.sil_grammar.specs.inner.Laws.{AreSpelledOnce}
+use Rattle.sil_printer.specs.CanonicalModules.{canonical_text}
 use Rattle.sil_rules.specs.declared.limits.TheConstants.{TEXT_BYTES}
 use Rattle.sil_command.specs.declared.status.Status.TheVariants.{NotAModule}
 use Rattle.sil_command.specs.Statuses.{code_of}
@@ -85,8 +87,8 @@ run_reported m name bound optimises _ _ (ran k e f x left entry ends) three = en
 module_reported : (mode : Mode) (m : Module) (answer : List ℕ) (status : ℕ) → AnswersModule mode m answer status → status ≡ code_of NotAModule → ⊥
 module_reported Check m = checked_reported m _ (written_reported _)
 module_reported Print m = written_reported _
-module_reported (Lower optimises) m = checked_reported m _ (of_reported _ optimises m)
-module_reported Optimize m = checked_reported m _ (of_reported _ true m)
+module_reported (Lower optimises) m = checked_reported m _ (of_reported (λ k. canonical_text (lowered k)) optimises m)
+module_reported Optimize m = checked_reported m _ (of_reported canonical_text true m)
 module_reported (Run entry turns optimises) m = checked_reported m _ (run_reported m entry turns optimises)
 
 text_reported : (mode : Mode) (text answer : List ℕ) (status : ℕ) → AnswersText mode text answer status → status ≡ code_of NotAModule → SpellsNone text

@@ -1,12 +1,9 @@
 -- The law of moved values.
-use Rattle.std.specs.Prelude.{◌≡◌, ℕ, List, Some, None, slice_get}
+use Rattle.std.specs.Prelude.{◌≡◌, ℕ, Some, None, slice_get}
 use Rattle.sil_ast.specs.declared.function.Function.{Function}
 use Rattle.sil_ast.specs.declared.module.Module.{Module}
-use Rattle.sil_ast.specs.declared.place.EdgeId.{EdgeId}
 use Rattle.sil_ast.specs.declared.place.PointId.{PointId}
 use Rattle.sil_ast.specs.declared.place.ValueId.{ValueId}
-use Rattle.sil_cfg.specs.declared.item.Item.{Item}
-use Rattle.sil_rules.specs.declared.rule.Rule.{Rule}
 use Rattle.type_definitions.specs.Declarations.{Declarations, declarations_of}
 use Rattle.path_checks.specs.First.{IsFirst}
 use Rattle.value_availability.specs.Accesses.{accesses_of}

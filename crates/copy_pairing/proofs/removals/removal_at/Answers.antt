@@ -1,15 +1,17 @@
-use Rattle.std.proofs.lemmas.Result.{IfOk-weaker}
+use Rattle.std.proofs.Common.{subst}
 use Rattle.ownership_kinds.specs.Facts.{facts_in}
-use Rattle.copy_pairing.proofs.Answered.{body_of_copy, removal_same}
+use Rattle.copy_pairing.specs.inner.Turns.{IsTurnIn}
+use Rattle.copy_pairing.proofs.TurnsThere.{lend_removal, move_removal, stay_removal}
 use Rattle.copy_pairing.proofs.removals.removal_at.Goals as goal
 
-pub returns-in-None : goal.returns-in-None
-returns-in-None c = λ v w copy. absurd (c.in-None.ensures.none v w copy)
+pub returns-in-Stay : goal.returns-in-Stay
+returns-in-Stay c = stay_removal (facts_in c.args.types.now c.args.f.now) c.args.f.now c.args.p
+    (subst (IsTurnIn (facts_in c.args.types.now c.args.f.now) c.args.f.now c.args.p) c.in-Stay.is c.in_ok-turn.ensures)
 
-pub removal_in-requires-clause-graph : goal.removal_in-requires-clause-graph
-removal_in-requires-clause-graph c = c.requires.graph (body_of_copy c.args.f.now c.args.p c.in-Some.copied.value c.in-Some.copied.operand c.in-Some.ensures.some)
+pub returns-in-Lend : goal.returns-in-Lend
+returns-in-Lend c = lend_removal (facts_in c.args.types.now c.args.f.now) c.args.f.now c.args.p _
+    (subst (IsTurnIn (facts_in c.args.types.now c.args.f.now) c.args.f.now c.args.p) c.in-Lend.is c.in_ok-turn.ensures)
 
-pub returns-in-Some : goal.returns-in-Some
-returns-in-Some c = IfOk-weaker c.removal_in.result _ _
-    (λ r h v w copy. removal_same (facts_in c.args.types.now c.args.f.now) c.args.f.now c.args.p c.in-Some.copied.value c.in-Some.copied.operand v w r c.in-Some.ensures.some copy h)
-    c.removal_in.ensures
+pub returns-in-Move : goal.returns-in-Move
+returns-in-Move c = move_removal (facts_in c.args.types.now c.args.f.now) c.args.f.now c.args.p _
+    (subst (IsTurnIn (facts_in c.args.types.now c.args.f.now) c.args.f.now c.args.p) c.in-Move.is c.in_ok-turn.ensures)

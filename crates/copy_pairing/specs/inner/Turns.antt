@@ -1,0 +1,48 @@
+-- What is done to a copy: it stays, or it is rewritten as it can go.
+use Rattle.std.specs.Prelude.{◌≡◌, ℕ, ◌<◌, length, Some, slice_get, IsSomeAnd}
+use Rattle.sil_ast.specs.declared.function.Function.{Function}
+use Rattle.sil_ast.specs.declared.module.Module.{Module}
+use Rattle.sil_ast.specs.declared.place.PointId.{PointId}
+use Rattle.sil_ast.specs.declared.place.ValueId.{ValueId}
+use Rattle.ownership_chains.specs.declared.facts.Facts.{Facts}
+use Rattle.copy_removal.specs.Copies.{IsCopy}
+use Rattle.copy_removal.specs.Optimised.{Rewrites}
+use Rattle.copy_removal.specs.Removable.{IsBorrowable, IsMovable}
+use Rattle.copy_removal.specs.Rewritten.{lent, moved, with_function}
+use Rattle.copy_pairing.specs.declared.turns.Turn.{Turn}
+use Rattle.copy_pairing.specs.declared.turns.Turn.TheVariants.{Stay, Lend, Move}
+use Rattle.std.specs.Prelude.{Option}
+
+-- the copy can become a move, up to the destroy at this index
+pub record IsMovableTo (facts : ValueId → Option Facts) (f : Function) (p : PointId) (c v : ValueId) (last : ℕ) : Type 0 where
+  pub movable : IsMovable facts f p c v
+  pub there : movable.last ≡ last
+
+module _ (facts : ValueId → Option Facts) (f : Function) where
+  -- of the copy c of v at the point
+  abbrev pub IsTurnOf : PointId → ValueId → ValueId → Turn → Type 0
+  IsTurnOf p c v Stay = (¬ IsBorrowable facts f c v) × (¬ IsMovable facts f p c v)
+  IsTurnOf p c v (Lend value) = (value ≡ c) × IsBorrowable facts f c v
+  IsTurnOf p c v (Move last) = (¬ IsBorrowable facts f c v) × IsMovableTo facts f p c v last
+
+  -- of the copy at the point, if one stands there
+  abbrev pub IsTurnIn : PointId → Turn → Type 0
+  IsTurnIn p Stay = (c v : ValueId) → IsCopy f p c v → (¬ IsBorrowable facts f c v) × (¬ IsMovable facts f p c v)
+  IsTurnIn p (Lend c) = (v : ValueId) × IsCopy f p c v × IsBorrowable facts f c v
+  IsTurnIn p (Move last) = (c : ValueId) × (v : ValueId) × IsCopy f p c v × (¬ IsBorrowable facts f c v) × IsMovableTo facts f p c v last
+
+-- the instruction with this index stands behind the point, in its block of the function with this number
+pub record StandsBehind (m : Module) (n : ℕ) (p : PointId) (last : ℕ) : Type 0 where
+  pub behind : p.index < last
+  pub there : IsSomeAnd (slice_get m.functions n) (λ f. IsSomeAnd (slice_get f.blocks p.block.0) (λ block. last < length block.insts))
+
+-- of the copy at the point of the function with this number, if one stands there
+abbrev pub IsTurn : Module → ℕ → PointId → Turn → Type 0
+IsTurn m n p Stay = (next : Module) → ¬ Rewrites m n p next
+IsTurn m n p (Lend c) = (n < length m.functions) × Rewrites m n p (with_function n (lent c) m)
+IsTurn m n p (Move last) = StandsBehind m n p last × Rewrites m n p (with_function n (moved p last) m)
+
+-- the copy at the point is rewritten, if it can go
+pub data Turned (m : Module) (n : ℕ) (p : PointId) : Module → Type 0 where
+  stays : ((next : Module) → ¬ Rewrites m n p next) → Turned m n p m
+  turns : (next : Module) → Rewrites m n p next → Turned m n p next

@@ -1,0 +1,43 @@
+//! The other call: the optimised module of an accepted one.
+
+ghost use Rattle.std.specs.Prelude.{◌≡◌, IfErr, IfOk};
+ghost use Rattle.type_definitions.specs.Declarations.{declarations_of};
+ghost use Rattle.copy_removal.specs.Optimised.{IsOptimised};
+ghost use Rattle.sil_verifier.specs.inner.Checked.{IsVerified};
+
+use crate::passes::pass_module;
+use sil_ast::{Exhausted, Module};
+use sil_verifier::Checked;
+use std::alloc::Global;
+
+/// Memory ran out: the module, as it was handed over.
+#[derive(Drop)]
+pub struct Unfinished {
+    pub checked: Checked,
+}
+
+/// The optimised module, made of a copy.
+fn optimized_copy(alloc: Global, c: &Checked) -> Result<Module, Exhausted>
+    ensures optimised { IfOk result (IsOptimised c.now) }
+    ensures verified { IfOk result IsVerified }
+    ensures declarations { IfOk result (λ m. declarations_of m ≡ declarations_of c.now) }
+{
+    let mut m = c.module().try_clone(alloc)?;
+    pass_module(alloc, c.table(), &mut m)?;
+    Ok(m)
+}
+
+/// Makes a borrow or a move of each copy that can go, one after another, until none can
+/// ([docs/OPTIMISER.md](../../../docs/OPTIMISER.md)). Where memory runs out, the module is handed back unchanged.
+pub fn optimize(alloc: Global, c: Checked) -> Result<Checked, Unfinished>
+    ensures ok { IfOk result (λ k. IsOptimised c k) }
+    ensures err { IfErr result (λ u. u.checked ≡ c) }
+{
+    match optimized_copy(alloc, &c) {
+        Err(Exhausted) => Err(Unfinished { checked: c }),
+        Ok(m) => {
+            let (_old, table) = c.into_parts();
+            Ok(Checked::of_verified(m, table))
+        }
+    }
+}

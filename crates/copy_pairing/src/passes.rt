@@ -1,0 +1,136 @@
+//! Passes the copies of a module in the order of the text, and rewrites each that can go.
+
+ghost use Rattle.std.specs.Prelude.{◌≡◌, ◌+◌, length, IfOk, OnOk};
+ghost use Rattle.sil_cfg.specs.Items.{point_at};
+ghost use Rattle.type_definitions.specs.Declarations.{declarations_of};
+ghost use Rattle.sil_verifier.specs.inner.Checked.{IsVerified};
+ghost use Rattle.copy_pairing.specs.inner.Passes.{ArePassed, blocks_at, insts_at};
+ghost use Rattle.copy_pairing.specs.inner.Turns.{IsTurn, Turned};
+
+use crate::turns::{Turn, turn_in};
+use copy_rewriting::{lend, move_copy};
+use rewriting_laws::rewriting_keeps_verified;
+use rewriting_order::later_ones_are_left;
+use sil_ast::{BlockId, Exhausted, Module, PointId};
+use sil_types::TypeTable;
+use std::alloc::Global;
+
+/// What is done to the copy at the point, if one stands there.
+fn turn_at(
+    alloc: Global,
+    types: &TypeTable,
+    m: &Module,
+    function: usize,
+    p: PointId,
+) -> Result<Turn, Exhausted>
+    requires verified { IsVerified m.now }
+    requires types { types.now ≡ declarations_of m.now }
+    ensures { IfOk result (IsTurn m.now function p) }
+{
+    match m.functions.get(function) {
+        None => Ok(Turn::Stay),
+        Some(f) => turn_in(alloc, types, f, p),
+    }
+}
+
+/// Rewrites the copy at the point, if it can go.
+fn rewrite_at(
+    alloc: Global,
+    types: &TypeTable,
+    m: &mut Module,
+    function: usize,
+    p: PointId,
+) -> Result<(), Exhausted>
+    requires verified { IsVerified m.old }
+    requires types { types.now ≡ declarations_of m.old }
+    ensures { OnOk result (Turned m.old function p m.new) }
+{
+    let turn = turn_at(alloc, types, m, function, p)?;
+    match turn {
+        Turn::Stay => Ok(()),
+        Turn::Lend { value } => {
+            lend(alloc, m, function, value)?;
+            Ok(())
+        }
+        Turn::Move { last } => {
+            move_copy(alloc, m, function, p, last)?;
+            Ok(())
+        }
+    }
+}
+
+/// How many instructions the block has.
+fn inst_count(m: &Module, function: usize, block: usize) -> usize
+    ensures { result ≡ length (insts_at m.now function block) }
+{
+    let Some(f) = m.functions.get(function) else {
+        return 0;
+    };
+    match f.blocks.get(block) {
+        None => 0,
+        Some(block) => block.insts.len(),
+    }
+}
+
+/// How many blocks the function has.
+fn block_count(m: &Module, function: usize) -> usize
+    ensures { result ≡ length (blocks_at m.now function) }
+{
+    match m.functions.get(function) {
+        None => 0,
+        Some(f) => f.blocks.len(),
+    }
+}
+
+/// Passes the copies of a block.
+fn pass_block(
+    alloc: Global,
+    types: &TypeTable,
+    m: &mut Module,
+    function: usize,
+    block: BlockId,
+) -> Result<(), Exhausted>
+    requires verified { IsVerified m.old }
+    requires types { types.now ≡ declarations_of m.old }
+    ensures { OnOk result (ArePassed m.old function (point_at block.0 0) m.new function (point_at (block.0 + 1) 0)) }
+{
+    rewriting_keeps_verified();
+    later_ones_are_left();
+    for index in 0..inst_count(m, function, block.0 as usize) {
+        let p = PointId {
+            block,
+            index: index as u32,
+        };
+        rewrite_at(alloc, types, m, function, p)?;
+    }
+    Ok(())
+}
+
+/// Passes the copies of a function.
+fn pass_function(
+    alloc: Global,
+    types: &TypeTable,
+    m: &mut Module,
+    function: usize,
+) -> Result<(), Exhausted>
+    requires verified { IsVerified m.old }
+    requires types { types.now ≡ declarations_of m.old }
+    ensures { OnOk result (ArePassed m.old function (point_at 0 0) m.new (function + 1) (point_at 0 0)) }
+{
+    for b in 0..block_count(m, function) {
+        pass_block(alloc, types, m, function, BlockId(b as u32))?;
+    }
+    Ok(())
+}
+
+/// Passes the copies of a module.
+pub(crate) fn pass_module(alloc: Global, types: &TypeTable, m: &mut Module) -> Result<(), Exhausted>
+    requires verified { IsVerified m.old }
+    requires types { types.now ≡ declarations_of m.old }
+    ensures { OnOk result (ArePassed m.old 0 (point_at 0 0) m.new (length m.old.functions) (point_at 0 0)) }
+{
+    for n in 0..m.functions.len() {
+        pass_function(alloc, types, m, n)?;
+    }
+    Ok(())
+}

@@ -1,0 +1,9 @@
+mod Watched
+mod WalksBack
+mod LentBack
+mod Order
+mod Apart
+mod Turning
+mod ItemsBack
+mod MovedBack
+mod Later
