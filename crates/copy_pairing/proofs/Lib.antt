@@ -13,3 +13,4 @@ pub mod Keys
 pub mod Shapes
 pub mod Passed
 pub mod TurnsThere
+pub mod KeptSurveys

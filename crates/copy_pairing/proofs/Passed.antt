@@ -1,5 +1,5 @@
 -- One pass in the order of the text leaves no copy that can go.
-use Rattle.std.proofs.Common.{◌≡◌, ◌⊎◌, inl, inr, ℕ, ◌+◌, ◌<◌, ◌≤◌, [], ◌∷◌, length, refl, sym, ap, ◌∙◌, subst, arith}
+use Rattle.std.proofs.Common.{◌≡◌, inl, inr, ℕ, ◌+◌, ◌≤◌, length, refl, sym, ◌∙◌, subst, arith}
 use Rattle.sil_ast.specs.declared.module.Module.{Module}
 use Rattle.sil_ast.specs.declared.place.PointId.{PointId}
 use Rattle.sil_cfg.specs.Items.{point_at}
@@ -10,7 +10,7 @@ use Rattle.copy_removal.specs.Optimised.{HasNoRemovable, IsOptimised, Rewrites, 
 use Rattle.sil_verifier.specs.inner.Checked.{IsVerified}
 use Rattle.rewriting_order.specs.inner.Laws.{LaterOnesAreLeft}
 use Rattle.rewriting_laws.specs.inner.Laws.{RewritingKeepsVerified}
-use Rattle.copy_pairing.specs.inner.Passes.{ArePassed, IsNoLonger, NoneBefore, blocks_at, insts_at}
+use Rattle.copy_pairing.specs.inner.Passes.{ArePassed, NoneBefore, blocks_at, insts_at}
 use Rattle.copy_pairing.specs.inner.Turns.{Turned, stays, turns}
 use Rattle.copy_pairing.proofs.Keys.{behind, first_place, next_block, next_function, next_index, place}
 use Rattle.copy_pairing.proofs.Shapes.{StandsAt, rewritten_declares, rewritten_shape, same_shape, shape_on, stands_at}

@@ -1,4 +1,5 @@
 pub mod Asked
 pub mod Watched
+pub mod Surveys
 pub mod Turns
 pub mod Passes

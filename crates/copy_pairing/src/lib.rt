@@ -10,6 +10,7 @@ mod moves;
 mod optimiser;
 mod passes;
 mod removals;
+mod surveys;
 mod turns;
 mod watched;
 

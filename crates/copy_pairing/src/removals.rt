@@ -29,7 +29,7 @@ fn removal_at(
     requires graph { HasBlocks f.now → HasGraph f.now }
     ensures { IfOk result (λ r. (v w : ValueId) → IsCopy f.now p v w → IsRemoval (facts_in types.now f.now) f.now p v w r) }
 {
-    let turn = turn_in(alloc, types, f, p)?;
+    let (turn, _survey) = turn_in(alloc, types, f, p, None)?;
     match turn {
         Turn::Stay => Ok(Removal::No),
         Turn::Lend { .. } => Ok(Removal::Borrow),

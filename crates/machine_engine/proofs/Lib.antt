@@ -8,6 +8,7 @@ pub mod Leaving
 pub mod Onward
 pub mod Performing
 pub mod Returned
+pub mod SharedDrops
 pub mod Stepped
 pub mod Stretched
 pub mod Taken

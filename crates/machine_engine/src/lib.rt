@@ -1,6 +1,7 @@
 //! The machine that runs lowered code by stored numbers: its steps, and the loop that takes them.
 #![tactic(auto)]
 
+mod advancing;
 mod call_rows;
 mod deinits;
 mod drops;

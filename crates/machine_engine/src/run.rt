@@ -5,9 +5,9 @@ ghost use Rattle.machine_steps.specs.declared.frame.Task.TheVariants.{Runs};
 ghost use Rattle.machine_engine.specs.Led.{HasEnded, HasLed, is_dropping};
 ghost use Rattle.machine_engine.specs.inner.Work.{work};
 
+use crate::advancing::advance;
 use crate::ends::end_block;
 use crate::lookups::block_at;
-use crate::rows::perform;
 use crate::steps::step;
 use lowered_run::LowFault;
 use machine_state::{Machine, Stop, fault};
@@ -57,7 +57,7 @@ fn run_block(
     let ops = block.ops.as_slice();
     let count = machine.task_count();
     while (frame.index as usize) < ops.len() {
-        if let Err(stop) = perform(machine, ready, bound, &frame, &ops[frame.index as usize]) {
+        if let Err(stop) = advance(machine, ready, bound, &frame, &ops[frame.index as usize]) {
             return Err(stop);
         }
         if machine.task_count() != count || frame.index == u32::MAX {

@@ -1,6 +1,6 @@
 -- The function with which a run begins: how it is found, and that a run of the lowered module may start at it.
 use Rattle.std.proofs.Common.{◌≡◌, ◌∙◌, ◌<◌, ◌&&◌, ◌⊎◌, inl, inr, ℕ, Bool, true, false, not, true≢false, refl, sym, ap, arith}
-use Rattle.std.proofs.Common.{List, [], ◌∷◌, length, map, get_or, position, Option, Some, None, option_map, slice_get}
+use Rattle.std.proofs.Common.{List, [], ◌∷◌, length, get_or, position, Some, None, option_map, slice_get}
 use Rattle.std.specs.Prelude.{◌≤◌, ◌^◌, cond, nat_lt}
 use Rattle.std.specs.List.{position_or_len}
 use Rattle.std.specs.Str.{bytes_eq}

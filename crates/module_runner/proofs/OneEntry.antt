@@ -2,7 +2,6 @@
 use Rattle.std.proofs.Common.{◌≡◌, ◌∙◌, ℕ, sym, ap, Some, map, slice_get}
 use Rattle.std.proofs.lemmas.Option.{same_Some}
 use Rattle.numbered_form.specs.Names.{function_name}
-use Rattle.sil_ast.specs.declared.function.Function.{Function}
 use Rattle.sil_ast.specs.declared.place.FuncId.{FuncId}
 use Rattle.run_typing_laws.proofs.Found.{place_once}
 use Rattle.type_definitions.specs.Declarations.{place_of}

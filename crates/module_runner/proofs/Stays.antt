@@ -2,14 +2,13 @@
 use Rattle.std.proofs.Common.{◌≡◌, ◌∙◌, ◌⊎◌, inl, inr, ℕ, true, false, not, ◌&&◌, refl, sym, ap, List, [], ◌∷◌, map, Some, slice_get, true≢false, zero, suc}
 use Rattle.std.specs.Prelude.{Bool, IfOk, Result, Ok, Err}
 use Rattle.argument_conventions.specs.Arguments.{arguments_of}
-use Rattle.copy_removal.specs.Optimised.{IsOptimised, Rewrites, RewritesFirst, done, lends, more, moves}
+use Rattle.copy_removal.specs.Optimised.{IsOptimised, Rewrites, done, lends, more, moves}
 use Rattle.copy_removal.specs.Rewritten.{changed_at, lent, lent_block, moved, moved_block, with_function}
 use Rattle.copy_removal.specs.inner.Laws.{AreUnique}
 use Rattle.holder_model.specs.Frames.{has_any}
 use Rattle.holder_model.specs.Outcomes.{may_start}
 use Rattle.lowering_model.specs.LoweredModules.{lowered}
 use Rattle.numbered_form.specs.Names.{Name}
-use Rattle.ownership_chains.specs.declared.facts.Facts.{Facts}
 use Rattle.run_typing.specs.Runnable.{IsRunnable}
 use Rattle.sil_ast.specs.declared.function.Block.{Block}
 use Rattle.sil_ast.specs.declared.function.Function.{Function}

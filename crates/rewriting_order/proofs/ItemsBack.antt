@@ -10,8 +10,8 @@ use Rattle.sil_cfg.specs.Items.{IsExit, IsItem, point_at}
 use Rattle.sil_cfg.specs.declared.item.Item.{Item}
 use Rattle.sil_cfg.specs.declared.item.Item.TheVariants as item
 use Rattle.copy_removal.specs.Rewritten.{moved_block}
-use Rattle.moved_functions.specs.inner.Structure.{old_item}
-use Rattle.moved_functions.proofs.Items.{gone, size_before, size_behind}
+use Rattle.moved_functions.specs.inner.Structure.{old_item, old_point, stood_at}
+use Rattle.moved_functions.proofs.Items.{gone, old_edge, size_before, size_behind}
 use Rattle.moved_functions.proofs.Lists.{changed_length, stood_before, stood_behind}
 use Rattle.moved_functions.proofs.Places.{after, block_elsewhere, block_there, new_block, old_elsewhere, old_here}
 use Rattle.moved_functions.proofs.Split.{IsSplit}
@@ -132,3 +132,42 @@ module _ {f : Function} {p : PointId} {last : ℕ} {c v : ValueId} (s : IsSplit 
             apart = λ x. cc;
             was = ap (λ x. item.Exit x) (old_here s (point_at q.block.0 k) e ∙ ap (point_at q.block.0) (stood_behind last k (size_behind s) ∙ size_before s ∙ sym here.0));
           }
+
+  -- and each that is left stood there
+  pub stood : (i : Item) → IsItem (after s) i → i ≢ item.Inst p → IsItem f (old_item p last i)
+  stood item.Entry h ne = subst (λ k. 0 < k) (changed_length (moved_block p.index last) p.block.0 f.blocks) h
+  stood (item.Edge x) h ne = old_edge s x h
+  stood (item.Inst q) h ne = at (cases_eq q.block.0 p.block.0)
+    where
+      at : (q.block.0 ≡ p.block.0) ⊎ (q.block.0 ≢ p.block.0) → IsItem f (item.Inst (old_point p last q))
+      at (inr other) = subst (λ x. IsItem f (item.Inst x)) (sym (old_elsewhere s q other)) (subst (λ o. Within o q.index) (block_elsewhere s q.block.0 other) h)
+      at (inl e) =
+          subst (λ x. IsItem f (item.Inst x)) (sym (old_here s q e)) (subst (λ o. Within o (stood_at last q.index)) (sym (ap (slice_get f.blocks) e ∙ s.there)) (by (cases_lt q.index last)))
+        where
+          within : q.index < length (new_block s).insts
+          within = subst (λ o. Within o q.index) (ap (slice_get (after s).blocks) e ∙ block_there s) h
+
+          by : (q.index < last) ⊎ (last ≤ q.index) → stood_at last q.index < length s.block.insts
+          by (inl lt) =
+              let size : suc (length (new_block s).insts) ≡ length s.block.insts = size_before s in
+              let is : stood_at last q.index ≡ q.index = stood_before last q.index lt in
+              let w = within in
+              omega arith
+          by (inr le) =
+              let size : suc (length (new_block s).insts) ≡ length s.block.insts = size_before s in
+              let is : stood_at last q.index ≡ suc q.index = stood_behind last q.index le in
+              let w = within in
+              omega arith
+  stood (item.Exit q) h ne = at (cases_eq q.block.0 p.block.0)
+    where
+      at : (q.block.0 ≡ p.block.0) ⊎ (q.block.0 ≢ p.block.0) → IsItem f (item.Exit (old_point p last q))
+      at (inr other) = subst (λ x. IsItem f (item.Exit x)) (sym (old_elsewhere s q other)) (subst (λ o. IsSomeAnd o (IsExit q)) (block_elsewhere s q.block.0 other) h)
+      at (inl e) =
+          let here : IsExit q (new_block s) = subst (λ o. IsSomeAnd o (IsExit q)) (ap (slice_get (after s).blocks) e ∙ block_there s) h in
+          let size : suc (length (new_block s).insts) ≡ length s.block.insts = size_before s in
+          let behind : last ≤ length (new_block s).insts = size_behind s in
+          let index : q.index ≡ length (new_block s).insts = here.0 in
+          let is : stood_at last q.index ≡ suc q.index = stood_behind last q.index (omega arith) in
+          let k : ℕ = stood_at last q.index in
+          subst (λ x. IsItem f (item.Exit x)) (sym (old_here s q e))
+          (subst (λ o. IsSomeAnd o (IsExit (point_at q.block.0 k))) (sym (ap (slice_get f.blocks) e ∙ s.there)) (let same : k ≡ length s.block.insts = omega arith in same, here.1))

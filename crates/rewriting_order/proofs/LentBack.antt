@@ -86,10 +86,10 @@ module _ (c : ValueId) (f : Function) where
   item_back (Exit q) h = ap is_destroy (sym (terminator_lent c f q.block.0)) ∙ h
 
 module _ (d : Declarations) (f : Function) (p : PointId) (c v : ValueId) (r : Ready d f p c v) where
-  abbrev was : ValueId → Option Facts
+  abbrev pub was : ValueId → Option Facts
   was = facts_in d f
 
-  abbrev now : ValueId → Option Facts
+  abbrev pub now : ValueId → Option Facts
   now = facts_in d (lent c f)
 
   abbrev Spares : MarkSort → List ValueId → ValueId → List Mark → Mark → Type 0

@@ -6,4 +6,8 @@ mod Apart
 mod Turning
 mod ItemsBack
 mod MovedBack
-mod Later
+pub mod Later
+mod Ends
+mod LentForth
+mod Lending
+mod MovedForth

@@ -47,13 +47,13 @@ module _ (m : Module) (n : ℕ) (f : Function) (verified : IsVerified m) (in_mod
   abbrev facts : ValueId → Option Facts
   facts = facts_of m f
 
-  same_facts : facts_of m (after s) ≡ facts
+  pub same_facts : facts_of m (after s) ≡ facts
   same_facts = facts_are m n f verified in_module s
 
   owned : facts c ≡ Some (facts_with kind.Owned (c ∷ []))
   owned = copy_owned m n f verified in_module s
 
-  moving : marks_of facts (after s) (item.Inst p) ≡ end_of v ∷ begin_of c ∷ []
+  pub moving : marks_of facts (after s) (item.Inst p) ≡ end_of v ∷ begin_of c ∷ []
   moving = move_marks s facts movable.owned owned
 
   copying : marks_of facts f (item.Inst p) ≡ use_of v ∷ begin_of c ∷ []
@@ -62,7 +62,7 @@ module _ (m : Module) (n : ℕ) (f : Function) (verified : IsVerified m) (in_mod
   going : marks_of facts f (gone s) ≡ end_of v ∷ []
   going = gone_marks s facts movable.owned owned (destroy_makes_none m n f verified in_module s)
 
-  none_there : (e w : ValueId) → IsCopy (after s) p e w → ⊥
+  pub none_there : (e w : ValueId) → IsCopy (after s) p e w → ⊥
   none_there e w h =
       let same : move_of s.copy ≡ h.inst = same_Some (move_of s.copy) h.inst (sym (inst_there s) ∙ h.stands) in
       let wrong : false ≡ true = ap (is_op op.CopyValue) same ∙ h.copies.copies in
@@ -97,16 +97,13 @@ module _ (m : Module) (n : ℕ) (f : Function) (verified : IsVerified m) (in_mod
     copies = h.copies;
   }
 
-  module _ (q : PointId) (e w : ValueId) (before : IsBefore q p) (here : IsCopy f q e w) where
-    e_apart : e.0 ≢ c.0
-    e_apart = copies_apart f (counted m n f verified in_module) q e w here p (λ x y. apart q before (sym x) (sym y)) c v copy
+  -- ---- as a borrow
 
-    unbegun : (k : ℕ) → p.index < k → k < last → list_any (is_mark Begin (e ∷ [])) (marks_of facts f (item.Inst (point_at p.block.0 k))) ≡ false
-    unbegun k past under = unbegun_at f (counted m n f verified in_module) q e w here facts (point_at p.block.0 k) (behind q before k past)
+  module _ (e w : ValueId) (e_apart : e.0 ≢ c.0) where
+    abbrev pub IsUnbegunBetween : Type 0
+    IsUnbegunBetween = (k : ℕ) → p.index < k → k < last → list_any (is_mark Begin (e ∷ [])) (marks_of facts f (item.Inst (point_at p.block.0 k))) ≡ false
 
-    -- ---- as a borrow
-
-    module _ (h : IsBorrowable facts (after s) e w) where
+    module _ (safe : has (known_or facts w).bases v.0 ≡ true → IsUnbegunBetween) (h : IsBorrowable facts (after s) e w) where
       move_is_item : IsItem (after s) (item.Inst p)
       move_is_item =
           let first : p.index < last = copy_first s in
@@ -139,8 +136,15 @@ module _ (m : Module) (n : ℕ) (f : Function) (verified : IsVerified m) (in_mod
       borrowable = record {
         destroyed = only_back;
         bases_stay = ends_free s facts movable.owned owned (destroy_makes_none m n f verified in_module s) (copy_apart m n f verified in_module s) movable.next.quiet
-            e e_apart unbegun (known_or facts w).bases other h.bases_stay;
+            e e_apart (known_or facts w).bases other safe h.bases_stay;
       }
+
+  module _ (q : PointId) (e w : ValueId) (before : IsBefore q p) (here : IsCopy f q e w) where
+    e_apart : e.0 ≢ c.0
+    e_apart = copies_apart f (counted m n f verified in_module) q e w here p (λ x y. apart q before (sym x) (sym y)) c v copy
+
+    unbegun : (k : ℕ) → p.index < k → k < last → list_any (is_mark Begin (e ∷ [])) (marks_of facts f (item.Inst (point_at p.block.0 k))) ≡ false
+    unbegun k past under = unbegun_at f (counted m n f verified in_module) q e w here facts (point_at p.block.0 k) (behind q before k past)
 
     -- ---- as a move
 
@@ -273,6 +277,8 @@ module _ (m : Module) (n : ℕ) (f : Function) (verified : IsVerified m) (in_mod
   moved_keeps = record {
     none_there = none_there;
     copies = copy_back;
-    borrowable = λ q e w before here h. borrowable q e w before (copy_back q e w before here) (subst (λ fs. IsBorrowable fs (after s) e w) same_facts h);
+    borrowable = λ q e w before here h.
+        let old = copy_back q e w before here in
+        borrowable e w (e_apart q e w before old) (λ base. unbegun q e w before old) (subst (λ fs. IsBorrowable fs (after s) e w) same_facts h);
     movable = λ q e w before here h. moves_so q e w before (copy_back q e w before here) (subst (λ fs. IsMovable fs (after s) q e w) same_facts h);
   }

@@ -21,7 +21,7 @@ IsBefore q p = (q.block.0 < p.block.0) ⊎ ((q.block.0 ≡ p.block.0) × (q.inde
 record IsSplitKey (n : ℕ) (q : PointId) (k : ℕ) (p : PointId) : Type 0 where
   place : (n < k) ⊎ ((n ≡ k) × (IsBefore q p ⊎ (q ≡ p)))
 
-same_point : (q p : PointId) → q.block.0 ≡ p.block.0 → q.index ≡ p.index → q ≡ p
+pub same_point : (q p : PointId) → q.block.0 ≡ p.block.0 → q.index ≡ p.index → q ≡ p
 same_point q p e h = λ i. record { block = record { 0 = e i }; index = h i }
 
 split_key : (n : ℕ) (q : PointId) (k : ℕ) (p : PointId) → NotAfter (text_key n q) (text_key k p) → IsSplitKey n q k p

@@ -32,6 +32,8 @@ use Rattle.moved_functions.proofs.Lives.{none_from}
 use Rattle.moved_functions.proofs.Marks.{copy_marks, gone_marks, move_marks, same_marks}
 use Rattle.moved_functions.proofs.Places.{after}
 use Rattle.moved_functions.proofs.Split.{IsSplit}
+use Rattle.moved_functions.proofs.Turnings.{IsQuiet, quiet_none, turn_alike}
+use Rattle.moved_functions.proofs.Walks.{kept_after}
 use Rattle.rewriting_order.proofs.Apart.{begins}
 use Rattle.rewriting_order.proofs.Watched.{free_kept, kept_free, off, offs, turn, watch, watched}
 use Rattle.rewriting_order.proofs.WalksBack.{TurnBack, kept_before}
@@ -101,7 +103,11 @@ module _ (c v e u : ValueId) (same : u.0 ≡ v.0) where
 module _ {f : Function} {p : PointId} {last : ℕ} {c v : ValueId} (s : IsSplit f p last c v) (facts : ValueId → Option Facts)
     (v_owned : is_owned (known_or facts v).kind ≡ true) (c_owned : facts c ≡ Some (facts_with kind.Owned (c ∷ []))) (none_made : s.destroy.results ≡ []) (apart : c.0 ≢ v.0)
     (quiet : (k : ℕ) → p.index < k → k < last → list_any (concerns c v) (marks_of facts f (item.Inst (point_at p.block.0 k))) ≡ false)
-    (e : ValueId) (e_apart : e.0 ≢ c.0) (unbegun : (k : ℕ) → p.index < k → k < last → list_any (begins e) (marks_of facts f (item.Inst (point_at p.block.0 k))) ≡ false) where
+    (e : ValueId) (e_apart : e.0 ≢ c.0) where
+  -- the value doesn't begin between the two
+  abbrev pub IsUnbegun : Type 0
+  IsUnbegun = (k : ℕ) → p.index < k → k < last → list_any (begins e) (marks_of facts f (item.Inst (point_at p.block.0 k))) ≡ false
+
   inside_index : (j : ℕ) → suc p.index ≤ j → j < suc p.index + length s.middle → (p.index < j) × (j < last)
   inside_index j le lt =
       let first : length s.front ≡ p.index = s.at_copy in
@@ -142,8 +148,8 @@ module _ {f : Function} {p : PointId} {last : ℕ} {c v : ValueId} (s : IsSplit 
     abbrev old_ends : Item → List pattern.Mark
     old_ends = old End bases e
 
-    stays_off : (y : ℕ) → Turns (flat_map old_ends (inside s)) 0 y → y ≡ 0
-    stays_off =
+    stays_off : IsUnbegun → (y : ℕ) → Turns (flat_map old_ends (inside s)) 0 y → y ≡ 0
+    stays_off unbegun =
         stay_from old_ends p.block.0 (suc p.index) s.middle
         (λ j le lt y k.
         let at = inside_index j le lt in
@@ -158,25 +164,37 @@ module _ {f : Function} {p : PointId} {last : ℕ} {c v : ValueId} (s : IsSplit 
     begun : watch End bases e (begin_of c) ≡ []
     begun = ap (λ b. turn b Begin) (ne_eqb c.0 e.0 (λ x. e_apart (sym x)))
 
-    later : (b : Bool) (x y : ℕ) → Turns (offs b ++ flat_map old_ends (inside s)) x y → Turns (flat_map old_ends (inside s) ++ offs b) x y
-    later false x y k = ap (run mark_step (Go x)) (append-nil (flat_map old_ends (inside s))) ∙ k
-    later true zero y k =
-        let z = stays_off y k in
-        turns_join (flat_map old_ends (inside s)) (off ∷ []) 0 y y k (subst (λ t. Turns (off ∷ []) t t) (sym z) refl)
-    later true (suc x) y k = absurd (go-bad y (index_of ConsumedWhileBorrowed) (sym k ∙ run_bad mark_step (index_of ConsumedWhileBorrowed) (flat_map old_ends (inside s))))
+    moving : new End bases e (item.Inst p) ≡ offs (has bases v.0)
+    moving = at_move End bases e ∙ ap₂ (λ x y. x ++ (y ++ [])) ended begun ∙ append-nil (offs (has bases v.0))
 
-    pub ends_free : IsFreeAt facts (after s) End bases e → IsFreeAt facts f End bases e
-    ends_free =
-        free_back End bases e
-        (back_by End bases e (offs (has bases v.0)) [] (offs (has bases v.0))
-        (at_move End bases e ∙ ap₂ (λ x y. x ++ (y ++ [])) ended begun ∙ append-nil (offs (has bases v.0)))
-        (at_copy End bases e ∙ ap₂ (λ x y. x ++ (y ++ [])) used begun)
-        (at_gone End bases e ∙ ended)
-        (later (has bases v.0)))
+    copying : old_ends (item.Inst p) ≡ []
+    copying = at_copy End bases e ∙ ap₂ (λ x y. x ++ (y ++ [])) used begun
+
+    going : old_ends (gone s) ≡ offs (has bases v.0)
+    going = at_gone End bases e ∙ ended
+
+    module _ (safe : has bases v.0 ≡ true → IsUnbegun) where
+      later : (b : Bool) → has bases v.0 ≡ b → (x y : ℕ) → Turns (offs b ++ flat_map old_ends (inside s)) x y → Turns (flat_map old_ends (inside s) ++ offs b) x y
+      later false is x y k = ap (run mark_step (Go x)) (append-nil (flat_map old_ends (inside s))) ∙ k
+      later true is zero y k =
+          let z = stays_off (safe is) y k in
+          turns_join (flat_map old_ends (inside s)) (off ∷ []) 0 y y k (subst (λ t. Turns (off ∷ []) t t) (sym z) refl)
+      later true is (suc x) y k = absurd (go-bad y (index_of ConsumedWhileBorrowed) (sym k ∙ run_bad mark_step (index_of ConsumedWhileBorrowed) (flat_map old_ends (inside s))))
+
+      pub ends_free : IsFreeAt facts (after s) End bases e → IsFreeAt facts f End bases e
+      ends_free = free_back End bases e (back_by End bases e (offs (has bases v.0)) [] (offs (has bases v.0)) moving copying going (later (has bases v.0) refl))
+
+    -- the other way round, where v is no base
+    pub ends_forth : has bases v.0 ≡ false → IsFreeAt facts f End bases e → IsFreeAt facts (after s) End bases e
+    ends_forth none free =
+        kept_free End bases e facts (after s)
+        (kept_after s old_ends (new End bases e) (λ i ne. ap (flat_map (watch End bases e)) (same_marks s facts i ne))
+        (turn_alike s old_ends (new End bases e) (moving ∙ ap offs none ∙ sym copying) (subst IsQuiet (sym (going ∙ ap offs none)) quiet_none))
+        (free_kept End bases e facts f free))
 
   -- ---- no scope is open where the copy begins
 
-  module _ (u : ValueId) where
+  module _ (unbegun : IsUnbegun) (u : ValueId) where
     abbrev old_begins : Item → List pattern.Mark
     old_begins = old Begin (e ∷ []) u
 

@@ -19,7 +19,7 @@ use Rattle.path_patterns.specs.Switch.{IsInPlace}
 use Rattle.path_patterns.specs.declared.mark.Mark.{Mark}
 use Rattle.path_patterns.specs.inner.Automaton.{mark_step}
 use Rattle.moved_functions.specs.inner.Structure.{old_item}
-use Rattle.moved_functions.proofs.Items.{edge_alike, elsewhere_alike, head_alike, inside_alike, tail_alike}
+use Rattle.moved_functions.proofs.Items as items
 use Rattle.moved_functions.proofs.Items.{gone, head, inside, new_items, new_tail, old_items, old_tail, same_end, same_edge_to, same_targets}
 use Rattle.moved_functions.proofs.KeptOnWalks.{Leads, Turns, kept_leads, leads_join, leads_kept, leads_split, turns_join, turns_split}
 use Rattle.moved_functions.proofs.Places.{after}
@@ -44,11 +44,11 @@ module _ {f : Function} {p : PointId} {last : ℕ} {c v : ValueId} (s : IsSplit 
         let parts = leads_split new (head s) (item.Inst p ∷ (inside s ++ new_tail s)) a b (ap (λ xs. run mark_step (Go a) (flat_map new xs)) (sym (new_items s)) ∙ h) in
         let rest = leads_split new (item.Inst p ∷ inside s) (new_tail s) parts.0 b parts.2 in
         let window : Turns (new (item.Inst p) ++ flat_map old (inside s)) parts.0 rest.0 =
-        ap (λ ms. run mark_step (Go parts.0) (new (item.Inst p) ++ ms)) (sym (inside_alike s old new same)) ∙ rest.1 in
+        ap (λ ms. run mark_step (Go parts.0) (new (item.Inst p) ++ ms)) (sym (items.inside_alike s old new same)) ∙ rest.1 in
         let was = turns_split (old (item.Inst p)) (flat_map old (inside s) ++ old (gone s)) parts.0 rest.0 (back parts.0 rest.0 window) in
         let within = turns_split (flat_map old (inside s)) (old (gone s)) was.0 rest.0 was.2 in
-        let first : Leads old (head s) a parts.0 = ap (run mark_step (Go a)) (sym (head_alike s old new same)) ∙ parts.1 in
-        let last_of : Leads old (old_tail s) rest.0 b = ap (run mark_step (Go rest.0)) (sym (tail_alike s old new same)) ∙ rest.2 in
+        let first : Leads old (head s) a parts.0 = ap (run mark_step (Go a)) (sym (items.head_alike s old new same)) ∙ parts.1 in
+        let last_of : Leads old (old_tail s) rest.0 b = ap (run mark_step (Go rest.0)) (sym (items.tail_alike s old new same)) ∙ rest.2 in
         ap (λ xs. run mark_step (Go a) (flat_map old xs)) (old_items s)
         ∙ leads_join old (head s) (item.Inst p ∷ (inside s ++ gone s ∷ old_tail s)) a parts.0 b first
         (turns_join (old (item.Inst p)) (flat_map old (inside s ++ gone s ∷ old_tail s)) parts.0 was.0 b was.1
@@ -62,7 +62,7 @@ module _ {f : Function} {p : PointId} {last : ℕ} {c v : ValueId} (s : IsSplit 
         at (inl e) =
             ap (λ k. run mark_step (Go a) (flat_map old (items_at (flow_of f) k))) e
             ∙ in_block a b (ap (λ k. run mark_step (Go a) (flat_map new (items_at (flow_of (after s)) k))) (sym e) ∙ h)
-        at (inr ne) = ap (run mark_step (Go a)) (sym (elsewhere_alike s old new same n ne)) ∙ h
+        at (inr ne) = ap (run mark_step (Go a)) (sym (items.elsewhere_alike s old new same n ne)) ∙ h
 
     onwards : (todo : List EdgeId) (n a b : ℕ) → Leads new (passed (flow_of (after s)) todo ++ items_at (flow_of (after s)) (end_from (flow_of f) n todo)) a b
         → Leads old (passed (flow_of f) todo ++ items_at (flow_of f) (end_from (flow_of f) n todo)) a b
@@ -73,10 +73,10 @@ module _ {f : Function} {p : PointId} {last : ℕ} {c v : ValueId} (s : IsSplit 
         let new_own = items_at (flow_of (after s)) e.block.0 in
         let new_rest = passed (flow_of (after s)) todo ++ items_at (flow_of (after s)) (end_from (flow_of f) (edge_to (flow_of f) e) todo) in
         let by = leads_split new new_own (item.Edge e ∷ new_rest) a b
-        (ap (λ xs. run mark_step (Go a) (flat_map new xs)) (sym (append_assoc new_own (item.Edge e ∷ passed (flow_of (after s)) todo)
-        (items_at (flow_of (after s)) (end_from (flow_of f) (edge_to (flow_of f) e) todo)))) ∙ h) in
+        (ap (λ xs. run mark_step (Go a) (flat_map new xs))
+        (sym (append_assoc new_own (item.Edge e ∷ passed (flow_of (after s)) todo) (items_at (flow_of (after s)) (end_from (flow_of f) (edge_to (flow_of f) e) todo)))) ∙ h) in
         let over = turns_split (new (item.Edge e)) (flat_map new new_rest) by.0 b by.2 in
-        let edge : Turns (old (item.Edge e)) by.0 over.0 = ap (run mark_step (Go by.0)) (sym (edge_alike s old new same e)) ∙ over.1 in
+        let edge : Turns (old (item.Edge e)) by.0 over.0 = ap (run mark_step (Go by.0)) (sym (items.edge_alike s old new same e)) ∙ over.1 in
         let later = onwards todo (edge_to (flow_of f) e) over.0 b over.2 in
         ap (λ xs. run mark_step (Go a) (flat_map old xs)) (append_assoc own (item.Edge e ∷ passed (flow_of f) todo) (items_at (flow_of f) (end_from (flow_of f) (edge_to (flow_of f) e) todo)))
         ∙ leads_join old own (item.Edge e ∷ rest) a by.0 b (by_block e.block.0 a by.0 by.1) (turns_join (old (item.Edge e)) (flat_map old rest) by.0 over.0 b edge later)

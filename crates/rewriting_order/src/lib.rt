@@ -3,4 +3,7 @@
 
 mod laws;
 
-pub use laws::later_ones_are_left;
+pub use laws::{
+    later_ones_are_left, lending_keeps_bases, lending_keeps_borrowable, moving_keeps_bases,
+    moving_keeps_borrowable, moving_lets_none_borrow,
+};

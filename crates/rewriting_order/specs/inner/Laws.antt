@@ -1,12 +1,52 @@
 -- What the rewriting of one copy changes for the other copies of an accepted module.
-use Rattle.std.specs.Prelude.{ℕ}
+use Rattle.std.specs.Prelude.{◌≡◌, ◌≢◌, ◌↔◌, ℕ, false, Some, slice_get}
+use Rattle.sil_ast.specs.declared.function.Function.{Function}
 use Rattle.sil_ast.specs.declared.module.Module.{Module}
 use Rattle.sil_ast.specs.declared.place.PointId.{PointId}
+use Rattle.sil_ast.specs.declared.place.ValueId.{ValueId}
 use Rattle.sil_rules.specs.Order.{NotAfter}
-use Rattle.copy_removal.specs.Optimised.{Rewrites, RewritesFirst, text_key}
+use Rattle.ownership_chains.specs.Facts.{has, known_or}
+use Rattle.copy_removal.specs.Copies.{IsCopy}
+use Rattle.copy_removal.specs.Removable.{IsBorrowable, IsMovable}
+use Rattle.copy_removal.specs.Rewritten.{lent, moved}
+use Rattle.copy_removal.specs.Optimised.{Rewrites, RewritesFirst, facts_of, text_key}
 use Rattle.sil_verifier.specs.inner.Checked.{IsVerified}
 
 -- behind the rewriting of the first copy that can go, each copy that can go comes later in the text
 abbrev pub LaterOnesAreLeft : Type 0
 LaterOnesAreLeft = (m next other : Module) → IsVerified m → (h : RewritesFirst m next) → (n : ℕ) (p : PointId) → Rewrites next n p other
     → ¬ NotAfter (text_key n p) (text_key h.function h.point)
+
+-- a function of an accepted module
+pub record IsVerifiedIn (m : Module) (f : Function) : Type 0 where
+  pub verified : IsVerified m
+  pub number : ℕ
+  pub there : slice_get m.functions number ≡ Some f
+
+-- a borrow changes for no other copy whether it can be a borrow
+abbrev pub LendingKeepsBorrowable : Type 0
+LendingKeepsBorrowable = (m : Module) (f : Function) (p q : PointId) (c v d w : ValueId) → IsVerifiedIn m f → IsCopy f p c v
+    → IsBorrowable (facts_of m f) f c v
+    → let g : Function = lent c f in IsCopy g q d w → IsBorrowable (facts_of m g) g d w ↔ IsBorrowable (facts_of m f) f d w
+
+-- a move of a copy of v changes that at most for v itself, which the move ends, and for the copies of values that have v as a base
+abbrev pub MovingKeepsBorrowable : Type 0
+MovingKeepsBorrowable = (m : Module) (f : Function) (p q : PointId) (c v d w : ValueId) → IsVerifiedIn m f → IsCopy f p c v
+    → ¬ IsBorrowable (facts_of m f) f c v → (h : IsMovable (facts_of m f) f p c v)
+    → let g : Function = moved p h.last f in IsCopy g q d w → d.0 ≢ v.0 → has (known_or (facts_of m f) w).bases v.0 ≡ false
+    → IsBorrowable (facts_of m g) g d w ↔ IsBorrowable (facts_of m f) f d w
+
+-- and no copy can be a borrow behind it that couldn't before
+abbrev pub MovingLetsNoneBorrow : Type 0
+MovingLetsNoneBorrow = (m : Module) (f : Function) (p q : PointId) (c v d w : ValueId) → IsVerifiedIn m f → IsCopy f p c v
+    → ¬ IsBorrowable (facts_of m f) f c v → (h : IsMovable (facts_of m f) f p c v)
+    → let g : Function = moved p h.last f in IsCopy g q d w → IsBorrowable (facts_of m g) g d w → IsBorrowable (facts_of m f) f d w
+
+-- all values keep their bases
+abbrev pub LendingKeepsBases : Type 0
+LendingKeepsBases = (m : Module) (f : Function) (p : PointId) (c v w : ValueId) → IsVerifiedIn m f → IsCopy f p c v → IsBorrowable (facts_of m f) f c v
+    → (known_or (facts_of m (lent c f)) w).bases ≡ (known_or (facts_of m f) w).bases
+
+abbrev pub MovingKeepsBases : Type 0
+MovingKeepsBases = (m : Module) (f : Function) (p : PointId) (c v w : ValueId) → IsVerifiedIn m f → IsCopy f p c v → ¬ IsBorrowable (facts_of m f) f c v
+    → (h : IsMovable (facts_of m f) f p c v) → (known_or (facts_of m (moved p h.last f)) w).bases ≡ (known_or (facts_of m f) w).bases

@@ -6,12 +6,12 @@ use Rattle.copy_pairing.proofs.removals.removal_at.Goals as goal
 
 pub returns-in-Stay : goal.returns-in-Stay
 returns-in-Stay c = stay_removal (facts_in c.args.types.now c.args.f.now) c.args.f.now c.args.p
-    (subst (IsTurnIn (facts_in c.args.types.now c.args.f.now) c.args.f.now c.args.p) c.in-Stay.is c.in_ok-turn.ensures)
+    (subst (IsTurnIn (facts_in c.args.types.now c.args.f.now) c.args.f.now c.args.p) c.in-Stay.is c.in_ok-turn.ensures.turn)
 
 pub returns-in-Lend : goal.returns-in-Lend
 returns-in-Lend c = lend_removal (facts_in c.args.types.now c.args.f.now) c.args.f.now c.args.p _
-    (subst (IsTurnIn (facts_in c.args.types.now c.args.f.now) c.args.f.now c.args.p) c.in-Lend.is c.in_ok-turn.ensures)
+    (subst (IsTurnIn (facts_in c.args.types.now c.args.f.now) c.args.f.now c.args.p) c.in-Lend.is c.in_ok-turn.ensures.turn)
 
-pub returns-in-Move : goal.returns-in-Move
-returns-in-Move c = move_removal (facts_in c.args.types.now c.args.f.now) c.args.f.now c.args.p _
-    (subst (IsTurnIn (facts_in c.args.types.now c.args.f.now) c.args.f.now c.args.p) c.in-Move.is c.in_ok-turn.ensures)
+pub returns : goal.returns
+returns c = move_removal (facts_in c.args.types.now c.args.f.now) c.args.f.now c.args.p _
+    (subst (IsTurnIn (facts_in c.args.types.now c.args.f.now) c.args.f.now c.args.p) c.in-Move.is c.in_ok-turn.ensures.turn)

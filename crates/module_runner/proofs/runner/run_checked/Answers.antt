@@ -1,6 +1,4 @@
 -- What is reported where there is an entry function, and that there is none otherwise.
-use Rattle.std.proofs.Common.{◌≡◌, ◌≤◌, arith, refl, subst}
-use Rattle.module_runner.specs.Entries.{HasEntry, IsEntry}
 use Rattle.module_runner.proofs.Entering.{few_functions}
 use Rattle.module_runner.proofs.runner.run_checked.Goals as goal
 

@@ -1,0 +1,23 @@
+-- What a borrow keeps for the other copies and values.
+use Rattle.copy_removal.specs.Copies.{IsCopy}
+use Rattle.copy_removal.specs.Optimised.{facts_of}
+use Rattle.copy_removal.specs.Removable.{IsBorrowable}
+use Rattle.sil_ast.specs.declared.function.Function.{Function}
+use Rattle.sil_ast.specs.declared.module.Module.{Module}
+use Rattle.sil_ast.specs.declared.place.PointId.{PointId}
+use Rattle.sil_ast.specs.declared.place.ValueId.{ValueId}
+use Rattle.type_definitions.specs.Declarations.{declarations_of}
+use Rattle.lent_functions.proofs.Clean.{lent_ready}
+use Rattle.lent_functions.proofs.Facts.{bases_lent}
+use Rattle.lent_functions.proofs.Ready.{Ready}
+use Rattle.rewriting_order.specs.inner.Laws.{IsVerifiedIn, LendingKeepsBases, LendingKeepsBorrowable}
+use Rattle.rewriting_order.proofs.LentForth.{borrowable_alike}
+
+ready : (m : Module) (f : Function) (p : PointId) (c v : ValueId) → IsVerifiedIn m f → IsCopy f p c v → IsBorrowable (facts_of m f) f c v → Ready (declarations_of m) f p c v
+ready m f p c v in_module copy b = lent_ready m in_module.number f p c v in_module.verified in_module.there copy b
+
+pub keeps_borrowable : LendingKeepsBorrowable
+keeps_borrowable m f p q c v e w in_module copy b here = borrowable_alike (declarations_of m) f p c v (ready m f p c v in_module copy b) q e w here
+
+pub keeps_bases : LendingKeepsBases
+keeps_bases m f p c v w in_module copy b = bases_lent (declarations_of m) f p c v (ready m f p c v in_module copy b) w
