@@ -3,19 +3,19 @@ use Rattle.std.proofs.Common.{◌≡◌, List, [], ◌∷◌, ◌++◌, refl, sy
 use Rattle.std.specs.Prelude.{cond, flat_map, option_and_then, option_to_list}
 use Rattle.std.proofs.lemmas.Grind.{flat_map-append}
 use Rattle.std.proofs.lemmas.List.{append_assoc}
-use Rattle.memory_accesses.specs.Sources.{sources_of}
-use Rattle.memory_accesses.specs.declared.access.Access.{Access}
-use Rattle.memory_parts.specs.Parts.{at_return}
-use Rattle.memory_parts.specs.Shown.{marks_of_access, part_marks}
-use Rattle.memory_parts.specs.declared.part.Part.{Part}
-use Rattle.ownership_kinds.specs.Facts.{facts_in}
+use Rattle.accepted_trails.specs.memory_accesses.Sources.{sources_of}
+use Rattle.accepted_trails.specs.memory_accesses.declared.access.Access.{Access}
+use Rattle.accepted_trails.specs.memory_parts.Parts.{at_return}
+use Rattle.accepted_trails.specs.memory_parts.Shown.{marks_of_access, part_marks}
+use Rattle.accepted_trails.specs.memory_parts.declared.part.Part.{Part}
+use Rattle.accepted_trails.specs.ownership_kinds.Facts.{facts_in}
 use Rattle.path_patterns.specs.declared.mark.Mark.{Mark}
 use Rattle.sil_ast.specs.declared.function.Function.{Function}
 use Rattle.sil_cfg.specs.Returns.{is_return}
 use Rattle.sil_cfg.specs.declared.item.Item.{Item}
 use Rattle.type_definitions.specs.Declarations.{Declarations}
-use Rattle.run_trails.specs.inner.RunTrails.{IsRunTrail}
-use Rattle.run_trails.specs.inner.Switched.{switched, switched_by, switched_over}
+use Rattle.accepted_trails.specs.run_trails.inner.RunTrails.{IsRunTrail}
+use Rattle.accepted_trails.specs.run_trails.inner.Switched.{switched, switched_by, switched_over}
 use Rattle.accepted_trails.specs.inner.Accepted.{IsAcceptedIn}
 use Rattle.accepted_memory.specs.inner.PartTrails.{AreAccessesRight, AreReturnsRight, IsFoundBy, IsPartOf, accesses_in, is_on}
 use Rattle.accepted_memory.proofs.PartsFollowed.{parts_followed}

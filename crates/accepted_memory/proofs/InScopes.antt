@@ -1,27 +1,27 @@
 -- An address lies in a scope, and memory is lent, just while the scope is open: the same marks turn all of them.
 use Rattle.std.proofs.Common.{◌≡◌, List, refl, sym, ◌∙◌, Bool, true, false, Some, None}
 use Rattle.std.specs.Prelude.{cond, length, option_and_then}
-use Rattle.memory_accesses.specs.Sources.{sources_of}
-use Rattle.memory_accesses.specs.declared.access.Access.TheVariants.{Deallocates, Does}
-use Rattle.memory_parts.specs.Loans.{disturbs}
-use Rattle.memory_parts.specs.Shown.{part_marks}
-use Rattle.memory_parts.specs.Switches.{is_same, when}
-use Rattle.memory_parts.specs.declared.part.Part.{Part}
-use Rattle.memory_parts.specs.declared.part.Part.TheVariants.{InScope, Lent}
+use Rattle.accepted_trails.specs.memory_accesses.Sources.{sources_of}
+use Rattle.accepted_trails.specs.memory_accesses.declared.access.Access.TheVariants.{Deallocates, Does}
+use Rattle.accepted_trails.specs.memory_parts.Loans.{disturbs}
+use Rattle.accepted_trails.specs.memory_parts.Shown.{part_marks}
+use Rattle.accepted_trails.specs.memory_parts.Switches.{is_same, when}
+use Rattle.accepted_trails.specs.memory_parts.declared.part.Part.{Part}
+use Rattle.accepted_trails.specs.memory_parts.declared.part.Part.TheVariants.{InScope, Lent}
 use Rattle.numbered_form.specs.Numbering.{values_of}
-use Rattle.ownership_kinds.specs.Facts.{facts_in}
+use Rattle.accepted_trails.specs.ownership_kinds.Facts.{facts_in}
 use Rattle.path_checks.specs.Entries.{marks_for}
 use Rattle.path_patterns.specs.declared.mark.Mark.{Mark}
 use Rattle.sil_ast.specs.declared.function.Function.{Function}
 use Rattle.sil_ast.specs.declared.place.ValueId.{ValueId}
 use Rattle.sil_cfg.specs.declared.item.Item.{Item}
-use Rattle.sil_verifier.specs.Shown.{scopes_in}
+use Rattle.accepted_trails.specs.sil_verifier.Shown.{scopes_in}
 use Rattle.type_definitions.specs.Declarations.{Declarations}
-use Rattle.run_trails.specs.inner.RunTrails.{IsRunTrail}
+use Rattle.accepted_trails.specs.run_trails.inner.RunTrails.{IsRunTrail}
 use Rattle.accepted_trails.specs.inner.Accepted.{IsAcceptedIn}
 use Rattle.accepted_trails.specs.inner.Lives.{IsScopeIn, is_open}
 use Rattle.accepted_trails.proofs.Unbroken.{scopes_unbroken}
-use Rattle.run_trails.proofs.SwitchedTrails.{are_followed}
+use Rattle.accepted_trails.proofs.run_trails.SwitchedTrails.{are_followed}
 use Rattle.accepted_memory.specs.inner.Companions.{AreInScopes, AreLentInScopes}
 use Rattle.accepted_memory.specs.inner.PartTrails.{IsPartOf, is_on}
 use Rattle.accepted_memory.proofs.InSlots.{when_quiet}

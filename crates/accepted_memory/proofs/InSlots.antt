@@ -1,13 +1,13 @@
 -- An address lies in its slot just while the slot is allocated: the same accesses turn both parts.
 use Rattle.std.proofs.Common.{◌≡◌, refl, sym, ◌∙◌, Bool, true, false, None}
 use Rattle.std.specs.Prelude.{option_and_then}
-use Rattle.memory_accesses.specs.Sources.{sources_of}
-use Rattle.memory_accesses.specs.declared.access.Access.{Access}
-use Rattle.memory_accesses.specs.declared.access.Access.TheVariants.{Allocates, Begins, Deallocates, Does, Ends, Given, Mentions}
-use Rattle.memory_parts.specs.Shown.{part_marks}
-use Rattle.memory_parts.specs.Switches.{is_same, when}
-use Rattle.memory_parts.specs.declared.part.Part.TheVariants.{Allocation, InSlot}
-use Rattle.ownership_kinds.specs.Facts.{facts_in}
+use Rattle.accepted_trails.specs.memory_accesses.Sources.{sources_of}
+use Rattle.accepted_trails.specs.memory_accesses.declared.access.Access.{Access}
+use Rattle.accepted_trails.specs.memory_accesses.declared.access.Access.TheVariants.{Allocates, Begins, Deallocates, Does, Ends, Given, Mentions}
+use Rattle.accepted_trails.specs.memory_parts.Shown.{part_marks}
+use Rattle.accepted_trails.specs.memory_parts.Switches.{is_same, when}
+use Rattle.accepted_trails.specs.memory_parts.declared.part.Part.TheVariants.{Allocation, InSlot}
+use Rattle.accepted_trails.specs.ownership_kinds.Facts.{facts_in}
 use Rattle.path_patterns.specs.declared.mark.Mark.{Mark}
 use Rattle.sil_ast.specs.declared.function.Function.{Function}
 use Rattle.sil_ast.specs.declared.place.ValueId.{ValueId}

@@ -7,3 +7,6 @@ pub mod MarkSorts
 pub mod ScopesTurned
 pub mod InSlots
 pub mod InScopes
+pub use Rattle.accepted_trails.proofs.lifetime_worklist as lifetime_worklist
+pub use Rattle.accepted_trails.proofs.run_trails as run_trails
+pub use Rattle.accepted_trails.proofs as accepted_trails

@@ -1,16 +1,16 @@
 -- No part of memory is broken in an accepted function, so each is followed along its trails.
 use Rattle.std.proofs.Common.{refl}
-use Rattle.memory_accesses.specs.Sources.{sources_of}
-use Rattle.memory_parts.specs.Parts.{subject_of}
-use Rattle.memory_parts.specs.Shown.{other_of, part_marks}
-use Rattle.memory_parts.specs.declared.part.Part.{Part}
-use Rattle.memory_rules.specs.Broken.{at_part}
-use Rattle.ownership_kinds.specs.Facts.{facts_in}
+use Rattle.accepted_trails.specs.memory_accesses.Sources.{sources_of}
+use Rattle.accepted_trails.specs.memory_parts.Parts.{subject_of}
+use Rattle.accepted_trails.specs.memory_parts.Shown.{other_of, part_marks}
+use Rattle.accepted_trails.specs.memory_parts.declared.part.Part.{Part}
+use Rattle.accepted_trails.specs.memory_rules.Broken.{at_part}
+use Rattle.accepted_trails.specs.ownership_kinds.Facts.{facts_in}
 use Rattle.sil_ast.specs.declared.function.Function.{Function}
-use Rattle.sil_verifier.specs.Shown.{memory}
+use Rattle.accepted_trails.specs.sil_verifier.Shown.{memory}
 use Rattle.type_definitions.specs.Declarations.{Declarations}
-use Rattle.run_trails.specs.inner.Switched.{IsUnbroken}
-use Rattle.run_trails.proofs.SwitchedTrails.{are_followed}
+use Rattle.accepted_trails.specs.run_trails.inner.Switched.{IsUnbroken}
+use Rattle.accepted_trails.proofs.run_trails.SwitchedTrails.{are_followed}
 use Rattle.accepted_trails.specs.inner.Accepted.{IsAcceptedIn}
 use Rattle.accepted_memory.specs.inner.PartTrails.{ArePartsFollowed, IsPartOf}
 

@@ -1,19 +1,19 @@
 -- Parts of memory that the same accesses turn in the same way are on together.
 use Rattle.std.proofs.Common.{◌≡◌, List, [], ◌∷◌, ◌++◌, refl, sym, ap, ◌∙◌, Bool, true, false, Option, Some, None}
 use Rattle.std.specs.Prelude.{cond, flat_map, option_and_then, option_to_list, unwrap_or}
-use Rattle.memory_accesses.specs.Sources.{sources_of}
-use Rattle.memory_accesses.specs.declared.access.Access.{Access}
-use Rattle.memory_parts.specs.Parts.{at_return}
-use Rattle.memory_parts.specs.Shown.{marks_of_access, part_marks}
-use Rattle.memory_parts.specs.declared.part.Part.{Part}
-use Rattle.ownership_kinds.specs.Facts.{facts_in}
+use Rattle.accepted_trails.specs.memory_accesses.Sources.{sources_of}
+use Rattle.accepted_trails.specs.memory_accesses.declared.access.Access.{Access}
+use Rattle.accepted_trails.specs.memory_parts.Parts.{at_return}
+use Rattle.accepted_trails.specs.memory_parts.Shown.{marks_of_access, part_marks}
+use Rattle.accepted_trails.specs.memory_parts.declared.part.Part.{Part}
+use Rattle.accepted_trails.specs.ownership_kinds.Facts.{facts_in}
 use Rattle.path_patterns.specs.declared.mark.Mark.{Mark}
 use Rattle.sil_ast.specs.declared.function.Function.{Function}
 use Rattle.sil_cfg.specs.Returns.{is_return}
 use Rattle.sil_cfg.specs.declared.item.Item.{Item}
 use Rattle.type_definitions.specs.Declarations.{Declarations}
-use Rattle.run_trails.specs.inner.RunTrails.{IsRunTrail}
-use Rattle.run_trails.specs.inner.Switched.{IsFollowed, switched, switched_over}
+use Rattle.accepted_trails.specs.run_trails.inner.RunTrails.{IsRunTrail}
+use Rattle.accepted_trails.specs.run_trails.inner.Switched.{IsFollowed, switched, switched_over}
 use Rattle.accepted_memory.specs.inner.PartTrails.{accesses_in, meant}
 use Rattle.accepted_memory.proofs.Switching.{and_then_some, left_as_turned, turned_over}
 use Rattle.accepted_memory.proofs.Turning.{each_append, each_flat, over_as_each, turned_each}

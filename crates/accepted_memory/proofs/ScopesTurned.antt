@@ -4,23 +4,23 @@ use Rattle.std.specs.Prelude.{◌==◌, cond, flat_map, map, option_and_then, un
 use Rattle.std.specs.List.{range_with_len}
 use Rattle.std.proofs.lemmas.Bool.{eqb-true}
 use Rattle.std.proofs.lemmas.List.{append_assoc}
-use Rattle.borrow_scopes.specs.Scopes as scopes
-use Rattle.borrow_scopes.specs.Scopes.{is_scope, lent_bases, scopes_of}
+use Rattle.accepted_trails.specs.borrow_scopes.Scopes as scopes
+use Rattle.accepted_trails.specs.borrow_scopes.Scopes.{is_scope, lent_bases, scopes_of}
 use Rattle.item_operands.specs.Items.{item_defined, item_taken}
 use Rattle.item_operands.specs.Parts.{item_inst}
 use Rattle.item_operands.specs.declared.taken.Taken.{Taken}
-use Rattle.memory_accesses.specs.Accesses as accesses
-use Rattle.memory_accesses.specs.Accesses.{accesses_of, allowance_of, deallocations_of, does_of, made, made_by, mentioned, mentions_of}
-use Rattle.memory_accesses.specs.Operations.{addresses_of, deallocates, operations_of}
-use Rattle.memory_accesses.specs.Sources.{source_at}
-use Rattle.memory_accesses.specs.declared.access.Access.{Access}
-use Rattle.memory_accesses.specs.declared.access.Access.TheVariants.{Allocates, Begins, Deallocates, Does, Ends, Given, Mentions}
-use Rattle.memory_accesses.specs.declared.access.Operated.{Operated}
-use Rattle.memory_accesses.specs.declared.columns.Allowance.{Allowance}
-use Rattle.memory_accesses.specs.declared.source.Source.{Source}
-use Rattle.memory_accesses.specs.declared.source.Source.TheVariants as source
+use Rattle.accepted_trails.specs.memory_accesses.Accesses as accesses
+use Rattle.accepted_trails.specs.memory_accesses.Accesses.{accesses_of, allowance_of, deallocations_of, does_of, made, made_by, mentioned, mentions_of}
+use Rattle.accepted_trails.specs.memory_accesses.Operations.{addresses_of, deallocates, operations_of}
+use Rattle.accepted_trails.specs.memory_accesses.Sources.{source_at}
+use Rattle.accepted_trails.specs.memory_accesses.declared.access.Access.{Access}
+use Rattle.accepted_trails.specs.memory_accesses.declared.access.Access.TheVariants.{Allocates, Begins, Deallocates, Does, Ends, Given, Mentions}
+use Rattle.accepted_trails.specs.memory_accesses.declared.access.Operated.{Operated}
+use Rattle.accepted_trails.specs.memory_accesses.declared.columns.Allowance.{Allowance}
+use Rattle.accepted_trails.specs.memory_accesses.declared.source.Source.{Source}
+use Rattle.accepted_trails.specs.memory_accesses.declared.source.Source.TheVariants as source
 use Rattle.argument_conventions.specs.declared.row.Content.{Content}
-use Rattle.memory_parts.specs.Switches.{is_same}
+use Rattle.accepted_trails.specs.memory_parts.Switches.{is_same}
 use Rattle.numbered_form.specs.Lists.{Each}
 use Rattle.ownership_chains.specs.Facts.{has, known_or}
 use Rattle.ownership_chains.specs.declared.facts.Facts.{Facts}

@@ -3,7 +3,7 @@ use Rattle.std.proofs.Common.{◌≡◌, List, [], ◌∷◌, ◌++◌, refl, sy
 use Rattle.std.specs.Prelude.{option_and_then, unwrap_or}
 use Rattle.std.proofs.lemmas.Option.{none-some, same_Some}
 use Rattle.path_patterns.specs.declared.mark.Mark.{Mark}
-use Rattle.run_trails.specs.inner.Switched.{finds, switched_by, switched_over}
+use Rattle.accepted_trails.specs.run_trails.inner.Switched.{finds, switched_by, switched_over}
 
 pub over_append : (xs ys : List Mark) (on : Bool) → switched_over (xs ++ ys) on ≡ option_and_then (switched_over ys) (switched_over xs on)
 over_append [] ys on = refl

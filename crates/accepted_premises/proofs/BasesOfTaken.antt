@@ -7,8 +7,8 @@ use Rattle.std.proofs.lemmas.Bool.{eqb-true, false≢true, true≢false}
 use Rattle.std.proofs.lemmas.List.{length-replicate}
 use Rattle.std.proofs.lemmas.List.Folds.{list_any-append}
 use Rattle.std.proofs.lemmas.Option.{none-some, same_Some, slice_get-map}
-use Rattle.accepted_trails.specs.inner.Bases.{IsBaseOf, rests_on}
-use Rattle.accepted_trails.proofs.Tests.{or_right}
+use Rattle.held_entries.specs.accepted_trails.inner.Bases.{IsBaseOf, rests_on}
+use Rattle.held_entries.proofs.accepted_trails.Tests.{or_right}
 use Rattle.accepted_values.specs.inner.Known.{IsAcceptedBody}
 use Rattle.accepted_values.specs.inner.Making.{IsMadeAt, argument, parameter, result}
 use Rattle.accepted_values.proofs.Accepted.{typed}
@@ -32,15 +32,15 @@ use Rattle.item_operands.specs.Parts.{inst_at, item_edge, terminator_in, termina
 use Rattle.item_operands.specs.Roles.{by_row, conventions_in, last_roles, roles_for, taken_by, taken_each}
 use Rattle.item_operands.specs.declared.taken.Taken.{Taken}
 use Rattle.item_operands.specs.declared.taken.Treatment.{Treatment}
-use Rattle.lowering_laws.proofs.Lowerable.{contained}
+use Rattle.accepted_values.proofs.lowering_laws.Lowerable.{contained}
 use Rattle.numbered_form.specs.inner.Parts.{has_operands}
 use Rattle.ownership_chains.specs.Chains.{operands_at}
 use Rattle.ownership_chains.specs.Facts.{has, known_or}
-use Rattle.ownership_kinds.specs.Facts.{facts_in}
-use Rattle.ownership_origins.specs.Origins.{arg_definition_by, chain_operands, definitions_of, switch_operand}
-use Rattle.ownership_origins.specs.Switched.{switch_to}
-use Rattle.ownership_origins.specs.declared.switched.Switched.{Switched}
-use Rattle.run_typing_laws.proofs.FunctionFacts.{TypedInst}
+use Rattle.held_entries.specs.ownership_kinds.Facts.{facts_in}
+use Rattle.held_entries.specs.ownership_origins.Origins.{arg_definition_by, chain_operands, definitions_of, switch_operand}
+use Rattle.held_entries.specs.ownership_origins.Switched.{switch_to}
+use Rattle.held_entries.specs.ownership_origins.declared.switched.Switched.{Switched}
+use Rattle.accepted_values.proofs.run_typing_laws.FunctionFacts.{TypedInst}
 use Rattle.sil_ast.specs.Blocks.{args_of}
 use Rattle.sil_ast.specs.declared.function.ArgKind.{ArgKind}
 use Rattle.sil_ast.specs.declared.function.ArgKind.TheVariants as annotation
@@ -60,7 +60,7 @@ use Rattle.sil_cfg.specs.declared.item.Item.{Item}
 use Rattle.sil_cfg.specs.declared.item.Item.TheVariants as items
 use Rattle.sil_cfg.specs.inner.Splice.{Stop, is_at}
 use Rattle.sil_cfg.proofs.Places.{same_item-true}
-use Rattle.sil_types.specs.Typing.SwitchRules.{has_wrong_cases_by, switches_wrongly}
+use Rattle.held_entries.specs.sil_types.Typing.SwitchRules.{has_wrong_cases_by, switches_wrongly}
 use Rattle.type_definitions.specs.Declarations.{Declarations, declarations_of}
 use Rattle.value_tables.specs.FirstValue.{first_value, value_of}
 use Rattle.accepted_premises.specs.inner.Laws.{AreBasesOfTaken}

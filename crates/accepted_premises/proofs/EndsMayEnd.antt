@@ -8,16 +8,16 @@ use Rattle.accepted_values.specs.inner.Operands.{SuitsRole}
 use Rattle.accepted_values.proofs.Based.{guaranteed_value, lenders_own_bases, owned_value}
 use Rattle.accepted_values.proofs.Suited.{suited}
 use Rattle.held_entries.specs.inner.Tracked.{IsOwnScope}
-use Rattle.accepted_trails.specs.inner.Lives.{IsOwnedIn}
-use Rattle.holder_model.specs.Frames.{ends, has_any}
+use Rattle.held_entries.specs.accepted_trails.inner.Lives.{IsOwnedIn}
+use Rattle.held_entries.specs.holder_model.Frames.{ends, has_any}
 use Rattle.instruction_table.specs.declared.entries.Role.{Role}
 use Rattle.instruction_table.specs.declared.entries.Role.TheVariants as role
 use Rattle.item_operands.specs.Items.{item_taken}
 use Rattle.item_operands.specs.declared.taken.Taken.{Taken}
-use Rattle.lowering_laws.proofs.Lowerable.{contained}
+use Rattle.accepted_values.proofs.lowering_laws.Lowerable.{contained}
 use Rattle.ownership_chains.specs.Facts.{has, is_guaranteed, is_owned, known_or}
 use Rattle.ownership_chains.specs.declared.facts.Facts.{Facts}
-use Rattle.ownership_kinds.specs.Facts.{facts_in}
+use Rattle.held_entries.specs.ownership_kinds.Facts.{facts_in}
 use Rattle.ownership_marks.specs.Marks.{ended_by, ended_with}
 use Rattle.sil_ast.specs.declared.place.ValueId.{ValueId}
 use Rattle.type_definitions.specs.Declarations.{declarations_of}

@@ -3,18 +3,18 @@ use Rattle.std.proofs.Common.{◌≡◌, ℕ, zero, suc, ◌<◌, List, [], ◌�
 use Rattle.std.specs.Prelude.{◌==◌, slice_get}
 use Rattle.std.proofs.lemmas.Bool.{eqb-true, false≢true, or_cases}
 use Rattle.std.proofs.lemmas.Option.{none-some, same_Some}
-use Rattle.accepted_trails.specs.inner.Defined.{makes}
-use Rattle.accepted_trails.proofs.Tests.{either, or_right, picked, same_value}
+use Rattle.held_entries.specs.accepted_trails.inner.Defined.{makes}
+use Rattle.held_entries.proofs.accepted_trails.Tests.{either, or_right, picked, same_value}
 use Rattle.accepted_values.specs.inner.Known.{IsAcceptedBody}
 use Rattle.accepted_values.specs.inner.Making.{IsMadeAt, Makes}
 use Rattle.accepted_values.proofs.Counted.{stands}
 use Rattle.accepted_values.proofs.Made.{items_of, made_somewhere, made_there}
 use Rattle.item_operands.specs.Items.{item_defined}
-use Rattle.lowering_laws.proofs.Lowerable.{contained}
+use Rattle.accepted_values.proofs.lowering_laws.Lowerable.{contained}
 use Rattle.numbered_form.specs.Numbering.{values_of}
 use Rattle.ownership_chains.specs.Facts.{has}
-use Rattle.run_typing.specs.CallForms.{IsOf}
-use Rattle.run_typing_laws.proofs.ItemFacts.{values_counted}
+use Rattle.accepted_values.specs.run_typing.CallForms.{IsOf}
+use Rattle.accepted_values.proofs.run_typing_laws.ItemFacts.{values_counted}
 use Rattle.sil_ast.specs.declared.function.Function.{Function}
 use Rattle.sil_ast.specs.declared.module.Module.{Module}
 use Rattle.sil_ast.specs.declared.place.ValueId.{ValueId}

@@ -2,12 +2,12 @@
 use Rattle.std.proofs.Common.{ℕ, ◌<◌, ◌∷◌, length, sym, arith, true, false, Option}
 use Rattle.std.proofs.lemmas.Bool.{false≢true}
 use Rattle.std.proofs.lemmas.Option.{same_Some}
-use Rattle.lifetime_worklist.specs.Lives.{lives_by, returned, turned_by}
-use Rattle.lifetime_worklist.specs.inner.Runs.{IsOwned}
+use Rattle.sil_verifier.specs.lifetime_worklist.Lives.{lives_by, returned, turned_by}
+use Rattle.sil_verifier.specs.lifetime_worklist.inner.Runs.{IsOwned}
 use Rattle.numbered_form.specs.Numbering.{values_of}
 use Rattle.ownership_chains.specs.Facts.{is_owned, known_or, value_of}
 use Rattle.ownership_chains.specs.declared.facts.Facts.{Facts}
-use Rattle.ownership_kinds.specs.Facts.{facts_in}
+use Rattle.sil_verifier.specs.ownership_kinds.Facts.{facts_in}
 use Rattle.ownership_marks.specs.declared.mark.MarkSort.TheVariants.{Begin, End, Use}
 use Rattle.path_checks.specs.Entries.{marks_for}
 use Rattle.sil_ast.specs.declared.place.ValueId.{ValueId}

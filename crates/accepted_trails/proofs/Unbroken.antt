@@ -3,11 +3,11 @@ use Rattle.std.proofs.Common.{refl, length, None}
 use Rattle.sil_ast.specs.declared.function.Function.{Function}
 use Rattle.sil_ast.specs.declared.place.ValueId.{ValueId}
 use Rattle.path_checks.specs.Entries.{marks_for}
-use Rattle.ownership_kinds.specs.Facts.{facts_in}
-use Rattle.borrow_scopes.specs.Others.{other_of}
+use Rattle.sil_verifier.specs.ownership_kinds.Facts.{facts_in}
+use Rattle.sil_verifier.specs.borrow_scopes.Others.{other_of}
 use Rattle.value_availability.specs.Accesses.{accesses_of}
 use Rattle.type_definitions.specs.Declarations.{Declarations}
-use Rattle.typed_graph_laws.proofs.Functions.{graphs_by_blocks}
+use Rattle.run_trails.proofs.typed_graph_laws.Functions.{graphs_by_blocks}
 use Rattle.sil_verifier.specs.Shown.{lives_in, scopes_in}
 use Rattle.sil_verifier.specs.Shown.IsShownIn.{life, scope, undefined}
 use Rattle.sil_verifier.specs.Values.{IsCleanIn}

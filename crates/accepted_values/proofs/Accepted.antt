@@ -8,7 +8,7 @@ use Rattle.sil_ast.specs.declared.function.Form.TheVariants.{Ossa, Lowered, Exte
 use Rattle.sil_ast.specs.declared.function.Function.{Function}
 use Rattle.sil_ast.specs.declared.module.Module.{Module}
 use Rattle.sil_ast.specs.declared.place.ValueId.{ValueId}
-use Rattle.holder_model.specs.Frames.{has_any}
+use Rattle.owned_run_typing.specs.holder_model.Frames.{has_any}
 use Rattle.lowering_laws.proofs.Lowerable.{contained}
 use Rattle.lowering_laws.proofs.Lists.{each_weaker}
 use Rattle.lowering_laws.proofs.Rings.{defined_somewhere, ring_inside}
@@ -17,19 +17,19 @@ use Rattle.numbered_form.specs.Lists.{Each}
 use Rattle.numbered_form.specs.Numbering.{AreCountedFrom, values_of}
 use Rattle.numbered_form.specs.inner.Limits.{IsFunctionInLimits}
 use Rattle.ownership_chains.specs.Chains.{HasNoRing, IsInRange}
-use Rattle.ownership_kinds.specs.Statics.{HasKinds}
-use Rattle.ownership_kinds.specs.Statics.IsBroken.{on_ring}
-use Rattle.ownership_origins.proofs.Counts.{are_of_values}
-use Rattle.ownership_origins.proofs.Ranges.{are_in_range}
-use Rattle.ownership_origins.specs.Origins.{definitions_of}
+use Rattle.sil_verifier.specs.ownership_kinds.Statics.{HasKinds}
+use Rattle.sil_verifier.specs.ownership_kinds.Statics.IsBroken.{on_ring}
+use Rattle.owned_run_typing.proofs.ownership_origins.Counts.{are_of_values}
+use Rattle.owned_run_typing.proofs.ownership_origins.Ranges.{are_in_range}
+use Rattle.owned_run_typing.specs.ownership_origins.Origins.{definitions_of}
 use Rattle.rule_faults.specs.declared.fault.RuleFault.{RuleFault}
-use Rattle.run_typing.specs.Runnable.{IsBodyInLimits, IsShort}
-use Rattle.run_typing_laws.proofs.FunctionFacts.{TypedFunction, typed_function}
-use Rattle.run_typing_laws.proofs.SignatureFacts.{inner_form}
+use Rattle.owned_run_typing.specs.run_typing.Runnable.{IsBodyInLimits, IsShort}
+use Rattle.owned_run_typing.proofs.run_typing_laws.FunctionFacts.{TypedFunction, typed_function}
+use Rattle.owned_run_typing.proofs.run_typing_laws.SignatureFacts.{inner_form}
 use Rattle.sil_rules.specs.declared.limits.TheConstants.{INSTRUCTIONS}
 use Rattle.sil_rules.specs.declared.rule.Rule.{Rule}
 use Rattle.sil_rules.specs.declared.rule.Rule.TheVariants as rule
-use Rattle.sil_types.specs.Typing.SignatureRules.{is_external}
+use Rattle.sil_verifier.specs.sil_types.Typing.SignatureRules.{is_external}
 use Rattle.sil_verifier.specs.Refusals.{lowered}
 use Rattle.sil_verifier.specs.Shown.IsShownIn.{kind}
 use Rattle.type_definitions.specs.Declarations.{declarations_of}

@@ -6,9 +6,9 @@ use Rattle.std.proofs.lemmas.Option.{same_Some, slice_get-map}
 use Rattle.argument_conventions.specs.Arguments.{argument_type, arguments_of}
 use Rattle.argument_conventions.specs.declared.convention.ArgumentConvention.{ArgumentConvention}
 use Rattle.argument_conventions.specs.declared.convention.ArgumentConvention.TheVariants as convention
-use Rattle.holder_model.specs.Effects.{effect_of}
-use Rattle.holder_model.specs.declared.row_effect.RowEffect.{RowEffect}
-use Rattle.holder_model.specs.declared.row_effect.RowEffect.TheVariants as effect
+use Rattle.owned_run_typing.specs.holder_model.Effects.{effect_of}
+use Rattle.owned_run_typing.specs.holder_model.declared.row_effect.RowEffect.{RowEffect}
+use Rattle.owned_run_typing.specs.holder_model.declared.row_effect.RowEffect.TheVariants as effect
 use Rattle.instruction_table.specs.Forms.{result_kind_of, roles_of}
 use Rattle.instruction_table.specs.declared.entries.ResultKind.{ResultKind}
 use Rattle.instruction_table.specs.declared.entries.ResultKind.TheVariants.{NoneResult, OwnedResult, ScopeResult, AddressResult, ForwardedResult, OperandResult}
@@ -27,19 +27,19 @@ use Rattle.ownership_chains.specs.Facts.{AreFactsOf, facts_with, has, origin_at,
 use Rattle.ownership_chains.specs.declared.definition.Definition.{Definition}
 use Rattle.ownership_chains.specs.declared.definition.Origin.TheVariants as origin
 use Rattle.ownership_chains.specs.declared.facts.Facts.{Facts}
-use Rattle.ownership_origins.specs.Origins.{arg_definition_by, chain_operands, definitions_of, is_trivial_or_untyped, is_zero, result_origin}
-use Rattle.ownership_origins.specs.Switched.{switch_to}
-use Rattle.ownership_origins.specs.declared.switched.Switched.{Switched}
+use Rattle.owned_run_typing.specs.ownership_origins.Origins.{arg_definition_by, chain_operands, definitions_of, is_trivial_or_untyped, is_zero, result_origin}
+use Rattle.owned_run_typing.specs.ownership_origins.Switched.{switch_to}
+use Rattle.owned_run_typing.specs.ownership_origins.declared.switched.Switched.{Switched}
 use Rattle.point_checks.specs.Points.{IsAt}
-use Rattle.run_typing.specs.Forms.{Form, OfPlace, OfValue, form_by, form_of, form_with, forms_of}
-use Rattle.run_typing.specs.RowForms as rows
-use Rattle.run_typing.specs.RowForms.{RowForms}
-use Rattle.run_typing_laws.proofs.BlockFacts.{no_address}
-use Rattle.run_typing_laws.proofs.EndFacts.{no_operand, one_operand}
-use Rattle.run_typing_laws.proofs.FunctionFacts.{TypedInst}
-use Rattle.run_typing_laws.proofs.Rows.Finding.{found_behind, mapped_some, passes_at}
-use Rattle.run_typing_laws.proofs.Rows.Layers.{object_target}
-use Rattle.run_typing_laws.proofs.ValueForms.{operands_written, row_kept}
+use Rattle.owned_run_typing.specs.run_typing.Forms.{Form, OfPlace, OfValue, form_by, form_of, form_with, forms_of}
+use Rattle.owned_run_typing.specs.run_typing.RowForms as rows
+use Rattle.owned_run_typing.specs.run_typing.RowForms.{RowForms}
+use Rattle.owned_run_typing.proofs.run_typing_laws.BlockFacts.{no_address}
+use Rattle.owned_run_typing.proofs.run_typing_laws.EndFacts.{no_operand, one_operand}
+use Rattle.owned_run_typing.proofs.run_typing_laws.FunctionFacts.{TypedInst}
+use Rattle.owned_run_typing.proofs.run_typing_laws.Rows.Finding.{found_behind, mapped_some, passes_at}
+use Rattle.owned_run_typing.proofs.run_typing_laws.Rows.Layers.{object_target}
+use Rattle.owned_run_typing.proofs.run_typing_laws.ValueForms.{operands_written, row_kept}
 use Rattle.run_values.specs.Shapes.{Shape, shape_of}
 use Rattle.sil_ast.specs.Blocks.{args_of}
 use Rattle.sil_ast.specs.declared.function.ArgKind.{ArgKind}
@@ -54,12 +54,12 @@ use Rattle.sil_ast.specs.declared.operands.Operand.{Operand}
 use Rattle.sil_ast.specs.declared.place.ValueId.{ValueId}
 use Rattle.sil_ast.specs.declared.type_name.TypeName.{TypeName}
 use Rattle.sil_cfg.specs.Items.{point_at}
-use Rattle.sil_types.specs.Typing.EdgeRules.{lets_address_escape}
-use Rattle.sil_types.specs.Typing.OperandTypes.{is_as_written}
-use Rattle.sil_types.specs.Typing.RowTypes.{address_of, address_of_field, given_by, gives, type_of, written}
-use Rattle.sil_types.specs.Typing.Shapes.{element_of, is_object, struct_field, target}
-use Rattle.sil_types.specs.Typing.SignatureRules.{fits_by, is_argument_for}
-use Rattle.sil_types.specs.Typing.Values.{function_at, value_functions, value_types}
+use Rattle.sil_verifier.specs.sil_types.Typing.EdgeRules.{lets_address_escape}
+use Rattle.sil_verifier.specs.sil_types.Typing.OperandTypes.{is_as_written}
+use Rattle.sil_verifier.specs.sil_types.Typing.RowTypes.{address_of, address_of_field, given_by, gives, type_of, written}
+use Rattle.sil_verifier.specs.sil_types.Typing.Shapes.{element_of, is_object, struct_field, target}
+use Rattle.sil_verifier.specs.sil_types.Typing.SignatureRules.{fits_by, is_argument_for}
+use Rattle.sil_verifier.specs.sil_types.Typing.Values.{function_at, value_functions, value_types}
 use Rattle.type_definitions.specs.Declarations.{Declarations, declarations_of}
 use Rattle.type_definitions.specs.Measures.{is_trivial}
 use Rattle.type_definitions.specs.declared.kind.Kind.{Kind}

@@ -16,14 +16,14 @@ use Rattle.numbered_form.specs.Insts.{insts_of}
 use Rattle.numbered_form.specs.Numbering.{AreCountedFrom, defined_in, results_of, value_of, values_of}
 use Rattle.ownership_chains.specs.Facts.{origin_at}
 use Rattle.ownership_chains.specs.declared.definition.Origin.TheVariants as origin
-use Rattle.ownership_origins.specs.Origins.{arg_definition_by, definitions_of, is_trivial_or_untyped, is_zero, result_origin}
-use Rattle.ownership_origins.specs.Switched.{switch_to}
-use Rattle.ownership_origins.specs.declared.switched.Switched.{Switched}
+use Rattle.owned_run_typing.specs.ownership_origins.Origins.{arg_definition_by, definitions_of, is_trivial_or_untyped, is_zero, result_origin}
+use Rattle.owned_run_typing.specs.ownership_origins.Switched.{switch_to}
+use Rattle.owned_run_typing.specs.ownership_origins.declared.switched.Switched.{Switched}
 use Rattle.point_checks.specs.Points.{IsAt}
-use Rattle.run_typing_laws.proofs.FunctionFacts.{TypedInst}
-use Rattle.run_typing_laws.proofs.Rows.Finding.{where_found}
-use Rattle.run_typing_laws.proofs.Rows.Shares.{given_one}
-use Rattle.run_typing_laws.proofs.ValueForms.{row_kept}
+use Rattle.owned_run_typing.proofs.run_typing_laws.FunctionFacts.{TypedInst}
+use Rattle.owned_run_typing.proofs.run_typing_laws.Rows.Finding.{where_found}
+use Rattle.owned_run_typing.proofs.run_typing_laws.Rows.Shares.{given_one}
+use Rattle.owned_run_typing.proofs.run_typing_laws.ValueForms.{row_kept}
 use Rattle.sil_ast.specs.Blocks.{args_in, args_of}
 use Rattle.sil_ast.specs.declared.function.ArgKind.{ArgKind}
 use Rattle.sil_ast.specs.declared.function.ArgKind.TheVariants as annotation
@@ -34,9 +34,9 @@ use Rattle.sil_ast.specs.declared.inst.Inst.{Inst}
 use Rattle.sil_ast.specs.declared.module.Module.{Module}
 use Rattle.sil_ast.specs.declared.place.ValueId.{ValueId}
 use Rattle.sil_ast.specs.declared.type_name.TypeName.{TypeName}
-use Rattle.sil_types.specs.Typing.ResultCounts.{is_count_by}
-use Rattle.sil_types.specs.Typing.RowTypes.{given_by, gives, made_types, row_types}
-use Rattle.sil_types.specs.Typing.Shapes.{is_nontrivial, is_object, where_it}
+use Rattle.sil_verifier.specs.sil_types.Typing.ResultCounts.{is_count_by}
+use Rattle.sil_verifier.specs.sil_types.Typing.RowTypes.{given_by, gives, made_types, row_types}
+use Rattle.sil_verifier.specs.sil_types.Typing.Shapes.{is_nontrivial, is_object, where_it}
 use Rattle.type_definitions.specs.Declarations.{Declarations, declarations_of}
 use Rattle.type_definitions.specs.Measures.{is_trivial}
 use Rattle.value_tables.proofs.Rows.{rows_count}

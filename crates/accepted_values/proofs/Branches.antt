@@ -17,17 +17,17 @@ use Rattle.ownership_chains.specs.Chains.{operands_at}
 use Rattle.ownership_chains.specs.Facts.{origin_at, told_by}
 use Rattle.ownership_chains.specs.declared.definition.Origin.TheVariants as origin
 use Rattle.ownership_chains.specs.declared.facts.Facts.{Facts}
-use Rattle.ownership_kinds.specs.Facts.{kind_in}
-use Rattle.ownership_kinds.specs.Statics.{fits_block, is_annotated_well, is_owned_annotation}
-use Rattle.ownership_kinds.specs.Statics.IsBroken.{annotated}
-use Rattle.ownership_origins.specs.Origins.{arg_definition_by, definitions_of, is_trivial_or_untyped, is_zero}
-use Rattle.ownership_origins.specs.Switched.{switch_to}
+use Rattle.sil_verifier.specs.ownership_kinds.Facts.{kind_in}
+use Rattle.sil_verifier.specs.ownership_kinds.Statics.{fits_block, is_annotated_well, is_owned_annotation}
+use Rattle.sil_verifier.specs.ownership_kinds.Statics.IsBroken.{annotated}
+use Rattle.owned_run_typing.specs.ownership_origins.Origins.{arg_definition_by, definitions_of, is_trivial_or_untyped, is_zero}
+use Rattle.owned_run_typing.specs.ownership_origins.Switched.{switch_to}
 use Rattle.point_checks.specs.Points.{IsAt}
-use Rattle.run_typing_laws.proofs.Found.{not_false}
-use Rattle.run_typing_laws.proofs.FunctionFacts.{TypedInst}
-use Rattle.run_typing_laws.proofs.Rows.Finding.{fails_at, passes_at, some_of}
-use Rattle.run_typing_laws.proofs.ShapeFacts.{same_types}
-use Rattle.run_typing_laws.proofs.ValueForms.{edges_written}
+use Rattle.owned_run_typing.proofs.run_typing_laws.Found.{not_false}
+use Rattle.owned_run_typing.proofs.run_typing_laws.FunctionFacts.{TypedInst}
+use Rattle.owned_run_typing.proofs.run_typing_laws.Rows.Finding.{fails_at, passes_at, some_of}
+use Rattle.owned_run_typing.proofs.run_typing_laws.ShapeFacts.{same_types}
+use Rattle.owned_run_typing.proofs.run_typing_laws.ValueForms.{edges_written}
 use Rattle.sil_ast.specs.Blocks.{args_in, args_of}
 use Rattle.sil_ast.specs.declared.function.ArgKind.{ArgKind}
 use Rattle.sil_ast.specs.declared.function.ArgKind.TheVariants as annotation
@@ -41,11 +41,11 @@ use Rattle.sil_ast.specs.declared.operands.Operand.{Operand}
 use Rattle.sil_ast.specs.declared.place.EdgeId.{EdgeId}
 use Rattle.sil_ast.specs.declared.type_name.TypeName.{TypeName}
 use Rattle.sil_rules.specs.declared.rule.Rule.TheVariants as rule
-use Rattle.sil_types.specs.Typing.EdgeRules.{goes_to_entry, has_block_types, has_wrong_edge_arguments, have_wrong_arguments_by, is_to_entry}
-use Rattle.sil_types.specs.Typing.OperandTypes.{edge_is_as_written, is_as_written}
-use Rattle.sil_types.specs.Typing.RowTypes.{all_written}
-use Rattle.sil_types.specs.Typing.Same.{are_same_types, is_same_type}
-use Rattle.sil_types.specs.Typing.Values.{arg_type, value_types}
+use Rattle.sil_verifier.specs.sil_types.Typing.EdgeRules.{goes_to_entry, has_block_types, has_wrong_edge_arguments, have_wrong_arguments_by, is_to_entry}
+use Rattle.sil_verifier.specs.sil_types.Typing.OperandTypes.{edge_is_as_written, is_as_written}
+use Rattle.sil_verifier.specs.sil_types.Typing.RowTypes.{all_written}
+use Rattle.sil_verifier.specs.sil_types.Typing.Same.{are_same_types, is_same_type}
+use Rattle.sil_verifier.specs.sil_types.Typing.Values.{arg_type, value_types}
 use Rattle.type_definitions.specs.Declarations.{Declarations, declarations_of}
 use Rattle.type_definitions.specs.Measures.{is_trivial}
 use Rattle.type_definitions.specs.declared.kind.Kind.TheVariants as kind

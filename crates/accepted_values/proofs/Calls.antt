@@ -14,25 +14,25 @@ use Rattle.instruction_table.specs.declared.op.Op.TheVariants as op
 use Rattle.item_operands.specs.Roles.{by_convention, by_row, conventions_by, conventions_in, role_handed, roles_for, taken_as, taken_by, taken_each}
 use Rattle.item_operands.specs.declared.taken.Treatment.{Treatment}
 use Rattle.lowering_laws.proofs.Lowerable.{contained}
-use Rattle.ownership_kinds.specs.Statics.{all_taken}
+use Rattle.sil_verifier.specs.ownership_kinds.Statics.{all_taken}
 use Rattle.point_checks.specs.Points.{IsAt}
-use Rattle.run_typing_laws.proofs.CallFacts.{called}
-use Rattle.run_typing_laws.proofs.FunctionFacts.{TypedInst, typed_function}
-use Rattle.run_typing_laws.proofs.Rows.Points.{in_front}
-use Rattle.run_typing_laws.proofs.ValueForms.{operands_asked}
+use Rattle.owned_run_typing.proofs.run_typing_laws.CallFacts.{called}
+use Rattle.owned_run_typing.proofs.run_typing_laws.FunctionFacts.{TypedInst, typed_function}
+use Rattle.owned_run_typing.proofs.run_typing_laws.Rows.Points.{in_front}
+use Rattle.owned_run_typing.proofs.run_typing_laws.ValueForms.{operands_asked}
 use Rattle.sil_ast.specs.declared.function.Function.{Function}
 use Rattle.sil_ast.specs.declared.inst.Inst.{Inst}
 use Rattle.sil_ast.specs.declared.module.Module.{Module}
 use Rattle.sil_ast.specs.declared.operands.Operand.{Operand}
 use Rattle.sil_ast.specs.declared.signature.Signature.{Signature}
-use Rattle.sil_types.specs.Typing.OperandTypes.{are_as_asked_by, argument_types, has_type}
-use Rattle.sil_types.specs.Typing.Same.{all_pairs}
-use Rattle.sil_types.specs.Typing.Shapes.{is_object}
-use Rattle.sil_types.specs.Typing.SignatureRules.{fits_by}
-use Rattle.sil_types.specs.Typing.Values.{value_types}
+use Rattle.sil_verifier.specs.sil_types.Typing.OperandTypes.{are_as_asked_by, argument_types, has_type}
+use Rattle.sil_verifier.specs.sil_types.Typing.Same.{all_pairs}
+use Rattle.sil_verifier.specs.sil_types.Typing.Shapes.{is_object}
+use Rattle.sil_verifier.specs.sil_types.Typing.SignatureRules.{fits_by}
+use Rattle.sil_verifier.specs.sil_types.Typing.Values.{value_types}
 use Rattle.type_definitions.specs.Declarations.{Declarations, declarations_of}
 use Rattle.type_definitions.specs.Measures.{is_trivial}
-use Rattle.ownership_origins.specs.Origins.{is_trivial_or_untyped}
+use Rattle.owned_run_typing.specs.ownership_origins.Origins.{is_trivial_or_untyped}
 use Rattle.accepted_values.specs.inner.Handed.{AreCallsHanded, Hands, IsHanded}
 use Rattle.accepted_values.specs.inner.Known.{IsAcceptedBody, type_in}
 use Rattle.accepted_values.specs.inner.Operands.{SuitsRole}

@@ -10,10 +10,10 @@ use Rattle.numbered_form.specs.inner.Parts.{has_operands, is_typed}
 use Rattle.ownership_chains.specs.Chains.{operands_at}
 use Rattle.ownership_chains.specs.Facts.{origin_at}
 use Rattle.ownership_chains.specs.declared.definition.Origin.TheVariants as origin
-use Rattle.ownership_origins.specs.Origins.{arg_definition_by, chain_operands, definitions_of, is_zero, result_origin}
-use Rattle.ownership_origins.specs.Switched.{switch_to}
-use Rattle.ownership_origins.specs.declared.switched.Switched.{Switched}
-use Rattle.run_typing_laws.proofs.EndFacts.{one_operand}
+use Rattle.owned_run_typing.specs.ownership_origins.Origins.{arg_definition_by, chain_operands, definitions_of, is_zero, result_origin}
+use Rattle.owned_run_typing.specs.ownership_origins.Switched.{switch_to}
+use Rattle.owned_run_typing.specs.ownership_origins.declared.switched.Switched.{Switched}
+use Rattle.owned_run_typing.proofs.run_typing_laws.EndFacts.{one_operand}
 use Rattle.sil_ast.specs.declared.function.ArgKind.{ArgKind}
 use Rattle.sil_ast.specs.declared.function.ArgKind.TheVariants as annotation
 use Rattle.sil_ast.specs.declared.function.Function.{Function}

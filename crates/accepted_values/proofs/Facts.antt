@@ -8,8 +8,8 @@ use Rattle.std.proofs.lemmas.Option.{slice_get-map, slice_get_past, unwrap_or-sl
 use Rattle.sil_ast.specs.declared.function.Function.{Function}
 use Rattle.sil_ast.specs.declared.module.Module.{Module}
 use Rattle.sil_ast.specs.declared.place.ValueId.{ValueId}
-use Rattle.holder_model.specs.Calling.{value_count}
-use Rattle.holder_model.specs.ModuleFacts.{facts_of, facts_told, function_facts}
+use Rattle.owned_run_typing.specs.holder_model.Calling.{value_count}
+use Rattle.owned_run_typing.specs.holder_model.ModuleFacts.{facts_of, facts_told, function_facts}
 use Rattle.lowering_laws.proofs.Ends.{facts_of as facts_without_ring}
 use Rattle.numbered_form.specs.Numbering.{values_of}
 use Rattle.ownership_chains.specs.Chains.{operands_at}
@@ -18,10 +18,10 @@ use Rattle.ownership_chains.proofs.Enough.{told_in_time}
 use Rattle.ownership_chains.specs.Steps.{told_in}
 use Rattle.ownership_chains.specs.declared.definition.Definition.{Definition}
 use Rattle.ownership_chains.specs.declared.facts.Facts.{Facts}
-use Rattle.ownership_kinds.specs.Facts.{facts_in}
-use Rattle.ownership_origins.proofs.Counts.{are_of_values}
-use Rattle.ownership_origins.specs.Origins.{definitions_of}
-use Rattle.run_typing_laws.proofs.ItemFacts.{values_counted}
+use Rattle.sil_verifier.specs.ownership_kinds.Facts.{facts_in}
+use Rattle.owned_run_typing.proofs.ownership_origins.Counts.{are_of_values}
+use Rattle.owned_run_typing.specs.ownership_origins.Origins.{definitions_of}
+use Rattle.owned_run_typing.proofs.run_typing_laws.ItemFacts.{values_counted}
 use Rattle.type_definitions.specs.Declarations.{Declarations, declarations_of}
 use Rattle.type_definitions.specs.declared.kind.Kind.TheVariants as kind
 use Rattle.accepted_values.specs.inner.Known.{AreFactsKnown, AreRunFacts, IsAcceptedBody, IsValue, facts_at, told_in_function}

@@ -20,3 +20,5 @@ pub mod Branches
 pub mod Switches
 pub mod Addresses
 pub mod Nones
+pub use Rattle.owned_run_typing.proofs.run_typing_laws as run_typing_laws
+pub use Rattle.lowering_laws.proofs as lowering_laws

@@ -5,17 +5,17 @@ use Rattle.std.proofs.lemmas.Bool.{and_parts, eq-eqb, eqb-false, eqb-true}
 use Rattle.std.specs.List.{flat_map}
 use Rattle.std.proofs.lemmas.List.{length-map}
 use Rattle.std.proofs.lemmas.Option.{slice_get-map}
-use Rattle.holder_model.specs.Standing.{behind, first_point, point_behind, target_of}
+use Rattle.owned_run_typing.specs.holder_model.Standing.{behind, first_point, point_behind, target_of}
 use Rattle.item_operands.specs.Items.{arg_value, item_defined}
 use Rattle.item_operands.specs.Parts.{args_behind, edge_at, edge_in, inst_at, inst_in, results_in, terminator_in, terminator_of}
 use Rattle.numbered_form.specs.Insts.{insts_of}
 use Rattle.numbered_form.specs.Numbering.{AreCountedFrom, defined_in, results_of}
-use Rattle.ownership_kinds.specs.Statics.{IsDefinedAt}
-use Rattle.ownership_kinds.specs.Statics.IsDefinedAt.{argument as of_block, result as of_inst}
+use Rattle.sil_verifier.specs.ownership_kinds.Statics.{IsDefinedAt}
+use Rattle.sil_verifier.specs.ownership_kinds.Statics.IsDefinedAt.{argument as of_block, result as of_inst}
 use Rattle.point_checks.specs.Points.{IsAt}
-use Rattle.run_typing_laws.proofs.ItemFacts.{item_is_of}
-use Rattle.run_typing_laws.proofs.ListFacts.{get_below}
-use Rattle.run_typing_laws.proofs.Rows.Finding.{fails_at}
+use Rattle.owned_run_typing.proofs.run_typing_laws.ItemFacts.{item_is_of}
+use Rattle.owned_run_typing.proofs.run_typing_laws.ListFacts.{get_below}
+use Rattle.owned_run_typing.proofs.run_typing_laws.Rows.Finding.{fails_at}
 use Rattle.sil_ast.specs.Blocks.{args_in, args_of}
 use Rattle.sil_ast.specs.declared.function.Block.{Block}
 use Rattle.sil_ast.specs.declared.function.Function.{Function}
@@ -30,7 +30,7 @@ use Rattle.sil_cfg.specs.Items.{IsItem, flow_of, point_at, targets_in}
 use Rattle.sil_cfg.specs.declared.item.Item.{Item}
 use Rattle.sil_cfg.specs.declared.item.Item.TheVariants.{Entry, Inst, Edge, Exit}
 use Rattle.sil_cfg.specs.inner.Splice.{Stop, into, is_at, item, same_item}
-use Rattle.sil_types.specs.Typing.EdgeRules.{goes_to_entry, is_to_entry}
+use Rattle.sil_verifier.specs.sil_types.Typing.EdgeRules.{goes_to_entry, is_to_entry}
 use Rattle.lowering_laws.proofs.Lists.{counted_split}
 use Rattle.lowering_laws.proofs.Rings.{defined_somewhere}
 use Rattle.accepted_values.specs.inner.Known.{IsAcceptedBody}

@@ -14,15 +14,15 @@ use Rattle.instruction_table.specs.declared.op.Op.TheVariants as op
 use Rattle.item_operands.specs.Parts.{edge_in, terminator_in}
 use Rattle.numbered_form.specs.Lists.{Each}
 use Rattle.ownership_chains.specs.Facts.{forwarded, is_guaranteed, is_owned}
-use Rattle.ownership_kinds.specs.Facts.{kind_in}
-use Rattle.ownership_kinds.specs.Statics.{fits_block, forwards_by, is_annotated_well}
-use Rattle.ownership_origins.specs.Origins.{is_trivial_or_untyped}
-use Rattle.ownership_origins.specs.Switched.{switch_to, switched_by}
-use Rattle.ownership_origins.specs.declared.switched.Switched.{Switched}
+use Rattle.sil_verifier.specs.ownership_kinds.Facts.{kind_in}
+use Rattle.sil_verifier.specs.ownership_kinds.Statics.{fits_block, forwards_by, is_annotated_well}
+use Rattle.owned_run_typing.specs.ownership_origins.Origins.{is_trivial_or_untyped}
+use Rattle.owned_run_typing.specs.ownership_origins.Switched.{switch_to, switched_by}
+use Rattle.owned_run_typing.specs.ownership_origins.declared.switched.Switched.{Switched}
 use Rattle.point_checks.specs.Points.{IsAt}
-use Rattle.run_typing_laws.proofs.Rows.Finding.{mapped_from, where_found}
-use Rattle.run_typing_laws.proofs.Rows.Layers.{is_int, target-Address}
-use Rattle.run_typing_laws.proofs.ShapeFacts.{same_types}
+use Rattle.owned_run_typing.proofs.run_typing_laws.Rows.Finding.{mapped_from, where_found}
+use Rattle.owned_run_typing.proofs.run_typing_laws.Rows.Layers.{is_int, target-Address}
+use Rattle.owned_run_typing.proofs.run_typing_laws.ShapeFacts.{same_types}
 use Rattle.sil_ast.specs.Blocks.{args_of}
 use Rattle.sil_ast.specs.declared.function.BlockArg.{BlockArg}
 use Rattle.sil_ast.specs.declared.function.Form.TheVariants.{Ossa}
@@ -34,11 +34,11 @@ use Rattle.sil_ast.specs.declared.place.EdgeId.{EdgeId}
 use Rattle.sil_ast.specs.declared.place.ValueId.{ValueId}
 use Rattle.sil_ast.specs.declared.type_name.TypeName.{TypeName, TypeName-F, out-TypeName}
 use Rattle.sil_ast.specs.declared.type_name.TypeName.TheVariants as type
-use Rattle.sil_types.specs.Typing.Builtins.{Builtin, Sort, bit, builtin_named, builtin_operands, builtin_result, combining, comparing, overflowing, result_by, sort_of}
-use Rattle.sil_types.specs.Typing.RowTypes.{address_of, address_of_field, all_written, given_by, gives, gives_builtin, made_types, takes}
-use Rattle.sil_types.specs.Typing.Same.{are_same_types, is_same_type}
-use Rattle.sil_types.specs.Typing.Shapes.{field_address, stored_as, is_integer, is_integer_layer, is_object, target, where_it}
-use Rattle.sil_types.specs.Typing.SignatureRules.{fits_by, is_argument_for}
+use Rattle.sil_verifier.specs.sil_types.Typing.Builtins.{Builtin, Sort, bit, builtin_named, builtin_operands, builtin_result, combining, comparing, overflowing, result_by, sort_of}
+use Rattle.sil_verifier.specs.sil_types.Typing.RowTypes.{address_of, address_of_field, all_written, given_by, gives, gives_builtin, made_types, takes}
+use Rattle.sil_verifier.specs.sil_types.Typing.Same.{are_same_types, is_same_type}
+use Rattle.sil_verifier.specs.sil_types.Typing.Shapes.{field_address, stored_as, is_integer, is_integer_layer, is_object, target, where_it}
+use Rattle.sil_verifier.specs.sil_types.Typing.SignatureRules.{fits_by, is_argument_for}
 use Rattle.type_definitions.specs.Declarations.{Declarations, all_names, declarations_of}
 use Rattle.type_definitions.specs.Measures.{is_trivial, is_trivial_measure, measure_at, measures_of}
 use Rattle.type_definitions.specs.declared.kind.Kind.{Kind}

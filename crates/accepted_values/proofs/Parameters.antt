@@ -11,14 +11,14 @@ use Rattle.ownership_chains.specs.Facts.{told_by}
 use Rattle.ownership_chains.specs.declared.definition.Origin.{Origin}
 use Rattle.ownership_chains.specs.declared.definition.Origin.TheVariants as origin
 use Rattle.ownership_chains.specs.declared.facts.Facts.{Facts}
-use Rattle.ownership_origins.specs.Origins.{arg_definition_by, definitions_of}
-use Rattle.ownership_origins.specs.Switched.{switch_to}
-use Rattle.ownership_origins.specs.declared.switched.Switched.{Switched}
-use Rattle.run_typing_laws.proofs.FunctionFacts.{TypedFunction}
-use Rattle.run_typing_laws.proofs.ListFacts.{or_second}
-use Rattle.run_typing_laws.proofs.Rows.Finding.{passes_at}
-use Rattle.run_typing_laws.proofs.ShapeFacts.{same_types}
-use Rattle.run_typing_laws.proofs.SignatureFacts.{conventions_and_entry}
+use Rattle.owned_run_typing.specs.ownership_origins.Origins.{arg_definition_by, definitions_of}
+use Rattle.owned_run_typing.specs.ownership_origins.Switched.{switch_to}
+use Rattle.owned_run_typing.specs.ownership_origins.declared.switched.Switched.{Switched}
+use Rattle.owned_run_typing.proofs.run_typing_laws.FunctionFacts.{TypedFunction}
+use Rattle.owned_run_typing.proofs.run_typing_laws.ListFacts.{or_second}
+use Rattle.owned_run_typing.proofs.run_typing_laws.Rows.Finding.{passes_at}
+use Rattle.owned_run_typing.proofs.run_typing_laws.ShapeFacts.{same_types}
+use Rattle.owned_run_typing.proofs.run_typing_laws.SignatureFacts.{conventions_and_entry}
 use Rattle.sil_ast.specs.Blocks.{args_of}
 use Rattle.sil_ast.specs.declared.function.ArgKind.{ArgKind}
 use Rattle.sil_ast.specs.declared.function.ArgKind.TheVariants as annotation
@@ -30,10 +30,10 @@ use Rattle.sil_ast.specs.declared.place.ValueId.{ValueId}
 use Rattle.sil_ast.specs.declared.signature.Given.{Given}
 use Rattle.sil_ast.specs.declared.signature.Param.{Param}
 use Rattle.sil_ast.specs.declared.type_name.TypeName.{TypeName}
-use Rattle.sil_types.specs.Typing.Same.{all_pairs, is_same_type}
-use Rattle.sil_types.specs.Typing.Shapes.{is_nontrivial, is_object}
-use Rattle.sil_types.specs.Typing.SignatureRules.{annotation_of, fits_by, fits_param, fits_result, has_entry_arguments, has_fitting_conventions}
-use Rattle.sil_types.specs.Typing.SignatureRules.{is_annotated_for, is_argument_for, is_external, is_same_kind}
+use Rattle.sil_verifier.specs.sil_types.Typing.Same.{all_pairs, is_same_type}
+use Rattle.sil_verifier.specs.sil_types.Typing.Shapes.{is_nontrivial, is_object}
+use Rattle.sil_verifier.specs.sil_types.Typing.SignatureRules.{annotation_of, fits_by, fits_param, fits_result, has_entry_arguments, has_fitting_conventions}
+use Rattle.sil_verifier.specs.sil_types.Typing.SignatureRules.{is_annotated_for, is_argument_for, is_external, is_same_kind}
 use Rattle.type_definitions.specs.Declarations.{Declarations, declarations_of}
 use Rattle.type_definitions.specs.Measures.{is_trivial}
 use Rattle.type_definitions.specs.declared.kind.Kind.{Kind}

@@ -7,20 +7,20 @@ use Rattle.instruction_table.specs.declared.op.Op.TheVariants as op
 use Rattle.item_operands.specs.Roles.{by_row, conventions_in, roles_for, taken_as, taken_by, taken_each}
 use Rattle.lowering_laws.proofs.Lowerable.{contained}
 use Rattle.point_checks.specs.Points.{IsAt}
-use Rattle.run_typing_laws.proofs.Found.{not_false}
-use Rattle.run_typing_laws.proofs.FunctionFacts.{TypedInst}
-use Rattle.run_typing_laws.proofs.Rows.Finding.{passed, passes_at}
-use Rattle.run_typing_laws.proofs.ShapeFacts.{same_types}
-use Rattle.run_typing_laws.proofs.ValueForms.{operands_written}
+use Rattle.owned_run_typing.proofs.run_typing_laws.Found.{not_false}
+use Rattle.owned_run_typing.proofs.run_typing_laws.FunctionFacts.{TypedInst}
+use Rattle.owned_run_typing.proofs.run_typing_laws.Rows.Finding.{passed, passes_at}
+use Rattle.owned_run_typing.proofs.run_typing_laws.ShapeFacts.{same_types}
+use Rattle.owned_run_typing.proofs.run_typing_laws.ValueForms.{operands_written}
 use Rattle.sil_ast.specs.declared.function.Function.{Function}
 use Rattle.sil_ast.specs.declared.inst.Inst.{Inst}
 use Rattle.sil_ast.specs.declared.module.Module.{Module}
 use Rattle.sil_ast.specs.declared.operands.Operand.{Operand}
-use Rattle.sil_types.specs.Typing.OperandTypes.{is_as_written}
-use Rattle.sil_types.specs.Typing.RowTypes.{type_of, written}
-use Rattle.sil_types.specs.Typing.Same.{is_same_type}
-use Rattle.sil_types.specs.Typing.SignatureRules.{differs_by, differs_from_signature, returns_what_is_given}
-use Rattle.sil_types.specs.Typing.Values.{value_functions, value_types}
+use Rattle.sil_verifier.specs.sil_types.Typing.OperandTypes.{is_as_written}
+use Rattle.sil_verifier.specs.sil_types.Typing.RowTypes.{type_of, written}
+use Rattle.sil_verifier.specs.sil_types.Typing.Same.{is_same_type}
+use Rattle.sil_verifier.specs.sil_types.Typing.SignatureRules.{differs_by, differs_from_signature, returns_what_is_given}
+use Rattle.sil_verifier.specs.sil_types.Typing.Values.{value_functions, value_types}
 use Rattle.type_definitions.specs.Declarations.{Declarations, declarations_of}
 use Rattle.type_definitions.specs.Mentions.{given_type}
 use Rattle.accepted_values.specs.inner.Handed.{AreGiven}

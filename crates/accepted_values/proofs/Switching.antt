@@ -11,11 +11,11 @@ use Rattle.instruction_table.specs.declared.op.Op.{Op}
 use Rattle.instruction_table.specs.declared.op.Op.TheVariants as op
 use Rattle.item_operands.specs.Parts.{terminator_in}
 use Rattle.lowering_laws.proofs.Lowerable.{contained}
-use Rattle.ownership_origins.specs.Switched.{edge_to, switch_to, switched_by, switches_by, switches_from}
-use Rattle.ownership_origins.specs.declared.switched.Switched.{Switched}
-use Rattle.run_typing_laws.proofs.Found.{neither_first, neither_second, not_false}
-use Rattle.run_typing_laws.proofs.FunctionFacts.{TypedInst}
-use Rattle.run_typing_laws.proofs.Rows.Finding.{passes_at}
+use Rattle.owned_run_typing.specs.ownership_origins.Switched.{edge_to, switch_to, switched_by, switches_by, switches_from}
+use Rattle.owned_run_typing.specs.ownership_origins.declared.switched.Switched.{Switched}
+use Rattle.owned_run_typing.proofs.run_typing_laws.Found.{neither_first, neither_second, not_false}
+use Rattle.owned_run_typing.proofs.run_typing_laws.FunctionFacts.{TypedInst}
+use Rattle.owned_run_typing.proofs.run_typing_laws.Rows.Finding.{passes_at}
 use Rattle.sil_ast.specs.declared.function.Block.{Block}
 use Rattle.sil_ast.specs.declared.function.Function.{Function}
 use Rattle.sil_ast.specs.declared.inst.Edge.{Edge}
@@ -23,9 +23,9 @@ use Rattle.sil_ast.specs.declared.inst.Inst.{Inst}
 use Rattle.sil_ast.specs.declared.module.Module.{Module}
 use Rattle.sil_ast.specs.declared.place.ValueId.{ValueId}
 use Rattle.sil_ast.specs.declared.type_name.TypeName.{TypeName}
-use Rattle.sil_types.specs.Typing.RowTypes.{written}
-use Rattle.sil_types.specs.Typing.SwitchRules.{edges_of, edges_of_block, has_wrong_cases_by, incoming, is_alone, is_to, leaves_out_case, misfits_default, misfits_payload, names_other_case}
-use Rattle.sil_types.specs.Typing.SwitchRules.{repeats_case, shares_block, switches_wrongly}
+use Rattle.sil_verifier.specs.sil_types.Typing.RowTypes.{written}
+use Rattle.sil_verifier.specs.sil_types.Typing.SwitchRules.{edges_of, edges_of_block, has_wrong_cases_by, incoming, is_alone, is_to, leaves_out_case, misfits_default, misfits_payload, names_other_case}
+use Rattle.sil_verifier.specs.sil_types.Typing.SwitchRules.{repeats_case, shares_block, switches_wrongly}
 use Rattle.type_definitions.specs.Declarations.{Declarations, declarations_of}
 use Rattle.value_tables.specs.FirstValue.{first_value}
 use Rattle.accepted_values.specs.inner.Known.{IsAcceptedBody}

@@ -7,24 +7,24 @@ use Rattle.std.proofs.lemmas.List.FromFn.{get_or-map-range_with_len, length-map-
 use Rattle.std.proofs.lemmas.Option.{same_Some, slice_get-get_or, slice_get-map, slice_get_within}
 use Rattle.argument_conventions.specs.Arguments.{arguments_of}
 use Rattle.instruction_table.specs.Forms.{result_kind_of}
-use Rattle.memory_accesses.specs.Sources.{arg_sources, argument_source_or, result_source, result_sources}
-use Rattle.memory_accesses.specs.declared.source.Source.TheVariants.{Other}
+use Rattle.owned_run_typing.specs.memory_accesses.Sources.{arg_sources, argument_source_or, result_source, result_sources}
+use Rattle.owned_run_typing.specs.memory_accesses.declared.source.Source.TheVariants.{Other}
 use Rattle.numbered_form.specs.Numbering.{AreCountedFrom, value_of, values_of}
 use Rattle.ownership_chains.specs.declared.definition.Definition.{Definition}
 use Rattle.ownership_chains.specs.declared.definition.Origin.TheVariants as origin
-use Rattle.ownership_origins.specs.Origins.{arg_definition, arg_definitions, defined, definitions_of, is_zero, result_definition, result_definitions}
-use Rattle.ownership_origins.specs.Switched.{switch_to}
+use Rattle.owned_run_typing.specs.ownership_origins.Origins.{arg_definition, arg_definitions, defined, definitions_of, is_zero, result_definition, result_definitions}
+use Rattle.owned_run_typing.specs.ownership_origins.Switched.{switch_to}
 use Rattle.point_checks.specs.Points.{IsAt}
-use Rattle.run_typing_laws.proofs.Rows.Forms.{functions_level}
-use Rattle.run_typing_laws.proofs.Rows.Tables.{row_at, told_of_args, told_of_results}
+use Rattle.owned_run_typing.proofs.run_typing_laws.Rows.Forms.{functions_level}
+use Rattle.owned_run_typing.proofs.run_typing_laws.Rows.Tables.{row_at, told_of_args, told_of_results}
 use Rattle.sil_ast.specs.Blocks.{args_in, args_of}
 use Rattle.sil_ast.specs.declared.function.Block.{Block}
 use Rattle.sil_ast.specs.declared.function.BlockArg.{BlockArg}
 use Rattle.sil_ast.specs.declared.function.Function.{Function}
 use Rattle.sil_ast.specs.declared.inst.Inst.{Inst}
 use Rattle.sil_ast.specs.declared.place.ValueId.{ValueId}
-use Rattle.sil_types.specs.Typing.RowTypes.{made_types}
-use Rattle.sil_types.specs.Typing.Values.{arg_functions, arg_has, arg_types, result_functions, result_types}
+use Rattle.sil_verifier.specs.sil_types.Typing.RowTypes.{made_types}
+use Rattle.sil_verifier.specs.sil_types.Typing.Values.{arg_functions, arg_has, arg_types, result_functions, result_types}
 use Rattle.type_definitions.specs.Declarations.{Declarations, declarations_of}
 use Rattle.value_tables.specs.Borrows.{arg_borrows, borrow_by, result_borrows}
 use Rattle.value_tables.specs.ValueRows.{value_rows}

@@ -1,13 +1,13 @@
 -- The types of operands: those that are written at them, or asked by their row.
 use Rattle.std.proofs.Common.{◌≡◌, ap, sym, ◌∙◌, subst, true, Some}
-use Rattle.run_typing_laws.proofs.Rows.Finding.{passed}
-use Rattle.run_typing_laws.proofs.ShapeFacts.{same_types}
+use Rattle.owned_run_typing.proofs.run_typing_laws.Rows.Finding.{passed}
+use Rattle.owned_run_typing.proofs.run_typing_laws.ShapeFacts.{same_types}
 use Rattle.sil_ast.specs.declared.function.Function.{Function}
 use Rattle.sil_ast.specs.declared.operands.Operand.{Operand}
 use Rattle.sil_ast.specs.declared.type_name.TypeName.{TypeName}
-use Rattle.sil_types.specs.Typing.OperandTypes.{has_type, is_as_written, is_as_written_by}
-use Rattle.sil_types.specs.Typing.Same.{is_same_type}
-use Rattle.sil_types.specs.Typing.Values.{type_of_value, value_types}
+use Rattle.sil_verifier.specs.sil_types.Typing.OperandTypes.{has_type, is_as_written, is_as_written_by}
+use Rattle.sil_verifier.specs.sil_types.Typing.Same.{is_same_type}
+use Rattle.sil_verifier.specs.sil_types.Typing.Values.{type_of_value, value_types}
 use Rattle.type_definitions.specs.Declarations.{Declarations}
 use Rattle.accepted_values.specs.inner.Known.{type_in}
 

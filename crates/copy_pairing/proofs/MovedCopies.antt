@@ -24,9 +24,9 @@ use Rattle.ownership_marks.specs.Known.{AreKindsBy, Known, facts_of}
 use Rattle.ownership_marks.specs.Marks.{marks_of}
 use Rattle.ownership_marks.specs.declared.mark.MarkSort.TheVariants.{Begin}
 use Rattle.type_definitions.specs.declared.kind.Kind.{Kind}
-use Rattle.borrow_scopes.proofs.Agreeing.{same_bases}
-use Rattle.borrow_scopes.specs.Scopes.{bases_in, lent_bases}
-use Rattle.borrow_scopes.specs.inner.Tables.{lent_bases_in}
+use Rattle.copy_removal.proofs.borrow_scopes.Agreeing.{same_bases}
+use Rattle.copy_removal.specs.borrow_scopes.Scopes.{bases_in, lent_bases}
+use Rattle.copy_removal.specs.borrow_scopes.inner.Tables.{lent_bases_in}
 use Rattle.copy_removal.proofs.DestroyShown.{destroy_shown}
 use Rattle.copy_removal.specs.Copies.{IsDestroy}
 use Rattle.copy_removal.specs.Removable.{IsDestroyedNext, IsMovable, IsUnlent, concerns}

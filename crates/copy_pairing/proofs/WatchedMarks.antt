@@ -28,7 +28,7 @@ use Rattle.ownership_marks.specs.Marks.{marks_of}
 use Rattle.ownership_marks.specs.declared.mark.Mark.{Mark}
 use Rattle.ownership_marks.specs.declared.mark.MarkSort.{MarkSort}
 use Rattle.ownership_marks.specs.declared.mark.MarkSort.TheVariants.{End, Use, Begin}
-use Rattle.borrow_scopes.specs.inner.Runs.{sort_for, sort_of}
+use Rattle.copy_removal.specs.borrow_scopes.inner.Runs.{sort_for, sort_of}
 use Rattle.copy_removal.specs.Removable.{is_mark}
 use Rattle.copy_pairing.specs.inner.Watched.{entries_by, off_entries, off_entry, turn_entries, turned_by, watched_of}
 use Rattle.copy_pairing.proofs.LawfulBehind.{LawfulBehind, behind_append, behind_lawful}

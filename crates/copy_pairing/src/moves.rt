@@ -11,7 +11,7 @@ ghost use Rattle.ownership_chains.specs.Facts.{has, told_at};
 ghost use Rattle.ownership_chains.specs.declared.facts.Facts.{Facts};
 ghost use Rattle.ownership_marks.specs.Known.{AreKindsBy, facts_of};
 ghost use Rattle.ownership_marks.specs.Marks.{marks_of};
-ghost use Rattle.borrow_scopes.specs.inner.Tables.{lent_bases_in};
+ghost use Rattle.copy_removal.specs.borrow_scopes.inner.Tables.{lent_bases_in};
 ghost use Rattle.copy_removal.specs.Removable as removal;
 ghost use Rattle.copy_removal.specs.Removable.{IsDestroyedNext, IsMovable, IsUnlent};
 ghost use Rattle.copy_pairing.specs.inner.Turns.{IsMovableTo};

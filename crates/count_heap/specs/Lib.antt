@@ -1,1 +1,2 @@
 pub mod inner
+pub use Rattle.heap_model.specs as heap_model

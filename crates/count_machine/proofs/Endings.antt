@@ -1,7 +1,7 @@
 -- What is told of a run is that for which the machine's stop stands.
 use Rattle.std.proofs.Common.{◌≡◌, ◌∙◌, ℕ, List, [], refl, sym, ap}
 use Rattle.std.specs.Prelude.{option_and_then, unwrap_or}
-use Rattle.heap_model.specs.HeapViews.{HeapView}
+use Rattle.count_heap.specs.heap_model.HeapViews.{HeapView}
 use Rattle.holder_model.specs.declared.trap.Trap.TheVariants as trap
 use Rattle.holder_model.specs.States.{Ending}
 use Rattle.item_operands.specs.Parts.{inst_at}
@@ -12,7 +12,7 @@ use Rattle.machine_steps.specs.declared.run_end.RunEnd.{RunEnd}
 use Rattle.machine_steps.specs.declared.run_end.RunEnd.TheVariants as stop
 use Rattle.machine_laws.specs.inner.Told.{all_left}
 use Rattle.machine_steps.specs.Views.{MachineView}
-use Rattle.ready_code.specs.declared.local.Local.{Local}
+use Rattle.machine_steps.specs.ready_code.declared.local.Local.{Local}
 use Rattle.run_values.specs.Leaves.{value_of}
 use Rattle.run_values.specs.Shapes.{Shape}
 use Rattle.run_values.specs.declared.leaf.Leaf.{Leaf}

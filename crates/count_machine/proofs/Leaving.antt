@@ -2,7 +2,7 @@
 use Rattle.std.proofs.Common.{◌≡◌, ◌+◌, ◌∙◌, ◌++◌, ℕ, zero, suc, List, [], ◌∷◌, true, false, cond, Some, None, sym, ap, add-one, add-zero, arith, append-nil}
 use Rattle.std.specs.List.{cons_option, filter_map, range_with_len}
 use Rattle.std.proofs.lemmas.List.Elements.{filter_map-append}
-use Rattle.heap_model.specs.HeapViews.{HeapView, is_unfreed}
+use Rattle.count_heap.specs.heap_model.HeapViews.{HeapView, is_unfreed}
 use Rattle.holder_model.specs.declared.left_object.LeftObject.{LeftObject}
 use Rattle.holder_model.specs.Outcomes.{object_number}
 use Rattle.machine_laws.specs.inner.Told.{left_in, left_of}

@@ -7,11 +7,11 @@ use Rattle.machine_laws.specs.inner.MachineRuns.{MachineRunsSo, Started}
 use Rattle.machine_steps.specs.declared.run_end.RunEnd.{RunEnd}
 use Rattle.machine_steps.specs.Runs.{Leads, begins}
 use Rattle.machine_steps.specs.Views.{MachineView, Stops}
-use Rattle.ready_code.specs.declared.function.ReadyFunction.{ReadyFunction}
-use Rattle.ready_code.specs.declared.function.ReadyModule.{ReadyModule}
-use Rattle.ready_code.specs.ReadyModules.{IsReadyModule}
-use Rattle.run_typing.specs.Forms.{given_shape}
-use Rattle.run_typing.specs.RunTyped.{RunTyped}
+use Rattle.machine_steps.specs.ready_code.declared.function.ReadyFunction.{ReadyFunction}
+use Rattle.machine_steps.specs.ready_code.declared.function.ReadyModule.{ReadyModule}
+use Rattle.machine_steps.specs.ready_code.ReadyModules.{IsReadyModule}
+use Rattle.run_typing_laws.specs.run_typing.Forms.{given_shape}
+use Rattle.run_typing_laws.specs.run_typing.RunTyped.{RunTyped}
 use Rattle.sil_ast.specs.declared.module.Module.{Module}
 use Rattle.sil_ast.specs.declared.place.FuncId.{FuncId}
 use Rattle.type_definitions.specs.Declarations.{Declarations, declarations_of}

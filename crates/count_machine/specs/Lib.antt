@@ -1,2 +1,3 @@
 pub mod LowRuns
 pub mod inner
+pub use Rattle.machine_laws.specs as machine_laws

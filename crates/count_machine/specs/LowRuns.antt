@@ -1,6 +1,6 @@
 -- What is told of a run of lowered code that has ended.
 use Rattle.std.specs.Prelude.{◌≡◌, ℕ, true, List, [], Some, slice_get}
-use Rattle.heap_model.specs.HeapViews.{HeapView}
+use Rattle.count_heap.specs.heap_model.HeapViews.{HeapView}
 use Rattle.holder_model.specs.declared.left_object.LeftObject.{LeftObject}
 use Rattle.holder_model.specs.Outcomes.{Outcome, may_start}
 use Rattle.holder_model.specs.States.{Ending, Faulted, OutOfTurns, Returned, Trapped}

@@ -1,7 +1,7 @@
 //! The objects that are left when a run has ended.
 
 ghost use Rattle.std.specs.Prelude.{◌≡◌, IfOk, true};
-ghost use Rattle.heap_model.specs.HeapViews.{is_dead_in, is_unfreed};
+ghost use Rattle.count_heap.specs.heap_model.HeapViews.{is_dead_in, is_unfreed};
 ghost use Rattle.machine_laws.specs.inner.Told.{all_left, left_of};
 ghost use Rattle.machine_steps.specs.Steps.{name_of};
 ghost use Rattle.count_machine.specs.LowRuns as runs;

@@ -1,8 +1,8 @@
 //! The run of a lowered module.
 
 ghost use Rattle.std.specs.Prelude.{◌≡◌, ◌≤◌, ℕ, IfOk, slice_get};
-ghost use Rattle.run_typing.specs.Forms.{given_shape};
-ghost use Rattle.run_typing.specs.Runnable.{IsRunnable};
+ghost use Rattle.run_typing_laws.specs.run_typing.Forms.{given_shape};
+ghost use Rattle.run_typing_laws.specs.run_typing.Runnable.{IsRunnable};
 ghost use Rattle.type_definitions.specs.Declarations.{declarations_of};
 ghost use Rattle.count_machine.specs.LowRuns.{EndsAsTold, HeapIsAsTold, MayStartAt};
 ghost use Rattle.count_machine.specs.inner.Stopped.{TellsOf};

@@ -6,8 +6,8 @@ use Rattle.std.specs.Option.{option_to_list}
 use Rattle.std.proofs.lemmas.List.{append-nil, drop_all}
 use Rattle.std.proofs.lemmas.Option.{slice_get-get_or}
 use Rattle.item_operands.specs.Items.{arg_value}
-use Rattle.run_typing.specs.EndForms.{value_in}
-use Rattle.run_typing.specs.Forms.{Form, OfFunction, OfNothing, OfPlace, OfValue, form_of}
+use Rattle.ready_code.specs.run_typing.EndForms.{value_in}
+use Rattle.ready_code.specs.run_typing.Forms.{Form, OfFunction, OfNothing, OfPlace, OfValue, form_of}
 use Rattle.sil_ast.specs.declared.function.BlockArg.{BlockArg}
 use Rattle.sil_ast.specs.declared.function.Function.{Function}
 use Rattle.sil_ast.specs.declared.operands.Operand.{Operand}

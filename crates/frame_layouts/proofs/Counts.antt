@@ -2,9 +2,9 @@
 use Rattle.std.proofs.Common.{◌≡◌, ℕ, suc, ◌≤◌, List, [], ◌∷◌, length, refl, ap, arith, Some, None}
 use Rattle.std.specs.Prelude.{slice_get}
 use Rattle.std.proofs.lemmas.List.{length-replicate}
-use Rattle.holder_model.specs.Calling.{value_count}
+use Rattle.ready_code.specs.holder_model.Calling.{value_count}
 use Rattle.numbered_form.specs.Numbering.{values_of}
-use Rattle.run_typing.specs.Runnable.{IsBodyInLimits, IsRunnable}
+use Rattle.ready_code.specs.run_typing.Runnable.{IsBodyInLimits, IsRunnable}
 use Rattle.sil_ast.specs.declared.function.BlockArg.{BlockArg}
 use Rattle.sil_ast.specs.declared.function.Function.{Function}
 use Rattle.sil_ast.specs.declared.inst.Inst.{Inst}

@@ -23,7 +23,7 @@ use Rattle.type_definitions.specs.Measures.{leaves_in, leaves_of, measure_at, me
 use Rattle.type_definitions.specs.declared.standing.Standing.TheVariants.{Unwritten}
 use Rattle.type_definitions.specs.Mentions.{field_standing, in_decl, in_field, in_members, mention}
 use Rattle.type_definitions.specs.declared.measure.Measure.{Measure}
-use Rattle.run_typing.specs.Runnable.{IsRunnable}
+use Rattle.ready_code.specs.run_typing.Runnable.{IsRunnable}
 use Rattle.run_values.specs.inner.Laws.{has_no_address, has_no_address_over}
 use Rattle.run_typing_laws.proofs.Declared.{each_append, each_from, holds_of_found}
 use Rattle.run_typing_laws.proofs.Opened.{fold-Int, fold-Tuple, fold-Unowned, fold-Weak}

@@ -29,7 +29,7 @@ use Rattle.type_definitions.specs.Mentions.{Mention, given_type, if_there, in_ar
 use Rattle.type_definitions.specs.Mentions.{in_result, in_signature, in_tuple}
 use Rattle.type_definitions.specs.Mentions.{direct_types, mention, result_type, standing_in, target_at, target_of, together}
 use Rattle.type_definitions.specs.Rules.{has_too_many_leaves}
-use Rattle.run_typing.specs.Runnable.{IsRunnable}
+use Rattle.ready_code.specs.run_typing.Runnable.{IsRunnable}
 use Rattle.run_values.specs.inner.Laws.{has_no_address, has_no_address_over}
 use Rattle.run_typing_laws.proofs.Declared.{each_append}
 use Rattle.run_typing_laws.proofs.Opened.{fold-Tuple}

@@ -5,7 +5,7 @@ use Rattle.std.specs.List.{range_with_len}
 use Rattle.std.proofs.lemmas.List.FromFn.{length-map-range_with_len, map-range_with_len_more}
 use Rattle.std.proofs.lemmas.List.Sums.{sum_by-append}
 use Rattle.std.proofs.lemmas.Option.{unwrap_or-slice_get}
-use Rattle.holder_model.specs.Calling.{value_count}
+use Rattle.ready_code.specs.holder_model.Calling.{value_count}
 use Rattle.sil_ast.specs.declared.function.Function.{Function}
 use Rattle.sil_ast.specs.declared.place.FuncId.{FuncId}
 use Rattle.sil_ast.specs.declared.type_name.TypeName.{TypeName}
@@ -13,7 +13,7 @@ use Rattle.sil_rules.specs.declared.limits.TheConstants.{LEAVES}
 use Rattle.sil_types.specs.Typing.Shapes.{target}
 use Rattle.sil_types.specs.Typing.Values.{function_at, type_at, value_functions, value_types}
 use Rattle.type_definitions.specs.Declarations.{Declarations}
-use Rattle.run_typing.specs.Forms.{Form, OfFunction, OfNothing, OfPlace, OfValue, form_by, form_with}
+use Rattle.ready_code.specs.run_typing.Forms.{Form, OfFunction, OfNothing, OfPlace, OfValue, form_by, form_with}
 use Rattle.ready_code.specs.Layout.{addresses_in, leaves_in}
 use Rattle.frame_layouts.specs.declared.layout.Kept.{Kept}
 use Rattle.frame_layouts.specs.declared.layout.Kept.TheVariants as kept

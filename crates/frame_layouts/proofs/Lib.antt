@@ -9,3 +9,4 @@ pub mod Spots
 pub mod StoredShapes
 pub mod Targets
 pub mod ValueSizes
+pub use Rattle.run_typing_laws.proofs as run_typing_laws

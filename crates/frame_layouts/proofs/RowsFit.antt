@@ -34,8 +34,8 @@ use Rattle.type_definitions.specs.Measures.{leaves_of}
 use Rattle.type_definitions.specs.Mentions.{given_type, mention, operand_types, target_of, together}
 use Rattle.type_definitions.specs.Rules.{is_class_type, is_misplaced_in_storage}
 use Rattle.type_definitions.specs.declared.standing.Standing.TheVariants.{Unwritten}
-use Rattle.run_typing.specs.Runnable.{IsRunnable}
-use Rattle.run_typing.specs.StorageForms.{IsNamed, unowned, weak}
+use Rattle.ready_code.specs.run_typing.Runnable.{IsRunnable}
+use Rattle.ready_code.specs.run_typing.StorageForms.{IsNamed, unowned, weak}
 use Rattle.run_values.specs.Shapes.{Shape, shape_of}
 use Rattle.run_values.specs.inner.Laws.{has_no_address, has_no_address_over}
 use Rattle.ready_code.specs.Layout.{size_of}

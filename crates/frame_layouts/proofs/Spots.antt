@@ -7,7 +7,7 @@ use Rattle.std.proofs.lemmas.Bool.{cases_lt}
 use Rattle.std.proofs.lemmas.List.{length-map}
 use Rattle.std.proofs.lemmas.List.FromFn.{get_or-map-range_with_len, length-map-range_with_len}
 use Rattle.std.proofs.lemmas.Option.{slice_get-get_or, slice_get_past}
-use Rattle.holder_model.specs.Calling.{value_count}
+use Rattle.ready_code.specs.holder_model.Calling.{value_count}
 use Rattle.sil_ast.specs.declared.function.Function.{Function}
 use Rattle.sil_ast.specs.declared.place.FuncId.{FuncId}
 use Rattle.sil_ast.specs.declared.place.ValueId.{ValueId}
@@ -16,7 +16,7 @@ use Rattle.sil_types.specs.Typing.RowTypes.{made_types}
 use Rattle.sil_types.specs.Typing.Values.{arg_has, arg_types, function_at, result_types, type_at, value_functions, value_types}
 use Rattle.type_definitions.specs.Declarations.{Declarations}
 use Rattle.value_tables.proofs.Rows.{rows_count}
-use Rattle.run_typing.specs.Forms.{Form, OfNothing, form_by, form_of}
+use Rattle.ready_code.specs.run_typing.Forms.{Form, OfNothing, form_by, form_of}
 use Rattle.ready_code.specs.Layout.{addresses_in, leaves_in, local, local_address}
 use Rattle.ready_code.specs.declared.local.Local.{Local}
 use Rattle.ready_code.specs.declared.local.LocalAddress.{LocalAddress}

@@ -3,7 +3,7 @@
 ghost use Rattle.std.specs.Prelude.{◌≡◌, IfOk, map, slice_get};
 ghost use Rattle.std.specs.Option.{option_copied};
 ghost use Rattle.item_operands.specs.Items.{arg_value};
-ghost use Rattle.run_typing.specs.EndForms.{value_in};
+ghost use Rattle.ready_code.specs.run_typing.EndForms.{value_in};
 ghost use Rattle.sil_ast.specs.declared.function.Function.{Function};
 ghost use Rattle.type_definitions.specs.Declarations.{Declarations};
 ghost use Rattle.ready_code.specs.Layout as spec;

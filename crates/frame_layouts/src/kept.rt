@@ -1,7 +1,7 @@
 //! What a frame keeps of a value, by its type.
 
 ghost use Rattle.std.specs.Prelude.{◌≡◌, option_map};
-ghost use Rattle.run_typing.specs.Forms.{form_by, form_with};
+ghost use Rattle.ready_code.specs.run_typing.Forms.{form_by, form_with};
 ghost use Rattle.run_values.specs.Shapes.{shape_of};
 ghost use Rattle.run_values.specs.Shapes as shapes;
 ghost use Rattle.sil_ast.specs.declared.type_name.TypeName.TheVariants as type;

@@ -2,11 +2,11 @@
 
 ghost use Rattle.std.specs.Prelude.{◌≡◌, ◌≤◌, IfOk, length, map};
 ghost use Rattle.sil_rules.specs.declared.limits.TheConstants.{VALUES};
-ghost use Rattle.run_typing.specs.Runnable.{IsRunnable};
+ghost use Rattle.ready_code.specs.run_typing.Runnable.{IsRunnable};
 ghost use Rattle.sil_ast.specs.declared.function.Function as function;
 ghost use Rattle.type_definitions.specs.Declarations.{declarations_of};
 ghost use Rattle.sil_types.specs.Typing.Values.{value_types};
-ghost use Rattle.holder_model.specs.Calling.{value_count};
+ghost use Rattle.ready_code.specs.holder_model.Calling.{value_count};
 ghost use Rattle.typing_values.specs.inner.Told.{types_told};
 ghost use Rattle.frame_layouts.specs.inner.Layouts as spec;
 ghost use Rattle.frame_layouts.specs.inner.Layouts.{layout_to};

@@ -1,8 +1,8 @@
 -- An object that isn't dead stays as it was where places name others, or it, less.
 use Rattle.std.proofs.Common.{◌≡◌, ℕ, zero, suc, ◌==◌, true, false, not, ◌&&◌, cond, List, [], ◌∷◌, Option, Some, None, set, refl, sym, ap, subst, ◌∙◌}
 use Rattle.std.specs.Prelude.{option_and_then, slice_get, unwrap_or}
-use Rattle.heap_model.specs.HeapCalls.{is_left, less_unowned, less_weak, unless_freed, unowned_unnamed, weakly_unnamed}
-use Rattle.heap_model.specs.HeapViews.{HeapObject, HeapView, fields_told, is_dead_in, object_in, phase_told, strong_told, unowned_in, weak_in}
+use Rattle.count_heap.specs.heap_model.HeapCalls.{is_left, less_unowned, less_weak, unless_freed, unowned_unnamed, weakly_unnamed}
+use Rattle.count_heap.specs.heap_model.HeapViews.{HeapObject, HeapView, fields_told, is_dead_in, object_in, phase_told, strong_told, unowned_in, weak_in}
 use Rattle.run_values.specs.Memory.{is_dead_phase}
 use Rattle.run_values.specs.declared.leaf.Leaf.{Leaf}
 use Rattle.sil_ast.specs.declared.decl.Storage.{Storage}

@@ -1,7 +1,7 @@
 //! The fields of an object that dies: the references that strong ones have, and the objects that weak and unowned ones name.
 
 ghost use Rattle.std.specs.Prelude.{◌≡◌, ◌-◌, ◌<◌, ◌^◌, ◌++◌, IfSome, OnOk, false, option_and_then, slice_get};
-ghost use Rattle.heap_model.specs.HeapViews.{field_in, fields_in, is_dead_in, phase_in, strong_in};
+ghost use Rattle.count_heap.specs.heap_model.HeapViews.{field_in, fields_in, is_dead_in, phase_in, strong_in};
 ghost use Rattle.leaf_windows.specs.Steps.{field_unnamed, fields_unnamed, strong_in_field, strong_in_fields};
 
 use crate::fields::field_of;

@@ -2,7 +2,7 @@
 
 ghost use Rattle.std.specs.Prelude.{◌≡◌, false};
 ghost use Rattle.std.specs.Option.{option_copied};
-ghost use Rattle.heap_model.specs.HeapViews.{field_in, is_dead_in, leaves_at};
+ghost use Rattle.count_heap.specs.heap_model.HeapViews.{field_in, is_dead_in, leaves_at};
 ghost use Rattle.leaf_windows.specs.Held.{has_room, has_size, without_field, write_field};
 
 use count_heap::Heap;

@@ -1,7 +1,7 @@
 //! Weak and unowned storage: the numbers of places that name an object.
 
 ghost use Rattle.std.specs.Prelude.{◌≡◌, None, find, OnOk, false};
-ghost use Rattle.heap_model.specs.HeapViews.{is_dead_in};
+ghost use Rattle.count_heap.specs.heap_model.HeapViews.{is_dead_in};
 ghost use Rattle.leaf_windows.specs.Naming.{leaf_named, leaf_unnamed, less_named, more_named};
 ghost use Rattle.leaf_windows.specs.Operands.{object_in_leaf};
 

@@ -1,8 +1,8 @@
 //! References that are made once more.
 
 ghost use Rattle.std.specs.Prelude.{◌≡◌, false, OnOk};
-ghost use Rattle.heap_model.specs.HeapCalls.{retained};
-ghost use Rattle.heap_model.specs.HeapViews.{is_dead_in};
+ghost use Rattle.count_heap.specs.heap_model.HeapCalls.{retained};
+ghost use Rattle.count_heap.specs.heap_model.HeapViews.{is_dead_in};
 
 use count_heap::Heap;
 use sil_ast::{Exhausted, ObjectId};

@@ -1,2 +1,3 @@
 pub mod HeapViews
 pub mod HeapCalls
+pub use Rattle.sil_types.specs as sil_types

@@ -7,7 +7,7 @@ use Rattle.std.proofs.lemmas.List.{get_or-set_other, get_or-set_same, length-set
 use Rattle.std.proofs.lemmas.Option.{slice_get_within, unwrap_or-slice_get}
 use Rattle.accepted_trails.specs.inner.Passing.{is_end}
 use Rattle.accepted_trails.proofs.Tests.{either, or_first, or_second}
-use Rattle.holder_model.specs.Frames.{Entry, Gone, Held, Lent, Plain, ended_entry, ends, entry_at, with_ok, without_ended}
+use Rattle.accepted_trails.specs.holder_model.Frames.{Entry, Gone, Held, Lent, Plain, ended_entry, ends, entry_at, with_ok, without_ended}
 use Rattle.item_operands.specs.declared.taken.Taken.{Taken}
 use Rattle.ownership_chains.specs.declared.facts.Facts.{Facts}
 use Rattle.sil_ast.specs.declared.place.ValueId.{ValueId}

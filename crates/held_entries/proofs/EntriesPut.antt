@@ -4,9 +4,9 @@ use Rattle.std.specs.Prelude.{◌==◌}
 use Rattle.std.proofs.lemmas.Bool.{cases_Bool, true≢false}
 use Rattle.std.proofs.lemmas.List.{length-set}
 use Rattle.accepted_trails.proofs.Tests.{either, first_of, or_first, or_second}
-use Rattle.holder_model.specs.Data.{Datum}
-use Rattle.holder_model.specs.Faults.{OverwritesHeld}
-use Rattle.holder_model.specs.Frames.{Entry, entry_at, is_held, made_entry, put_entry, result_put, results_put, with_ok}
+use Rattle.accepted_trails.specs.holder_model.Data.{Datum}
+use Rattle.accepted_trails.specs.holder_model.Faults.{OverwritesHeld}
+use Rattle.accepted_trails.specs.holder_model.Frames.{Entry, entry_at, is_held, made_entry, put_entry, result_put, results_put, with_ok}
 use Rattle.ownership_chains.specs.Facts.{has, known_or}
 use Rattle.ownership_chains.specs.declared.facts.Facts.{Facts}
 use Rattle.sil_ast.specs.declared.place.ValueId.{ValueId}

@@ -11,14 +11,14 @@ use Rattle.accepted_trails.proofs.BasesOpen.{begins_where_made, made_where_begun
 use Rattle.accepted_trails.proofs.LivesPassed.{lives_passed}
 use Rattle.accepted_trails.proofs.ScopesPassed.{scopes_passed}
 use Rattle.accepted_trails.proofs.Tests.{either, same_value}
-use Rattle.holder_model.specs.Data.{Datum}
-use Rattle.holder_model.specs.Frames.{Entry, Gone, Held, Lent, ends, entry_at, has_any, is_held, made_entry}
+use Rattle.accepted_trails.specs.holder_model.Data.{Datum}
+use Rattle.accepted_trails.specs.holder_model.Frames.{Entry, Gone, Held, Lent, ends, entry_at, has_any, is_held, made_entry}
 use Rattle.ownership_marks.specs.Marks.{begun}
 use Rattle.item_operands.specs.Items.{item_defined, item_taken}
 use Rattle.item_operands.specs.declared.taken.Taken.{Taken}
 use Rattle.ownership_chains.specs.Facts.{has, is_guaranteed, is_owned, known_or}
 use Rattle.ownership_chains.specs.declared.facts.Facts.{Facts}
-use Rattle.ownership_kinds.specs.Facts.{facts_in}
+use Rattle.accepted_trails.specs.ownership_kinds.Facts.{facts_in}
 use Rattle.sil_ast.specs.declared.function.Function.{Function}
 use Rattle.sil_ast.specs.declared.place.ValueId.{ValueId}
 use Rattle.sil_cfg.specs.declared.item.Item.{Item}

@@ -20,3 +20,7 @@ pub mod inner
 pub use Rattle.memory_accesses.specs.Operations
 pub use Rattle.memory_accesses.specs.declared.access.Operation
 pub use Rattle.memory_accesses.specs.Typing
+pub use Rattle.memory_accesses.specs.sil_types as sil_types
+pub use Rattle.memory_accesses.specs as memory_accesses
+pub use Rattle.ownership_kinds.specs as ownership_kinds
+pub use Rattle.ownership_kinds.specs.ownership_origins as ownership_origins

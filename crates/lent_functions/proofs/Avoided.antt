@@ -19,12 +19,12 @@ use Rattle.ownership_chains.specs.Facts.{origin_at}
 use Rattle.ownership_chains.specs.declared.definition.Definition.{Definition}
 use Rattle.ownership_chains.specs.declared.definition.Origin.{Origin}
 use Rattle.ownership_chains.specs.declared.definition.Origin.TheVariants as origin
-use Rattle.ownership_origins.specs.Origins.{arg_definition, arg_definition_by, arg_definitions, chain_operands, definitions_of, is_trivial_or_untyped, is_zero}
-use Rattle.ownership_origins.specs.Origins.{result_definition, result_definitions, result_origin}
-use Rattle.ownership_origins.specs.Switched.{edge_to, switch_to, switched_by, switches_by, switches_from}
-use Rattle.ownership_origins.specs.declared.switched.Switched.{Switched}
+use Rattle.copy_removal.specs.ownership_origins.Origins.{arg_definition, arg_definition_by, arg_definitions, chain_operands, definitions_of, is_trivial_or_untyped, is_zero}
+use Rattle.copy_removal.specs.ownership_origins.Origins.{result_definition, result_definitions, result_origin}
+use Rattle.copy_removal.specs.ownership_origins.Switched.{edge_to, switch_to, switched_by, switches_by, switches_from}
+use Rattle.copy_removal.specs.ownership_origins.declared.switched.Switched.{Switched}
 use Rattle.point_checks.specs.Points.{IsAt}
-use Rattle.run_typing_laws.proofs.Rows.Tables.{row_at}
+use Rattle.accepted_values.proofs.run_typing_laws.Rows.Tables.{row_at}
 use Rattle.sil_ast.specs.declared.function.ArgKind.{ArgKind}
 use Rattle.sil_ast.specs.declared.function.ArgKind.TheVariants as annotation
 use Rattle.sil_ast.specs.declared.function.Block.{Block}
@@ -35,7 +35,7 @@ use Rattle.sil_ast.specs.declared.inst.Inst.{Inst}
 use Rattle.sil_ast.specs.declared.operands.Operand.{Operand}
 use Rattle.sil_ast.specs.declared.place.PointId.{PointId}
 use Rattle.sil_ast.specs.declared.place.ValueId.{ValueId}
-use Rattle.sil_types.specs.Typing.RowTypes.{made_types}
+use Rattle.copy_removal.specs.sil_types.Typing.RowTypes.{made_types}
 use Rattle.type_definitions.specs.Declarations.{Declarations}
 use Rattle.type_definitions.specs.Measures.{is_trivial}
 use Rattle.value_tables.specs.FirstValue.{first_value, value_of}

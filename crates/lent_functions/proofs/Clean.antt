@@ -10,7 +10,7 @@ use Rattle.accepted_values.proofs.Suited.{results_of_kinds}
 use Rattle.accepted_values.proofs.TableRows.{result_rows}
 use Rattle.accepted_values.specs.inner.Known.{IsAcceptedBody, facts_at, kind_at, type_in}
 use Rattle.accepted_values.specs.inner.Operands.{kind_by_row, kind_of_result, kind_together}
-use Rattle.borrow_scopes.specs.Others.{other_of}
+use Rattle.copy_removal.specs.borrow_scopes.Others.{other_of}
 use Rattle.copy_removal.specs.Copies.{IsCopy}
 use Rattle.copy_removal.specs.Optimised.{facts_of}
 use Rattle.copy_removal.specs.Removable.{IsBorrowable}
@@ -18,17 +18,17 @@ use Rattle.copy_removal.specs.Rewritten.{lent}
 use Rattle.instruction_table.specs.Forms.{result_kind_of, results_of}
 use Rattle.instruction_table.specs.declared.op.Op.TheVariants as op
 use Rattle.item_operands.specs.Parts.{inst_at, inst_in}
-use Rattle.lifetime_worklist.specs.Lives.{lives_of}
-use Rattle.borrow_scopes.specs.Scopes.{scopes_of}
-use Rattle.lowering_laws.proofs.Rings.{defined_somewhere}
+use Rattle.accepted_values.specs.lifetime_worklist.Lives.{lives_of}
+use Rattle.copy_removal.specs.borrow_scopes.Scopes.{scopes_of}
+use Rattle.accepted_values.proofs.lowering_laws.Rings.{defined_somewhere}
 use Rattle.numbered_form.specs.Numbering.{values_of}
 use Rattle.ownership_chains.specs.Facts.{value_of}
-use Rattle.ownership_kinds.specs.Facts.{facts_in}
-use Rattle.ownership_origins.specs.Origins.{is_trivial_or_untyped}
+use Rattle.copy_removal.specs.ownership_kinds.Facts.{facts_in}
+use Rattle.copy_removal.specs.ownership_origins.Origins.{is_trivial_or_untyped}
 use Rattle.path_checks.specs.Entries.{marks_for, means}
 use Rattle.point_checks.specs.Points.{IsAt}
-use Rattle.run_typing_laws.proofs.Rows.Finding.{where_found}
-use Rattle.run_typing_laws.proofs.Rows.Shares.{given_one}
+use Rattle.accepted_values.proofs.run_typing_laws.Rows.Finding.{where_found}
+use Rattle.accepted_values.proofs.run_typing_laws.Rows.Shares.{given_one}
 use Rattle.sil_ast.specs.declared.function.Block.{Block}
 use Rattle.sil_ast.specs.declared.function.Function.{Function}
 use Rattle.sil_ast.specs.declared.inst.Inst.{Inst}
@@ -36,13 +36,13 @@ use Rattle.sil_ast.specs.declared.module.Module.{Module}
 use Rattle.sil_ast.specs.declared.place.PointId.{PointId}
 use Rattle.sil_ast.specs.declared.place.ValueId.{ValueId}
 use Rattle.sil_ast.specs.declared.type_name.TypeName.{TypeName}
-use Rattle.sil_types.specs.Typing.ResultCounts.{is_count_by}
-use Rattle.sil_types.specs.Typing.RowTypes.{gives, given_by, keeps_row, row_types, written}
-use Rattle.sil_types.specs.Typing.Shapes.{is_nontrivial, is_object, where_it}
-use Rattle.sil_verifier.specs.Shown.{lives_in, scopes_in}
-use Rattle.sil_verifier.specs.Shown.IsShownIn.{life, scope, undefined}
-use Rattle.sil_verifier.specs.Values.{IsCleanIn}
-use Rattle.sil_verifier.specs.inner.Checked.{IsVerified}
+use Rattle.copy_removal.specs.sil_types.Typing.ResultCounts.{is_count_by}
+use Rattle.copy_removal.specs.sil_types.Typing.RowTypes.{gives, given_by, keeps_row, row_types, written}
+use Rattle.copy_removal.specs.sil_types.Typing.Shapes.{is_nontrivial, is_object, where_it}
+use Rattle.accepted_values.specs.sil_verifier.Shown.{lives_in, scopes_in}
+use Rattle.accepted_values.specs.sil_verifier.Shown.IsShownIn.{life, scope, undefined}
+use Rattle.accepted_values.specs.sil_verifier.Values.{IsCleanIn}
+use Rattle.accepted_values.specs.sil_verifier.inner.Checked.{IsVerified}
 use Rattle.type_definitions.specs.Declarations.{Declarations, declarations_of}
 use Rattle.type_definitions.specs.Measures.{is_trivial}
 use Rattle.type_definitions.specs.declared.kind.Kind.TheVariants as kind

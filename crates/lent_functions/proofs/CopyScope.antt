@@ -5,15 +5,15 @@ use Rattle.std.specs.List.{cons_option, flat_map, range_with_len}
 use Rattle.std.proofs.lemmas.Grind.{flat_map-append}
 use Rattle.std.proofs.lemmas.List.{append-nil}
 use Rattle.std.proofs.lemmas.List.Elements.{filter_map-append}
-use Rattle.borrow_scopes.specs.Scopes as scopes
-use Rattle.borrow_scopes.specs.Scopes.{is_scope, lent_bases, lost_at_end, lost_entries, lost_from, lost_with, mark_entries, scope_entries, scopes_of}
-use Rattle.borrow_scopes.specs.inner.Runs.{sort_for, sort_of}
-use Rattle.lifetime_worklist.specs.Lives as lives
-use Rattle.lifetime_worklist.specs.Lives.{lives_by, lives_of}
+use Rattle.copy_removal.specs.borrow_scopes.Scopes as scopes
+use Rattle.copy_removal.specs.borrow_scopes.Scopes.{is_scope, lent_bases, lost_at_end, lost_entries, lost_from, lost_with, mark_entries, scope_entries, scopes_of}
+use Rattle.copy_removal.specs.borrow_scopes.inner.Runs.{sort_for, sort_of}
+use Rattle.accepted_values.specs.lifetime_worklist.Lives as lives
+use Rattle.accepted_values.specs.lifetime_worklist.Lives.{lives_by, lives_of}
 use Rattle.numbered_form.specs.Lists.{Each}
 use Rattle.ownership_chains.specs.Facts.{has, is_guaranteed, is_owned, value_of}
 use Rattle.ownership_chains.specs.declared.facts.Facts.{Facts}
-use Rattle.ownership_kinds.specs.Facts.{facts_in}
+use Rattle.copy_removal.specs.ownership_kinds.Facts.{facts_in}
 use Rattle.ownership_marks.specs.Marks.{marks_of}
 use Rattle.ownership_marks.specs.declared.mark.Mark as own
 use Rattle.ownership_marks.specs.declared.mark.MarkSort.{MarkSort}

@@ -18,14 +18,14 @@ use Rattle.numbered_form.specs.Lists.{Each, is_empty}
 use Rattle.numbered_form.specs.Numbering.{values_of}
 use Rattle.numbered_form.specs.inner.Parts.{has_edges, has_operands}
 use Rattle.ownership_chains.specs.Chains.{Chain, IsCyclic, more, one}
-use Rattle.ownership_kinds.specs.Facts.{kind_in, kind_of_facts}
-use Rattle.ownership_kinds.specs.Statics.{HasKinds, IsDefinedAt, IsOnRing, all_taken, forwards, forwards_by, is_annotated_well, is_lacking_default, is_mismatch, is_owned, is_guaranteed}
-use Rattle.ownership_kinds.specs.Statics.{lacks_argument, lacks_by, mixed_among, mixed_operand, needs_argument, no_arguments}
-use Rattle.ownership_kinds.specs.Statics.IsBroken.{annotated, lacking, mismatch, mixed, on_ring}
-use Rattle.ownership_kinds.specs.Statics.IsDefinedAt.{argument, result}
-use Rattle.ownership_origins.specs.Origins.{definitions_of}
-use Rattle.ownership_origins.specs.Switched.{switch_to}
-use Rattle.ownership_origins.specs.declared.switched.Switched.{Switched}
+use Rattle.copy_removal.specs.ownership_kinds.Facts.{kind_in, kind_of_facts}
+use Rattle.copy_removal.specs.ownership_kinds.Statics.{HasKinds, IsDefinedAt, IsOnRing, all_taken, forwards, forwards_by, is_annotated_well, is_lacking_default, is_mismatch, is_owned, is_guaranteed}
+use Rattle.copy_removal.specs.ownership_kinds.Statics.{lacks_argument, lacks_by, mixed_among, mixed_operand, needs_argument, no_arguments}
+use Rattle.copy_removal.specs.ownership_kinds.Statics.IsBroken.{annotated, lacking, mismatch, mixed, on_ring}
+use Rattle.copy_removal.specs.ownership_kinds.Statics.IsDefinedAt.{argument, result}
+use Rattle.copy_removal.specs.ownership_origins.Origins.{definitions_of}
+use Rattle.copy_removal.specs.ownership_origins.Switched.{switch_to}
+use Rattle.copy_removal.specs.ownership_origins.declared.switched.Switched.{Switched}
 use Rattle.point_checks.specs.Points.{IsAt}
 use Rattle.sil_ast.specs.declared.function.ArgKind.{ArgKind}
 use Rattle.sil_ast.specs.declared.function.Block.{Block}

@@ -14,3 +14,6 @@ pub mod Kept
 pub mod Tables
 pub mod CopyScope
 pub mod Clean
+pub use Rattle.accepted_values.proofs.run_typing_laws as run_typing_laws
+pub use Rattle.accepted_values.proofs.lowering_laws as lowering_laws
+pub use Rattle.accepted_values.proofs as accepted_values

@@ -17,8 +17,8 @@ use Rattle.numbered_form.specs.Lists.{Each}
 use Rattle.numbered_form.specs.inner.Parts.{has_operands, is_typed}
 use Rattle.ownership_chains.specs.Facts.{facts_with}
 use Rattle.ownership_chains.specs.declared.facts.Facts.{Facts}
-use Rattle.ownership_kinds.specs.Facts.{facts_in}
-use Rattle.ownership_kinds.specs.Statics.{all_taken}
+use Rattle.copy_removal.specs.ownership_kinds.Facts.{facts_in}
+use Rattle.copy_removal.specs.ownership_kinds.Statics.{all_taken}
 use Rattle.ownership_marks.specs.Marks.{begin_of, begun, begun_with, ended, ended_by, ended_with, marks_of, use_of, used, used_by, used_with}
 use Rattle.point_checks.specs.Points.{IsAt}
 use Rattle.sil_ast.specs.declared.function.Block.{Block}

@@ -9,9 +9,9 @@ use Rattle.numbered_form.specs.inner.Parts.{HasItsParts, IsInside, IsTerminator}
 use Rattle.ownership_chains.specs.Chains.{IsInRange}
 use Rattle.ownership_chains.specs.Facts.{AreFactsOf, facts_with}
 use Rattle.ownership_chains.specs.declared.facts.Facts.{Facts}
-use Rattle.ownership_kinds.specs.Facts.{facts_in}
-use Rattle.ownership_kinds.specs.Statics.{HasKinds, IsDefinedAt}
-use Rattle.ownership_origins.specs.Origins.{definitions_of}
+use Rattle.copy_removal.specs.ownership_kinds.Facts.{facts_in}
+use Rattle.copy_removal.specs.ownership_kinds.Statics.{HasKinds, IsDefinedAt}
+use Rattle.copy_removal.specs.ownership_origins.Origins.{definitions_of}
 use Rattle.point_checks.specs.Points.{IsAt}
 use Rattle.sil_ast.specs.declared.function.Function.{Function}
 use Rattle.sil_ast.specs.declared.inst.Inst.{Inst}

@@ -19,8 +19,8 @@ use Rattle.numbered_form.specs.Lists.{Each}
 use Rattle.numbered_form.specs.inner.Parts.{are_edges_by}
 use Rattle.ownership_chains.specs.Facts.{facts_with}
 use Rattle.ownership_chains.specs.declared.facts.Facts.{Facts}
-use Rattle.ownership_kinds.specs.Facts.{facts_in, kind_in, kind_of_facts}
-use Rattle.ownership_kinds.specs.Statics.{all_taken, is_mismatch, mismatch}
+use Rattle.copy_removal.specs.ownership_kinds.Facts.{facts_in, kind_in, kind_of_facts}
+use Rattle.copy_removal.specs.ownership_kinds.Statics.{all_taken, is_mismatch, mismatch}
 use Rattle.ownership_marks.specs.Marks.{begun, ended, ended_with, ends_owned, marks_of, used}
 use Rattle.ownership_marks.specs.declared.mark.Mark.{Mark}
 use Rattle.ownership_marks.specs.declared.mark.MarkSort.TheVariants.{End}

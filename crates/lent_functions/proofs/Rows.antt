@@ -9,9 +9,9 @@ use Rattle.instruction_table.specs.declared.op.Op.TheVariants as op
 use Rattle.numbered_form.specs.Insts.{insts_of}
 use Rattle.ownership_chains.specs.Chains.{operands_at}
 use Rattle.ownership_chains.specs.declared.definition.Definition.{Definition}
-use Rattle.ownership_origins.specs.Origins.{arg_definition, arg_definitions, chain_operands, definitions_of, is_zero, result_definition, result_definitions}
-use Rattle.ownership_origins.specs.Renamings.{arg_renaming, renamed, renames, renamings_of, result_renamings}
-use Rattle.ownership_origins.specs.Switched.{switch_to, switches_from}
+use Rattle.copy_removal.specs.ownership_origins.Origins.{arg_definition, arg_definitions, chain_operands, definitions_of, is_zero, result_definition, result_definitions}
+use Rattle.copy_removal.specs.ownership_origins.Renamings.{arg_renaming, renamed, renames, renamings_of, result_renamings}
+use Rattle.copy_removal.specs.ownership_origins.Switched.{switch_to, switches_from}
 use Rattle.sil_ast.specs.declared.function.Block.{Block}
 use Rattle.sil_ast.specs.declared.function.BlockArg.{BlockArg}
 use Rattle.sil_ast.specs.declared.function.Function.{Function}

@@ -4,13 +4,13 @@ use Rattle.std.specs.Prelude.{◌==◌, ◌&&◌, cond, filter_map, unwrap_or}
 use Rattle.std.specs.List.{cons_option, flat_map, range_with_len}
 use Rattle.std.proofs.lemmas.Bool.{eqb-true}
 use Rattle.std.proofs.lemmas.List.Elements.{filter_map-append}
-use Rattle.borrow_scopes.specs.Scopes as scopes
-use Rattle.borrow_scopes.specs.Scopes.{bases_in, is_scope, lent_bases, lost_at_end, lost_entries, lost_from, lost_with, mark_entries, scope_entries, scopes_of}
-use Rattle.lifetime_worklist.specs.Lives as lives
-use Rattle.lifetime_worklist.specs.Lives.{lives_by, lives_of}
+use Rattle.copy_removal.specs.borrow_scopes.Scopes as scopes
+use Rattle.copy_removal.specs.borrow_scopes.Scopes.{bases_in, is_scope, lent_bases, lost_at_end, lost_entries, lost_from, lost_with, mark_entries, scope_entries, scopes_of}
+use Rattle.accepted_values.specs.lifetime_worklist.Lives as lives
+use Rattle.accepted_values.specs.lifetime_worklist.Lives.{lives_by, lives_of}
 use Rattle.ownership_chains.specs.Facts.{facts_with, has, is_guaranteed, is_owned, known_or, value_of}
 use Rattle.ownership_chains.specs.declared.facts.Facts.{Facts}
-use Rattle.ownership_kinds.specs.Facts.{facts_in}
+use Rattle.copy_removal.specs.ownership_kinds.Facts.{facts_in}
 use Rattle.ownership_marks.specs.Marks.{marks_of}
 use Rattle.ownership_marks.specs.declared.mark.Mark.{Mark}
 use Rattle.ownership_marks.specs.declared.mark.MarkSort.{MarkSort}

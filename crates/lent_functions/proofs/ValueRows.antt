@@ -18,21 +18,21 @@ use Rattle.ownership_chains.specs.Facts.{AreFactsOf, facts_with, has, origin_at,
 use Rattle.ownership_chains.specs.declared.definition.Definition.{Definition}
 use Rattle.ownership_chains.specs.declared.definition.Origin.TheVariants as origin
 use Rattle.ownership_chains.specs.declared.facts.Facts.{Facts}
-use Rattle.ownership_kinds.specs.Facts.{facts_in}
-use Rattle.ownership_kinds.specs.Statics.{IsDefinedAt, argument, result}
-use Rattle.ownership_origins.proofs.Counts.{are_of_values}
-use Rattle.ownership_origins.specs.Origins.{arg_definition, arg_definitions, defined, definitions_of, is_trivial_or_untyped, is_zero}
-use Rattle.ownership_origins.specs.Origins.{result_definition, result_definition_by, result_definitions, unless_trivial}
-use Rattle.ownership_origins.specs.Switched.{switch_to}
+use Rattle.copy_removal.specs.ownership_kinds.Facts.{facts_in}
+use Rattle.copy_removal.specs.ownership_kinds.Statics.{IsDefinedAt, argument, result}
+use Rattle.copy_removal.proofs.ownership_origins.Counts.{are_of_values}
+use Rattle.copy_removal.specs.ownership_origins.Origins.{arg_definition, arg_definitions, defined, definitions_of, is_trivial_or_untyped, is_zero}
+use Rattle.copy_removal.specs.ownership_origins.Origins.{result_definition, result_definition_by, result_definitions, unless_trivial}
+use Rattle.copy_removal.specs.ownership_origins.Switched.{switch_to}
 use Rattle.point_checks.specs.Points.{IsAt}
-use Rattle.run_typing_laws.proofs.Rows.Tables.{row_at, told_of_args, told_of_results}
+use Rattle.accepted_values.proofs.run_typing_laws.Rows.Tables.{row_at, told_of_args, told_of_results}
 use Rattle.sil_ast.specs.declared.function.Block.{Block}
 use Rattle.sil_ast.specs.declared.function.BlockArg.{BlockArg}
 use Rattle.sil_ast.specs.declared.function.Function.{Function}
 use Rattle.sil_ast.specs.declared.inst.Inst.{Inst}
 use Rattle.sil_ast.specs.declared.place.PointId.{PointId}
 use Rattle.sil_ast.specs.declared.place.ValueId.{ValueId}
-use Rattle.sil_types.specs.Typing.RowTypes.{given_by, made_types}
+use Rattle.copy_removal.specs.sil_types.Typing.RowTypes.{given_by, made_types}
 use Rattle.type_definitions.specs.Declarations.{Declarations}
 use Rattle.type_definitions.specs.declared.kind.Kind.TheVariants as kind
 use Rattle.value_tables.specs.Borrows.{arg_borrows, borrow_at, borrow_by, borrow_in, borrows_of, result_borrows}

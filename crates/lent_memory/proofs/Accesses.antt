@@ -3,12 +3,12 @@ use Rattle.std.proofs.Common.{◌≡◌, List, [], ◌++◌, map, refl, sym, ap,
 use Rattle.std.specs.Prelude.{flat_map, option_map}
 use Rattle.item_operands.specs.Items.{item_defined, item_taken, taken_along_in, taken_in}
 use Rattle.item_operands.specs.Parts.{inst_at, item_inst}
-use Rattle.memory_accesses.specs.Accesses.{accesses_of, begun, deallocations_of, does_of, ended, made, mentions_of}
-use Rattle.memory_accesses.specs.Operations.{addresses_of, deallocates}
-use Rattle.memory_accesses.specs.Sources.{sources_of}
-use Rattle.memory_accesses.specs.declared.access.Access.{Access}
-use Rattle.memory_accesses.specs.declared.access.Access.TheVariants.{Deallocates, Does}
-use Rattle.ownership_kinds.specs.Facts.{facts_in}
+use Rattle.accepted_memory.specs.memory_accesses.Accesses.{accesses_of, begun, deallocations_of, does_of, ended, made, mentions_of}
+use Rattle.accepted_memory.specs.memory_accesses.Operations.{addresses_of, deallocates}
+use Rattle.accepted_memory.specs.memory_accesses.Sources.{sources_of}
+use Rattle.accepted_memory.specs.memory_accesses.declared.access.Access.{Access}
+use Rattle.accepted_memory.specs.memory_accesses.declared.access.Access.TheVariants.{Deallocates, Does}
+use Rattle.accepted_memory.specs.ownership_kinds.Facts.{facts_in}
 use Rattle.ownership_marks.specs.Marks.{marks_of}
 use Rattle.ownership_marks.specs.declared.mark.Mark.{Mark}
 use Rattle.sil_ast.specs.declared.function.Function.{Function}
@@ -19,7 +19,7 @@ use Rattle.sil_cfg.specs.Items.{IsItem}
 use Rattle.sil_cfg.specs.declared.item.Item.{Item}
 use Rattle.sil_cfg.specs.declared.item.Item.TheVariants.{Edge, Entry, Exit, Inst}
 use Rattle.type_definitions.specs.Declarations.{Declarations}
-use Rattle.copy_removal.specs.Rewritten.{lent, lent_inst}
+use Rattle.lent_functions.specs.copy_removal.Rewritten.{lent, lent_inst}
 use Rattle.lent_functions.proofs.Parts.{defined_lent, edge_lent, inst_at_lent, terminator_lent}
 use Rattle.lent_memory.proofs.Becoming.{HasOperands, alike_append, alike_equal, lent_alike, made_alike}
 use Rattle.lent_memory.proofs.Means.{AreAlike}

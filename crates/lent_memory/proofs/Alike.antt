@@ -1,9 +1,9 @@
 -- What a function and the one where a copy is lent have in common, to memory.
 use Rattle.std.proofs.Common.{◌≡◌}
-use Rattle.memory_accesses.specs.Accesses.{accesses_of}
-use Rattle.memory_accesses.specs.Sources.{sources_of}
+use Rattle.accepted_memory.specs.memory_accesses.Accesses.{accesses_of}
+use Rattle.accepted_memory.specs.memory_accesses.Sources.{sources_of}
 use Rattle.ownership_chains.specs.Facts.{known_or}
-use Rattle.ownership_kinds.specs.Facts.{facts_in}
+use Rattle.accepted_memory.specs.ownership_kinds.Facts.{facts_in}
 use Rattle.sil_ast.specs.declared.function.Function.{Function}
 use Rattle.sil_ast.specs.declared.place.ValueId.{ValueId}
 use Rattle.sil_cfg.specs.Items.{IsItem, flow_of}

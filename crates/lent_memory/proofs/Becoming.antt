@@ -7,16 +7,16 @@ use Rattle.instruction_table.specs.declared.entries.Role.TheVariants as role
 use Rattle.instruction_table.specs.declared.op.Op.{Op}
 use Rattle.instruction_table.specs.declared.op.Op.TheVariants as op
 use Rattle.item_operands.specs.Roles.{by_row, conventions_in, roles_for, taken_as, taken_by, taken_each}
-use Rattle.memory_accesses.specs.Accesses.{allowance_of, made, made_by, mentioned, mentions_of}
-use Rattle.memory_accesses.specs.Operations.{access_kind_of, addresses_of, deallocates, deallocates_by, operated_at, operations_of}
-use Rattle.memory_accesses.specs.declared.access.Access.{Access}
-use Rattle.memory_accesses.specs.declared.access.Access.TheVariants.{Mentions}
-use Rattle.memory_accesses.specs.declared.columns.Allowance.TheVariants.{BuildingBorrow, FreshObject, NeitherOfThem}
-use Rattle.memory_accesses.specs.declared.source.Source.{Source}
+use Rattle.accepted_memory.specs.memory_accesses.Accesses.{allowance_of, made, made_by, mentioned, mentions_of}
+use Rattle.accepted_memory.specs.memory_accesses.Operations.{access_kind_of, addresses_of, deallocates, deallocates_by, operated_at, operations_of}
+use Rattle.accepted_memory.specs.memory_accesses.declared.access.Access.{Access}
+use Rattle.accepted_memory.specs.memory_accesses.declared.access.Access.TheVariants.{Mentions}
+use Rattle.accepted_memory.specs.memory_accesses.declared.columns.Allowance.TheVariants.{BuildingBorrow, FreshObject, NeitherOfThem}
+use Rattle.accepted_memory.specs.memory_accesses.declared.source.Source.{Source}
 use Rattle.sil_ast.specs.declared.inst.Inst.{Inst}
 use Rattle.sil_ast.specs.declared.operands.Operand.{Operand}
 use Rattle.sil_ast.specs.declared.place.ValueId.{ValueId}
-use Rattle.copy_removal.specs.Rewritten.{lent_inst, makes, takes, with_op}
+use Rattle.lent_functions.specs.copy_removal.Rewritten.{lent_inst, makes, takes, with_op}
 use Rattle.lent_functions.proofs.Insts.{Becomes, becomes, borrows, ends, stays}
 use Rattle.lent_memory.proofs.Means.{AreAlike, copied, destroyed, same}
 use Rattle.lent_memory.proofs.Sources.{AreLentSources, told_alike}

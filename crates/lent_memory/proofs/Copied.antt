@@ -10,10 +10,10 @@ use Rattle.instruction_table.specs.declared.entries.Role.TheVariants as role
 use Rattle.item_operands.specs.Items.{item_taken, taken_in}
 use Rattle.item_operands.specs.Parts.{inst_at}
 use Rattle.item_operands.specs.Roles.{by_row, taken_as}
-use Rattle.memory_accesses.specs.Sources.{result_source, source_at, sources_of}
+use Rattle.accepted_memory.specs.memory_accesses.Sources.{result_source, source_at, sources_of}
 use Rattle.ownership_chains.specs.Facts.{facts_with}
-use Rattle.ownership_kinds.specs.Facts.{facts_in}
-use Rattle.ownership_origins.specs.Origins.{is_trivial_or_untyped}
+use Rattle.accepted_memory.specs.ownership_kinds.Facts.{facts_in}
+use Rattle.accepted_memory.specs.ownership_origins.Origins.{is_trivial_or_untyped}
 use Rattle.point_checks.specs.Points.{IsAt}
 use Rattle.sil_ast.specs.declared.function.Function.{Function}
 use Rattle.sil_ast.specs.declared.inst.Inst as inst
@@ -22,26 +22,26 @@ use Rattle.sil_ast.specs.declared.place.PointId.{PointId}
 use Rattle.sil_ast.specs.declared.place.ValueId.{ValueId}
 use Rattle.sil_ast.specs.declared.type_name.TypeName.{TypeName}
 use Rattle.sil_cfg.specs.declared.item.Item.TheVariants.{Inst}
-use Rattle.sil_types.specs.Typing.OperandTypes.{are_as_written, is_as_written, is_as_written_by}
-use Rattle.sil_types.specs.Typing.RowTypes.{MadeTypes, gives, given_by, type_of, written}
-use Rattle.sil_types.specs.Typing.Same.{is_same_type}
-use Rattle.sil_types.specs.Typing.Shapes.{is_nontrivial, is_object, where_it}
-use Rattle.sil_types.specs.Typing.Values.{type_of_value, value_types}
+use Rattle.accepted_memory.specs.sil_types.Typing.OperandTypes.{are_as_written, is_as_written, is_as_written_by}
+use Rattle.accepted_memory.specs.sil_types.Typing.RowTypes.{MadeTypes, gives, given_by, type_of, written}
+use Rattle.accepted_memory.specs.sil_types.Typing.Same.{is_same_type}
+use Rattle.accepted_memory.specs.sil_types.Typing.Shapes.{is_nontrivial, is_object, where_it}
+use Rattle.accepted_memory.specs.sil_types.Typing.Values.{type_of_value, value_types}
 use Rattle.type_definitions.specs.Declarations.{Declarations, declarations_of}
 use Rattle.type_definitions.specs.Measures.{is_trivial}
 use Rattle.type_definitions.specs.declared.kind.Kind.TheVariants as kind
-use Rattle.run_typing_laws.proofs.Rows.Finding.{passed, where_found}
-use Rattle.run_typing_laws.proofs.Rows.Known.{Known, known}
-use Rattle.run_typing_laws.proofs.Rows.Shares.{given_one}
-use Rattle.run_typing_laws.proofs.ShapeFacts.{same_types}
-use Rattle.accepted_values.specs.inner.Known.{IsAcceptedBody, kind_at, type_in}
-use Rattle.accepted_values.specs.inner.Operands.{kind_by_row, kind_together}
-use Rattle.accepted_values.specs.inner.Rows.{IsResult}
-use Rattle.accepted_values.proofs.Accepted.{typed, well_typed}
-use Rattle.accepted_values.proofs.Based.{owned_own_bases}
-use Rattle.accepted_values.proofs.Suited.{results_of_kinds}
-use Rattle.accepted_values.proofs.TableRows.{result_rows}
-use Rattle.copy_removal.specs.Copies.{IsCopy}
+use Rattle.lent_functions.proofs.run_typing_laws.Rows.Finding.{passed, where_found}
+use Rattle.lent_functions.proofs.run_typing_laws.Rows.Known.{Known, known}
+use Rattle.lent_functions.proofs.run_typing_laws.Rows.Shares.{given_one}
+use Rattle.lent_functions.proofs.run_typing_laws.ShapeFacts.{same_types}
+use Rattle.lent_functions.specs.accepted_values.inner.Known.{IsAcceptedBody, kind_at, type_in}
+use Rattle.lent_functions.specs.accepted_values.inner.Operands.{kind_by_row, kind_together}
+use Rattle.lent_functions.specs.accepted_values.inner.Rows.{IsResult}
+use Rattle.lent_functions.proofs.accepted_values.Accepted.{typed, well_typed}
+use Rattle.lent_functions.proofs.accepted_values.Based.{owned_own_bases}
+use Rattle.lent_functions.proofs.accepted_values.Suited.{results_of_kinds}
+use Rattle.lent_functions.proofs.accepted_values.TableRows.{result_rows}
+use Rattle.lent_functions.specs.copy_removal.Copies.{IsCopy}
 use Rattle.lent_functions.proofs.Insts.{op_is}
 use Rattle.lent_memory.proofs.Becoming.{taken_one}
 

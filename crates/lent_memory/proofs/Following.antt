@@ -7,10 +7,10 @@ use Rattle.std.proofs.lemmas.List.{append-nil}
 use Rattle.std.proofs.lemmas.Option.{same_Some}
 use Rattle.item_operands.specs.Items.{item_defined, item_taken}
 use Rattle.item_operands.specs.declared.taken.Taken.{Taken}
-use Rattle.memory_accesses.specs.Sources.{sources_of}
-use Rattle.memory_parts.specs.Shown.{marks_of_access, part_marks}
-use Rattle.memory_parts.specs.declared.part.Part.TheVariants.{Building}
-use Rattle.ownership_kinds.specs.Facts.{facts_in}
+use Rattle.accepted_memory.specs.memory_accesses.Sources.{sources_of}
+use Rattle.accepted_memory.specs.memory_parts.Shown.{marks_of_access, part_marks}
+use Rattle.accepted_memory.specs.memory_parts.declared.part.Part.TheVariants.{Building}
+use Rattle.accepted_memory.specs.ownership_kinds.Facts.{facts_in}
 use Rattle.ownership_marks.specs.Marks.{marks_of}
 use Rattle.path_patterns.specs.declared.mark.Mark.{Mark}
 use Rattle.sil_ast.specs.declared.function.Function.{Function}
@@ -19,17 +19,17 @@ use Rattle.sil_cfg.specs.Items.{IsItem}
 use Rattle.sil_cfg.specs.Returns.{is_return}
 use Rattle.sil_cfg.specs.declared.item.Item.{Item}
 use Rattle.type_definitions.specs.Declarations.{Declarations}
-use Rattle.run_trails.specs.inner.RunTrails.{IsTurnedTrail}
-use Rattle.run_trails.specs.inner.Switched.{IsFollowed, switched, switched_over}
-use Rattle.run_trails.proofs.SwitchedTrails.{followed_turned}
-use Rattle.run_trails.proofs.TurnedTrails.{turned_item, turned_older}
-use Rattle.accepted_trails.specs.inner.Accepted.{IsAcceptedIn}
-use Rattle.accepted_trails.specs.inner.Defined.{makes}
-use Rattle.accepted_trails.specs.inner.Lives.{IsOwnedIn, is_held}
-use Rattle.accepted_trails.specs.inner.Passing.{IsPassed, behind, is_begin, is_end, is_use, left_by}
-use Rattle.accepted_trails.proofs.BasesOpen.{begins_where_made, made_where_begun, owned_begins}
-use Rattle.accepted_trails.proofs.LivesPassed.{lives_passed}
-use Rattle.accepted_trails.proofs.Tests.{first_of, or_right, or_second}
+use Rattle.accepted_memory.specs.run_trails.inner.RunTrails.{IsTurnedTrail}
+use Rattle.accepted_memory.specs.run_trails.inner.Switched.{IsFollowed, switched, switched_over}
+use Rattle.accepted_memory.proofs.run_trails.SwitchedTrails.{followed_turned}
+use Rattle.accepted_memory.proofs.run_trails.TurnedTrails.{turned_item, turned_older}
+use Rattle.accepted_memory.specs.accepted_trails.inner.Accepted.{IsAcceptedIn}
+use Rattle.accepted_memory.specs.accepted_trails.inner.Defined.{makes}
+use Rattle.accepted_memory.specs.accepted_trails.inner.Lives.{IsOwnedIn, is_held}
+use Rattle.accepted_memory.specs.accepted_trails.inner.Passing.{IsPassed, behind, is_begin, is_end, is_use, left_by}
+use Rattle.accepted_memory.proofs.accepted_trails.BasesOpen.{begins_where_made, made_where_begun, owned_begins}
+use Rattle.accepted_memory.proofs.accepted_trails.LivesPassed.{lives_passed}
+use Rattle.accepted_memory.proofs.accepted_trails.Tests.{first_of, or_right, or_second}
 use Rattle.accepted_memory.specs.inner.PartTrails.{IsPartOf, accesses_in}
 use Rattle.accepted_memory.proofs.PartsFollowed.{part_unbroken}
 use Rattle.lent_memory.proofs.Items.{taken_where_mentioned, unallocated}

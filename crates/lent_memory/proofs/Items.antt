@@ -11,15 +11,15 @@ use Rattle.sil_cfg.specs.declared.item.Item.{Item}
 use Rattle.item_operands.specs.Items.{item_defined, item_taken}
 use Rattle.item_operands.specs.Parts.{item_inst}
 use Rattle.item_operands.specs.declared.taken.Taken.{Taken}
-use Rattle.memory_accesses.specs.Accesses.{accesses_with, allowance_of, begins_by, begun, deallocations_of, does_of, ended, ends_by, made, made_by, mentioned, mentions_of}
-use Rattle.memory_accesses.specs.Operations.{addresses_of, deallocates, operations_of}
-use Rattle.memory_accesses.specs.Sources.{source_at}
-use Rattle.memory_accesses.specs.declared.access.Access.{Access}
-use Rattle.memory_accesses.specs.declared.access.Access.TheVariants.{Allocates, Begins, Deallocates, Does, Ends, Given, Mentions}
-use Rattle.memory_accesses.specs.declared.columns.Allowance.{Allowance}
-use Rattle.memory_accesses.specs.declared.source.Source.{Source}
-use Rattle.memory_accesses.specs.declared.source.Source.TheVariants as source
-use Rattle.memory_parts.specs.Switches.{is_same}
+use Rattle.accepted_memory.specs.memory_accesses.Accesses.{accesses_with, allowance_of, begins_by, begun, deallocations_of, does_of, ended, ends_by, made, made_by, mentioned, mentions_of}
+use Rattle.accepted_memory.specs.memory_accesses.Operations.{addresses_of, deallocates, operations_of}
+use Rattle.accepted_memory.specs.memory_accesses.Sources.{source_at}
+use Rattle.accepted_memory.specs.memory_accesses.declared.access.Access.{Access}
+use Rattle.accepted_memory.specs.memory_accesses.declared.access.Access.TheVariants.{Allocates, Begins, Deallocates, Does, Ends, Given, Mentions}
+use Rattle.accepted_memory.specs.memory_accesses.declared.columns.Allowance.{Allowance}
+use Rattle.accepted_memory.specs.memory_accesses.declared.source.Source.{Source}
+use Rattle.accepted_memory.specs.memory_accesses.declared.source.Source.TheVariants as source
+use Rattle.accepted_memory.specs.memory_parts.Switches.{is_same}
 use Rattle.ownership_chains.specs.Facts.{has}
 use Rattle.ownership_marks.specs.declared.mark.Mark.{Mark}
 use Rattle.ownership_marks.specs.declared.mark.MarkSort.{MarkSort}

@@ -5,16 +5,16 @@ use Rattle.std.specs.List.{list_any}
 use Rattle.std.proofs.lemmas.Bool.{cases_Bool, eqb-true, false≢true}
 use Rattle.std.proofs.lemmas.List.{append-nil}
 use Rattle.std.proofs.lemmas.Option.{same_Some}
-use Rattle.memory_accesses.specs.Locations.{is_object}
-use Rattle.memory_accesses.specs.Sources.{source_at, sources_of}
-use Rattle.memory_accesses.specs.declared.access.Access.{Access}
-use Rattle.memory_parts.specs.Building.{is_object_of}
-use Rattle.memory_parts.specs.Parts.{at_return, parts_of}
-use Rattle.memory_parts.specs.Shown.{marks_of_access, part_marks}
-use Rattle.memory_parts.specs.declared.part.Part.{Part}
-use Rattle.memory_parts.specs.declared.part.Part.TheVariants.{Allocation, Building, Contents, InScope, InSlot, Lent}
+use Rattle.accepted_memory.specs.memory_accesses.Locations.{is_object}
+use Rattle.accepted_memory.specs.memory_accesses.Sources.{source_at, sources_of}
+use Rattle.accepted_memory.specs.memory_accesses.declared.access.Access.{Access}
+use Rattle.accepted_memory.specs.memory_parts.Building.{is_object_of}
+use Rattle.accepted_memory.specs.memory_parts.Parts.{at_return, parts_of}
+use Rattle.accepted_memory.specs.memory_parts.Shown.{marks_of_access, part_marks}
+use Rattle.accepted_memory.specs.memory_parts.declared.part.Part.{Part}
+use Rattle.accepted_memory.specs.memory_parts.declared.part.Part.TheVariants.{Allocation, Building, Contents, InScope, InSlot, Lent}
 use Rattle.ownership_chains.specs.Facts.{known_or}
-use Rattle.ownership_kinds.specs.Facts.{facts_in}
+use Rattle.accepted_memory.specs.ownership_kinds.Facts.{facts_in}
 use Rattle.ownership_marks.specs.Marks.{marks_of}
 use Rattle.path_patterns.specs.Along.{Shows}
 use Rattle.path_patterns.specs.Switch.{IsInPlace, code_of}
@@ -28,12 +28,12 @@ use Rattle.sil_cfg.specs.Walk.{IsTrail}
 use Rattle.sil_cfg.specs.declared.item.Item.{Item}
 use Rattle.sil_rules.specs.Rules.{index_of}
 use Rattle.type_definitions.specs.Declarations.{Declarations}
-use Rattle.run_trails.specs.inner.RunTrails.{IsTurnedTrail}
-use Rattle.run_trails.specs.inner.Switched.{IsFollowed, IsUnbroken, switched, switched_over}
-use Rattle.run_trails.proofs.SwitchedTrails.{followed_turned}
-use Rattle.run_trails.proofs.TurnedTrails.{turned_item, turned_older}
-use Rattle.accepted_trails.specs.inner.Defined.{makes}
-use Rattle.accepted_trails.specs.inner.Accepted.{IsAcceptedIn}
+use Rattle.accepted_memory.specs.run_trails.inner.RunTrails.{IsTurnedTrail}
+use Rattle.accepted_memory.specs.run_trails.inner.Switched.{IsFollowed, IsUnbroken, switched, switched_over}
+use Rattle.accepted_memory.proofs.run_trails.SwitchedTrails.{followed_turned}
+use Rattle.accepted_memory.proofs.run_trails.TurnedTrails.{turned_item, turned_older}
+use Rattle.accepted_memory.specs.accepted_trails.inner.Defined.{makes}
+use Rattle.accepted_memory.specs.accepted_trails.inner.Accepted.{IsAcceptedIn}
 use Rattle.accepted_memory.specs.inner.PartTrails.{IsPartOf, accesses_in}
 use Rattle.accepted_memory.proofs.PartsFollowed.{part_unbroken}
 use Rattle.lent_memory.proofs.Alike.{AreLentAlike}

@@ -9,13 +9,13 @@ use Rattle.instruction_table.specs.declared.forms.Part.TheVariants as part
 use Rattle.instruction_table.specs.declared.op.Op.{Op}
 use Rattle.instruction_table.specs.declared.op.Op.TheVariants as op
 use Rattle.item_operands.specs.Parts.{inst_at, inst_in}
-use Rattle.memory_accesses.specs.Operations.{access_kind_of}
-use Rattle.memory_accesses.specs.Sources.{source_at, source_by, sources_of}
-use Rattle.memory_accesses.specs.declared.source.Source.TheVariants.{Other}
+use Rattle.accepted_memory.specs.memory_accesses.Operations.{access_kind_of}
+use Rattle.accepted_memory.specs.memory_accesses.Sources.{source_at, source_by, sources_of}
+use Rattle.accepted_memory.specs.memory_accesses.declared.source.Source.TheVariants.{Other}
 use Rattle.numbered_form.specs.inner.Parts.{are_of_parts, is_typed}
 use Rattle.ownership_chains.specs.Facts.{facts_with, is_guaranteed, known_or}
 use Rattle.ownership_chains.specs.declared.facts.Facts.{Facts}
-use Rattle.ownership_kinds.specs.Facts.{facts_in}
+use Rattle.accepted_memory.specs.ownership_kinds.Facts.{facts_in}
 use Rattle.point_checks.specs.Points.{IsAt}
 use Rattle.sil_ast.specs.declared.function.Block.{Block}
 use Rattle.sil_ast.specs.declared.function.Function.{Function}
@@ -25,26 +25,26 @@ use Rattle.sil_ast.specs.declared.operands.Operand.{Operand}
 use Rattle.sil_ast.specs.declared.place.PointId.{PointId}
 use Rattle.sil_ast.specs.declared.place.ValueId.{ValueId}
 use Rattle.sil_cfg.specs.Items.{point_at}
-use Rattle.sil_types.specs.Typing.ResultCounts.{is_count_by}
-use Rattle.sil_types.specs.Typing.RowTypes.{row_types}
+use Rattle.accepted_memory.specs.sil_types.Typing.ResultCounts.{is_count_by}
+use Rattle.accepted_memory.specs.sil_types.Typing.RowTypes.{row_types}
 use Rattle.type_definitions.specs.Declarations.{Declarations, declarations_of}
 use Rattle.type_definitions.specs.declared.kind.Kind.TheVariants as kind
 use Rattle.rule_faults.specs.declared.fault.RuleFault.{RuleFault}
-use Rattle.memory_rules.specs.Broken.{IsBroken, at_part, crossing, static}
+use Rattle.accepted_memory.specs.memory_rules.Broken.{IsBroken, at_part, crossing, static}
 use Rattle.sil_cfg.specs.Flow.{point_of}
 use Rattle.sil_cfg.specs.Items.{flow_of}
-use Rattle.sil_verifier.specs.Shown.{memory}
-use Rattle.run_typing_laws.proofs.Rows.Shares.{of_parts}
-use Rattle.accepted_trails.specs.inner.Accepted.{IsAcceptedIn}
-use Rattle.accepted_trails.proofs.Unbroken.{are_accepted}
-use Rattle.accepted_values.specs.inner.Known.{IsAcceptedBody, facts_at}
-use Rattle.accepted_values.proofs.Accepted.{counted, has_kinds, in_range, typed}
-use Rattle.accepted_values.proofs.Facts.{facts_so, known, told_so}
-use Rattle.copy_removal.specs.Copies.{IsCopy}
-use Rattle.copy_removal.specs.Removable.{IsBorrowable}
-use Rattle.copy_removal.specs.Rewritten.{lent, lent_inst}
+use Rattle.accepted_memory.specs.sil_verifier.Shown.{memory}
+use Rattle.lent_functions.proofs.run_typing_laws.Rows.Shares.{of_parts}
+use Rattle.accepted_memory.specs.accepted_trails.inner.Accepted.{IsAcceptedIn}
+use Rattle.accepted_memory.proofs.accepted_trails.Unbroken.{are_accepted}
+use Rattle.lent_functions.specs.accepted_values.inner.Known.{IsAcceptedBody, facts_at}
+use Rattle.lent_functions.proofs.accepted_values.Accepted.{counted, has_kinds, in_range, typed}
+use Rattle.lent_functions.proofs.accepted_values.Facts.{facts_so, known, told_so}
+use Rattle.lent_functions.specs.copy_removal.Copies.{IsCopy}
+use Rattle.lent_functions.specs.copy_removal.Removable.{IsBorrowable}
+use Rattle.lent_functions.specs.copy_removal.Rewritten.{lent, lent_inst}
 use Rattle.lent_functions.proofs.Graph.{flow_lent, return_lent}
-use Rattle.lowering_laws.proofs.Rings.{defined_somewhere}
+use Rattle.lent_functions.proofs.lowering_laws.Rings.{defined_somewhere}
 use Rattle.lent_functions.proofs.Facts.{other_facts}
 use Rattle.lent_functions.proofs.Facts as lent_facts
 use Rattle.lent_functions.proofs.Marks.{marks_lent}

@@ -13,15 +13,15 @@ use Rattle.instruction_table.specs.declared.op.Op.{Op}
 use Rattle.instruction_table.specs.declared.op.Op.TheVariants as op
 use Rattle.item_operands.specs.Items.{arg_value}
 use Rattle.item_operands.specs.Parts.{inst_at}
-use Rattle.memory_accesses.specs.Operations.{access_kind_of}
-use Rattle.memory_accesses.specs.Locations.{is_object}
-use Rattle.memory_accesses.specs.Sources.{arg_sources, argument_source_or, borrow_source, element_place, field_source, handed_source}
-use Rattle.memory_accesses.specs.Sources.{is_trivial_member, loan_source, member_place, object_source, part_source}
-use Rattle.memory_accesses.specs.Sources.{result_source, result_sources, slot_source, source_at, source_by, sources_of, upcast_source}
-use Rattle.memory_accesses.specs.declared.columns.AccessKind.{AccessKind}
-use Rattle.memory_accesses.specs.declared.columns.AccessKind.TheVariants as access
-use Rattle.memory_accesses.specs.declared.source.Source.{Source}
-use Rattle.memory_accesses.specs.declared.source.Source.TheVariants as source
+use Rattle.accepted_memory.specs.memory_accesses.Operations.{access_kind_of}
+use Rattle.accepted_memory.specs.memory_accesses.Locations.{is_object}
+use Rattle.accepted_memory.specs.memory_accesses.Sources.{arg_sources, argument_source_or, borrow_source, element_place, field_source, handed_source}
+use Rattle.accepted_memory.specs.memory_accesses.Sources.{is_trivial_member, loan_source, member_place, object_source, part_source}
+use Rattle.accepted_memory.specs.memory_accesses.Sources.{result_source, result_sources, slot_source, source_at, source_by, sources_of, upcast_source}
+use Rattle.accepted_memory.specs.memory_accesses.declared.columns.AccessKind.{AccessKind}
+use Rattle.accepted_memory.specs.memory_accesses.declared.columns.AccessKind.TheVariants as access
+use Rattle.accepted_memory.specs.memory_accesses.declared.source.Source.{Source}
+use Rattle.accepted_memory.specs.memory_accesses.declared.source.Source.TheVariants as source
 use Rattle.numbered_form.specs.Numbering.{values_of}
 use Rattle.sil_ast.specs.Blocks.{args_of}
 use Rattle.sil_ast.specs.declared.function.BlockArg.{BlockArg}
@@ -31,16 +31,16 @@ use Rattle.sil_ast.specs.declared.module.Module.{Module}
 use Rattle.sil_ast.specs.declared.place.PointId.{PointId}
 use Rattle.sil_ast.specs.declared.place.ValueId.{ValueId}
 use Rattle.sil_ast.specs.declared.type_name.TypeName.{TypeName}
-use Rattle.sil_types.specs.Typing.Shapes.{is_trivial_object}
+use Rattle.accepted_memory.specs.sil_types.Typing.Shapes.{is_trivial_object}
 use Rattle.type_definitions.specs.Declarations.{Declarations, declarations_of}
 use Rattle.value_tables.proofs.Rows.{rows_count}
 use Rattle.value_tables.specs.FirstValue.{first_value}
-use Rattle.accepted_values.specs.inner.Known.{IsAcceptedBody}
-use Rattle.accepted_values.specs.inner.Making.{IsMadeAt, argument, parameter, result}
-use Rattle.accepted_values.specs.inner.Rows.{source_of_argument}
-use Rattle.accepted_values.proofs.Counted.{stands}
-use Rattle.accepted_values.proofs.Made.{made_somewhere}
-use Rattle.accepted_values.proofs.TableRows.{argument_rows, result_rows}
+use Rattle.lent_functions.specs.accepted_values.inner.Known.{IsAcceptedBody}
+use Rattle.lent_functions.specs.accepted_values.inner.Making.{IsMadeAt, argument, parameter, result}
+use Rattle.lent_functions.specs.accepted_values.inner.Rows.{source_of_argument}
+use Rattle.lent_functions.proofs.accepted_values.Counted.{stands}
+use Rattle.lent_functions.proofs.accepted_values.Made.{made_somewhere}
+use Rattle.lent_functions.proofs.accepted_values.TableRows.{argument_rows, result_rows}
 use Rattle.sil_cfg.specs.inner.Splice.{Stop}
 use Rattle.lent_functions.proofs.Insts.{op_is}
 use Rattle.lent_memory.proofs.Copied.{place}

@@ -5,24 +5,24 @@ use Rattle.std.specs.List.{list_any}
 use Rattle.std.proofs.lemmas.Bool.{cases_eq, eqb-false, false≢true}
 use Rattle.sil_ast.specs.declared.place.ValueId.{ValueId}
 use Rattle.sil_rules.specs.declared.rule.Rule.TheVariants as rule
-use Rattle.memory_accesses.specs.Locations.{is_object, location_of}
-use Rattle.memory_accesses.specs.Rows.{is_part}
-use Rattle.memory_accesses.specs.Sources.{source_at}
-use Rattle.memory_accesses.specs.declared.access.Access.{Access}
-use Rattle.memory_accesses.specs.declared.access.Access.TheVariants.{Allocates, Begins, Deallocates, Does, Ends, Given, Mentions}
-use Rattle.memory_accesses.specs.declared.access.Operation.{Operation}
-use Rattle.memory_accesses.specs.declared.columns.Allowance.{Allowance}
-use Rattle.memory_accesses.specs.declared.columns.Allowance.TheVariants.{BuildingBorrow, FreshObject, NeitherOfThem}
-use Rattle.memory_accesses.specs.declared.location.Cell.{Cell}
-use Rattle.memory_accesses.specs.declared.location.Location.{Location}
-use Rattle.memory_accesses.specs.declared.source.Source.{Source}
-use Rattle.memory_parts.specs.Building.{builds, building_mark, fills, goes_by_borrow, is_forbidden, is_object_of, takes_borrow, takes_object}
-use Rattle.memory_parts.specs.Contents.{at_location, contents_mark, deallocation_mark, operation_mark, same_cell}
-use Rattle.memory_parts.specs.Loans.{disturbed_mark, disturbs, loan_mark, writes_at}
-use Rattle.memory_parts.specs.Parts.{means}
-use Rattle.memory_parts.specs.Switches.{is_same, is_turned_on, when}
-use Rattle.memory_parts.specs.declared.part.Part.{Part}
-use Rattle.memory_parts.specs.declared.part.Part.TheVariants.{Allocation, Building, Contents, InScope, InSlot, Lent}
+use Rattle.accepted_memory.specs.memory_accesses.Locations.{is_object, location_of}
+use Rattle.accepted_memory.specs.memory_accesses.Rows.{is_part}
+use Rattle.accepted_memory.specs.memory_accesses.Sources.{source_at}
+use Rattle.accepted_memory.specs.memory_accesses.declared.access.Access.{Access}
+use Rattle.accepted_memory.specs.memory_accesses.declared.access.Access.TheVariants.{Allocates, Begins, Deallocates, Does, Ends, Given, Mentions}
+use Rattle.accepted_memory.specs.memory_accesses.declared.access.Operation.{Operation}
+use Rattle.accepted_memory.specs.memory_accesses.declared.columns.Allowance.{Allowance}
+use Rattle.accepted_memory.specs.memory_accesses.declared.columns.Allowance.TheVariants.{BuildingBorrow, FreshObject, NeitherOfThem}
+use Rattle.accepted_memory.specs.memory_accesses.declared.location.Cell.{Cell}
+use Rattle.accepted_memory.specs.memory_accesses.declared.location.Location.{Location}
+use Rattle.accepted_memory.specs.memory_accesses.declared.source.Source.{Source}
+use Rattle.accepted_memory.specs.memory_parts.Building.{builds, building_mark, fills, goes_by_borrow, is_forbidden, is_object_of, takes_borrow, takes_object}
+use Rattle.accepted_memory.specs.memory_parts.Contents.{at_location, contents_mark, deallocation_mark, operation_mark, same_cell}
+use Rattle.accepted_memory.specs.memory_parts.Loans.{disturbed_mark, disturbs, loan_mark, writes_at}
+use Rattle.accepted_memory.specs.memory_parts.Parts.{means}
+use Rattle.accepted_memory.specs.memory_parts.Switches.{is_same, is_turned_on, when}
+use Rattle.accepted_memory.specs.memory_parts.declared.part.Part.{Part}
+use Rattle.accepted_memory.specs.memory_parts.declared.part.Part.TheVariants.{Allocation, Building, Contents, InScope, InSlot, Lent}
 use Rattle.ownership_chains.specs.Facts.{has, is_guaranteed}
 use Rattle.ownership_chains.specs.declared.facts.Facts.{Facts}
 use Rattle.path_patterns.specs.Marks.{needs_off, turns_off}

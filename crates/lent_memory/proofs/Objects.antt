@@ -16,16 +16,16 @@ use Rattle.item_operands.specs.Roles.{by_row, conventions_in, roles_for, taken_a
 use Rattle.item_operands.specs.declared.taken.Taken.{Taken}
 use Rattle.item_operands.specs.declared.taken.Treatment.{Treatment}
 use Rattle.argument_conventions.specs.declared.convention.ArgumentConvention.{ArgumentConvention}
-use Rattle.memory_accesses.specs.Accesses.{begun, deallocations_of, does_of, ended, made, mentions_of}
-use Rattle.memory_accesses.specs.Locations.{is_object}
-use Rattle.memory_accesses.specs.Sources.{source_at, sources_of}
-use Rattle.memory_accesses.specs.declared.access.Access.TheVariants.{Mentions}
-use Rattle.memory_accesses.specs.declared.columns.Allowance.TheVariants.{NeitherOfThem}
-use Rattle.memory_accesses.specs.declared.source.Source.{Source}
-use Rattle.memory_accesses.specs.declared.source.Source.TheVariants as source
+use Rattle.accepted_memory.specs.memory_accesses.Accesses.{begun, deallocations_of, does_of, ended, made, mentions_of}
+use Rattle.accepted_memory.specs.memory_accesses.Locations.{is_object}
+use Rattle.accepted_memory.specs.memory_accesses.Sources.{source_at, sources_of}
+use Rattle.accepted_memory.specs.memory_accesses.declared.access.Access.TheVariants.{Mentions}
+use Rattle.accepted_memory.specs.memory_accesses.declared.columns.Allowance.TheVariants.{NeitherOfThem}
+use Rattle.accepted_memory.specs.memory_accesses.declared.source.Source.{Source}
+use Rattle.accepted_memory.specs.memory_accesses.declared.source.Source.TheVariants as source
 use Rattle.ownership_chains.specs.Facts.{facts_with, has, is_owned, known_or}
 use Rattle.ownership_chains.specs.declared.facts.Facts.{Facts}
-use Rattle.ownership_kinds.specs.Facts.{facts_in}
+use Rattle.accepted_memory.specs.ownership_kinds.Facts.{facts_in}
 use Rattle.ownership_marks.specs.Marks as marks
 use Rattle.ownership_marks.specs.Marks.{end_of, ended_by, ended_with, ends_owned, marks_of, use_of, used_with}
 use Rattle.ownership_marks.specs.declared.mark.Mark.{Mark}
@@ -46,24 +46,24 @@ use Rattle.type_definitions.specs.Declarations.{declarations_of}
 use Rattle.type_definitions.specs.declared.kind.Kind.{Kind}
 use Rattle.type_definitions.specs.declared.kind.Kind.TheVariants as kind
 use Rattle.value_tables.specs.FirstValue.{first_value, value_of}
-use Rattle.holder_model.specs.Frames.{has_any}
-use Rattle.accepted_trails.specs.inner.Defined.{makes}
-use Rattle.accepted_trails.specs.inner.Passing.{is_end, is_use}
-use Rattle.accepted_trails.proofs.Tests.{either, or_right, same_value}
+use Rattle.accepted_memory.specs.holder_model.Frames.{has_any}
+use Rattle.accepted_memory.specs.accepted_trails.inner.Defined.{makes}
+use Rattle.accepted_memory.specs.accepted_trails.inner.Passing.{is_end, is_use}
+use Rattle.accepted_memory.proofs.accepted_trails.Tests.{either, or_right, same_value}
 use Rattle.accepted_memory.specs.inner.PartTrails.{accesses_in}
 use Rattle.accepted_premises.proofs.MadeAtStops.{makes_so}
-use Rattle.accepted_values.specs.inner.Bases.{IsLender}
-use Rattle.accepted_values.specs.inner.Known.{IsAcceptedBody, kind_at}
-use Rattle.accepted_values.specs.inner.Operands.{MayLend, kind_by_row, kind_together}
-use Rattle.accepted_values.proofs.Accepted.{counted}
-use Rattle.accepted_values.proofs.Addresses.{addresses_of_lenders}
-use Rattle.accepted_values.proofs.Based.{lent_by_lenders, owned_own_bases, owned_value}
-use Rattle.accepted_values.proofs.Counted.{nothing_in, stands}
-use Rattle.accepted_values.proofs.Places.{no_argument_and_result, results_once}
-use Rattle.accepted_values.proofs.Suited.{suited}
-use Rattle.accepted_values.proofs.TableRows.{result_rows}
-use Rattle.copy_removal.specs.Copies.{IsCopy, is_op}
-use Rattle.copy_removal.specs.Removable.{IsBorrowable, is_destroy, is_mark}
+use Rattle.lent_functions.specs.accepted_values.inner.Bases.{IsLender}
+use Rattle.lent_functions.specs.accepted_values.inner.Known.{IsAcceptedBody, kind_at}
+use Rattle.lent_functions.specs.accepted_values.inner.Operands.{MayLend, kind_by_row, kind_together}
+use Rattle.lent_functions.proofs.accepted_values.Accepted.{counted}
+use Rattle.lent_functions.proofs.accepted_values.Addresses.{addresses_of_lenders}
+use Rattle.lent_functions.proofs.accepted_values.Based.{lent_by_lenders, owned_own_bases, owned_value}
+use Rattle.lent_functions.proofs.accepted_values.Counted.{nothing_in, stands}
+use Rattle.lent_functions.proofs.accepted_values.Places.{no_argument_and_result, results_once}
+use Rattle.lent_functions.proofs.accepted_values.Suited.{suited}
+use Rattle.lent_functions.proofs.accepted_values.TableRows.{result_rows}
+use Rattle.lent_functions.specs.copy_removal.Copies.{IsCopy, is_op}
+use Rattle.lent_functions.specs.copy_removal.Removable.{IsBorrowable, is_destroy, is_mark}
 use Rattle.lent_memory.proofs.Becoming.{mentions_one, taken_one}
 use Rattle.lent_memory.proofs.Copied.{copies, copy_facts, copy_owned, operand_owned, place, takes_copied}
 use Rattle.lent_memory.proofs.Following.{IsCopyOfObject, takes_value}

@@ -4,14 +4,14 @@ use Rattle.std.specs.Prelude.{◌==◌, ◌||◌, flat_map}
 use Rattle.std.specs.List.{range_with_len}
 use Rattle.std.proofs.lemmas.Bool.{cases_eq, eqb-false, false≢true}
 use Rattle.sil_ast.specs.declared.place.ValueId.{ValueId}
-use Rattle.memory_accesses.specs.Locations.{location_of}
-use Rattle.memory_accesses.specs.Sources.{source_at}
-use Rattle.memory_accesses.specs.declared.location.Location.{Location}
-use Rattle.memory_accesses.specs.declared.source.Source.{Source}
-use Rattle.memory_accesses.specs.declared.source.Source.TheVariants.{Slot, Argument, Object, Borrow, Upcast, Loan, Field, Part, Other}
-use Rattle.memory_parts.specs.Parts.{address_parts, is_scope_source, parts_at, parts_by, parts_of, scope_parts, slot_part, slot_part_at, whole_cell}
-use Rattle.memory_parts.specs.declared.part.Part as part
-use Rattle.memory_parts.specs.declared.part.Part.TheVariants.{Allocation, Contents, InScope}
+use Rattle.accepted_memory.specs.memory_accesses.Locations.{location_of}
+use Rattle.accepted_memory.specs.memory_accesses.Sources.{source_at}
+use Rattle.accepted_memory.specs.memory_accesses.declared.location.Location.{Location}
+use Rattle.accepted_memory.specs.memory_accesses.declared.source.Source.{Source}
+use Rattle.accepted_memory.specs.memory_accesses.declared.source.Source.TheVariants.{Slot, Argument, Object, Borrow, Upcast, Loan, Field, Part, Other}
+use Rattle.accepted_memory.specs.memory_parts.Parts.{address_parts, is_scope_source, parts_at, parts_by, parts_of, scope_parts, slot_part, slot_part_at, whole_cell}
+use Rattle.accepted_memory.specs.memory_parts.declared.part.Part as part
+use Rattle.accepted_memory.specs.memory_parts.declared.part.Part.TheVariants.{Allocation, Contents, InScope}
 use Rattle.ownership_chains.specs.Facts.{has, value_of}
 use Rattle.ownership_chains.specs.declared.facts.Facts.{Facts}
 use Rattle.lent_memory.proofs.Means.{AreLentFacts, lacks}

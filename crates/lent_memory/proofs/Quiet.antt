@@ -7,19 +7,19 @@ use Rattle.std.proofs.lemmas.Option.{none-some, same_Some}
 use Rattle.sil_ast.specs.declared.function.Function.{Function}
 use Rattle.sil_ast.specs.declared.place.ValueId.{ValueId}
 use Rattle.sil_rules.specs.declared.rule.Rule.TheVariants as rule
-use Rattle.memory_accesses.specs.Locations.{location_of}
-use Rattle.memory_accesses.specs.declared.access.Access.{Access}
-use Rattle.memory_accesses.specs.declared.access.Access.TheVariants.{Allocates, Begins, Deallocates, Does, Ends, Given, Mentions}
-use Rattle.memory_accesses.specs.declared.source.Source.{Source}
-use Rattle.memory_parts.specs.Building.{builds, fills, goes_by_borrow, is_forbidden, takes_borrow, takes_object}
-use Rattle.memory_parts.specs.Shown.{marks_of_access}
-use Rattle.memory_parts.specs.Switches.{is_same, when}
-use Rattle.memory_parts.specs.declared.part.Part.TheVariants.{Building}
+use Rattle.accepted_memory.specs.memory_accesses.Locations.{location_of}
+use Rattle.accepted_memory.specs.memory_accesses.declared.access.Access.{Access}
+use Rattle.accepted_memory.specs.memory_accesses.declared.access.Access.TheVariants.{Allocates, Begins, Deallocates, Does, Ends, Given, Mentions}
+use Rattle.accepted_memory.specs.memory_accesses.declared.source.Source.{Source}
+use Rattle.accepted_memory.specs.memory_parts.Building.{builds, fills, goes_by_borrow, is_forbidden, takes_borrow, takes_object}
+use Rattle.accepted_memory.specs.memory_parts.Shown.{marks_of_access}
+use Rattle.accepted_memory.specs.memory_parts.Switches.{is_same, when}
+use Rattle.accepted_memory.specs.memory_parts.declared.part.Part.TheVariants.{Building}
 use Rattle.ownership_chains.specs.Facts.{known_or}
 use Rattle.ownership_chains.specs.declared.facts.Facts.{Facts}
 use Rattle.path_patterns.specs.Marks.{needs_off, turns_off, turns_on}
 use Rattle.path_patterns.specs.declared.mark.Mark.{Mark}
-use Rattle.run_trails.specs.inner.Switched.{switched_over}
+use Rattle.accepted_memory.specs.run_trails.inner.Switched.{switched_over}
 use Rattle.accepted_memory.proofs.Switching.{and_then_some, over_append}
 use Rattle.lent_memory.proofs.Items.{allocates}
 use Rattle.lent_memory.proofs.Means.{AlikeAccess, AreAlike, AreLentFacts, WeakerMark, building_weaker, copied, destroyed, gone, kept, lends, mentions, same}

@@ -8,11 +8,11 @@ use Rattle.std.proofs.lemmas.Option.{slice_get_past}
 use Rattle.argument_conventions.specs.Arguments.{arguments_of}
 use Rattle.instruction_table.specs.declared.op.Op.{Op}
 use Rattle.instruction_table.specs.declared.op.Op.TheVariants as op
-use Rattle.memory_accesses.specs.Operations.{access_kind_of}
-use Rattle.memory_accesses.specs.Sources.{arg_sources, argument_source_or, borrow_source, result_source, result_sources, source_at, source_by, sources_of}
-use Rattle.memory_accesses.specs.declared.source.Source.TheVariants.{Borrow, Other}
+use Rattle.accepted_memory.specs.memory_accesses.Operations.{access_kind_of}
+use Rattle.accepted_memory.specs.memory_accesses.Sources.{arg_sources, argument_source_or, borrow_source, result_source, result_sources, source_at, source_by, sources_of}
+use Rattle.accepted_memory.specs.memory_accesses.declared.source.Source.TheVariants.{Borrow, Other}
 use Rattle.numbered_form.specs.Numbering.{values_of}
-use Rattle.run_typing_laws.proofs.Rows.Tables.{row_at, told_of_results}
+use Rattle.lent_functions.proofs.run_typing_laws.Rows.Tables.{row_at, told_of_results}
 use Rattle.sil_ast.specs.declared.function.BlockArg.{BlockArg}
 use Rattle.sil_ast.specs.declared.function.Function.{Function}
 use Rattle.sil_ast.specs.declared.inst.Inst.{Inst}
@@ -21,7 +21,7 @@ use Rattle.sil_ast.specs.declared.place.ValueId.{ValueId}
 use Rattle.type_definitions.specs.Declarations.{Declarations}
 use Rattle.value_tables.proofs.Rows.{rows_count}
 use Rattle.value_tables.specs.FirstValue.{first_value, value_of}
-use Rattle.copy_removal.specs.Rewritten.{lent, with_op}
+use Rattle.lent_functions.specs.copy_removal.Rewritten.{lent, with_op}
 use Rattle.lent_functions.proofs.Parts.{values_lent}
 use Rattle.lent_functions.proofs.Ready.{Ready}
 use Rattle.lent_functions.proofs.ValueRows.{borrow_at_copy, counted_lent, row_kept}

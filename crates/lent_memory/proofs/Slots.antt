@@ -2,14 +2,14 @@
 use Rattle.std.proofs.Common.{◌≡◌, List, [], ◌∷◌, refl, sym, ap₂, ◌∙◌, subst}
 use Rattle.std.specs.Prelude.{filter_map}
 use Rattle.std.specs.List.{cons_option}
-use Rattle.memory_accesses.specs.Sources.{sources_of}
-use Rattle.memory_accesses.specs.declared.access.Access.{Access}
-use Rattle.memory_slots.specs.Marks.{pair_mark}
-use Rattle.memory_slots.specs.Order.{IsOrdered, code_of, crossing_code}
-use Rattle.memory_slots.specs.Pairs.{IsCrossing, IsSlot, ShowsPair, pair_marks}
-use Rattle.memory_slots.specs.declared.crossing.Crossing.{Crossing}
-use Rattle.memory_slots.specs.declared.mark.SlotMark.{SlotMark}
-use Rattle.ownership_kinds.specs.Facts.{facts_in}
+use Rattle.accepted_memory.specs.memory_accesses.Sources.{sources_of}
+use Rattle.accepted_memory.specs.memory_accesses.declared.access.Access.{Access}
+use Rattle.accepted_memory.specs.memory_slots.Marks.{pair_mark}
+use Rattle.accepted_memory.specs.memory_slots.Order.{IsOrdered, code_of, crossing_code}
+use Rattle.accepted_memory.specs.memory_slots.Pairs.{IsCrossing, IsSlot, ShowsPair, pair_marks}
+use Rattle.accepted_memory.specs.memory_slots.declared.crossing.Crossing.{Crossing}
+use Rattle.accepted_memory.specs.memory_slots.declared.mark.SlotMark.{SlotMark}
+use Rattle.accepted_memory.specs.ownership_kinds.Facts.{facts_in}
 use Rattle.path_patterns.specs.Along.{Shows}
 use Rattle.sil_ast.specs.declared.function.Function.{Function}
 use Rattle.sil_ast.specs.declared.place.EdgeId.{EdgeId}

@@ -3,13 +3,13 @@ use Rattle.std.proofs.Common.{◌≡◌, ◌⊎◌, inl, inr, ℕ, zero, suc, Li
 use Rattle.std.specs.Prelude.{is_some}
 use Rattle.std.proofs.lemmas.Bool.{cases_eq}
 use Rattle.sil_ast.specs.declared.place.ValueId.{ValueId}
-use Rattle.memory_accesses.specs.Locations.{below, below_by, cell_by, cell_of, do_overlap, field_cell, is_object, locate, located_by, location_of, meet, object_built, object_lent, upcast_from}
-use Rattle.memory_accesses.specs.Rows.{field_has, has_by, has_operation, is_part}
-use Rattle.memory_accesses.specs.Sources.{is_slot, is_slot_source, is_trivial_at, is_trivial_source, source_at}
-use Rattle.memory_accesses.specs.declared.access.Operation.{Operation}
-use Rattle.memory_accesses.specs.declared.location.Location.{Location}
-use Rattle.memory_accesses.specs.declared.source.Source.{Source}
-use Rattle.memory_accesses.specs.declared.source.Source.TheVariants.{Slot, Argument, Object, Borrow, Upcast, Loan, Field, Part, Other}
+use Rattle.accepted_memory.specs.memory_accesses.Locations.{below, below_by, cell_by, cell_of, do_overlap, field_cell, is_object, locate, located_by, location_of, meet, object_built, object_lent, upcast_from}
+use Rattle.accepted_memory.specs.memory_accesses.Rows.{field_has, has_by, has_operation, is_part}
+use Rattle.accepted_memory.specs.memory_accesses.Sources.{is_slot, is_slot_source, is_trivial_at, is_trivial_source, source_at}
+use Rattle.accepted_memory.specs.memory_accesses.declared.access.Operation.{Operation}
+use Rattle.accepted_memory.specs.memory_accesses.declared.location.Location.{Location}
+use Rattle.accepted_memory.specs.memory_accesses.declared.source.Source.{Source}
+use Rattle.accepted_memory.specs.memory_accesses.declared.source.Source.TheVariants.{Slot, Argument, Object, Borrow, Upcast, Loan, Field, Part, Other}
 
 pub same_value : (a b : ValueId) → a.0 ≡ b.0 → a ≡ b
 same_value a b e = ap (λ (n : ℕ). let v : ValueId = record { 0 = n } in v) e

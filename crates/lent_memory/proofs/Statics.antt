@@ -1,14 +1,14 @@
 -- Rules 608 and 611 are kept where a copy is lent: what a location is and which operations it has is the same.
 use Rattle.std.proofs.Common.{◌≡◌, ℕ, List, [], ◌++◌, map, refl, sym, ap, ap₂, ◌∙◌, subst, Bool, true, false, cond, not, ◌&&◌, Option, Some, None, Contains}
 use Rattle.std.specs.Prelude.{◌==◌, filter, find, option_map}
-use Rattle.memory_accesses.specs.Locations.{location_of}
-use Rattle.memory_accesses.specs.Operations.{addresses_of, deallocates, operations_of}
-use Rattle.memory_accesses.specs.declared.access.Operated.{Operated}
-use Rattle.memory_accesses.specs.declared.access.Operation.{Operation}
-use Rattle.memory_accesses.specs.declared.location.Location.{Location}
-use Rattle.memory_accesses.specs.declared.source.Source.{Source}
-use Rattle.memory_rules.specs.Statics.{AddressPair, IsBrokenAt, address_in, crossed_with, crosses, handed, handed_of, is_no_slot}
-use Rattle.memory_rules.specs.Statics.{lacking, lacking_at, lacks, lacks_by, overlapping, pairs_of, second_of}
+use Rattle.accepted_memory.specs.memory_accesses.Locations.{location_of}
+use Rattle.accepted_memory.specs.memory_accesses.Operations.{addresses_of, deallocates, operations_of}
+use Rattle.accepted_memory.specs.memory_accesses.declared.access.Operated.{Operated}
+use Rattle.accepted_memory.specs.memory_accesses.declared.access.Operation.{Operation}
+use Rattle.accepted_memory.specs.memory_accesses.declared.location.Location.{Location}
+use Rattle.accepted_memory.specs.memory_accesses.declared.source.Source.{Source}
+use Rattle.accepted_memory.specs.memory_rules.Statics.{AddressPair, IsBrokenAt, address_in, crossed_with, crosses, handed, handed_of, is_no_slot}
+use Rattle.accepted_memory.specs.memory_rules.Statics.{lacking, lacking_at, lacks, lacks_by, overlapping, pairs_of, second_of}
 use Rattle.point_checks.specs.Points.{IsAt}
 use Rattle.sil_ast.specs.declared.function.Function.{Function}
 use Rattle.sil_ast.specs.declared.inst.Inst.{Inst}

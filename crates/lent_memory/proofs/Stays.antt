@@ -8,13 +8,13 @@ use Rattle.std.proofs.lemmas.Grind.{flat_map-append}
 use Rattle.std.proofs.lemmas.List.Elements.{filter_map-append}
 use Rattle.item_operands.specs.Items.{item_defined, item_taken}
 use Rattle.item_operands.specs.declared.taken.Taken.{Taken}
-use Rattle.borrow_scopes.specs.inner.Runs as scopes
-use Rattle.lifetime_worklist.specs.inner.Runs as lives
-use Rattle.lifetime_worklist.proofs.LivesAreRuns.{held_while_on}
+use Rattle.accepted_memory.specs.borrow_scopes.inner.Runs as scopes
+use Rattle.accepted_memory.specs.lifetime_worklist.inner.Runs as lives
+use Rattle.accepted_memory.proofs.lifetime_worklist.LivesAreRuns.{held_while_on}
 use Rattle.numbered_form.specs.Numbering.{values_of}
 use Rattle.ownership_chains.specs.Facts.{has}
 use Rattle.ownership_chains.specs.declared.facts.Facts.{Facts}
-use Rattle.ownership_kinds.specs.Facts.{facts_in}
+use Rattle.accepted_memory.specs.ownership_kinds.Facts.{facts_in}
 use Rattle.ownership_marks.specs.Marks.{begun, end_of, ended, ended_with, marks_of, used}
 use Rattle.ownership_marks.specs.declared.mark.Mark.{Mark}
 use Rattle.ownership_marks.specs.declared.mark.MarkSort.{MarkSort}
@@ -24,16 +24,16 @@ use Rattle.path_patterns.specs.inner.Runs.{IsHeld, Sort}
 use Rattle.sil_ast.specs.declared.function.Function.{Function}
 use Rattle.sil_ast.specs.declared.place.ValueId.{ValueId}
 use Rattle.sil_cfg.specs.declared.item.Item.{Item}
-use Rattle.sil_verifier.specs.Shown.{lives_in}
+use Rattle.accepted_memory.specs.sil_verifier.Shown.{lives_in}
 use Rattle.type_definitions.specs.Declarations.{Declarations}
-use Rattle.holder_model.specs.Frames.{has_any}
-use Rattle.run_trails.specs.inner.RunTrails.{IsTurnedTrail}
-use Rattle.run_trails.proofs.SwitchedTrails.{turned_on}
-use Rattle.accepted_trails.specs.inner.Lives.{is_held}
-use Rattle.accepted_trails.specs.inner.Passing.{is_end}
-use Rattle.accepted_trails.proofs.Reading.{end_with}
-use Rattle.accepted_trails.proofs.Tests.{first_of}
-use Rattle.copy_removal.specs.Removable.{IsFreeAt}
+use Rattle.accepted_memory.specs.holder_model.Frames.{has_any}
+use Rattle.accepted_memory.specs.run_trails.inner.RunTrails.{IsTurnedTrail}
+use Rattle.accepted_memory.proofs.run_trails.SwitchedTrails.{turned_on}
+use Rattle.accepted_memory.specs.accepted_trails.inner.Lives.{is_held}
+use Rattle.accepted_memory.specs.accepted_trails.inner.Passing.{is_end}
+use Rattle.accepted_memory.proofs.accepted_trails.Reading.{end_with}
+use Rattle.accepted_memory.proofs.accepted_trails.Tests.{first_of}
+use Rattle.lent_functions.specs.copy_removal.Removable.{IsFreeAt}
 
 -- ---- the two tables read a value's marks alike
 

@@ -11,10 +11,10 @@ use Rattle.sil_ast.specs.declared.function.Function.{Function}
 use Rattle.sil_cfg.specs.Items.{flow_of}
 use Rattle.sil_cfg.specs.Walk.{IsTrail}
 use Rattle.sil_cfg.specs.declared.item.Item.{Item}
-use Rattle.run_trails.specs.inner.RunTrails.{IsTurnedTrail}
-use Rattle.run_trails.specs.inner.Switched.{IsFollowed, IsUnbroken, finds, switched_by, switched_over}
-use Rattle.run_trails.proofs.SwitchedTrails.{turned_on}
-use Rattle.run_trails.proofs.TurnedTrails.{turned_older}
+use Rattle.accepted_memory.specs.run_trails.inner.RunTrails.{IsTurnedTrail}
+use Rattle.accepted_memory.specs.run_trails.inner.Switched.{IsFollowed, IsUnbroken, finds, switched_by, switched_over}
+use Rattle.accepted_memory.proofs.run_trails.SwitchedTrails.{turned_on}
+use Rattle.accepted_memory.proofs.run_trails.TurnedTrails.{turned_older}
 use Rattle.accepted_memory.proofs.Switching.{and_then_some, mark_found, over_append}
 
 -- the switch is on just where the flag says so

@@ -11,8 +11,8 @@ use Rattle.sil_ast.specs.declared.place.EdgeId.{EdgeId}
 use Rattle.sil_cfg.specs.Items.{IsItem, flow_of}
 use Rattle.sil_cfg.specs.Walk.{IsTrail}
 use Rattle.sil_cfg.specs.declared.item.Item.{Item}
-use Rattle.run_trails.specs.inner.RunTrails.{IsTurnedTrail}
-use Rattle.run_trails.proofs.TurnedTrails.{are_of_items}
+use Rattle.accepted_memory.specs.run_trails.inner.RunTrails.{IsTurnedTrail}
+use Rattle.accepted_memory.proofs.run_trails.TurnedTrails.{are_of_items}
 
 module _ {M : Type 0} (f : Function) (marks other : Item → List M) (same : (i : Item) → IsItem f i → marks i ≡ other i) where
   along_same : (t : List Item) → Each (IsItem f) t → flat_map marks (reverse t) ≡ flat_map other (reverse t)

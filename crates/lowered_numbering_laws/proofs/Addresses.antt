@@ -10,16 +10,16 @@ use Rattle.sil_ast.specs.declared.type_name.TypeName.{TypeName, TypeName-F, out-
 use Rattle.sil_ast.specs.declared.type_name.TypeName.TheVariants as type
 use Rattle.sil_ast.specs.declared.type_name.TypeName.TheVariants.{rolls-Address}
 use Rattle.numbered_form.specs.inner.Types.{IsPlacedType, is_placed_at, is_plain_type}
-use Rattle.sil_types.specs.Typing.RowTypes.{given_by, passes, type_of, written}
-use Rattle.sil_types.specs.Typing.FormRules.{is_at_storage}
-use Rattle.sil_types.specs.Typing.Shapes.{is_nontrivial, is_object, is_storage, object_at, target, target_in}
+use Rattle.lowering_laws.specs.sil_types.Typing.RowTypes.{given_by, passes, type_of, written}
+use Rattle.lowering_laws.specs.sil_types.Typing.FormRules.{is_at_storage}
+use Rattle.lowering_laws.specs.sil_types.Typing.Shapes.{is_nontrivial, is_object, is_storage, object_at, target, target_in}
 use Rattle.type_definitions.specs.Declarations.{Declarations}
 use Rattle.type_definitions.specs.Measures.{is_trivial}
-use Rattle.run_typing_laws.proofs.Opened.{fold-Address}
-use Rattle.run_typing_laws.proofs.Rows.Addresses.{no_target}
-use Rattle.run_typing_laws.proofs.Rows.Finding.{found_behind, or_first, where_found}
-use Rattle.run_typing_laws.proofs.Rows.Shares.{given_one, taken_from}
-use Rattle.run_typing_laws.proofs.Sizes.{plain_type}
+use Rattle.lowering_laws.proofs.run_typing_laws.Opened.{fold-Address}
+use Rattle.lowering_laws.proofs.run_typing_laws.Rows.Addresses.{no_target}
+use Rattle.lowering_laws.proofs.run_typing_laws.Rows.Finding.{found_behind, or_first, where_found}
+use Rattle.lowering_laws.proofs.run_typing_laws.Rows.Shares.{given_one, taken_from}
+use Rattle.lowering_laws.proofs.run_typing_laws.Sizes.{plain_type}
 
 pub address_is : (t u : TypeName) → target t ≡ Some u → t ≡ type.Address u
 address_is t u e = at (out-TypeName t) refl e

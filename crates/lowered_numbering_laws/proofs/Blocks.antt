@@ -11,10 +11,10 @@ use Rattle.sil_ast.specs.declared.inst.Inst.{Inst}
 use Rattle.sil_ast.specs.declared.member.Member.{Member}
 use Rattle.sil_ast.specs.declared.place.ValueId.{ValueId}
 use Rattle.sil_ast.specs.declared.type_name.TypeName.{TypeName}
-use Rattle.lowering_model.specs.Extracts.{member_of}
-use Rattle.lowering_model.specs.LoweredBlocks.{args_become, block_becomes, blocks_become, has_own_name, insts_become, value_with, without_annotation}
-use Rattle.lowering_model.specs.LoweredInsts.{becomes}
-use Rattle.lowering_model.specs.Numbers.{renumbered, renumbered_arg, renumbered_block, renumbered_inst}
+use Rattle.lowering_laws.specs.lowering_model.Extracts.{member_of}
+use Rattle.lowering_laws.specs.lowering_model.LoweredBlocks.{args_become, block_becomes, blocks_become, has_own_name, insts_become, value_with, without_annotation}
+use Rattle.lowering_laws.specs.lowering_model.LoweredInsts.{becomes}
+use Rattle.lowering_laws.specs.lowering_model.Numbers.{renumbered, renumbered_arg, renumbered_block, renumbered_inst}
 use Rattle.numbered_form.specs.Insts.{EachInBlock, insts_of}
 use Rattle.numbered_form.specs.Lists.{Each}
 use Rattle.numbered_form.specs.Names.{IsMemberSpelled}
@@ -22,8 +22,8 @@ use Rattle.numbered_form.specs.Numbering.{defined_in, results_of, value_of, valu
 use Rattle.numbered_form.specs.inner.Limits.{IsBlockInLimits, IsInstInLimits}
 use Rattle.numbered_form.specs.inner.Parts.{BlockHasParts, IsInside, IsTerminator}
 use Rattle.numbered_form.specs.inner.Types.{HasArgType, HasBlockTypes, HasInstTypes, IsPlacedType}
-use Rattle.ownership_origins.specs.Renamings.{renamings_of}
-use Rattle.sil_types.specs.Typing.Shapes.{is_object, target}
+use Rattle.lowering_laws.specs.ownership_origins.Renamings.{renamings_of}
+use Rattle.lowering_laws.specs.sil_types.Typing.Shapes.{is_object, target}
 use Rattle.type_definitions.specs.Declarations.{Declarations}
 use Rattle.type_definitions.specs.Mentions.{Mention, block_members, in_arg, in_block, in_inst, inst_members, mention}
 use Rattle.type_definitions.specs.declared.standing.Standing.TheVariants.{Value}
@@ -33,8 +33,8 @@ use Rattle.lowering_laws.proofs.Known.{Known, KnownBlock}
 use Rattle.lowering_laws.proofs.Lists.{each_weaker}
 use Rattle.lowering_laws.proofs.NewValues.{spare_values_by, takes_spare}
 use Rattle.lowering_laws.proofs.Structs.{IsStruct}
-use Rattle.run_typing_laws.proofs.Declared.{each_append}
-use Rattle.run_typing_laws.proofs.ListFacts.{each_map, each_parts}
+use Rattle.lowering_laws.proofs.run_typing_laws.Declared.{each_append}
+use Rattle.lowering_laws.proofs.run_typing_laws.ListFacts.{each_map, each_parts}
 use Rattle.lowered_numbering_laws.proofs.ByKind.{becomes_sound}
 use Rattle.lowered_numbering_laws.proofs.Sizes.{kept_few}
 use Rattle.lowered_numbering_laws.proofs.Sound.{IsSound, IsSoundInside, new_sound}

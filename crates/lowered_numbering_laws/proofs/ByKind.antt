@@ -14,27 +14,27 @@ use Rattle.sil_ast.specs.declared.member.Member.{Member}
 use Rattle.sil_ast.specs.declared.operands.Operand.{Operand}
 use Rattle.sil_ast.specs.declared.place.ValueId.{ValueId}
 use Rattle.sil_ast.specs.declared.type_name.TypeName.{TypeName}
-use Rattle.lowering_model.specs.Extracts.{element_extracts, extracts_elements, extracts_fields, field_extracts, member_of}
-use Rattle.lowering_model.specs.LoweredInsts.{assigns, becomes, becomes_by, destroys_by, loads_by, lowering_of, plain_load, plain_store}
-use Rattle.lowering_model.specs.LoweredInsts.{releases_at, retains_loaded, stores_by}
-use Rattle.lowering_model.specs.NewInsts.{load, loaded_from, release, retain}
+use Rattle.lowering_laws.specs.lowering_model.Extracts.{element_extracts, extracts_elements, extracts_fields, field_extracts, member_of}
+use Rattle.lowering_laws.specs.lowering_model.LoweredInsts.{assigns, becomes, becomes_by, destroys_by, loads_by, lowering_of, plain_load, plain_store}
+use Rattle.lowering_laws.specs.lowering_model.LoweredInsts.{releases_at, retains_loaded, stores_by}
+use Rattle.lowering_laws.specs.lowering_model.NewInsts.{load, loaded_from, release, retain}
 use Rattle.numbered_form.specs.Lists.{Each}
 use Rattle.numbered_form.specs.Names.{IsMemberSpelled}
 use Rattle.numbered_form.specs.inner.Limits.{is_assign}
 use Rattle.numbered_form.specs.inner.Parts.{is_typed, may_have}
 use Rattle.numbered_form.specs.inner.Types.{HasOperandType, IsPlacedType}
-use Rattle.sil_types.specs.Typing.FormRules.{is_at_storage}
-use Rattle.sil_types.specs.Typing.RowTypes.{given_by}
-use Rattle.sil_types.specs.Typing.Shapes.{is_object, target}
+use Rattle.lowering_laws.specs.sil_types.Typing.FormRules.{is_at_storage}
+use Rattle.lowering_laws.specs.sil_types.Typing.RowTypes.{given_by}
+use Rattle.lowering_laws.specs.sil_types.Typing.Shapes.{is_object, target}
 use Rattle.type_definitions.specs.Declarations.{Declarations}
 use Rattle.type_definitions.specs.Mentions.{Mention, if_there, in_edge, in_operand, in_signature, in_tuple, mention, standing_in}
 use Rattle.type_definitions.specs.declared.standing.Standing.TheVariants.{Value}
 use Rattle.lowering_laws.proofs.Known.{Known, OneTyped, one_operand, two_operands}
 use Rattle.lowering_laws.proofs.NewValues.{members_of_operand, takes_spare, takes_spare_by}
 use Rattle.lowering_laws.proofs.Structs.{IsStruct, TakesApart, takes_apart}
-use Rattle.run_typing_laws.proofs.Declared.{each_append}
-use Rattle.run_typing_laws.proofs.ListFacts.{each_map, each_parts}
-use Rattle.run_typing_laws.proofs.Rows.Finding.{if_some}
+use Rattle.lowering_laws.proofs.run_typing_laws.Declared.{each_append}
+use Rattle.lowering_laws.proofs.run_typing_laws.ListFacts.{each_map, each_parts}
+use Rattle.lowering_laws.proofs.run_typing_laws.Rows.Finding.{if_some}
 use Rattle.lowered_numbering_laws.proofs.Addresses.{IsAddress, borrows_from, destroys_at, loads_from, placed_behind, stores_to}
 use Rattle.lowered_numbering_laws.proofs.New.{IsGood, borrow_row, load_sound, release_row, release_sound, retain_row, retain_sound, reworded_sound, same_row}
 use Rattle.lowered_numbering_laws.proofs.New.{struct_extract_sound, tuple_extract_sound}

@@ -12,10 +12,10 @@ use Rattle.sil_ast.specs.declared.member.Member.{Member}
 use Rattle.sil_ast.specs.declared.module.Module.{Module}
 use Rattle.sil_ast.specs.declared.place.ValueId.{ValueId}
 use Rattle.sil_ast.specs.declared.type_name.TypeName.{TypeName}
-use Rattle.lowering_model.specs.Extracts.{member_of}
-use Rattle.lowering_model.specs.LoweredBlocks.{blocks_become, lowered_blocks}
-use Rattle.lowering_model.specs.LoweredModules.{lowered_body}
-use Rattle.lowering_model.specs.Numbers.{new_number, numbering_of, renumbered_block}
+use Rattle.lowering_laws.specs.lowering_model.Extracts.{member_of}
+use Rattle.lowering_laws.specs.lowering_model.LoweredBlocks.{blocks_become, lowered_blocks}
+use Rattle.lowering_laws.specs.lowering_model.LoweredModules.{lowered_body}
+use Rattle.lowering_laws.specs.lowering_model.Numbers.{new_number, numbering_of, renumbered_block}
 use Rattle.numbered_form.specs.Insts.{EachInBlock, EachInFunction, insts_of}
 use Rattle.numbered_form.specs.Lists.{Each}
 use Rattle.numbered_form.specs.Names.{IsInstSpelled, IsMemberSpelled}
@@ -25,10 +25,10 @@ use Rattle.numbered_form.specs.inner.Literals.{HasLiterals}
 use Rattle.numbered_form.specs.inner.NumberedForm.{IsNumbered}
 use Rattle.numbered_form.specs.inner.Parts.{BlockHasParts, FunctionHasParts, IsInside}
 use Rattle.numbered_form.specs.inner.Types.{HasBlockTypes, HasFunctionTypes, HasInstTypes, IsPlacedType}
-use Rattle.ownership_origins.specs.Renamings.{renamings_of}
-use Rattle.run_typing.specs.Runnable.{IsBodyInLimits}
-use Rattle.sil_types.specs.Typing.Shapes.{is_object, target}
-use Rattle.sil_types.specs.Typing.Typed.{Typed}
+use Rattle.lowering_laws.specs.ownership_origins.Renamings.{renamings_of}
+use Rattle.lowering_laws.specs.run_typing.Runnable.{IsBodyInLimits}
+use Rattle.lowering_laws.specs.sil_types.Typing.Shapes.{is_object, target}
+use Rattle.lowering_laws.specs.sil_types.Typing.Typed.{Typed}
 use Rattle.type_definitions.specs.Declarations.{Declarations, declarations_of}
 use Rattle.type_definitions.specs.Mentions.{Mention, block_members, function_members, in_arg, in_block, in_function, in_inst, in_signature, inst_members}
 use Rattle.type_definitions.specs.Mentions.{mention}
@@ -42,11 +42,11 @@ use Rattle.lowering_laws.proofs.Lowerable.{functions_are_lowerable}
 use Rattle.lowering_laws.proofs.Placed.{defined_are_placed, new_values_are_counted, old_are_placed}
 use Rattle.lowering_laws.proofs.Renumbered.{renumbered_values}
 use Rattle.lowering_laws.proofs.Structs.{IsStruct}
-use Rattle.run_typing_laws.proofs.Declared.{each_append, each_from}
-use Rattle.run_typing_laws.proofs.ListFacts.{each_parts, each_within}
-use Rattle.run_typing_laws.proofs.Rows.Finding.{each_at}
-use Rattle.run_typing_laws.proofs.ListFacts.{get_last}
-use Rattle.run_typing_laws.proofs.Rows.Points.{in_front}
+use Rattle.lowering_laws.proofs.run_typing_laws.Declared.{each_append, each_from}
+use Rattle.lowering_laws.proofs.run_typing_laws.ListFacts.{each_parts, each_within}
+use Rattle.lowering_laws.proofs.run_typing_laws.Rows.Finding.{each_at}
+use Rattle.lowering_laws.proofs.run_typing_laws.ListFacts.{get_last}
+use Rattle.lowering_laws.proofs.run_typing_laws.Rows.Points.{in_front}
 use Rattle.lowered_numbering_laws.proofs.Blocks.{IsSoundBlock, block_limits, block_mentions, block_parts, block_types, blocks_sound, each_from_map}
 use Rattle.lowered_numbering_laws.proofs.Blocks.{in_block_each, members_in_block, new_blocks}
 use Rattle.lowered_numbering_laws.proofs.Sizes.{blocks_less, blocks_short, renumbered_count}

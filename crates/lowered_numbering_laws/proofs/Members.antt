@@ -11,24 +11,24 @@ use Rattle.sil_ast.specs.declared.decl.Field.{Field}
 use Rattle.sil_ast.specs.declared.member.Member.{Member}
 use Rattle.sil_ast.specs.declared.module.Module.{Module}
 use Rattle.sil_ast.specs.declared.type_name.TypeName.{TypeName, TypeName-F, out-TypeName}
-use Rattle.lowering_model.specs.Extracts.{member_of}
+use Rattle.lowering_laws.specs.lowering_model.Extracts.{member_of}
 use Rattle.numbered_form.specs.Lists.{Each}
 use Rattle.numbered_form.specs.Names.{AreMembersOnce, AreOnce, IsDeclSpelled, IsMemberSpelled, IsWord, Name, decl_name, field_name, member_names}
 use Rattle.numbered_form.specs.inner.NumberedForm.{IsNumbered}
 use Rattle.numbered_form.specs.inner.Types.{IsPlacedType, is_placed_at, is_plain_type, is_written}
-use Rattle.sil_types.specs.Typing.Shapes.{name_in, struct_fields}
+use Rattle.lowering_laws.specs.sil_types.Typing.Shapes.{name_in, struct_fields}
 use Rattle.type_definitions.specs.Declarations.{Declarations, all_decls, declarations_of, decl_of, has_name, integer_struct, is_swift_optional, members_of}
 use Rattle.type_definitions.specs.Declarations.{optional_cases, swift_structs}
 use Rattle.type_definitions.specs.Rules.{has_unknown_owner, is_no_member}
 use Rattle.lowering_laws.proofs.Lists.{each_weaker}
 use Rattle.lowering_laws.proofs.Lowerable.{contained}
 use Rattle.lowering_laws.proofs.Structs.{IsStruct}
-use Rattle.run_typing_laws.proofs.Declared.{each_append, each_from, found_at, holds_of_found, named_so}
-use Rattle.run_typing_laws.proofs.Found.{name_is, place_once}
-use Rattle.run_typing_laws.proofs.ListFacts.{each_map}
-use Rattle.run_typing_laws.proofs.Opened.{fold-Named}
-use Rattle.run_typing_laws.proofs.Rows.Finding.{never_passes}
-use Rattle.run_typing_laws.proofs.Rows.Layers.{named_type}
+use Rattle.lowering_laws.proofs.run_typing_laws.Declared.{each_append, each_from, found_at, holds_of_found, named_so}
+use Rattle.lowering_laws.proofs.run_typing_laws.Found.{name_is, place_once}
+use Rattle.lowering_laws.proofs.run_typing_laws.ListFacts.{each_map}
+use Rattle.lowering_laws.proofs.run_typing_laws.Opened.{fold-Named}
+use Rattle.lowering_laws.proofs.run_typing_laws.Rows.Finding.{never_passes}
+use Rattle.lowering_laws.proofs.run_typing_laws.Rows.Layers.{named_type}
 
 -- the owner of a member is declared, and it is one of its members
 abbrev pub IsNamed : Declarations → Member → Type 0

@@ -10,8 +10,8 @@ use Rattle.sil_ast.specs.declared.function.Function.{Function}
 use Rattle.sil_ast.specs.declared.member.Member.{Member}
 use Rattle.sil_ast.specs.declared.module.Module.{Module}
 use Rattle.sil_ast.specs.declared.type_name.TypeName.{TypeName}
-use Rattle.lowering_model.specs.Extracts.{member_of}
-use Rattle.lowering_model.specs.LoweredModules.{lowered, lowered_body, lowered_by, lowered_function}
+use Rattle.lowering_laws.specs.lowering_model.Extracts.{member_of}
+use Rattle.lowering_laws.specs.lowering_model.LoweredModules.{lowered, lowered_body, lowered_by, lowered_function}
 use Rattle.numbered_form.specs.Insts.{EachInFunction, insts_in, insts_of}
 use Rattle.numbered_form.specs.Lists.{Each}
 use Rattle.numbered_form.specs.Names.{AreOnce, IsFunctionSpelled, IsInstSpelled, IsMemberSpelled, function_name}
@@ -22,16 +22,16 @@ use Rattle.numbered_form.specs.inner.Literals.{HasLiterals}
 use Rattle.numbered_form.specs.inner.NumberedForm.{IsNumbered}
 use Rattle.numbered_form.specs.inner.Parts.{FunctionHasParts}
 use Rattle.numbered_form.specs.inner.Types.{HasFunctionTypes, IsPlacedType}
-use Rattle.run_typing.specs.Runnable.{IsBodyInLimits, IsNearlyNumbered, IsNotOwned, IsShort}
-use Rattle.sil_types.specs.Typing.Typed.{Typed}
+use Rattle.lowering_laws.specs.run_typing.Runnable.{IsBodyInLimits, IsNearlyNumbered, IsNotOwned, IsShort}
+use Rattle.lowering_laws.specs.sil_types.Typing.Typed.{Typed}
 use Rattle.type_definitions.specs.Declarations.{Declarations, declarations_of}
 use Rattle.type_definitions.specs.Mentions.{Mention, function_members, in_function}
 use Rattle.lowering_laws.specs.inner.Lowerable.{HasNoRings}
 use Rattle.lowering_laws.proofs.Lists.{each_weaker}
 use Rattle.lowering_laws.proofs.Structs.{IsStruct}
-use Rattle.run_typing_laws.proofs.Declared.{each_from}
-use Rattle.run_typing_laws.proofs.ListFacts.{each_map}
-use Rattle.run_typing_laws.proofs.Rows.Finding.{each_at}
+use Rattle.lowering_laws.proofs.run_typing_laws.Declared.{each_from}
+use Rattle.lowering_laws.proofs.run_typing_laws.ListFacts.{each_map}
+use Rattle.lowering_laws.proofs.run_typing_laws.Rows.Finding.{each_at}
 use Rattle.lowered_numbering_laws.specs.inner.Laws.{IsLoweredNumbered}
 use Rattle.lowered_numbering_laws.proofs.Functions.{body_has_as_many, body_limits, body_literals, body_numbered, body_parts, body_spelled, body_types}
 use Rattle.lowered_numbering_laws.proofs.Members.{members_spelled}

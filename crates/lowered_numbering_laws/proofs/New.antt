@@ -15,7 +15,7 @@ use Rattle.sil_ast.specs.declared.inst.Qualifier.TheVariants as word
 use Rattle.sil_ast.specs.declared.member.Member.{Member}
 use Rattle.sil_ast.specs.declared.operands.Operand.{Operand}
 use Rattle.sil_ast.specs.declared.place.ValueId.{ValueId}
-use Rattle.lowering_model.specs.NewInsts.{by_class, load, release, retain, struct_extract, tuple_extract, with_operands}
+use Rattle.lowering_laws.specs.lowering_model.NewInsts.{by_class, load, release, retain, struct_extract, tuple_extract, with_operands}
 use Rattle.numbered_form.specs.Lists.{Each}
 use Rattle.numbered_form.specs.Names.{IsMemberSpelled}
 use Rattle.numbered_form.specs.inner.Literals.{is_number_by, is_number_of, is_text_by}
@@ -23,13 +23,13 @@ use Rattle.numbered_form.specs.inner.Parts.{HasItsParts, has_edges, has_operands
 use Rattle.numbered_form.specs.inner.Parts.{is_signature, is_silent, is_text, is_type}
 use Rattle.numbered_form.specs.inner.Parts.{is_typed, may_have, row_has}
 use Rattle.numbered_form.specs.inner.Types.{HasOperandType}
-use Rattle.sil_types.specs.Typing.RowTypes.{passes}
+use Rattle.lowering_laws.specs.sil_types.Typing.RowTypes.{passes}
 use Rattle.type_definitions.specs.Declarations.{Declarations}
 use Rattle.type_definitions.specs.Mentions.{Mention, if_there, in_edge, in_inst, in_operand, in_signature, in_tuple, mention, operand_types, standing_in}
 use Rattle.type_definitions.specs.Mentions.{together}
 use Rattle.type_definitions.specs.Rules.{is_class_type}
 use Rattle.type_definitions.specs.declared.standing.Standing.TheVariants.{Object, Slot, Unwritten}
-use Rattle.run_typing_laws.proofs.Declared.{each_append}
+use Rattle.lowering_laws.proofs.run_typing_laws.Declared.{each_append}
 use Rattle.lowered_numbering_laws.proofs.Sound.{IsSound}
 
 -- ---- rows

@@ -17,29 +17,29 @@ use Rattle.sil_ast.specs.declared.inst.Qualifier.TheVariants as word
 use Rattle.sil_ast.specs.declared.member.Member.{Member}
 use Rattle.sil_ast.specs.declared.operands.Operand.{Operand}
 use Rattle.sil_ast.specs.declared.place.ValueId.{ValueId}
-use Rattle.lowering_model.specs.Extracts.{element_extracts, extracts_elements, extracts_fields, field_extracts, members_of_struct}
-use Rattle.lowering_model.specs.LoweredBlocks.{block_becomes, blocks_become, insts_become, value_with}
-use Rattle.lowering_model.specs.LoweredInsts.{assigns, becomes, becomes_by, destroys_by, loads_by, lowering_of, operand_at, releases_at, retains_loaded}
-use Rattle.lowering_model.specs.LoweredInsts.{stores_by}
-use Rattle.lowering_model.specs.NewInsts.{loaded_from, release, retain}
-use Rattle.lowering_model.specs.Numbers.{renumbered, renumbered_block, renumbered_inst}
-use Rattle.lowering_model.specs.declared.lowering.Lowering.{Lowering}
-use Rattle.lowering_model.specs.declared.lowering.Lowering.TheVariants as lowering
+use Rattle.lowering_laws.specs.lowering_model.Extracts.{element_extracts, extracts_elements, extracts_fields, field_extracts, members_of_struct}
+use Rattle.lowering_laws.specs.lowering_model.LoweredBlocks.{block_becomes, blocks_become, insts_become, value_with}
+use Rattle.lowering_laws.specs.lowering_model.LoweredInsts.{assigns, becomes, becomes_by, destroys_by, loads_by, lowering_of, operand_at, releases_at, retains_loaded}
+use Rattle.lowering_laws.specs.lowering_model.LoweredInsts.{stores_by}
+use Rattle.lowering_laws.specs.lowering_model.NewInsts.{loaded_from, release, retain}
+use Rattle.lowering_laws.specs.lowering_model.Numbers.{renumbered, renumbered_block, renumbered_inst}
+use Rattle.lowering_laws.specs.lowering_model.declared.lowering.Lowering.{Lowering}
+use Rattle.lowering_laws.specs.lowering_model.declared.lowering.Lowering.TheVariants as lowering
 use Rattle.numbered_form.specs.Insts.{insts_in, insts_of}
 use Rattle.numbered_form.specs.Lists.{Each}
 use Rattle.numbered_form.specs.Numbering.{defined_in, results_of, value_of, values_of}
 use Rattle.numbered_form.specs.inner.Limits.{IsBlockInLimits, IsInstInLimits, inst_takes_value, takes_value, value_count}
-use Rattle.ownership_origins.specs.Renamings.{renamings_of}
-use Rattle.sil_types.specs.Typing.FormRules.{is_at_storage}
-use Rattle.sil_types.specs.Typing.RowTypes.{passes}
+use Rattle.lowering_laws.specs.ownership_origins.Renamings.{renamings_of}
+use Rattle.lowering_laws.specs.sil_types.Typing.FormRules.{is_at_storage}
+use Rattle.lowering_laws.specs.sil_types.Typing.RowTypes.{passes}
 use Rattle.type_definitions.specs.Declarations.{Declarations}
 use Rattle.type_definitions.specs.Rules.{is_class_type}
 use Rattle.lowering_laws.proofs.Covered.{New, new_defines, next_define, old_defines, own}
 use Rattle.lowering_laws.proofs.Known.{Known, KnownBlock}
 use Rattle.lowering_laws.proofs.NewValues.{spare_values_by, takes_spare, takes_spare_by}
 use Rattle.lowering_laws.proofs.Renumbered.{renumbered_values}
-use Rattle.run_typing.specs.Runnable.{IsShort}
-use Rattle.run_typing_laws.proofs.Declared.{each_append}
+use Rattle.lowering_laws.specs.run_typing.Runnable.{IsShort}
+use Rattle.lowering_laws.proofs.run_typing_laws.Declared.{each_append}
 
 -- ---- how many instructions there are
 

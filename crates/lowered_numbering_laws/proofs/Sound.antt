@@ -15,7 +15,7 @@ use Rattle.sil_ast.specs.declared.inst.Inst.{Inst}
 use Rattle.sil_ast.specs.declared.member.Member.{Member}
 use Rattle.sil_ast.specs.declared.operands.Operand.{Operand}
 use Rattle.sil_ast.specs.declared.place.ValueId.{ValueId}
-use Rattle.lowering_model.specs.Numbers.{renumbered_edge, renumbered_inst, renumbered_operand}
+use Rattle.lowering_laws.specs.lowering_model.Numbers.{renumbered_edge, renumbered_inst, renumbered_operand}
 use Rattle.numbered_form.specs.Lists.{Each, is_empty}
 use Rattle.numbered_form.specs.Names.{IsEdgeSpelled, IsInstSpelled}
 use Rattle.numbered_form.specs.inner.Limits.{IsEdgeInLimits, IsInstInLimits}
@@ -27,7 +27,7 @@ use Rattle.type_definitions.specs.Mentions.{Mention, edge_members, if_there, in_
 use Rattle.type_definitions.specs.Mentions.{standing_in, together}
 use Rattle.type_definitions.specs.Mentions as mentions
 use Rattle.type_definitions.specs.declared.standing.Standing.TheVariants.{Unwritten}
-use Rattle.run_typing_laws.proofs.ListFacts.{each_map}
+use Rattle.lowering_laws.proofs.run_typing_laws.ListFacts.{each_map}
 
 -- the edge goes to one of this many blocks, with values that are known
 pub record UsesAlong (K : ValueId → Type 0) (blocks : ℕ) (e : Edge) : Type 0 where

@@ -10,14 +10,14 @@ use Rattle.sil_ast.specs.declared.member.Member.{Member}
 use Rattle.sil_ast.specs.declared.module.Module.{Module}
 use Rattle.sil_ast.specs.declared.type_name.TypeName.{TypeName, TypeName-F, out-TypeName}
 use Rattle.sil_ast.specs.declared.type_name.TypeName.TheVariants as type
-use Rattle.lowering_model.specs.Extracts.{member_of}
-use Rattle.lowering_model.specs.LoweredModules.{lowered, lowered_function}
+use Rattle.lowering_laws.specs.lowering_model.Extracts.{member_of}
+use Rattle.lowering_laws.specs.lowering_model.LoweredModules.{lowered, lowered_function}
 use Rattle.numbered_form.specs.Lists.{Each}
 use Rattle.numbered_form.specs.Names.{IsMemberSpelled}
 use Rattle.numbered_form.specs.inner.NumberedForm.{IsNumbered}
 use Rattle.numbered_form.specs.inner.Types.{IsPlacedType}
-use Rattle.sil_types.specs.Typing.Shapes.{is_object, is_object_layer, target}
-use Rattle.sil_types.specs.Typing.Typed.{Typed}
+use Rattle.lowering_laws.specs.sil_types.Typing.Shapes.{is_object, is_object_layer, target}
+use Rattle.lowering_laws.specs.sil_types.Typing.Typed.{Typed}
 use Rattle.type_definitions.specs.Declarations.{Declarations, declarations_of}
 use Rattle.type_definitions.specs.Measures.{measure_at, measure_of, measure_over, measures_of}
 use Rattle.type_definitions.specs.Declarations.{all_names}
@@ -30,13 +30,13 @@ use Rattle.type_definitions.specs.declared.standing.Standing.TheVariants.{Value}
 use Rattle.lowering_laws.specs.inner.Lowerable.{HasNoRings}
 use Rattle.lowering_laws.proofs.Lists.{each_both, each_weaker}
 use Rattle.lowering_laws.proofs.Structs.{IsStruct}
-use Rattle.ownership_origins.proofs.Ranges.{all_from_each}
-use Rattle.run_typing_laws.proofs.Declared.{each_append}
+use Rattle.lowering_laws.proofs.ownership_origins.Ranges.{all_from_each}
+use Rattle.lowering_laws.proofs.run_typing_laws.Declared.{each_append}
 use Rattle.value_tables.proofs.Rows.{each_flat}
-use Rattle.run_typing_laws.proofs.Opened.{fold-Address}
-use Rattle.run_typing_laws.proofs.Rows.Finding.{all_of_both, none_in_any, none_in_both}
-use Rattle.run_typing_laws.proofs.Rows.Mentioned.{function_named}
-use Rattle.run_typing_laws.proofs.Rows.Storage.{behind_address, object_in_storage}
+use Rattle.lowering_laws.proofs.run_typing_laws.Opened.{fold-Address}
+use Rattle.lowering_laws.proofs.run_typing_laws.Rows.Finding.{all_of_both, none_in_any, none_in_both}
+use Rattle.lowering_laws.proofs.run_typing_laws.Rows.Mentioned.{function_named}
+use Rattle.lowering_laws.proofs.run_typing_laws.Rows.Storage.{behind_address, object_in_storage}
 use Rattle.lowered_numbering_laws.specs.inner.Laws.{AreTypesKept, DeclaresTheSame}
 use Rattle.lowered_numbering_laws.proofs.Addresses.{address_is}
 use Rattle.lowered_numbering_laws.proofs.Functions.{body_members, body_mentions}

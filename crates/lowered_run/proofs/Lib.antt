@@ -1,1 +1,2 @@
 mod Once
+pub use Rattle.holder_model.proofs.ownership_origins as ownership_origins

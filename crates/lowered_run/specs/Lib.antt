@@ -19,3 +19,8 @@ pub use Rattle.holder_model.specs.MemoryEffects
 pub use Rattle.holder_model.specs.declared.limits
 pub use Rattle.holder_model.specs.Builtins
 pub use Rattle.holder_model.specs.declared.event.Event
+pub use Rattle.holder_model.specs.sil_types as sil_types
+pub use Rattle.holder_model.specs.memory_accesses as memory_accesses
+pub use Rattle.holder_model.specs as holder_model
+pub use Rattle.holder_model.specs.ownership_kinds as ownership_kinds
+pub use Rattle.holder_model.specs.ownership_origins as ownership_origins

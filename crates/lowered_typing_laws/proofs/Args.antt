@@ -12,17 +12,17 @@ use Rattle.numbered_form.specs.Lists.{Each}
 use Rattle.numbered_form.specs.Numbering.{AreCountedFrom, value_of, values_of}
 use Rattle.ownership_chains.specs.Chains.{operands_at}
 use Rattle.ownership_chains.specs.declared.definition.Definition.{Definition}
-use Rattle.ownership_origins.specs.Renamings.{arg_renaming, arg_renamings, default_operand, renamed, renamings_of, result_renamings}
-use Rattle.ownership_origins.specs.Switched.{switch_to}
+use Rattle.lowering_laws.specs.ownership_origins.Renamings.{arg_renaming, arg_renamings, default_operand, renamed, renamings_of, result_renamings}
+use Rattle.lowering_laws.specs.ownership_origins.Switched.{switch_to}
 use Rattle.type_definitions.specs.Declarations.{Declarations}
-use Rattle.sil_types.specs.Typing.FormRules.{is_annotated}
-use Rattle.sil_types.specs.Typing.Values.{arg_type}
-use Rattle.lowering_model.specs.LoweredBlocks.{args_become, blocks_become, has_own_name, lowered_blocks, without_annotation}
-use Rattle.lowering_model.specs.LoweredModules.{lowered_body}
-use Rattle.lowering_model.specs.Names.{renamed_from}
-use Rattle.lowering_model.specs.Numbers.{new_number, numbering_of, renumbered, renumbered_arg}
-use Rattle.run_typing_laws.proofs.ListFacts.{map_twice}
-use Rattle.run_typing_laws.proofs.Rows.Tables.{row_at, told_of_args}
+use Rattle.lowering_laws.specs.sil_types.Typing.FormRules.{is_annotated}
+use Rattle.lowering_laws.specs.sil_types.Typing.Values.{arg_type}
+use Rattle.lowering_laws.specs.lowering_model.LoweredBlocks.{args_become, blocks_become, has_own_name, lowered_blocks, without_annotation}
+use Rattle.lowering_laws.specs.lowering_model.LoweredModules.{lowered_body}
+use Rattle.lowering_laws.specs.lowering_model.Names.{renamed_from}
+use Rattle.lowering_laws.specs.lowering_model.Numbers.{new_number, numbering_of, renumbered, renumbered_arg}
+use Rattle.lowering_laws.proofs.run_typing_laws.ListFacts.{map_twice}
+use Rattle.lowering_laws.proofs.run_typing_laws.Rows.Tables.{row_at, told_of_args}
 use Rattle.lowering_laws.proofs.Lists.{each_weaker}
 use Rattle.lowered_typing_laws.proofs.Told.{each_of_maps}
 

@@ -22,19 +22,19 @@ use Rattle.sil_ast.specs.declared.operands.Operand.{Operand}
 use Rattle.sil_ast.specs.declared.place.ValueId.{ValueId}
 use Rattle.sil_ast.specs.declared.type_name.TypeName.{TypeName}
 use Rattle.type_definitions.specs.Declarations.{Declarations, declarations_of}
-use Rattle.sil_types.specs.Typing.FormRules.{has_word_by, is_at_storage, is_owned_form, is_read_word, is_write_word}
-use Rattle.sil_types.specs.Typing.ResultCounts.{is_count_by, is_count_of}
-use Rattle.sil_types.specs.Typing.RowTypes.{all_fields, given_by, gives, passes, row_types, takes, type_of, written}
-use Rattle.sil_types.specs.Typing.Shapes.{elements, field_type, fields_of_struct, is_nontrivial, is_object, is_storage, object_at}
-use Rattle.sil_types.specs.Typing.Shapes.{target, where_it}
-use Rattle.lowering_model.specs.Extracts.{element_extracts, extracts_elements, extracts_fields, field_extracts, member_of, members_of_struct}
-use Rattle.lowering_model.specs.LoweredInsts.{becomes, becomes_by, destroys_by, loads_by, loads_spare, lowering_of, plain_load, plain_store, releases_spare}
-use Rattle.lowering_model.specs.LoweredInsts.{retains_loaded, stores_by}
-use Rattle.lowering_model.specs.NewInsts.{loaded_from, release, retain}
-use Rattle.lowering_model.specs.declared.lowering.Lowering.TheVariants as lowering
-use Rattle.run_typing_laws.proofs.EndFacts.{one_operand}
-use Rattle.run_typing_laws.proofs.ListFacts.{empty_is}
-use Rattle.run_typing_laws.proofs.Rows.Finding.{found_behind, mapped_from, mapped_some, passed, some_of, where_found}
+use Rattle.lowering_laws.specs.sil_types.Typing.FormRules.{has_word_by, is_at_storage, is_owned_form, is_read_word, is_write_word}
+use Rattle.lowering_laws.specs.sil_types.Typing.ResultCounts.{is_count_by, is_count_of}
+use Rattle.lowering_laws.specs.sil_types.Typing.RowTypes.{all_fields, given_by, gives, passes, row_types, takes, type_of, written}
+use Rattle.lowering_laws.specs.sil_types.Typing.Shapes.{elements, field_type, fields_of_struct, is_nontrivial, is_object, is_storage, object_at}
+use Rattle.lowering_laws.specs.sil_types.Typing.Shapes.{target, where_it}
+use Rattle.lowering_laws.specs.lowering_model.Extracts.{element_extracts, extracts_elements, extracts_fields, field_extracts, member_of, members_of_struct}
+use Rattle.lowering_laws.specs.lowering_model.LoweredInsts.{becomes, becomes_by, destroys_by, loads_by, loads_spare, lowering_of, plain_load, plain_store, releases_spare}
+use Rattle.lowering_laws.specs.lowering_model.LoweredInsts.{retains_loaded, stores_by}
+use Rattle.lowering_laws.specs.lowering_model.NewInsts.{loaded_from, release, retain}
+use Rattle.lowering_laws.specs.lowering_model.declared.lowering.Lowering.TheVariants as lowering
+use Rattle.lowering_laws.proofs.run_typing_laws.EndFacts.{one_operand}
+use Rattle.lowering_laws.proofs.run_typing_laws.ListFacts.{empty_is}
+use Rattle.lowering_laws.proofs.run_typing_laws.Rows.Finding.{found_behind, mapped_from, mapped_some, passed, some_of, where_found}
 use Rattle.lowering_laws.proofs.Structs.{IsStruct, struct_is}
 use Rattle.lowered_typing_laws.proofs.Sound.{Sound, Source}
 

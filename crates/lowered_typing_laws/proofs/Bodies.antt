@@ -9,7 +9,7 @@ use Rattle.argument_conventions.specs.Arguments.{Told, argument_type, arguments_
 use Rattle.numbered_form.specs.Insts.{insts_of}
 use Rattle.numbered_form.specs.Lists.{Each}
 use Rattle.numbered_form.specs.Numbering.{defined_in, results_of, value_of, values_of}
-use Rattle.ownership_origins.specs.Renamings.{renamings_of}
+use Rattle.lowering_laws.specs.ownership_origins.Renamings.{renamings_of}
 use Rattle.point_checks.specs.Points.{IsAt}
 use Rattle.sil_ast.specs.Blocks.{args_of}
 use Rattle.sil_ast.specs.declared.function.Block.{Block}
@@ -21,19 +21,19 @@ use Rattle.sil_ast.specs.declared.module.Module.{Module}
 use Rattle.sil_ast.specs.declared.place.ValueId.{ValueId}
 use Rattle.sil_ast.specs.declared.type_name.TypeName.{TypeName}
 use Rattle.type_definitions.specs.Declarations.{Declarations, declarations_of}
-use Rattle.sil_types.specs.Typing.EdgeRules.{has_address_type, lets_address_escape, takes_address}
-use Rattle.sil_types.specs.Typing.Same.{all_pairs, is_same_type}
-use Rattle.sil_types.specs.Typing.SignatureRules.{has_entry_arguments, has_fitting_conventions, has_wrong_signature, is_annotated_for, is_argument_for}
-use Rattle.sil_types.specs.Typing.SignatureRules.{is_external}
-use Rattle.sil_types.specs.Typing.Values.{arg_has, result_types, type_at}
-use Rattle.lowering_model.specs.LoweredBlocks.{args_become, block_becomes, blocks_become, has_own_name, insts_become, lowered_blocks, value_with}
-use Rattle.lowering_model.specs.LoweredBlocks.{without_annotation}
-use Rattle.lowering_model.specs.LoweredInsts.{becomes}
-use Rattle.lowering_model.specs.LoweredModules.{lowered_body}
-use Rattle.lowering_model.specs.Numbers.{new_number, numbering_of, renumbered, renumbered_arg, renumbered_block, renumbered_inst}
-use Rattle.run_typing_laws.proofs.Declared.{each_append}
-use Rattle.run_typing_laws.proofs.Found.{each_at}
-use Rattle.run_typing_laws.proofs.ListFacts.{each_parts, or_second}
+use Rattle.lowering_laws.specs.sil_types.Typing.EdgeRules.{has_address_type, lets_address_escape, takes_address}
+use Rattle.lowering_laws.specs.sil_types.Typing.Same.{all_pairs, is_same_type}
+use Rattle.lowering_laws.specs.sil_types.Typing.SignatureRules.{has_entry_arguments, has_fitting_conventions, has_wrong_signature, is_annotated_for, is_argument_for}
+use Rattle.lowering_laws.specs.sil_types.Typing.SignatureRules.{is_external}
+use Rattle.lowering_laws.specs.sil_types.Typing.Values.{arg_has, result_types, type_at}
+use Rattle.lowering_laws.specs.lowering_model.LoweredBlocks.{args_become, block_becomes, blocks_become, has_own_name, insts_become, lowered_blocks, value_with}
+use Rattle.lowering_laws.specs.lowering_model.LoweredBlocks.{without_annotation}
+use Rattle.lowering_laws.specs.lowering_model.LoweredInsts.{becomes}
+use Rattle.lowering_laws.specs.lowering_model.LoweredModules.{lowered_body}
+use Rattle.lowering_laws.specs.lowering_model.Numbers.{new_number, numbering_of, renumbered, renumbered_arg, renumbered_block, renumbered_inst}
+use Rattle.lowering_laws.proofs.run_typing_laws.Declared.{each_append}
+use Rattle.lowering_laws.proofs.run_typing_laws.Found.{each_at}
+use Rattle.lowering_laws.proofs.run_typing_laws.ListFacts.{each_parts, or_second}
 use Rattle.lowered_typing_laws.proofs.Args.{args_stay, lowered_args}
 use Rattle.lowered_typing_laws.proofs.Lists.{from_mapped}
 use Rattle.lowered_typing_laws.proofs.NewTypes.{spare_type}

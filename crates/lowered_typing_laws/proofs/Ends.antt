@@ -10,7 +10,7 @@ use Rattle.instruction_table.specs.declared.op.Op.{Op}
 use Rattle.instruction_table.specs.declared.op.Op.TheVariants as op
 use Rattle.numbered_form.specs.Numbering.{values_of}
 use Rattle.ownership_chains.specs.declared.definition.Definition.{Definition}
-use Rattle.ownership_origins.specs.Renamings.{renamings_of}
+use Rattle.lowering_laws.specs.ownership_origins.Renamings.{renamings_of}
 use Rattle.sil_ast.specs.Blocks.{args_of}
 use Rattle.sil_ast.specs.declared.function.Block.{Block}
 use Rattle.sil_ast.specs.declared.function.Form.TheVariants.{Lowered}
@@ -23,18 +23,18 @@ use Rattle.sil_ast.specs.declared.place.ValueId.{ValueId}
 use Rattle.sil_ast.specs.declared.type_name.TypeName.{TypeName}
 use Rattle.type_definitions.specs.Declarations.{Declarations, declarations_of}
 use Rattle.type_definitions.specs.Lookups.{Payload}
-use Rattle.sil_types.specs.Typing.EdgeRules.{has_block_types, has_wrong_edge_arguments, have_wrong_arguments_by}
-use Rattle.sil_types.specs.Typing.RowTypes.{written}
-use Rattle.sil_types.specs.Typing.Same.{are_same_types}
-use Rattle.sil_types.specs.Typing.Shapes.{case_count, case_in}
-use Rattle.sil_types.specs.Typing.SwitchRules.{case_of_edge, edges_of_block, fits_case, fits_default, fits_payload, has_case, has_number, has_wrong_cases}
-use Rattle.sil_types.specs.Typing.SwitchRules.{has_wrong_cases_by}
-use Rattle.sil_types.specs.Typing.SwitchRules.{is_alone, is_default, is_default_argument, is_of_enum, is_to, leaves_out_case, misfits_default, misfits_payload}
-use Rattle.sil_types.specs.Typing.SwitchRules.{names_other_case, place_in_enum, places_of, repeats_case, shares_block, switches_wrongly, are_once}
-use Rattle.lowering_model.specs.LoweredBlocks.{blocks_become}
-use Rattle.lowering_model.specs.LoweredModules.{lowered_body}
-use Rattle.lowering_model.specs.Numbers.{new_number, numbering_of, renumbered, renumbered_edge, renumbered_inst}
-use Rattle.run_typing_laws.proofs.Rows.Finding.{passes_at}
+use Rattle.lowering_laws.specs.sil_types.Typing.EdgeRules.{has_block_types, has_wrong_edge_arguments, have_wrong_arguments_by}
+use Rattle.lowering_laws.specs.sil_types.Typing.RowTypes.{written}
+use Rattle.lowering_laws.specs.sil_types.Typing.Same.{are_same_types}
+use Rattle.lowering_laws.specs.sil_types.Typing.Shapes.{case_count, case_in}
+use Rattle.lowering_laws.specs.sil_types.Typing.SwitchRules.{case_of_edge, edges_of_block, fits_case, fits_default, fits_payload, has_case, has_number, has_wrong_cases}
+use Rattle.lowering_laws.specs.sil_types.Typing.SwitchRules.{has_wrong_cases_by}
+use Rattle.lowering_laws.specs.sil_types.Typing.SwitchRules.{is_alone, is_default, is_default_argument, is_of_enum, is_to, leaves_out_case, misfits_default, misfits_payload}
+use Rattle.lowering_laws.specs.sil_types.Typing.SwitchRules.{names_other_case, place_in_enum, places_of, repeats_case, shares_block, switches_wrongly, are_once}
+use Rattle.lowering_laws.specs.lowering_model.LoweredBlocks.{blocks_become}
+use Rattle.lowering_laws.specs.lowering_model.LoweredModules.{lowered_body}
+use Rattle.lowering_laws.specs.lowering_model.Numbers.{new_number, numbering_of, renumbered, renumbered_edge, renumbered_inst}
+use Rattle.lowering_laws.proofs.run_typing_laws.Rows.Finding.{passes_at}
 use Rattle.lowered_typing_laws.proofs.Args.{default_gone, types_stay}
 use Rattle.lowered_typing_laws.proofs.Renumbered.{all_written_same, written_same}
 use Rattle.lowered_typing_laws.proofs.Sound.{Sound, SoundFunction}

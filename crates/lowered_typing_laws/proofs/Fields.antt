@@ -11,11 +11,11 @@ use Rattle.numbered_form.specs.Names.{AreMembersOnce, AreOnce, Name, field_name}
 use Rattle.numbered_form.specs.inner.NumberedForm.{IsNumbered}
 use Rattle.type_definitions.specs.Declarations.{Declarations, decl_of, declarations_of, place_of, swift_structs}
 use Rattle.type_definitions.specs.Lookups.{decl_fields, field_at_place, inherited_fields}
-use Rattle.sil_types.specs.Typing.Shapes.{field_named, fields_of_struct, found_field, is_owner, is_owner_layer, name_in, struct_field, struct_fields}
-use Rattle.lowering_model.specs.Extracts.{member_of}
+use Rattle.lowering_laws.specs.sil_types.Typing.Shapes.{field_named, fields_of_struct, found_field, is_owner, is_owner_layer, name_in, struct_field, struct_fields}
+use Rattle.lowering_laws.specs.lowering_model.Extracts.{member_of}
 use Rattle.lowering_laws.proofs.Structs.{IsStruct}
-use Rattle.run_typing_laws.proofs.Declared.{each_append, each_from, holds_of_found}
-use Rattle.run_typing_laws.proofs.Found.{place_once, same_name}
+use Rattle.lowering_laws.proofs.run_typing_laws.Declared.{each_append, each_from, holds_of_found}
+use Rattle.lowering_laws.proofs.run_typing_laws.Found.{place_once, same_name}
 
 -- ---- no two members have one name: the structs of `Swift` have one each
 

@@ -24,21 +24,21 @@ use Rattle.sil_ast.specs.declared.vtable.Vtable.{Vtable}
 use Rattle.sil_ast.specs.declared.type_name.TypeName.{TypeName}
 use Rattle.sil_rules.specs.declared.rule.Rule.{Rule}
 use Rattle.sil_rules.specs.declared.rule.Rule.TheVariants as rule
-use Rattle.sil_types.specs.Typing.EdgeRules.{goes_to_entry, has_wrong_edge_arguments, have_wrong_arguments_by, is_to_entry}
-use Rattle.sil_types.specs.Typing.FormRules.{is_annotated, is_annotated_at, is_of_other_form, may_stand_lowered, mixes_forms}
-use Rattle.sil_types.specs.Typing.OperandTypes.{has_operand_types}
-use Rattle.sil_types.specs.Typing.SignatureRules.{callee as callee_of, calls_no_function, differs_by, differs_from_signature, is_no_output_call}
-use Rattle.sil_types.specs.Typing.SignatureRules.{is_signature_of}
-use Rattle.sil_types.specs.Typing.Typed.{BreaksAt, BreaksAtFunction, BreaksAtPoint, BreaksAtVtable, Site, Typed, at_vtable}
-use Rattle.sil_types.specs.Typing.Typed.BreaksAt.{function, point, vtable}
-use Rattle.sil_types.specs.Typing.Typed.BreaksAtFunction.{external, address_escapes, signature as function_signature, mixed_forms as function_mixed}
-use Rattle.sil_types.specs.Typing.Typed.BreaksAtPoint.{operand_type, result_count, edge_arguments, callee, switch_cases, entry_has_predecessor}
-use Rattle.sil_types.specs.Typing.Typed.BreaksAtPoint.{qualifier, signature as point_signature, mixed_forms as point_mixed}
-use Rattle.sil_types.specs.Typing.Typed.BreaksAtVtable.{deinit_signature}
-use Rattle.sil_types.specs.Typing.Values.{value_functions, value_types}
+use Rattle.lowering_laws.specs.sil_types.Typing.EdgeRules.{goes_to_entry, has_wrong_edge_arguments, have_wrong_arguments_by, is_to_entry}
+use Rattle.lowering_laws.specs.sil_types.Typing.FormRules.{is_annotated, is_annotated_at, is_of_other_form, may_stand_lowered, mixes_forms}
+use Rattle.lowering_laws.specs.sil_types.Typing.OperandTypes.{has_operand_types}
+use Rattle.lowering_laws.specs.sil_types.Typing.SignatureRules.{callee as callee_of, calls_no_function, differs_by, differs_from_signature, is_no_output_call}
+use Rattle.lowering_laws.specs.sil_types.Typing.SignatureRules.{is_signature_of}
+use Rattle.lowering_laws.specs.sil_types.Typing.Typed.{BreaksAt, BreaksAtFunction, BreaksAtPoint, BreaksAtVtable, Site, Typed, at_vtable}
+use Rattle.lowering_laws.specs.sil_types.Typing.Typed.BreaksAt.{function, point, vtable}
+use Rattle.lowering_laws.specs.sil_types.Typing.Typed.BreaksAtFunction.{external, address_escapes, signature as function_signature, mixed_forms as function_mixed}
+use Rattle.lowering_laws.specs.sil_types.Typing.Typed.BreaksAtPoint.{operand_type, result_count, edge_arguments, callee, switch_cases, entry_has_predecessor}
+use Rattle.lowering_laws.specs.sil_types.Typing.Typed.BreaksAtPoint.{qualifier, signature as point_signature, mixed_forms as point_mixed}
+use Rattle.lowering_laws.specs.sil_types.Typing.Typed.BreaksAtVtable.{deinit_signature}
+use Rattle.lowering_laws.specs.sil_types.Typing.Values.{value_functions, value_types}
 use Rattle.type_definitions.specs.Declarations.{Declarations, declarations_of}
-use Rattle.lowering_model.specs.LoweredModules.{lowered, lowered_body, lowered_by, lowered_function}
-use Rattle.lowering_model.specs.Numbers.{new_number, numbering_of, renumbered_edge, renumbered_inst}
+use Rattle.lowering_laws.specs.lowering_model.LoweredModules.{lowered, lowered_body, lowered_by, lowered_function}
+use Rattle.lowering_laws.specs.lowering_model.Numbers.{new_number, numbering_of, renumbered_edge, renumbered_inst}
 use Rattle.lowering_laws.specs.inner.Lowerable.{HasNoRings}
 use Rattle.lowering_laws.proofs.Lowerable.{functions_are_lowerable}
 use Rattle.lowering_laws.proofs.Lists.{each_weaker}

@@ -14,11 +14,11 @@ use Rattle.sil_ast.specs.declared.operands.Operand.{Operand}
 use Rattle.sil_ast.specs.declared.place.FuncId.{FuncId}
 use Rattle.sil_ast.specs.declared.place.ValueId.{ValueId}
 use Rattle.type_definitions.specs.Declarations.{Declarations, declarations_of}
-use Rattle.sil_types.specs.Typing.Values.{functions_by, result_functions}
-use Rattle.lowering_model.specs.Extracts.{element_extracts, field_extracts, member_of}
-use Rattle.lowering_model.specs.LoweredBlocks.{value_with}
-use Rattle.lowering_model.specs.LoweredInsts.{becomes}
-use Rattle.run_typing_laws.proofs.Rows.Finding.{none_of}
+use Rattle.lowering_laws.specs.sil_types.Typing.Values.{functions_by, result_functions}
+use Rattle.lowering_laws.specs.lowering_model.Extracts.{element_extracts, field_extracts, member_of}
+use Rattle.lowering_laws.specs.lowering_model.LoweredBlocks.{value_with}
+use Rattle.lowering_laws.specs.lowering_model.LoweredInsts.{becomes}
+use Rattle.lowering_laws.proofs.run_typing_laws.Rows.Finding.{none_of}
 use Rattle.lowered_typing_laws.proofs.Becomes.{Becomes, at_storage, assigns, becomes_so, by_elements, by_fields, copies, destroys, loads, releases, retains}
 use Rattle.lowered_typing_laws.proofs.Becomes.{stays, stores, vanishes}
 use Rattle.lowered_typing_laws.proofs.Sound.{Sound, Source}

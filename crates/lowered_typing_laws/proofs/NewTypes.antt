@@ -18,17 +18,17 @@ use Rattle.sil_ast.specs.declared.operands.Operand.{Operand}
 use Rattle.sil_ast.specs.declared.place.ValueId.{ValueId}
 use Rattle.sil_ast.specs.declared.type_name.TypeName.{TypeName}
 use Rattle.type_definitions.specs.Declarations.{Declarations, declarations_of}
-use Rattle.sil_types.specs.Typing.RowTypes.{MadeTypes, all_fields, given_by, gives, made_types, type_of, written}
-use Rattle.sil_types.specs.Typing.Shapes.{element_of, element_at, elements, field_type, is_object}
-use Rattle.sil_types.specs.Typing.Shapes.{object_at, struct_field}
-use Rattle.sil_types.specs.Typing.Values.{arg_has, result_types}
-use Rattle.lowering_model.specs.Extracts.{element_extracts, field_extracts, member_of}
-use Rattle.lowering_model.specs.LoweredBlocks.{value_with}
-use Rattle.lowering_model.specs.LoweredInsts.{becomes, lowering_of, plain_load, plain_store}
-use Rattle.lowering_model.specs.NewInsts.{load, struct_extract, tuple_extract}
-use Rattle.lowering_model.specs.declared.lowering.Lowering.{Lowering}
-use Rattle.lowering_model.specs.declared.lowering.Lowering.TheVariants as lowering
-use Rattle.run_typing_laws.proofs.ListFacts.{get_below, slices}
+use Rattle.lowering_laws.specs.sil_types.Typing.RowTypes.{MadeTypes, all_fields, given_by, gives, made_types, type_of, written}
+use Rattle.lowering_laws.specs.sil_types.Typing.Shapes.{element_of, element_at, elements, field_type, is_object}
+use Rattle.lowering_laws.specs.sil_types.Typing.Shapes.{object_at, struct_field}
+use Rattle.lowering_laws.specs.sil_types.Typing.Values.{arg_has, result_types}
+use Rattle.lowering_laws.specs.lowering_model.Extracts.{element_extracts, field_extracts, member_of}
+use Rattle.lowering_laws.specs.lowering_model.LoweredBlocks.{value_with}
+use Rattle.lowering_laws.specs.lowering_model.LoweredInsts.{becomes, lowering_of, plain_load, plain_store}
+use Rattle.lowering_laws.specs.lowering_model.NewInsts.{load, struct_extract, tuple_extract}
+use Rattle.lowering_laws.specs.lowering_model.declared.lowering.Lowering.{Lowering}
+use Rattle.lowering_laws.specs.lowering_model.declared.lowering.Lowering.TheVariants as lowering
+use Rattle.lowering_laws.proofs.run_typing_laws.ListFacts.{get_below, slices}
 use Rattle.lowered_typing_laws.proofs.Becomes.{Becomes, IsCounted, IsLoad, at_storage, assigns, becomes_so, by_elements, by_fields, copies, destroys, loads}
 use Rattle.lowered_typing_laws.proofs.Becomes.{no_results, object_there, releases, retains, stays, stores, vanishes}
 use Rattle.lowered_typing_laws.proofs.Fields.{fields_again, fields_are}

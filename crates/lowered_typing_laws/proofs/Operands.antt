@@ -3,11 +3,11 @@ use Rattle.std.proofs.Common.{◌≡◌, ℕ, List, sym, ap, ◌∙◌, subst, t
 use Rattle.std.specs.Prelude.{slice_get}
 use Rattle.sil_ast.specs.declared.operands.Operand.{Operand}
 use Rattle.sil_ast.specs.declared.type_name.TypeName.{TypeName}
-use Rattle.sil_types.specs.Typing.OperandTypes.{are_as_written, is_as_written, is_as_written_by}
-use Rattle.sil_types.specs.Typing.Same.{is_same_type}
-use Rattle.sil_types.specs.Typing.Values.{type_at, type_of_value}
-use Rattle.run_typing_laws.proofs.Rows.Finding.{passed, passes_at}
-use Rattle.run_typing_laws.proofs.SameTypes.{same_types}
+use Rattle.lowering_laws.specs.sil_types.Typing.OperandTypes.{are_as_written, is_as_written, is_as_written_by}
+use Rattle.lowering_laws.specs.sil_types.Typing.Same.{is_same_type}
+use Rattle.lowering_laws.specs.sil_types.Typing.Values.{type_at, type_of_value}
+use Rattle.lowering_laws.proofs.run_typing_laws.Rows.Finding.{passed, passes_at}
+use Rattle.lowering_laws.proofs.run_typing_laws.SameTypes.{same_types}
 
 pub typed_at : (types : List (Option TypeName)) (os : List Operand) → are_as_written types os ≡ true → (k : ℕ) (o : Operand) (t : TypeName)
     → slice_get os k ≡ Some o → o.ty ≡ Some t

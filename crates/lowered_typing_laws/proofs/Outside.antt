@@ -13,11 +13,11 @@ use Rattle.sil_ast.specs.declared.vtable.DeinitEntry.{DeinitEntry}
 use Rattle.sil_ast.specs.declared.vtable.Vtable.{Vtable}
 use Rattle.numbered_form.specs.Names.{Name}
 use Rattle.type_definitions.specs.Declarations.{Declarations, declarations_of}
-use Rattle.sil_types.specs.Typing.FormRules.{first_form, form_of, has_body, is_same_form, mixes_forms}
-use Rattle.sil_types.specs.Typing.RowTypes.{passes}
-use Rattle.sil_types.specs.Typing.SignatureRules.{deinit_signature, has_wrong_deinitialiser, is_deinitialiser, is_external, names_deinitialiser, signature_of}
-use Rattle.sil_types.specs.Typing.Same.{is_same_signature}
-use Rattle.lowering_model.specs.LoweredModules.{lowered, lowered_by, lowered_function}
+use Rattle.lowering_laws.specs.sil_types.Typing.FormRules.{first_form, form_of, has_body, is_same_form, mixes_forms}
+use Rattle.lowering_laws.specs.sil_types.Typing.RowTypes.{passes}
+use Rattle.lowering_laws.specs.sil_types.Typing.SignatureRules.{deinit_signature, has_wrong_deinitialiser, is_deinitialiser, is_external, names_deinitialiser, signature_of}
+use Rattle.lowering_laws.specs.sil_types.Typing.Same.{is_same_signature}
+use Rattle.lowering_laws.specs.lowering_model.LoweredModules.{lowered, lowered_by, lowered_function}
 
 module _ (d : Declarations) (f : Function) where
   by_form : (x : Form) → (lowered_by x d f).signature ≡ f.signature

@@ -28,21 +28,21 @@ use Rattle.sil_ast.specs.declared.place.ValueId.{ValueId}
 use Rattle.sil_ast.specs.declared.type_name.TypeName.{TypeName}
 use Rattle.type_definitions.specs.Declarations.{Declarations, declarations_of}
 use Rattle.type_definitions.specs.Rules.{is_class_type}
-use Rattle.sil_types.specs.Typing.FormRules.{has_no_word, is_of_form, may_stand_lowered, may_stand_owned}
-use Rattle.sil_types.specs.Typing.OperandTypes.{are_as_asked_by, are_as_written, edge_is_as_written, has_operand_types, is_as_written_by}
-use Rattle.sil_types.specs.Typing.ResultCounts.{is_count_by}
-use Rattle.sil_types.specs.Typing.RowTypes.{MadeTypes, given_by, gives, is_counted_value, passes, row_types, takes, type_of}
-use Rattle.sil_types.specs.Typing.Same.{is_same_type}
-use Rattle.sil_types.specs.Typing.Shapes.{element_at, element_of, elements, field_type, is_nontrivial, is_object, object_at, struct_field, target, where_it}
-use Rattle.sil_types.specs.Typing.Values.{arg_has, result_types, type_at, value_types}
-use Rattle.lowering_model.specs.Extracts.{element_extracts, field_extracts, member_of}
-use Rattle.lowering_model.specs.LoweredBlocks.{value_with}
-use Rattle.lowering_model.specs.LoweredInsts.{becomes, lowering_of, plain_load, plain_store}
-use Rattle.lowering_model.specs.NewInsts.{load, loaded_from, release, retain, struct_extract, tuple_extract, with_operands}
-use Rattle.lowering_model.specs.Numbers.{renumbered_edge, renumbered_inst, renumbered_operand}
-use Rattle.lowering_model.specs.declared.lowering.Lowering.TheVariants as lowering
-use Rattle.run_typing_laws.proofs.Found.{each_at}
-use Rattle.run_typing_laws.proofs.ListFacts.{empty_is, get_below}
+use Rattle.lowering_laws.specs.sil_types.Typing.FormRules.{has_no_word, is_of_form, may_stand_lowered, may_stand_owned}
+use Rattle.lowering_laws.specs.sil_types.Typing.OperandTypes.{are_as_asked_by, are_as_written, edge_is_as_written, has_operand_types, is_as_written_by}
+use Rattle.lowering_laws.specs.sil_types.Typing.ResultCounts.{is_count_by}
+use Rattle.lowering_laws.specs.sil_types.Typing.RowTypes.{MadeTypes, given_by, gives, is_counted_value, passes, row_types, takes, type_of}
+use Rattle.lowering_laws.specs.sil_types.Typing.Same.{is_same_type}
+use Rattle.lowering_laws.specs.sil_types.Typing.Shapes.{element_at, element_of, elements, field_type, is_nontrivial, is_object, object_at, struct_field, target, where_it}
+use Rattle.lowering_laws.specs.sil_types.Typing.Values.{arg_has, result_types, type_at, value_types}
+use Rattle.lowering_laws.specs.lowering_model.Extracts.{element_extracts, field_extracts, member_of}
+use Rattle.lowering_laws.specs.lowering_model.LoweredBlocks.{value_with}
+use Rattle.lowering_laws.specs.lowering_model.LoweredInsts.{becomes, lowering_of, plain_load, plain_store}
+use Rattle.lowering_laws.specs.lowering_model.NewInsts.{load, loaded_from, release, retain, struct_extract, tuple_extract, with_operands}
+use Rattle.lowering_laws.specs.lowering_model.Numbers.{renumbered_edge, renumbered_inst, renumbered_operand}
+use Rattle.lowering_laws.specs.lowering_model.declared.lowering.Lowering.TheVariants as lowering
+use Rattle.lowering_laws.proofs.run_typing_laws.Found.{each_at}
+use Rattle.lowering_laws.proofs.run_typing_laws.ListFacts.{empty_is, get_below}
 use Rattle.lowered_typing_laws.proofs.Becomes.{Becomes, IsCounted, IsLoad, IsOne, at_storage, assigns, becomes_so, by_elements, by_fields, copies, destroys}
 use Rattle.lowered_typing_laws.proofs.Becomes.{loads, object_there, releases, retains, stays, stores, vanishes}
 use Rattle.lowered_typing_laws.proofs.Fields.{fields_again}

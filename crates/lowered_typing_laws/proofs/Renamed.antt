@@ -14,9 +14,9 @@ use Rattle.numbered_form.specs.Lists.{Each}
 use Rattle.numbered_form.specs.inner.Parts.{is_callee, row_has}
 use Rattle.ownership_chains.specs.Chains.{operands_at}
 use Rattle.ownership_chains.specs.declared.definition.Definition.{Definition}
-use Rattle.ownership_origins.specs.Renamings.{arg_renaming, arg_renamings, renamed, renames, renamings_of, result_renamings}
-use Rattle.ownership_origins.specs.Switched.{switch_to}
-use Rattle.ownership_origins.specs.declared.switched.Switched.{Switched}
+use Rattle.lowering_laws.specs.ownership_origins.Renamings.{arg_renaming, arg_renamings, renamed, renames, renamings_of, result_renamings}
+use Rattle.lowering_laws.specs.ownership_origins.Switched.{switch_to}
+use Rattle.lowering_laws.specs.ownership_origins.declared.switched.Switched.{Switched}
 use Rattle.sil_ast.specs.Blocks.{args_in, args_of}
 use Rattle.sil_ast.specs.declared.function.Block.{Block}
 use Rattle.sil_ast.specs.declared.function.BlockArg.{BlockArg}
@@ -29,14 +29,14 @@ use Rattle.sil_ast.specs.declared.type_name.TypeName.{TypeName}
 use Rattle.type_definitions.specs.Declarations.{declarations_of}
 use Rattle.value_tables.specs.FirstValue.{value_of}
 use Rattle.value_tables.specs.ValueRows.{rows_from, value_rows}
-use Rattle.sil_types.specs.Typing.ResultCounts.{is_count_by}
-use Rattle.sil_types.specs.Typing.RowTypes.{given_by, made_types, type_of, written}
-use Rattle.sil_types.specs.Typing.Shapes.{is_nontrivial, is_object, where_it}
-use Rattle.sil_types.specs.Typing.Values.{arg_has, functions_by, result_functions, result_types, type_at, value_types}
-use Rattle.lowering_model.specs.Names.{renamed_from, stands_for, stands_within, unless_renamed}
-use Rattle.run_typing_laws.proofs.Declared.{each_from}
-use Rattle.run_typing_laws.proofs.Rows.Finding.{mapped_from, mapped_some, where_found}
-use Rattle.run_typing_laws.proofs.Rows.Points.{in_front}
+use Rattle.lowering_laws.specs.sil_types.Typing.ResultCounts.{is_count_by}
+use Rattle.lowering_laws.specs.sil_types.Typing.RowTypes.{given_by, made_types, type_of, written}
+use Rattle.lowering_laws.specs.sil_types.Typing.Shapes.{is_nontrivial, is_object, where_it}
+use Rattle.lowering_laws.specs.sil_types.Typing.Values.{arg_has, functions_by, result_functions, result_types, type_at, value_types}
+use Rattle.lowering_laws.specs.lowering_model.Names.{renamed_from, stands_for, stands_within, unless_renamed}
+use Rattle.lowering_laws.proofs.run_typing_laws.Declared.{each_from}
+use Rattle.lowering_laws.proofs.run_typing_laws.Rows.Finding.{mapped_from, mapped_some, where_found}
+use Rattle.lowering_laws.proofs.run_typing_laws.Rows.Points.{in_front}
 use Rattle.lowering_laws.proofs.Lists.{each_weaker}
 use Rattle.lowered_typing_laws.proofs.Lists.{zip_append, zip_at, zip_flat, zip_maps, zip_repeat}
 use Rattle.lowered_typing_laws.proofs.NewFunctions.{no_function}

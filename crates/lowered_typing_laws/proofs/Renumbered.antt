@@ -20,19 +20,19 @@ use Rattle.sil_ast.specs.declared.type_name.TypeName.{TypeName}
 use Rattle.sil_ast.specs.declared.type_name.TypeName.TheVariants as type
 use Rattle.type_definitions.specs.Declarations.{Declarations}
 use Rattle.type_definitions.specs.Rules.{is_class_type}
-use Rattle.sil_types.specs.Typing.Builtins.{builtin_named, builtin_operands, builtin_result}
-use Rattle.sil_types.specs.Typing.FormRules.{may_stand_lowered}
-use Rattle.sil_types.specs.Typing.OperandTypes.{are_as_asked_by, are_as_written, asked_by, bare_by, edge_is_as_written, has_operand_types, has_type}
-use Rattle.sil_types.specs.Typing.OperandTypes.{is_as_written_by}
-use Rattle.sil_types.specs.Typing.RowTypes.{MadeTypes, address_of, address_of_field, all_fields, all_written, are_elements, given_by, gives, is_base}
-use Rattle.sil_types.specs.Typing.RowTypes.{is_counted_value, is_payload, is_struct_of}
-use Rattle.sil_types.specs.Typing.RowTypes.{member_type, passes, row_types, takes, type_of, written}
-use Rattle.sil_types.specs.Typing.Same.{all_pairs, are_same_types, is_same_type}
-use Rattle.sil_types.specs.Typing.Shapes.{case_in, class_field, element_of, elements, field_address, field_type, is_bit, is_enum, is_nontrivial, is_object}
-use Rattle.sil_types.specs.Typing.Shapes.{is_storage}
-use Rattle.sil_types.specs.Typing.Shapes.{object_at, struct_field, target, unowned_at, weak_at, where_it}
-use Rattle.sil_types.specs.Typing.Values.{result_types, type_at}
-use Rattle.lowering_model.specs.Numbers.{renumbered_edge, renumbered_inst, renumbered_operand}
+use Rattle.lowering_laws.specs.sil_types.Typing.Builtins.{builtin_named, builtin_operands, builtin_result}
+use Rattle.lowering_laws.specs.sil_types.Typing.FormRules.{may_stand_lowered}
+use Rattle.lowering_laws.specs.sil_types.Typing.OperandTypes.{are_as_asked_by, are_as_written, asked_by, bare_by, edge_is_as_written, has_operand_types, has_type}
+use Rattle.lowering_laws.specs.sil_types.Typing.OperandTypes.{is_as_written_by}
+use Rattle.lowering_laws.specs.sil_types.Typing.RowTypes.{MadeTypes, address_of, address_of_field, all_fields, all_written, are_elements, given_by, gives, is_base}
+use Rattle.lowering_laws.specs.sil_types.Typing.RowTypes.{is_counted_value, is_payload, is_struct_of}
+use Rattle.lowering_laws.specs.sil_types.Typing.RowTypes.{member_type, passes, row_types, takes, type_of, written}
+use Rattle.lowering_laws.specs.sil_types.Typing.Same.{all_pairs, are_same_types, is_same_type}
+use Rattle.lowering_laws.specs.sil_types.Typing.Shapes.{case_in, class_field, element_of, elements, field_address, field_type, is_bit, is_enum, is_nontrivial, is_object}
+use Rattle.lowering_laws.specs.sil_types.Typing.Shapes.{is_storage}
+use Rattle.lowering_laws.specs.sil_types.Typing.Shapes.{object_at, struct_field, target, unowned_at, weak_at, where_it}
+use Rattle.lowering_laws.specs.sil_types.Typing.Values.{result_types, type_at}
+use Rattle.lowering_laws.specs.lowering_model.Numbers.{renumbered_edge, renumbered_inst, renumbered_operand}
 
 module _ (num : ValueId → ValueId) where
   -- ---- types that are written

@@ -16,18 +16,18 @@ use Rattle.sil_ast.specs.declared.place.FuncId.{FuncId}
 use Rattle.sil_ast.specs.declared.place.ValueId.{ValueId}
 use Rattle.type_definitions.specs.Declarations.{Declarations, declarations_of}
 use Rattle.type_definitions.specs.Mentions.{given_type}
-use Rattle.sil_types.specs.Typing.EdgeRules.{have_wrong_arguments_by, is_to_entry}
-use Rattle.sil_types.specs.Typing.ResultCounts.{is_count_by}
-use Rattle.sil_types.specs.Typing.RowTypes.{passes, row_types}
-use Rattle.sil_types.specs.Typing.Same.{is_same_type}
-use Rattle.sil_types.specs.Typing.SignatureRules.{callee, callee_value, calls_no_function, calls_none_by, differs_by, differs_from_signature, has_signature_of}
-use Rattle.sil_types.specs.Typing.SignatureRules.{is_signature_of}
-use Rattle.sil_types.specs.Typing.SwitchRules.{has_wrong_cases_by}
-use Rattle.sil_types.specs.Typing.Values.{function_at, value_functions}
-use Rattle.lowering_model.specs.LoweredModules.{lowered, lowered_body}
-use Rattle.lowering_model.specs.Numbers.{renumbered_edge, renumbered_inst, renumbered_operand}
-use Rattle.run_typing_laws.proofs.Found.{each_at}
-use Rattle.run_typing_laws.proofs.Rows.Finding.{found_behind}
+use Rattle.lowering_laws.specs.sil_types.Typing.EdgeRules.{have_wrong_arguments_by, is_to_entry}
+use Rattle.lowering_laws.specs.sil_types.Typing.ResultCounts.{is_count_by}
+use Rattle.lowering_laws.specs.sil_types.Typing.RowTypes.{passes, row_types}
+use Rattle.lowering_laws.specs.sil_types.Typing.Same.{is_same_type}
+use Rattle.lowering_laws.specs.sil_types.Typing.SignatureRules.{callee, callee_value, calls_no_function, calls_none_by, differs_by, differs_from_signature, has_signature_of}
+use Rattle.lowering_laws.specs.sil_types.Typing.SignatureRules.{is_signature_of}
+use Rattle.lowering_laws.specs.sil_types.Typing.SwitchRules.{has_wrong_cases_by}
+use Rattle.lowering_laws.specs.sil_types.Typing.Values.{function_at, value_functions}
+use Rattle.lowering_laws.specs.lowering_model.LoweredModules.{lowered, lowered_body}
+use Rattle.lowering_laws.specs.lowering_model.Numbers.{renumbered_edge, renumbered_inst, renumbered_operand}
+use Rattle.lowering_laws.proofs.run_typing_laws.Found.{each_at}
+use Rattle.lowering_laws.proofs.run_typing_laws.Rows.Finding.{found_behind}
 use Rattle.lowered_typing_laws.proofs.Lists.{mapped_at}
 use Rattle.lowered_typing_laws.proofs.Outside.{signatures_behind}
 use Rattle.lowered_typing_laws.proofs.Points.{is_made}

@@ -3,9 +3,9 @@ use Rattle.std.proofs.Common.{◌≡◌, List, [], ◌∷◌, Bool, true, map, r
 use Rattle.std.specs.Prelude.{◌&&◌}
 use Rattle.std.proofs.lemmas.Bool.{eq-eqb}
 use Rattle.sil_ast.specs.declared.type_name.TypeName.{TypeName, TypeName-F, fold-roll-TypeName, map-TypeName, out-TypeName, out-roll-TypeName, roll-TypeName}
-use Rattle.sil_types.specs.Typing.Same.{all_pairs, applied, is_same_layer, is_same_type}
-use Rattle.run_typing_laws.proofs.Found.{same_name}
-use Rattle.run_typing_laws.proofs.Opened.{Proved, by_layer, type_in, types_in}
+use Rattle.lowering_laws.specs.sil_types.Typing.Same.{all_pairs, applied, is_same_layer, is_same_type}
+use Rattle.lowering_laws.proofs.run_typing_laws.Found.{same_name}
+use Rattle.lowering_laws.proofs.run_typing_laws.Opened.{Proved, by_layer, type_in, types_in}
 
 abbrev IsSelf : TypeName → Type 0
 IsSelf t = is_same_type t t ≡ true

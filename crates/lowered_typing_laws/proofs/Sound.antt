@@ -20,22 +20,22 @@ use Rattle.sil_ast.specs.declared.module.Module.{Module}
 use Rattle.sil_ast.specs.declared.type_name.TypeName.{TypeName}
 use Rattle.sil_rules.specs.declared.rule.Rule.{Rule}
 use Rattle.sil_rules.specs.declared.rule.Rule.TheVariants as rule
-use Rattle.sil_types.specs.Typing.EdgeRules.{goes_to_entry, has_wrong_edge_arguments, lets_address_escape}
-use Rattle.sil_types.specs.Typing.FormRules.{has_wrong_qualifier, is_annotated_at, is_of_form}
-use Rattle.sil_types.specs.Typing.OperandTypes.{are_as_asked, are_as_written, edge_is_as_written, has_operand_types}
-use Rattle.sil_types.specs.Typing.ResultCounts.{is_count_by}
-use Rattle.sil_types.specs.Typing.RowTypes.{keeps_row, row_types}
-use Rattle.sil_types.specs.Typing.SignatureRules.{calls_no_function, differs_from_signature, has_wrong_signature}
-use Rattle.sil_types.specs.Typing.SwitchRules.{has_wrong_cases}
-use Rattle.sil_types.specs.Typing.Typed.{BreaksAtFunction, BreaksAtPoint, Typed, at_function, at_point, function, point}
-use Rattle.sil_types.specs.Typing.Values.{value_functions, value_types}
+use Rattle.lowering_laws.specs.sil_types.Typing.EdgeRules.{goes_to_entry, has_wrong_edge_arguments, lets_address_escape}
+use Rattle.lowering_laws.specs.sil_types.Typing.FormRules.{has_wrong_qualifier, is_annotated_at, is_of_form}
+use Rattle.lowering_laws.specs.sil_types.Typing.OperandTypes.{are_as_asked, are_as_written, edge_is_as_written, has_operand_types}
+use Rattle.lowering_laws.specs.sil_types.Typing.ResultCounts.{is_count_by}
+use Rattle.lowering_laws.specs.sil_types.Typing.RowTypes.{keeps_row, row_types}
+use Rattle.lowering_laws.specs.sil_types.Typing.SignatureRules.{calls_no_function, differs_from_signature, has_wrong_signature}
+use Rattle.lowering_laws.specs.sil_types.Typing.SwitchRules.{has_wrong_cases}
+use Rattle.lowering_laws.specs.sil_types.Typing.Typed.{BreaksAtFunction, BreaksAtPoint, Typed, at_function, at_point, function, point}
+use Rattle.lowering_laws.specs.sil_types.Typing.Values.{value_functions, value_types}
 use Rattle.type_definitions.specs.Declarations.{decl_of, declarations_of}
 use Rattle.lowering_laws.specs.inner.Lowerable.{IsLowerable}
-use Rattle.run_typing_laws.proofs.Declared.{each_append, each_from}
-use Rattle.run_typing_laws.proofs.Found.{each_at}
-use Rattle.run_typing_laws.proofs.ListFacts.{get_last}
-use Rattle.run_typing_laws.proofs.Rows.Finding.{never_passes}
-use Rattle.run_typing_laws.proofs.Rows.Points.{in_front}
+use Rattle.lowering_laws.proofs.run_typing_laws.Declared.{each_append, each_from}
+use Rattle.lowering_laws.proofs.run_typing_laws.Found.{each_at}
+use Rattle.lowering_laws.proofs.run_typing_laws.ListFacts.{get_last}
+use Rattle.lowering_laws.proofs.run_typing_laws.Rows.Finding.{never_passes}
+use Rattle.lowering_laws.proofs.run_typing_laws.Rows.Points.{in_front}
 
 -- of an instruction or a terminator of a function
 pub record Sound (m : Module) (f : Function) (i : Inst) : Type 0 where

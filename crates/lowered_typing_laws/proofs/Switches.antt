@@ -21,24 +21,24 @@ use Rattle.sil_ast.specs.declared.operands.Operand.{Operand}
 use Rattle.sil_ast.specs.declared.place.ValueId.{ValueId}
 use Rattle.sil_ast.specs.declared.type_name.TypeName.{TypeName}
 use Rattle.numbered_form.specs.Lists.{Each}
-use Rattle.ownership_origins.specs.Renamings.{default_operand}
-use Rattle.ownership_origins.specs.Switched.{edge_to, switch_to, switched_by, switches_by, switches_from}
-use Rattle.ownership_origins.specs.declared.switched.Switched.{Switched}
+use Rattle.lowering_laws.specs.ownership_origins.Renamings.{default_operand}
+use Rattle.lowering_laws.specs.ownership_origins.Switched.{edge_to, switch_to, switched_by, switches_by, switches_from}
+use Rattle.lowering_laws.specs.ownership_origins.declared.switched.Switched.{Switched}
 use Rattle.type_definitions.specs.Declarations.{declarations_of}
 use Rattle.value_tables.specs.FirstValue.{first_value, value_of}
-use Rattle.sil_types.specs.Typing.EdgeRules.{goes_to_entry, is_to_entry}
-use Rattle.sil_types.specs.Typing.FormRules.{is_lowered}
-use Rattle.sil_types.specs.Typing.RowTypes.{given_by, type_of, written}
-use Rattle.sil_types.specs.Typing.Same.{is_same_type}
-use Rattle.sil_types.specs.Typing.Shapes.{is_enum, where_it}
-use Rattle.sil_types.specs.Typing.SwitchRules.{edges_of_block, fits_case, fits_default, has_case, has_wrong_cases_by, incoming, is_alone, is_default_argument}
-use Rattle.sil_types.specs.Typing.SwitchRules.{is_to, leaves_out_case}
-use Rattle.sil_types.specs.Typing.SwitchRules.{misfits_default, misfits_payload, names_other_case, repeats_case, shares_block, switches_wrongly}
-use Rattle.sil_types.specs.Typing.Values.{type_at, value_types}
-use Rattle.run_typing_laws.proofs.Found.{both_second, each_at}
-use Rattle.run_typing_laws.proofs.ListFacts.{or_second}
-use Rattle.run_typing_laws.proofs.Rows.Finding.{fails_at, mapped_from, passes_at, where_found}
-use Rattle.run_typing_laws.proofs.SameTypes.{same_types}
+use Rattle.lowering_laws.specs.sil_types.Typing.EdgeRules.{goes_to_entry, is_to_entry}
+use Rattle.lowering_laws.specs.sil_types.Typing.FormRules.{is_lowered}
+use Rattle.lowering_laws.specs.sil_types.Typing.RowTypes.{given_by, type_of, written}
+use Rattle.lowering_laws.specs.sil_types.Typing.Same.{is_same_type}
+use Rattle.lowering_laws.specs.sil_types.Typing.Shapes.{is_enum, where_it}
+use Rattle.lowering_laws.specs.sil_types.Typing.SwitchRules.{edges_of_block, fits_case, fits_default, has_case, has_wrong_cases_by, incoming, is_alone, is_default_argument}
+use Rattle.lowering_laws.specs.sil_types.Typing.SwitchRules.{is_to, leaves_out_case}
+use Rattle.lowering_laws.specs.sil_types.Typing.SwitchRules.{misfits_default, misfits_payload, names_other_case, repeats_case, shares_block, switches_wrongly}
+use Rattle.lowering_laws.specs.sil_types.Typing.Values.{type_at, value_types}
+use Rattle.lowering_laws.proofs.run_typing_laws.Found.{both_second, each_at}
+use Rattle.lowering_laws.proofs.run_typing_laws.ListFacts.{or_second}
+use Rattle.lowering_laws.proofs.run_typing_laws.Rows.Finding.{fails_at, mapped_from, passes_at, where_found}
+use Rattle.lowering_laws.proofs.run_typing_laws.SameTypes.{same_types}
 use Rattle.lowered_typing_laws.proofs.Becomes.{taken_type}
 use Rattle.lowered_typing_laws.proofs.Lists.{first_from, kept_first, only_within, some_first, some_kept, where_true}
 use Rattle.lowered_typing_laws.proofs.Operands.{typed_at}

@@ -7,7 +7,7 @@ use Rattle.std.proofs.lemmas.List.FromFn.{length-map-range_with_len}
 use Rattle.numbered_form.specs.Insts.{insts_of}
 use Rattle.numbered_form.specs.Lists.{Each}
 use Rattle.numbered_form.specs.Numbering.{IsValueBelow, values_of}
-use Rattle.ownership_origins.specs.Renamings.{renamings_of}
+use Rattle.lowering_laws.specs.ownership_origins.Renamings.{renamings_of}
 use Rattle.sil_ast.specs.declared.function.Block.{Block}
 use Rattle.sil_ast.specs.declared.function.BlockArg.{BlockArg}
 use Rattle.sil_ast.specs.declared.function.Function.{Function}
@@ -20,15 +20,15 @@ use Rattle.sil_ast.specs.declared.type_name.TypeName.{TypeName}
 use Rattle.type_definitions.specs.Declarations.{Declarations, declarations_of}
 use Rattle.value_tables.proofs.Rows.{same_args}
 use Rattle.value_tables.specs.ValueRows.{rows_from, value_rows}
-use Rattle.sil_types.specs.Typing.RowTypes.{made_types}
-use Rattle.sil_types.specs.Typing.Values.{arg_functions, arg_has, function_at, functions_by, result_functions, result_types, type_at, value_functions}
-use Rattle.sil_types.specs.Typing.Values.{value_types}
-use Rattle.lowering_model.specs.LoweredBlocks.{lowered_blocks, value_with}
-use Rattle.lowering_model.specs.LoweredModules.{lowered_body}
-use Rattle.lowering_model.specs.Names.{stands_for}
-use Rattle.lowering_model.specs.Numbers.{new_number, numbering_of, renumbered, renumbered_arg, renumbered_inst}
+use Rattle.lowering_laws.specs.sil_types.Typing.RowTypes.{made_types}
+use Rattle.lowering_laws.specs.sil_types.Typing.Values.{arg_functions, arg_has, function_at, functions_by, result_functions, result_types, type_at, value_functions}
+use Rattle.lowering_laws.specs.sil_types.Typing.Values.{value_types}
+use Rattle.lowering_laws.specs.lowering_model.LoweredBlocks.{lowered_blocks, value_with}
+use Rattle.lowering_laws.specs.lowering_model.LoweredModules.{lowered_body}
+use Rattle.lowering_laws.specs.lowering_model.Names.{stands_for}
+use Rattle.lowering_laws.specs.lowering_model.Numbers.{new_number, numbering_of, renumbered, renumbered_arg, renumbered_inst}
 use Rattle.lowering_laws.proofs.Placed.{defined_are_placed, old_are_placed}
-use Rattle.run_typing_laws.proofs.Declared.{each_from}
+use Rattle.lowering_laws.proofs.run_typing_laws.Declared.{each_from}
 use Rattle.lowering_laws.proofs.Lists.{each_weaker}
 use Rattle.lowered_typing_laws.proofs.Lists.{mapped_at}
 use Rattle.lowered_typing_laws.proofs.NewFunctions.{new_functions, no_function, no_spare}

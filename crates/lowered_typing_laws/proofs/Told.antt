@@ -18,12 +18,12 @@ use Rattle.point_checks.specs.Points.{IsAt}
 use Rattle.type_definitions.specs.Declarations.{Declarations}
 use Rattle.value_tables.proofs.Rows.{rows_count}
 use Rattle.value_tables.specs.ValueRows.{rows_from, value_rows}
-use Rattle.lowering_model.specs.LoweredBlocks.{args_become, block_becomes, blocks_become, has_own_name, insts_become, value_with, without_annotation}
-use Rattle.lowering_model.specs.LoweredInsts.{becomes}
-use Rattle.run_typing_laws.proofs.Declared.{each_from}
-use Rattle.run_typing_laws.proofs.ListFacts.{each_parts, each_within, get_below, get_last, map_twice}
-use Rattle.run_typing_laws.proofs.Rows.Points.{in_front}
-use Rattle.run_typing_laws.proofs.Rows.Tables.{row_at, told_of_args, told_of_results}
+use Rattle.lowering_laws.specs.lowering_model.LoweredBlocks.{args_become, block_becomes, blocks_become, has_own_name, insts_become, value_with, without_annotation}
+use Rattle.lowering_laws.specs.lowering_model.LoweredInsts.{becomes}
+use Rattle.lowering_laws.proofs.run_typing_laws.Declared.{each_from}
+use Rattle.lowering_laws.proofs.run_typing_laws.ListFacts.{each_parts, each_within, get_below, get_last, map_twice}
+use Rattle.lowering_laws.proofs.run_typing_laws.Rows.Points.{in_front}
+use Rattle.lowering_laws.proofs.run_typing_laws.Rows.Tables.{row_at, told_of_args, told_of_results}
 use Rattle.lowering_laws.proofs.Lists.{counted_below}
 use Rattle.lowered_typing_laws.proofs.Lists.{get_behind, maps_same}
 

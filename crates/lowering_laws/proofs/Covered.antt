@@ -16,7 +16,7 @@ use Rattle.lowering_model.specs.Numbers.{is_value}
 use Rattle.numbered_form.specs.Lists.{Each}
 use Rattle.numbered_form.specs.Numbering.{AreCountedFrom, defined_in, results_of, value_of, values_of}
 use Rattle.ownership_chains.specs.declared.definition.Definition.{Definition}
-use Rattle.ownership_origins.specs.Renamings.{renamings_of}
+use Rattle.lowering_model.specs.ownership_origins.Renamings.{renamings_of}
 use Rattle.type_definitions.specs.Declarations.{Declarations}
 use Rattle.lowering_laws.proofs.Known.{Known, KnownBlock, has_name}
 use Rattle.lowering_laws.proofs.Lists.{counted_split}

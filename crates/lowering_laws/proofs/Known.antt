@@ -14,8 +14,8 @@ use Rattle.numbered_form.specs.Lists.{Each}
 use Rattle.numbered_form.specs.inner.Parts.{IsTerminator, are_of_parts, has_operands, is_bare, is_typed}
 use Rattle.ownership_chains.specs.Chains.{operands_at}
 use Rattle.ownership_chains.specs.declared.definition.Definition.{Definition}
-use Rattle.ownership_origins.specs.Renamings.{arg_renaming, arg_renamings, renamed, renames, renamings_of, result_renamings}
-use Rattle.ownership_origins.specs.Switched.{switch_to}
+use Rattle.lowering_model.specs.ownership_origins.Renamings.{arg_renaming, arg_renamings, renamed, renames, renamings_of, result_renamings}
+use Rattle.lowering_model.specs.ownership_origins.Switched.{switch_to}
 use Rattle.value_tables.specs.FirstValue.{value_of}
 use Rattle.type_definitions.specs.Declarations.{Declarations}
 use Rattle.point_checks.specs.Points.{IsAt}

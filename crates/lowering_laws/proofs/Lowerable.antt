@@ -13,12 +13,12 @@ use Rattle.sil_rules.specs.declared.rule.Rule.TheVariants as rule
 use Rattle.numbered_form.specs.Numbering.{IsFunctionNumbered}
 use Rattle.numbered_form.specs.inner.NumberedForm.{IsNumbered}
 use Rattle.numbered_form.specs.inner.Parts.{BlockHasParts, FunctionHasParts, IsInside}
-use Rattle.ownership_origins.proofs.Ranges.{are_in_range}
+use Rattle.lowering_model.proofs.ownership_origins.Ranges.{are_in_range}
 use Rattle.point_checks.specs.Points.{IsAt}
-use Rattle.sil_types.specs.Typing.OperandTypes.{are_as_asked, are_as_written, edge_is_as_written, has_operand_types}
-use Rattle.sil_types.specs.Typing.RowTypes.{keeps_row}
-use Rattle.sil_types.specs.Typing.Typed.{BreaksAtPoint, Typed, at_point, operand_type, point, result_count}
-use Rattle.sil_types.specs.Typing.Values.{value_types}
+use Rattle.lowering_model.specs.sil_types.Typing.OperandTypes.{are_as_asked, are_as_written, edge_is_as_written, has_operand_types}
+use Rattle.lowering_model.specs.sil_types.Typing.RowTypes.{keeps_row}
+use Rattle.lowering_model.specs.sil_types.Typing.Typed.{BreaksAtPoint, Typed, at_point, operand_type, point, result_count}
+use Rattle.lowering_model.specs.sil_types.Typing.Values.{value_types}
 use Rattle.type_definitions.specs.Declarations.{Declarations, declarations_of}
 use Rattle.lowering_laws.specs.inner.Lowerable.{HasNoRingIn, HasNoRings, IsLowerable, IsLowerableBlock, IsLowerableInst}
 use Rattle.lowering_laws.specs.inner.Laws.{AreLowerable}

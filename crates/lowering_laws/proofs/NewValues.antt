@@ -21,10 +21,10 @@ use Rattle.numbered_form.specs.Numbering.{results_of}
 use Rattle.numbered_form.specs.inner.Limits.{is_assign}
 use Rattle.numbered_form.specs.inner.Parts.{are_of_parts, has_operands}
 use Rattle.instruction_table.specs.declared.forms.Part.TheVariants as part
-use Rattle.ownership_origins.specs.Renamings.{renames, renamings_of}
-use Rattle.sil_types.specs.Typing.FormRules.{is_at_storage}
-use Rattle.sil_types.specs.Typing.ResultCounts.{is_count_by}
-use Rattle.sil_types.specs.Typing.RowTypes.{row_types}
+use Rattle.lowering_model.specs.ownership_origins.Renamings.{renames, renamings_of}
+use Rattle.lowering_model.specs.sil_types.Typing.FormRules.{is_at_storage}
+use Rattle.lowering_model.specs.sil_types.Typing.ResultCounts.{is_count_by}
+use Rattle.lowering_model.specs.sil_types.Typing.RowTypes.{row_types}
 use Rattle.type_definitions.specs.Declarations.{Declarations}
 use Rattle.lowering_model.specs.Extracts.{element_extracts, extracts_elements, extracts_fields, field_extracts, member_of, members_of_struct}
 use Rattle.lowering_model.specs.LoweredInsts.{assigns, becomes, becomes_by, destroys_by, loads_by, lowering_of, operand_at, releases_at, retains_loaded}

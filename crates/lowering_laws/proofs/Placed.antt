@@ -14,8 +14,8 @@ use Rattle.lowering_model.specs.Numbers.{is_value, new_number, numbering_of, pla
 use Rattle.numbered_form.specs.Numbering.{AreCountedFrom, values_of}
 use Rattle.ownership_chains.specs.Chains.{operands_at}
 use Rattle.ownership_chains.specs.declared.definition.Definition.{Definition}
-use Rattle.ownership_origins.proofs.Counts.{are_of_values}
-use Rattle.ownership_origins.specs.Renamings.{renamings_of}
+use Rattle.lowering_model.proofs.ownership_origins.Counts.{are_of_values}
+use Rattle.lowering_model.specs.ownership_origins.Renamings.{renamings_of}
 use Rattle.type_definitions.specs.Declarations.{Declarations}
 use Rattle.lowering_laws.specs.inner.Lowerable.{IsLowerable}
 use Rattle.lowering_laws.specs.inner.Laws.{AreDefinedPlaced, AreNewCounted, AreOldPlaced, defined_by}

@@ -13,9 +13,9 @@ use Rattle.numbered_form.specs.Insts.{insts_of}
 use Rattle.numbered_form.specs.Numbering.{AreCountedFrom, IsFunctionNumbered, defined_in, results_of, value_of, values_of}
 use Rattle.ownership_chains.specs.Chains.{Chain, more, one, operands_at}
 use Rattle.ownership_chains.specs.declared.definition.Definition.{Definition}
-use Rattle.ownership_kinds.specs.Statics.{HasKinds, IsDefinedAt, argument, on_ring, result}
-use Rattle.ownership_origins.proofs.Counts.{are_of_values}
-use Rattle.ownership_origins.specs.Renamings.{renamings_of}
+use Rattle.run_typing_laws.specs.ownership_kinds.Statics.{HasKinds, IsDefinedAt, argument, on_ring, result}
+use Rattle.lowering_model.proofs.ownership_origins.Counts.{are_of_values}
+use Rattle.lowering_model.specs.ownership_origins.Renamings.{renamings_of}
 use Rattle.sil_cfg.specs.Items.{HasBlocks}
 use Rattle.type_definitions.specs.Declarations.{Declarations, declarations_of}
 use Rattle.lowering_model.specs.Numbers.{is_value}

@@ -14,9 +14,9 @@ use Rattle.sil_ast.specs.declared.operands.Operand.{Operand}
 use Rattle.sil_ast.specs.declared.type_name.TypeName.{TypeName, out-TypeName}
 use Rattle.instruction_table.specs.Forms.{results_of}
 use Rattle.numbered_form.specs.Names.{Name}
-use Rattle.sil_types.specs.Typing.ResultCounts.{is_count_by}
-use Rattle.sil_types.specs.Typing.RowTypes.{all_fields, given_by, type_of, written}
-use Rattle.sil_types.specs.Typing.Shapes.{decl_of_type, field_type, fields_of_struct, name_in, struct_fields}
+use Rattle.lowering_model.specs.sil_types.Typing.ResultCounts.{is_count_by}
+use Rattle.lowering_model.specs.sil_types.Typing.RowTypes.{all_fields, given_by, type_of, written}
+use Rattle.lowering_model.specs.sil_types.Typing.Shapes.{decl_of_type, field_type, fields_of_struct, name_in, struct_fields}
 use Rattle.type_definitions.specs.Declarations.{Declarations, decl_of}
 use Rattle.lowering_model.specs.Extracts.{member_of, members_named, members_of_struct}
 use Rattle.lowering_laws.proofs.Known.{Known}

@@ -10,7 +10,7 @@ use Rattle.sil_ast.specs.declared.place.ValueId.{ValueId}
 use Rattle.sil_ast.specs.declared.type_name.TypeName.{TypeName, out-TypeName}
 use Rattle.numbered_form.specs.Names.{Name}
 use Rattle.type_definitions.specs.Declarations.{Declarations}
-use Rattle.sil_types.specs.Typing.Shapes.{fields_of_struct, name_in}
+use Rattle.ownership_origins.specs.sil_types.Typing.Shapes.{fields_of_struct, name_in}
 use Rattle.lowering_model.specs.NewInsts.{struct_extract, tuple_extract}
 
 -- `#S.f`

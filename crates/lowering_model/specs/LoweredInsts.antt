@@ -11,7 +11,7 @@ use Rattle.sil_ast.specs.declared.inst.Qualifier.TheVariants as word
 use Rattle.sil_ast.specs.declared.operands.Operand.{Operand}
 use Rattle.sil_ast.specs.declared.place.ValueId.{ValueId}
 use Rattle.type_definitions.specs.Declarations.{Declarations}
-use Rattle.sil_types.specs.Typing.FormRules.{is_at_storage}
+use Rattle.ownership_origins.specs.sil_types.Typing.FormRules.{is_at_storage}
 use Rattle.lowering_model.specs.declared.columns.TheConstants.{LOWERINGS}
 use Rattle.lowering_model.specs.declared.lowering.Lowering.{Lowering}
 use Rattle.lowering_model.specs.declared.lowering.Lowering.TheVariants as lowering

@@ -11,8 +11,8 @@ use Rattle.sil_ast.specs.declared.place.ValueId.{ValueId}
 use Rattle.sil_ast.specs.declared.type_name.TypeName.{TypeName}
 use Rattle.type_definitions.specs.Declarations.{Declarations}
 use Rattle.type_definitions.specs.Rules.{is_class_type}
-use Rattle.sil_types.specs.Typing.RowTypes.{passes}
-use Rattle.sil_types.specs.Typing.Shapes.{target}
+use Rattle.ownership_origins.specs.sil_types.Typing.RowTypes.{passes}
+use Rattle.ownership_origins.specs.sil_types.Typing.Shapes.{target}
 
 -- nothing is said for a debugger
 abbrev pub no_debug : Debug

@@ -11,7 +11,7 @@ use Rattle.numbered_form.specs.inner.NumberedForm.{IsNumbered}
 use Rattle.type_definitions.specs.Declarations.{Declarations}
 use Rattle.type_definitions.specs.Rules.{AreDeclarationsOf}
 use Rattle.sil_types.specs.Typing.Typed.{Typed}
-use Rattle.run_typing.specs.Runnable.{AreBodiesInLimits, IsBodyInLimits, IsNearlyNumbered, IsNotOwned, IsRunnable, IsShort}
+use Rattle.report_writing.specs.run_typing.Runnable.{AreBodiesInLimits, IsBodyInLimits, IsNearlyNumbered, IsNotOwned, IsRunnable, IsShort}
 
 are_short : (blocks : List Block) → length (insts_in blocks) < 2 ^ 32 → Each IsShort blocks
 are_short [] lt = tt

@@ -2,10 +2,10 @@
 
 ghost use Rattle.std.specs.Prelude.{◌≡◌, ◌<◌, ◌^◌, IfOk, IfSome, length, true};
 ghost use Rattle.count_machine.specs.LowRuns.{MayStartAt};
-ghost use Rattle.holder_model.specs.Outcomes.{may_start};
+ghost use Rattle.report_writing.specs.holder_model.Outcomes.{may_start};
 ghost use Rattle.numbered_form.specs.Lists.{Each};
 ghost use Rattle.numbered_form.specs.inner.NumberedForm.{IsNumbered};
-ghost use Rattle.run_typing.specs.Runnable.{IsNotOwned, IsRunnable};
+ghost use Rattle.report_writing.specs.run_typing.Runnable.{IsNotOwned, IsRunnable};
 ghost use Rattle.type_definitions.specs.Rules.{AreDeclarationsOf};
 
 use crate::run_reports::answer_of_run;

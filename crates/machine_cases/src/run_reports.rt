@@ -1,7 +1,7 @@
 //! The report of a run of lowered code, as an answer.
 
 ghost use Rattle.std.specs.Prelude.{◌≡◌};
-ghost use Rattle.run_typing.specs.Runnable.{IsRunnable};
+ghost use Rattle.report_writing.specs.run_typing.Runnable.{IsRunnable};
 ghost use Rattle.type_definitions.specs.Declarations.{declarations_of};
 
 use case_calls::Answer;

@@ -1,19 +1,19 @@
 -- When a state of the run of lowered code and one of the machine agree, and that their steps lead to states that do.
 use Rattle.std.proofs.Common.{◌≡◌, ℕ, List, length}
-use Rattle.holder_model.specs.ModuleShapes.{shapes_of}
-use Rattle.holder_model.specs.Outcomes.{run}
-use Rattle.holder_model.specs.States as low
-use Rattle.holder_model.specs.States.{Ending}
-use Rattle.lowered_run.specs.LowStepParts.{LowState}
-use Rattle.lowered_run.specs.LowSteps.{low_step}
-use Rattle.lowered_run.specs.LowOutcomes.{low_outcome_at}
-use Rattle.lowered_run.specs.declared.low_fault.LowFault.{LowFault}
+use Rattle.machine_steps.specs.holder_model.ModuleShapes.{shapes_of}
+use Rattle.machine_steps.specs.holder_model.Outcomes.{run}
+use Rattle.machine_steps.specs.holder_model.States as low
+use Rattle.machine_steps.specs.holder_model.States.{Ending}
+use Rattle.machine_steps.specs.lowered_run.LowStepParts.{LowState}
+use Rattle.machine_steps.specs.lowered_run.LowSteps.{low_step}
+use Rattle.machine_steps.specs.lowered_run.LowOutcomes.{low_outcome_at}
+use Rattle.machine_steps.specs.lowered_run.declared.low_fault.LowFault.{LowFault}
 use Rattle.machine_steps.specs.Steps.{machine_step}
 use Rattle.machine_steps.specs.Views.{Goes, MachineView, Stops, Went}
 use Rattle.machine_steps.specs.declared.run_end.RunEnd.{RunEnd}
-use Rattle.ready_code.specs.declared.function.ReadyModule.{ReadyModule}
-use Rattle.ready_code.specs.ReadyModules.{IsReadyModule}
-use Rattle.run_typing.specs.RunTyped.{RunTyped}
+use Rattle.machine_steps.specs.ready_code.declared.function.ReadyModule.{ReadyModule}
+use Rattle.machine_steps.specs.ready_code.ReadyModules.{IsReadyModule}
+use Rattle.machine_steps.specs.run_typing.RunTyped.{RunTyped}
 use Rattle.run_values.specs.Shapes.{Shape}
 use Rattle.sil_ast.specs.declared.module.Module.{Module}
 use Rattle.machine_laws.specs.inner.Told.{IsEnding, outcome_told}

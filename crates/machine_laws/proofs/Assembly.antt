@@ -1,28 +1,28 @@
 -- Whatever step the machine makes of a state that agrees, the run follows: from a lemma for each kind of step.
 use Rattle.std.proofs.Common.{◌≡◌, ◌<◌, ◌∙◌, ℕ, zero, suc, List, [], ◌∷◌, false, drop, length, refl, sym, ap, subst}
 use Rattle.std.specs.Prelude.{slice_get}
-use Rattle.holder_model.specs.Dropping.{deinits_of}
-use Rattle.holder_model.specs.ModuleShapes.{shapes_of}
-use Rattle.holder_model.specs.Outcomes as outcomes
-use Rattle.holder_model.specs.States as low
+use Rattle.machine_steps.specs.holder_model.Dropping.{deinits_of}
+use Rattle.machine_steps.specs.holder_model.ModuleShapes.{shapes_of}
+use Rattle.machine_steps.specs.holder_model.Outcomes as outcomes
+use Rattle.machine_steps.specs.holder_model.States as low
 use Rattle.instruction_table.specs.Forms.{ending_of}
 use Rattle.item_operands.specs.Parts.{inst_at}
-use Rattle.lowered_run.specs.LowFrames.{LowFrame}
-use Rattle.lowered_run.specs.LowStepParts.{LowNext, LowState, on_some}
-use Rattle.lowered_run.specs.LowSteps as run
-use Rattle.lowered_run.specs.LowSteps.{low_step}
+use Rattle.machine_steps.specs.lowered_run.LowFrames.{LowFrame}
+use Rattle.machine_steps.specs.lowered_run.LowStepParts.{LowNext, LowState, on_some}
+use Rattle.machine_steps.specs.lowered_run.LowSteps as run
+use Rattle.machine_steps.specs.lowered_run.LowSteps.{low_step}
 use Rattle.machine_steps.specs.declared.frame.Frame.{Frame}
 use Rattle.machine_steps.specs.declared.frame.Task.{Task}
 use Rattle.machine_steps.specs.declared.frame.Task.TheVariants as task
 use Rattle.machine_steps.specs.Rows as rows
 use Rattle.machine_steps.specs.Steps as machine
 use Rattle.machine_steps.specs.Views.{MachineView, Went}
-use Rattle.ready_code.specs.declared.function.ReadyModule.{ReadyModule}
-use Rattle.ready_code.specs.declared.op.ReadyOp.{ReadyOp}
-use Rattle.ready_code.specs.ReadyModules.{IsReadyModule}
-use Rattle.ready_code.specs.ReadyOps.{IsReadyOp, calls, calls_out, chooses_full, chooses_plain, computes, drops, field_address, forgets_name, function, groups, literal, loads, loads_name}
-use Rattle.ready_code.specs.ReadyOps.{look, member, member_address, object, removes, retains, same, slot, stores, stores_name, traps}
-use Rattle.run_typing.specs.RunTyped.{FunctionIsTyped, RunTyped}
+use Rattle.machine_steps.specs.ready_code.declared.function.ReadyModule.{ReadyModule}
+use Rattle.machine_steps.specs.ready_code.declared.op.ReadyOp.{ReadyOp}
+use Rattle.machine_steps.specs.ready_code.ReadyModules.{IsReadyModule}
+use Rattle.machine_steps.specs.ready_code.ReadyOps.{IsReadyOp, calls, calls_out, chooses_full, chooses_plain, computes, drops, field_address, forgets_name, function, groups, literal, loads, loads_name}
+use Rattle.machine_steps.specs.ready_code.ReadyOps.{look, member, member_address, object, removes, retains, same, slot, stores, stores_name, traps}
+use Rattle.machine_steps.specs.run_typing.RunTyped.{FunctionIsTyped, RunTyped}
 use Rattle.run_values.specs.Memory.{is_dead_phase, object_at}
 use Rattle.run_values.specs.Shapes.{Shape}
 use Rattle.run_values.specs.declared.phase.Phase.TheVariants.{Deiniting}

@@ -3,13 +3,13 @@ use Rattle.std.proofs.Common.{◌≡◌, ◌∙◌, ℕ, List, [], ◌∷◌, tr
 use Rattle.std.specs.Prelude.{slice_get}
 use Rattle.std.proofs.lemmas.Bool.{false≢true}
 use Rattle.std.proofs.lemmas.Option.{same_Some}
-use Rattle.holder_model.specs.Effects.{effect_of}
-use Rattle.holder_model.specs.Frames.{has_any}
-use Rattle.holder_model.specs.declared.row_effect.RowEffect.TheVariants as row
-use Rattle.ready_code.specs.ReadyOps.{operands_of}
-use Rattle.run_typing.specs.Forms.{Form, OfFunction, OfValue, entry_forms, form_of, forms_of, given_shape}
-use Rattle.run_typing.specs.RowForms.{RowForms}
-use Rattle.run_typing.specs.RowForms as forms
+use Rattle.machine_steps.specs.holder_model.Effects.{effect_of}
+use Rattle.machine_steps.specs.holder_model.Frames.{has_any}
+use Rattle.machine_steps.specs.holder_model.declared.row_effect.RowEffect.TheVariants as row
+use Rattle.machine_steps.specs.ready_code.ReadyOps.{operands_of}
+use Rattle.machine_steps.specs.run_typing.Forms.{Form, OfFunction, OfValue, entry_forms, form_of, forms_of, given_shape}
+use Rattle.machine_steps.specs.run_typing.RowForms.{RowForms}
+use Rattle.machine_steps.specs.run_typing.RowForms as forms
 use Rattle.run_values.specs.Shapes.{Integer, NoMember, Tuple}
 use Rattle.sil_ast.specs.declared.function.Function.{Function}
 use Rattle.sil_ast.specs.declared.inst.Inst.{Inst}

@@ -1,11 +1,11 @@
 -- A call makes a frame in both, where there may be one more.
 use Rattle.std.proofs.Common.{◌≡◌, ◌+◌, ℕ, List, refl, ap, arith}
 use Rattle.std.specs.Prelude.{nat_lt}
-use Rattle.holder_model.specs.declared.limits.TheConstants.{FRAMES}
-use Rattle.holder_model.specs.declared.trap.Trap.TheVariants as trap
-use Rattle.holder_model.specs.States as low
-use Rattle.lowered_run.specs.LowFrames.{LowFrame}
-use Rattle.lowered_run.specs.LowStepParts.{LowNext, LowState}
+use Rattle.machine_steps.specs.holder_model.declared.limits.TheConstants.{FRAMES}
+use Rattle.machine_steps.specs.holder_model.declared.trap.Trap.TheVariants as trap
+use Rattle.machine_steps.specs.holder_model.States as low
+use Rattle.machine_steps.specs.lowered_run.LowFrames.{LowFrame}
+use Rattle.machine_steps.specs.lowered_run.LowStepParts.{LowNext, LowState}
 use Rattle.machine_steps.specs.declared.frame.Task.{Task}
 use Rattle.machine_steps.specs.declared.run_end.RunEnd.TheVariants as end
 use Rattle.machine_steps.specs.Calling.{enter}

@@ -2,38 +2,38 @@
 use Rattle.std.proofs.Common.{◌≡◌, ◌+◌, ◌∙◌, ℕ, List, ◌∷◌, true, Option, Some, refl, sym, ap, subst}
 use Rattle.std.specs.Prelude.{slice_get}
 use Rattle.std.proofs.lemmas.Bool.{cond-true}
-use Rattle.holder_model.specs.Calling.{value_count}
-use Rattle.holder_model.specs.Data.{Datum, as_function}
-use Rattle.holder_model.specs.Effects.{effect_of}
-use Rattle.holder_model.specs.Effects as effects
-use Rattle.holder_model.specs.Frames.{has_any}
-use Rattle.holder_model.specs.ModuleShapes.{shapes_in, shapes_of}
-use Rattle.holder_model.specs.declared.row_effect.RowEffect.TheVariants as row
-use Rattle.holder_model.specs.States as low
+use Rattle.machine_steps.specs.holder_model.Calling.{value_count}
+use Rattle.machine_steps.specs.holder_model.Data.{Datum, as_function}
+use Rattle.machine_steps.specs.holder_model.Effects.{effect_of}
+use Rattle.machine_steps.specs.holder_model.Effects as effects
+use Rattle.machine_steps.specs.holder_model.Frames.{has_any}
+use Rattle.machine_steps.specs.holder_model.ModuleShapes.{shapes_in, shapes_of}
+use Rattle.machine_steps.specs.holder_model.declared.row_effect.RowEffect.TheVariants as row
+use Rattle.machine_steps.specs.holder_model.States as low
 use Rattle.item_operands.specs.Items.{item_defined}
 use Rattle.item_operands.specs.Parts.{inst_at}
-use Rattle.lowered_run.specs.declared.low_fault.LowFault.{LowFault}
-use Rattle.lowered_run.specs.LowFrames.{LowFrame, no_values, put_all}
-use Rattle.lowered_run.specs.LowStepParts as steps
-use Rattle.lowered_run.specs.LowStepParts.{LowNext, LowState, on_some}
-use Rattle.lowered_run.specs.LowSteps as run
+use Rattle.machine_steps.specs.lowered_run.declared.low_fault.LowFault.{LowFault}
+use Rattle.machine_steps.specs.lowered_run.LowFrames.{LowFrame, no_values, put_all}
+use Rattle.machine_steps.specs.lowered_run.LowStepParts as steps
+use Rattle.machine_steps.specs.lowered_run.LowStepParts.{LowNext, LowState, on_some}
+use Rattle.machine_steps.specs.lowered_run.LowSteps as run
 use Rattle.machine_steps.specs.declared.frame.Frame.{Frame}
 use Rattle.machine_steps.specs.declared.frame.Task.{Task}
 use Rattle.machine_steps.specs.Calling.{carried, new_frame, with_frame}
 use Rattle.machine_steps.specs.Rows as machine
 use Rattle.machine_steps.specs.Views.{MachineView}
 use Rattle.numbered_form.specs.Lists.{Each}
-use Rattle.ready_code.specs.declared.function.ReadyFunction.{ReadyFunction}
-use Rattle.ready_code.specs.declared.function.ReadyModule.{ReadyModule}
-use Rattle.ready_code.specs.Layout.{addresses_carried, local, values_carried}
-use Rattle.ready_code.specs.declared.local.Carry.{Carry}
-use Rattle.ready_code.specs.declared.local.CarryAddress.{CarryAddress}
-use Rattle.ready_code.specs.declared.op.ReadyOp.{ReadyOp}
-use Rattle.ready_code.specs.declared.op.ReadyOp.TheVariants as op
-use Rattle.ready_code.specs.ReadyModules.{IsReadyFunction, IsReadyModule}
-use Rattle.run_typing.specs.CallForms.{IsOf}
-use Rattle.run_typing.specs.Forms.{OfValue, entry_forms, form_of, forms_of, given_shape}
-use Rattle.run_typing.specs.RunTyped.{RunTyped}
+use Rattle.machine_steps.specs.ready_code.declared.function.ReadyFunction.{ReadyFunction}
+use Rattle.machine_steps.specs.ready_code.declared.function.ReadyModule.{ReadyModule}
+use Rattle.machine_steps.specs.ready_code.Layout.{addresses_carried, local, values_carried}
+use Rattle.machine_steps.specs.ready_code.declared.local.Carry.{Carry}
+use Rattle.machine_steps.specs.ready_code.declared.local.CarryAddress.{CarryAddress}
+use Rattle.machine_steps.specs.ready_code.declared.op.ReadyOp.{ReadyOp}
+use Rattle.machine_steps.specs.ready_code.declared.op.ReadyOp.TheVariants as op
+use Rattle.machine_steps.specs.ready_code.ReadyModules.{IsReadyFunction, IsReadyModule}
+use Rattle.machine_steps.specs.run_typing.CallForms.{IsOf}
+use Rattle.machine_steps.specs.run_typing.Forms.{OfValue, entry_forms, form_of, forms_of, given_shape}
+use Rattle.machine_steps.specs.run_typing.RunTyped.{RunTyped}
 use Rattle.run_values.specs.Shapes.{Shape}
 use Rattle.sil_ast.specs.declared.function.Function.{Function}
 use Rattle.sil_ast.specs.declared.inst.Inst.{Inst}

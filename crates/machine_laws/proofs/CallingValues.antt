@@ -1,13 +1,13 @@
 -- Values that are carried change what frames hold, and nothing else.
 use Rattle.std.proofs.Common.{◌≡◌, ◌∙◌, ℕ, List, [], ◌∷◌, refl, map, ap}
-use Rattle.holder_model.specs.Data.{Datum}
-use Rattle.lowered_run.specs.LowStepParts.{LowState}
+use Rattle.machine_steps.specs.holder_model.Data.{Datum}
+use Rattle.machine_steps.specs.lowered_run.LowStepParts.{LowState}
 use Rattle.machine_steps.specs.declared.frame.Frame.{Frame}
 use Rattle.machine_steps.specs.Calling.{addresses_carried, carried, put_all}
 use Rattle.machine_steps.specs.Operands.{address_in, contents, put, put_address}
 use Rattle.machine_steps.specs.Views.{MachineView}
-use Rattle.ready_code.specs.declared.local.Carry.{Carry}
-use Rattle.ready_code.specs.declared.local.CarryAddress.{CarryAddress}
+use Rattle.machine_steps.specs.ready_code.declared.local.Carry.{Carry}
+use Rattle.machine_steps.specs.ready_code.declared.local.CarryAddress.{CarryAddress}
 use Rattle.run_values.specs.Memory.{Memory}
 use Rattle.run_values.specs.declared.leaf.Leaf.{Leaf}
 use Rattle.sil_ast.specs.declared.function.Function.{Function}

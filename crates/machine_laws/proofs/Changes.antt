@@ -1,6 +1,6 @@
 -- What a change of memory leaves: memory and the machine agree, what was made is there still, and the frames are untouched.
 use Rattle.std.proofs.Common.{◌≡◌, ◌<◌, List, length, map}
-use Rattle.holder_model.specs.Outcomes.{Numbers}
+use Rattle.machine_steps.specs.holder_model.Outcomes.{Numbers}
 use Rattle.machine_steps.specs.Views.{MachineView}
 use Rattle.run_values.specs.Memory.{Memory, object_at}
 use Rattle.sil_ast.specs.declared.module.Module.{Module}

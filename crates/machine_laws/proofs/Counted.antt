@@ -1,11 +1,11 @@
 -- Strong references: a retain and a release in the heap are those of the run.
 use Rattle.std.proofs.Common.{◌+◌, ◌-◌, List, Option, refl, ap}
 use Rattle.std.specs.Prelude.{option_map}
-use Rattle.heap_model.specs.HeapCalls as heap
-use Rattle.heap_model.specs.HeapCalls.{released, retained}
-use Rattle.heap_model.specs.HeapViews.{HeapObject, HeapView}
-use Rattle.holder_model.specs.Outcomes.{Numbers}
-use Rattle.lowered_run.specs.Stored.{changed, one_less, one_more}
+use Rattle.machine_steps.specs.heap_model.HeapCalls as heap
+use Rattle.machine_steps.specs.heap_model.HeapCalls.{released, retained}
+use Rattle.machine_steps.specs.heap_model.HeapViews.{HeapObject, HeapView}
+use Rattle.machine_steps.specs.holder_model.Outcomes.{Numbers}
+use Rattle.machine_steps.specs.lowered_run.Stored.{changed, one_less, one_more}
 use Rattle.run_values.specs.Memory.{Memory, Object}
 use Rattle.sil_ast.specs.declared.module.Module.{Module}
 use Rattle.sil_ast.specs.declared.place.ObjectId.{ObjectId}

@@ -1,22 +1,22 @@
 -- What the machine does when it retains or releases is what the run does.
 use Rattle.std.proofs.Common.{◌≡◌, ◌+◌, ◌==◌, ◌&&◌, ℕ, zero, suc, List, [], ◌∷◌, Bool, true, false, cond, refl, sym, ap, ◌∙◌, arith}
 use Rattle.std.proofs.lemmas.Bool.{and_from, and_left, and_right, cond-false, cond-true, eq-eqb, ne_eqb}
-use Rattle.heap_model.specs.HeapCalls.{released, retained, takes_last}
-use Rattle.heap_model.specs.HeapViews.{HeapView, is_dead_in, strong_in}
-use Rattle.holder_model.specs.Dropping.{deinitialises}
-use Rattle.holder_model.specs.ModuleShapes.{ModuleShapes}
-use Rattle.holder_model.specs.Outcomes.{Numbers}
-use Rattle.holder_model.specs.States.{Goes}
-use Rattle.lowered_run.specs.LowStepParts.{LowNext, LowState, fails, retains_each}
-use Rattle.lowered_run.specs.LowSteps.{releases_one, releases_with}
-use Rattle.lowered_run.specs.Stored.{changed, numbers_of, one_less, one_more}
-use Rattle.lowered_run.specs.declared.low_fault.LowFault.TheVariants as fault
+use Rattle.machine_steps.specs.heap_model.HeapCalls.{released, retained, takes_last}
+use Rattle.machine_steps.specs.heap_model.HeapViews.{HeapView, is_dead_in, strong_in}
+use Rattle.machine_steps.specs.holder_model.Dropping.{deinitialises}
+use Rattle.machine_steps.specs.holder_model.ModuleShapes.{ModuleShapes}
+use Rattle.machine_steps.specs.holder_model.Outcomes.{Numbers}
+use Rattle.machine_steps.specs.holder_model.States.{Goes}
+use Rattle.machine_steps.specs.lowered_run.LowStepParts.{LowNext, LowState, fails, retains_each}
+use Rattle.machine_steps.specs.lowered_run.LowSteps.{releases_one, releases_with}
+use Rattle.machine_steps.specs.lowered_run.Stored.{changed, numbers_of, one_less, one_more}
+use Rattle.machine_steps.specs.lowered_run.declared.low_fault.LowFault.TheVariants as fault
 use Rattle.machine_steps.specs.Operands.{faults}
 use Rattle.machine_steps.specs.Steps as machine
 use Rattle.machine_steps.specs.Turning.{retains_all}
 use Rattle.machine_steps.specs.Views as machine_went
 use Rattle.machine_steps.specs.Views.{MachineView, Went}
-use Rattle.ready_code.specs.declared.function.ReadyModule.{ReadyModule}
+use Rattle.machine_steps.specs.ready_code.declared.function.ReadyModule.{ReadyModule}
 use Rattle.run_values.specs.Memory.{is_dead, is_live}
 use Rattle.sil_ast.specs.declared.module.Module.{Module}
 use Rattle.sil_ast.specs.declared.place.ObjectId.{ObjectId}

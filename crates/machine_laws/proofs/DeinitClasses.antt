@@ -6,11 +6,11 @@ use Rattle.std.specs.Option.{option_to_list}
 use Rattle.std.proofs.lemmas.Bool.{or_left, or_right}
 use Rattle.std.proofs.lemmas.Option.{none-some, same_Some}
 use Rattle.std.proofs.lemmas.Slice.Eq.{bytes_eq-Decides}
-use Rattle.holder_model.specs.Dropping.{deinits_of}
+use Rattle.machine_steps.specs.holder_model.Dropping.{deinits_of}
 use Rattle.numbered_form.specs.Names.{Name}
-use Rattle.run_typing.specs.CallForms.{IsDeinitOf}
-use Rattle.run_typing.specs.Classes.{is_a}
-use Rattle.run_typing.specs.RunTyped.{RunTyped}
+use Rattle.machine_steps.specs.run_typing.CallForms.{IsDeinitOf}
+use Rattle.machine_steps.specs.run_typing.Classes.{is_a}
+use Rattle.machine_steps.specs.run_typing.RunTyped.{RunTyped}
 use Rattle.sil_ast.specs.declared.module.Module.{Module}
 use Rattle.sil_ast.specs.declared.place.FuncId.{FuncId}
 use Rattle.type_definitions.specs.Declarations.{ancestors_of, declarations_of, inherits}

@@ -3,17 +3,17 @@ use Rattle.std.proofs.Common.{◌≡◌, ◌<◌, ◌+◌, ◌∙◌, ℕ, List,
 use Rattle.std.specs.Prelude.{slice_get}
 use Rattle.std.proofs.lemmas.Bool.{and_from, lt-ltb}
 use Rattle.std.proofs.lemmas.Option.{same_Some}
-use Rattle.holder_model.specs.Calling.{value_count}
-use Rattle.holder_model.specs.Data.{Datum, ValueOf}
-use Rattle.holder_model.specs.Dropping.{deinits_of}
-use Rattle.holder_model.specs.Frames.{has_any}
-use Rattle.holder_model.specs.ModuleShapes.{shapes_of}
-use Rattle.holder_model.specs.States as low
+use Rattle.machine_steps.specs.holder_model.Calling.{value_count}
+use Rattle.machine_steps.specs.holder_model.Data.{Datum, ValueOf}
+use Rattle.machine_steps.specs.holder_model.Dropping.{deinits_of}
+use Rattle.machine_steps.specs.holder_model.Frames.{has_any}
+use Rattle.machine_steps.specs.holder_model.ModuleShapes.{shapes_of}
+use Rattle.machine_steps.specs.holder_model.States as low
 use Rattle.item_operands.specs.Items.{item_defined}
-use Rattle.lowered_run.specs.LowFrames.{LowFrame, no_values, put_all}
-use Rattle.lowered_run.specs.LowStepParts as run
-use Rattle.lowered_run.specs.LowStepParts.{LowNext, LowState, on_some}
-use Rattle.lowered_run.specs.LowSteps as steps
+use Rattle.machine_steps.specs.lowered_run.LowFrames.{LowFrame, no_values, put_all}
+use Rattle.machine_steps.specs.lowered_run.LowStepParts as run
+use Rattle.machine_steps.specs.lowered_run.LowStepParts.{LowNext, LowState, on_some}
+use Rattle.machine_steps.specs.lowered_run.LowSteps as steps
 use Rattle.machine_steps.specs.declared.frame.Task.{Task}
 use Rattle.machine_steps.specs.declared.frame.Task.TheVariants as task
 use Rattle.machine_steps.specs.Calling.{new_frame, with_frame}
@@ -22,14 +22,14 @@ use Rattle.machine_steps.specs.Steps as machine
 use Rattle.machine_steps.specs.Views.{Goes, MachineView}
 use Rattle.numbered_form.specs.Lists.{Each}
 use Rattle.numbered_form.specs.Names.{Name}
-use Rattle.ready_code.specs.declared.function.ReadyFunction.{ReadyFunction}
-use Rattle.ready_code.specs.declared.function.ReadyModule.{ReadyModule}
-use Rattle.ready_code.specs.Layout.{local}
-use Rattle.ready_code.specs.ReadyModules.{IsReadyFunction, IsReadyModule, first_local, where_value}
-use Rattle.run_typing.specs.CallForms.{IsOf}
-use Rattle.run_typing.specs.Classes.{is_a}
-use Rattle.run_typing.specs.Forms.{OfValue, form_of, forms_of, given_shape}
-use Rattle.run_typing.specs.RunTyped.{RunTyped}
+use Rattle.machine_steps.specs.ready_code.declared.function.ReadyFunction.{ReadyFunction}
+use Rattle.machine_steps.specs.ready_code.declared.function.ReadyModule.{ReadyModule}
+use Rattle.machine_steps.specs.ready_code.Layout.{local}
+use Rattle.machine_steps.specs.ready_code.ReadyModules.{IsReadyFunction, IsReadyModule, first_local, where_value}
+use Rattle.machine_steps.specs.run_typing.CallForms.{IsOf}
+use Rattle.machine_steps.specs.run_typing.Classes.{is_a}
+use Rattle.machine_steps.specs.run_typing.Forms.{OfValue, form_of, forms_of, given_shape}
+use Rattle.machine_steps.specs.run_typing.RunTyped.{RunTyped}
 use Rattle.run_values.specs.Memory.{object_at}
 use Rattle.run_values.specs.Shapes.{Reference, Shape}
 use Rattle.run_values.specs.Values as value

@@ -2,24 +2,24 @@
 use Rattle.std.proofs.Common.{◌≡◌, ◌+◌, ◌&&◌, ◌++◌, ◌==◌, ◌∙◌, ℕ, zero, suc, List, [], ◌∷◌, true, false, cond, drop, length, refl, reverse, sym, ap, take, arith, ◌-◌}
 use Rattle.std.proofs.Math.Bool.{and-false, and-true}
 use Rattle.std.proofs.lemmas.Bool.{cond-false, cond-true, eq-eqb, false≢true, ne_eqb}
-use Rattle.heap_model.specs.HeapCalls.{released, started, takes_last}
-use Rattle.heap_model.specs.HeapViews.{is_dead_in, strong_in}
-use Rattle.holder_model.specs.declared.event.Event.TheVariants as event
-use Rattle.holder_model.specs.Dropping as run
-use Rattle.holder_model.specs.Dropping.{deinits_of, in_phase}
-use Rattle.holder_model.specs.ModuleShapes.{shapes_of}
-use Rattle.holder_model.specs.States as low
-use Rattle.lowered_run.specs.declared.low_fault.LowFault.TheVariants as fault
-use Rattle.lowered_run.specs.LowFrames.{LowFrame}
-use Rattle.lowered_run.specs.LowStepParts.{LowState}
-use Rattle.lowered_run.specs.LowSteps as steps
-use Rattle.lowered_run.specs.Stored.{changed, numbers_of, one_less}
+use Rattle.machine_steps.specs.heap_model.HeapCalls.{released, started, takes_last}
+use Rattle.machine_steps.specs.heap_model.HeapViews.{is_dead_in, strong_in}
+use Rattle.machine_steps.specs.holder_model.declared.event.Event.TheVariants as event
+use Rattle.machine_steps.specs.holder_model.Dropping as run
+use Rattle.machine_steps.specs.holder_model.Dropping.{deinits_of, in_phase}
+use Rattle.machine_steps.specs.holder_model.ModuleShapes.{shapes_of}
+use Rattle.machine_steps.specs.holder_model.States as low
+use Rattle.machine_steps.specs.lowered_run.declared.low_fault.LowFault.TheVariants as fault
+use Rattle.machine_steps.specs.lowered_run.LowFrames.{LowFrame}
+use Rattle.machine_steps.specs.lowered_run.LowStepParts.{LowState}
+use Rattle.machine_steps.specs.lowered_run.LowSteps as steps
+use Rattle.machine_steps.specs.lowered_run.Stored.{changed, numbers_of, one_less}
 use Rattle.machine_steps.specs.declared.frame.Task.{Task}
 use Rattle.machine_steps.specs.declared.frame.Task.TheVariants as task
 use Rattle.machine_steps.specs.Operands.{faults}
 use Rattle.machine_steps.specs.Steps as machine
 use Rattle.machine_steps.specs.Views.{Goes, MachineView}
-use Rattle.ready_code.specs.declared.function.ReadyModule.{ReadyModule}
+use Rattle.machine_steps.specs.ready_code.declared.function.ReadyModule.{ReadyModule}
 use Rattle.run_values.specs.Memory.{Object, is_dead, is_dead_phase, is_live, is_live_phase, object_at, phase_of}
 use Rattle.run_values.specs.Shapes.{Shape}
 use Rattle.run_values.specs.declared.phase.Phase.{Phase}

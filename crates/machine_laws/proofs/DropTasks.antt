@@ -4,15 +4,15 @@ use Rattle.std.specs.Prelude.{slice_get}
 use Rattle.std.proofs.Math.Seq.{drop-append_seam, take-append_seam, take-append-add, take-length}
 use Rattle.std.proofs.lemmas.Bool.{cond-false, cond-true, eq-eqb, ne_eqb}
 use Rattle.std.proofs.lemmas.List.{length-append, length-drop, length-reverse, length-take-le, reverse-append, take-append-drop}
-use Rattle.holder_model.specs.States as low
-use Rattle.lowered_run.specs.LowFrames.{LowFrame}
-use Rattle.lowered_run.specs.LowStepParts.{LowState}
+use Rattle.machine_steps.specs.holder_model.States as low
+use Rattle.machine_steps.specs.lowered_run.LowFrames.{LowFrame}
+use Rattle.machine_steps.specs.lowered_run.LowStepParts.{LowState}
 use Rattle.machine_steps.specs.declared.frame.Task.{Task}
 use Rattle.machine_steps.specs.declared.frame.Task.TheVariants as task
 use Rattle.machine_steps.specs.Steps.{still_dropping}
 use Rattle.machine_steps.specs.Turning.{dropping}
 use Rattle.machine_steps.specs.Views.{MachineView}
-use Rattle.ready_code.specs.declared.function.ReadyModule.{ReadyModule}
+use Rattle.machine_steps.specs.ready_code.declared.function.ReadyModule.{ReadyModule}
 use Rattle.run_values.specs.Memory.{Memory}
 use Rattle.run_values.specs.Shapes.{Shape}
 use Rattle.sil_ast.specs.declared.module.Module.{Module}

@@ -4,19 +4,19 @@ use Rattle.std.specs.Prelude.{option_and_then, slice_get}
 use Rattle.std.proofs.Math.Seq.{drop-append_seam}
 use Rattle.std.proofs.lemmas.List.{map-append}
 use Rattle.std.proofs.lemmas.Option.{same_Some}
-use Rattle.holder_model.specs.Data.{Datum}
-use Rattle.holder_model.specs.Edges.{carried_along, carried_by, edge_of}
-use Rattle.holder_model.specs.Effects.{unchanged}
-use Rattle.holder_model.specs.ModuleShapes.{shapes_of}
-use Rattle.holder_model.specs.Standing.{first_point, target_of}
-use Rattle.holder_model.specs.States as low
+use Rattle.machine_steps.specs.holder_model.Data.{Datum}
+use Rattle.machine_steps.specs.holder_model.Edges.{carried_along, carried_by, edge_of}
+use Rattle.machine_steps.specs.holder_model.Effects.{unchanged}
+use Rattle.machine_steps.specs.holder_model.ModuleShapes.{shapes_of}
+use Rattle.machine_steps.specs.holder_model.Standing.{first_point, target_of}
+use Rattle.machine_steps.specs.holder_model.States as low
 use Rattle.instruction_table.specs.Forms.{ending_of}
 use Rattle.item_operands.specs.Items.{arg_value, item_defined, taken_along_in, taken_in}
 use Rattle.item_operands.specs.Parts.{args_behind, edge_at, edge_in, item_operands, operands_in, terminator_of}
 use Rattle.item_operands.specs.Roles.{consumed, taken_along, taken_by}
-use Rattle.lowered_run.specs.LowFrames.{LowFrame, put_all, read_all}
-use Rattle.lowered_run.specs.LowStepParts.{LowNext, LowState, numbers_for, on_ok, on_some, taken_value, values_taken}
-use Rattle.lowered_run.specs.LowSteps as run
+use Rattle.machine_steps.specs.lowered_run.LowFrames.{LowFrame, put_all, read_all}
+use Rattle.machine_steps.specs.lowered_run.LowStepParts.{LowNext, LowState, numbers_for, on_ok, on_some, taken_value, values_taken}
+use Rattle.machine_steps.specs.lowered_run.LowSteps as run
 use Rattle.machine_steps.specs.declared.frame.Frame.{Frame}
 use Rattle.machine_steps.specs.declared.frame.Task.{Task}
 use Rattle.machine_steps.specs.Calling.{carried}
@@ -25,14 +25,14 @@ use Rattle.machine_steps.specs.Operands.{with_all}
 use Rattle.machine_steps.specs.Turning.{turn}
 use Rattle.machine_steps.specs.Views.{Goes, MachineView, Went}
 use Rattle.numbered_form.specs.Lists.{Each}
-use Rattle.ready_code.specs.declared.function.ReadyModule.{ReadyModule}
-use Rattle.ready_code.specs.declared.local.Carry.{Carry}
-use Rattle.ready_code.specs.Layout.{carry, value_carried, values_carried}
-use Rattle.ready_code.specs.ReadyEnds.{ready_edge}
-use Rattle.run_typing.specs.CallForms.{IsOf}
-use Rattle.run_typing.specs.EndForms.{EdgeForms, arguments_at, handed_over, value_in}
-use Rattle.run_typing.specs.Forms.{OfValue, form_of, forms_of, given_shape}
-use Rattle.run_typing.specs.RunTyped.{FunctionIsTyped, RunTyped}
+use Rattle.machine_steps.specs.ready_code.declared.function.ReadyModule.{ReadyModule}
+use Rattle.machine_steps.specs.ready_code.declared.local.Carry.{Carry}
+use Rattle.machine_steps.specs.ready_code.Layout.{carry, value_carried, values_carried}
+use Rattle.machine_steps.specs.ready_code.ReadyEnds.{ready_edge}
+use Rattle.machine_steps.specs.run_typing.CallForms.{IsOf}
+use Rattle.machine_steps.specs.run_typing.EndForms.{EdgeForms, arguments_at, handed_over, value_in}
+use Rattle.machine_steps.specs.run_typing.Forms.{OfValue, form_of, forms_of, given_shape}
+use Rattle.machine_steps.specs.run_typing.RunTyped.{FunctionIsTyped, RunTyped}
 use Rattle.run_values.specs.Shapes.{Shape}
 use Rattle.sil_ast.specs.declared.function.Block.{Block}
 use Rattle.sil_ast.specs.declared.function.Function.{Function}

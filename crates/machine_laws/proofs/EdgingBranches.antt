@@ -3,35 +3,35 @@ use Rattle.std.proofs.Common.{◌≡◌, ◌++◌, ◌∙◌, ℕ, ℤ, List, []
 use Rattle.std.specs.Prelude.{Ok, slice_get}
 use Rattle.std.proofs.lemmas.List.{length-map}
 use Rattle.std.proofs.lemmas.Option.{same_Some}
-use Rattle.holder_model.specs.Builtins.{is_set}
-use Rattle.holder_model.specs.Data.{Datum, ValueOf}
-use Rattle.holder_model.specs.Edges.{branch_of, carried_by, edge_of}
-use Rattle.holder_model.specs.ModuleShapes.{shapes_of}
-use Rattle.holder_model.specs.States as low
+use Rattle.machine_steps.specs.holder_model.Builtins.{is_set}
+use Rattle.machine_steps.specs.holder_model.Data.{Datum, ValueOf}
+use Rattle.machine_steps.specs.holder_model.Edges.{branch_of, carried_by, edge_of}
+use Rattle.machine_steps.specs.holder_model.ModuleShapes.{shapes_of}
+use Rattle.machine_steps.specs.holder_model.States as low
 use Rattle.instruction_table.specs.Forms.{ending_of}
 use Rattle.instruction_table.specs.declared.entries.Ending.TheVariants as ending
 use Rattle.item_operands.specs.Items.{taken_in}
 use Rattle.item_operands.specs.Parts.{terminator_of}
 use Rattle.item_operands.specs.Roles.{taken_by}
-use Rattle.lowered_run.specs.LowFrames.{LowFrame, read_all}
-use Rattle.lowered_run.specs.LowStepParts.{LowNext, LowState, on_ok, taken_value, values_taken}
-use Rattle.lowered_run.specs.LowSteps as run
+use Rattle.machine_steps.specs.lowered_run.LowFrames.{LowFrame, read_all}
+use Rattle.machine_steps.specs.lowered_run.LowStepParts.{LowNext, LowState, on_ok, taken_value, values_taken}
+use Rattle.machine_steps.specs.lowered_run.LowSteps as run
 use Rattle.machine_steps.specs.declared.frame.Frame.{Frame}
 use Rattle.machine_steps.specs.declared.frame.Task.{Task}
 use Rattle.machine_steps.specs.Ends as machine
 use Rattle.machine_steps.specs.Operands.{contents, int_among, with_all}
 use Rattle.machine_steps.specs.Views.{MachineView, Went}
 use Rattle.numbered_form.specs.Lists.{Each}
-use Rattle.ready_code.specs.declared.block.ReadyEnd.TheVariants as end
-use Rattle.ready_code.specs.declared.function.ReadyModule.{ReadyModule}
-use Rattle.ready_code.specs.Layout.{local}
-use Rattle.ready_code.specs.ReadyEnds.{ready_edge}
-use Rattle.ready_code.specs.ReadyOps.{operands_of}
-use Rattle.run_typing.specs.CallForms.{IsOf}
-use Rattle.run_typing.specs.EndForms.{EdgeForms, EndForms, branch, branches, cases, handed_over, operand_forms, returns, unreachable, value_in}
-use Rattle.run_typing.specs.Forms.{OfValue, form_of}
-use Rattle.run_typing.specs.RowForms.{bit}
-use Rattle.run_typing.specs.RunTyped.{RunTyped}
+use Rattle.machine_steps.specs.ready_code.declared.block.ReadyEnd.TheVariants as end
+use Rattle.machine_steps.specs.ready_code.declared.function.ReadyModule.{ReadyModule}
+use Rattle.machine_steps.specs.ready_code.Layout.{local}
+use Rattle.machine_steps.specs.ready_code.ReadyEnds.{ready_edge}
+use Rattle.machine_steps.specs.ready_code.ReadyOps.{operands_of}
+use Rattle.machine_steps.specs.run_typing.CallForms.{IsOf}
+use Rattle.machine_steps.specs.run_typing.EndForms.{EdgeForms, EndForms, branch, branches, cases, handed_over, operand_forms, returns, unreachable, value_in}
+use Rattle.machine_steps.specs.run_typing.Forms.{OfValue, form_of}
+use Rattle.machine_steps.specs.run_typing.RowForms.{bit}
+use Rattle.machine_steps.specs.run_typing.RunTyped.{RunTyped}
 use Rattle.run_values.specs.Leaves.{leaves_of}
 use Rattle.run_values.specs.Shapes.{Shape}
 use Rattle.run_values.specs.Values.{Value}

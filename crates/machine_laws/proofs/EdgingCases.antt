@@ -3,17 +3,17 @@ use Rattle.std.proofs.Common.{◌≡◌, ◌==◌, ◌∙◌, ℕ, List, [], ◌
 use Rattle.std.specs.Prelude.{slice_get}
 use Rattle.std.proofs.lemmas.Bool.{cond-false, cond-true}
 use Rattle.std.proofs.lemmas.Option.{same_Some, slice_get_within}
-use Rattle.holder_model.specs.Data.{ValueOf}
-use Rattle.holder_model.specs.Edges.{case_edge, edge_for, is_default, payload_data, switched_data}
+use Rattle.machine_steps.specs.holder_model.Data.{ValueOf}
+use Rattle.machine_steps.specs.holder_model.Edges.{case_edge, edge_for, is_default, payload_data, switched_data}
 use Rattle.item_operands.specs.Items.{arg_value}
 use Rattle.item_operands.specs.Parts.{args_behind}
 use Rattle.machine_steps.specs.Operands.{first_leaf}
-use Rattle.ready_code.specs.declared.block.ReadyCase.{ReadyCase}
-use Rattle.ready_code.specs.Layout.{size_of}
-use Rattle.ready_code.specs.ReadyEnds.{AreReadyCases, ready_case}
-use Rattle.run_typing.specs.EndForms.{CaseForms, TakenCase, arguments_at, payload_forms}
-use Rattle.run_typing.specs.Forms.{OfValue, form_of, forms_of}
-use Rattle.run_typing.specs.RowForms.{IsEnum, enum}
+use Rattle.machine_steps.specs.ready_code.declared.block.ReadyCase.{ReadyCase}
+use Rattle.machine_steps.specs.ready_code.Layout.{size_of}
+use Rattle.machine_steps.specs.ready_code.ReadyEnds.{AreReadyCases, ready_case}
+use Rattle.machine_steps.specs.run_typing.EndForms.{CaseForms, TakenCase, arguments_at, payload_forms}
+use Rattle.machine_steps.specs.run_typing.Forms.{OfValue, form_of, forms_of}
+use Rattle.machine_steps.specs.run_typing.RowForms.{IsEnum, enum}
 use Rattle.run_values.specs.Layers.{CaseLayer}
 use Rattle.run_values.specs.Leaves.{leaves_of}
 use Rattle.run_values.specs.Shapes.{Enum, Shape, case_shapes}

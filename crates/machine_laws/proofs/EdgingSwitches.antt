@@ -2,36 +2,36 @@
 use Rattle.std.proofs.Common.{◌≡◌, ◌<◌, ◌+◌, ◌++◌, ◌∙◌, ℕ, List, [], ◌∷◌, true, Option, Some, None, drop, length, map, refl, set, sym, ap, subst, take, arith}
 use Rattle.std.specs.Prelude.{Ok, option_and_then, option_map, slice_get, unwrap_or}
 use Rattle.std.proofs.lemmas.Option.{none-some, same_Some, slice_get-map}
-use Rattle.holder_model.specs.Data.{Datum, ValueOf}
-use Rattle.holder_model.specs.Edges.{carried_along, carried_by, case_edge, edge_of, switched_data}
-use Rattle.holder_model.specs.Effects.{unchanged}
-use Rattle.holder_model.specs.ModuleShapes.{shape_at, shapes_in, shapes_of}
-use Rattle.holder_model.specs.Standing.{first_point, target_of}
-use Rattle.holder_model.specs.States as low
-use Rattle.holder_model.specs.StepParts.{switched_shape}
+use Rattle.machine_steps.specs.holder_model.Data.{Datum, ValueOf}
+use Rattle.machine_steps.specs.holder_model.Edges.{carried_along, carried_by, case_edge, edge_of, switched_data}
+use Rattle.machine_steps.specs.holder_model.Effects.{unchanged}
+use Rattle.machine_steps.specs.holder_model.ModuleShapes.{shape_at, shapes_in, shapes_of}
+use Rattle.machine_steps.specs.holder_model.Standing.{first_point, target_of}
+use Rattle.machine_steps.specs.holder_model.States as low
+use Rattle.machine_steps.specs.holder_model.StepParts.{switched_shape}
 use Rattle.instruction_table.specs.Forms.{ending_of}
 use Rattle.instruction_table.specs.declared.entries.Ending.TheVariants as ending
 use Rattle.item_operands.specs.Parts.{args_behind, edge_at}
-use Rattle.lowered_run.specs.LowFrames.{LowFrame, put_all, read_all}
-use Rattle.lowered_run.specs.LowStepParts.{LowNext, LowState, numbers_for, on_ok, on_some, values_taken}
-use Rattle.lowered_run.specs.LowSteps as run
+use Rattle.machine_steps.specs.lowered_run.LowFrames.{LowFrame, put_all, read_all}
+use Rattle.machine_steps.specs.lowered_run.LowStepParts.{LowNext, LowState, numbers_for, on_ok, on_some, values_taken}
+use Rattle.machine_steps.specs.lowered_run.LowSteps as run
 use Rattle.machine_steps.specs.declared.frame.Frame.{Frame}
 use Rattle.machine_steps.specs.declared.frame.Task.{Task}
 use Rattle.machine_steps.specs.Ends as machine
 use Rattle.machine_steps.specs.Operands.{contents, first_leaf, put}
 use Rattle.machine_steps.specs.Views.{Goes, MachineView, Went}
 use Rattle.numbered_form.specs.Lists.{Each}
-use Rattle.ready_code.specs.declared.block.ReadyCase.{ReadyCase}
-use Rattle.ready_code.specs.declared.block.ReadyEnd.TheVariants as end
-use Rattle.ready_code.specs.declared.function.ReadyModule.{ReadyModule}
-use Rattle.ready_code.specs.Layout.{leaves_in, local, size_of}
-use Rattle.ready_code.specs.ReadyEnds.{AreReadyCases, ready_case}
-use Rattle.ready_code.specs.ReadyOps.{first_of, operands_of}
-use Rattle.run_typing.specs.CallForms.{IsOf}
-use Rattle.run_typing.specs.EndForms.{EndForms, TakenCase, arguments_at, branch, branches, cases, handed_over, returns, unreachable, value_in}
-use Rattle.run_typing.specs.Forms.{OfValue, form_of, given_shape}
-use Rattle.run_typing.specs.RowForms.{IsEnum}
-use Rattle.run_typing.specs.RunTyped.{RunTyped}
+use Rattle.machine_steps.specs.ready_code.declared.block.ReadyCase.{ReadyCase}
+use Rattle.machine_steps.specs.ready_code.declared.block.ReadyEnd.TheVariants as end
+use Rattle.machine_steps.specs.ready_code.declared.function.ReadyModule.{ReadyModule}
+use Rattle.machine_steps.specs.ready_code.Layout.{leaves_in, local, size_of}
+use Rattle.machine_steps.specs.ready_code.ReadyEnds.{AreReadyCases, ready_case}
+use Rattle.machine_steps.specs.ready_code.ReadyOps.{first_of, operands_of}
+use Rattle.machine_steps.specs.run_typing.CallForms.{IsOf}
+use Rattle.machine_steps.specs.run_typing.EndForms.{EndForms, TakenCase, arguments_at, branch, branches, cases, handed_over, returns, unreachable, value_in}
+use Rattle.machine_steps.specs.run_typing.Forms.{OfValue, form_of, given_shape}
+use Rattle.machine_steps.specs.run_typing.RowForms.{IsEnum}
+use Rattle.machine_steps.specs.run_typing.RunTyped.{RunTyped}
 use Rattle.run_values.specs.Layers.{CaseLayer}
 use Rattle.run_values.specs.Leaves.{leaves_of}
 use Rattle.run_values.specs.Shapes.{Shape, Unknown, case_shapes}

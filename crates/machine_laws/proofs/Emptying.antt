@@ -4,18 +4,18 @@ use Rattle.std.specs.Prelude.{option_map, replicate, slice_get}
 use Rattle.std.proofs.lemmas.Bool.{false≢true}
 use Rattle.std.proofs.lemmas.List.{length-replicate}
 use Rattle.std.proofs.lemmas.Option.{none-some, same_Some}
-use Rattle.heap_model.specs.HeapCalls.{with_field_of, with_object_in}
-use Rattle.heap_model.specs.HeapViews.{HeapObject, object_in}
-use Rattle.holder_model.specs.ModuleShapes.{field_shape, field_shapes, shapes_of}
-use Rattle.holder_model.specs.Outcomes.{Numbers}
+use Rattle.machine_steps.specs.heap_model.HeapCalls.{with_field_of, with_object_in}
+use Rattle.machine_steps.specs.heap_model.HeapViews.{HeapObject, object_in}
+use Rattle.machine_steps.specs.holder_model.ModuleShapes.{field_shape, field_shapes, shapes_of}
+use Rattle.machine_steps.specs.holder_model.Outcomes.{Numbers}
 use Rattle.machine_steps.specs.declared.address.Address.{Address}
 use Rattle.machine_steps.specs.Held.{empty_at, empty_by, empty_slot, slot_in, without_field}
 use Rattle.machine_steps.specs.Views.{MachineView}
 use Rattle.numbered_form.specs.Lists.{Each}
 use Rattle.numbered_form.specs.Names.{Name}
-use Rattle.run_typing.specs.FieldForms.{IsTypedField}
-use Rattle.run_typing.specs.RunTyped.{RunTyped}
-use Rattle.run_typing.specs.StorageForms.{FieldShapeIs}
+use Rattle.machine_steps.specs.run_typing.FieldForms.{IsTypedField}
+use Rattle.machine_steps.specs.run_typing.RunTyped.{RunTyped}
+use Rattle.machine_steps.specs.run_typing.StorageForms.{FieldShapeIs}
 use Rattle.run_values.specs.Cells as cells
 use Rattle.run_values.specs.Cells.{Cell, cell_count}
 use Rattle.run_values.specs.Memory.{Memory, is_dead, is_dead_phase, object_at}

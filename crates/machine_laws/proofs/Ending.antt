@@ -1,12 +1,12 @@
 -- What the run does next, and what the machine does: alike where they lead to states that agree, or end alike.
 use Rattle.std.proofs.Common.{◌≡◌, ◌+◌, ◌∙◌, ℕ, List, Bool, true, false, cond, refl, sym, ap, subst, nat_lt}
-use Rattle.holder_model.specs.Outcomes.{Numbers}
-use Rattle.holder_model.specs.States as low
-use Rattle.holder_model.specs.States.{Ending, Faulted, OutOfTurns}
-use Rattle.lowered_run.specs.LowFrames.{LowFrame}
-use Rattle.lowered_run.specs.LowOutcomes.{low_left_by, low_outcome_at}
-use Rattle.lowered_run.specs.LowStepParts.{LowNext, LowState, fails}
-use Rattle.lowered_run.specs.declared.low_fault.LowFault.{LowFault}
+use Rattle.machine_steps.specs.holder_model.Outcomes.{Numbers}
+use Rattle.machine_steps.specs.holder_model.States as low
+use Rattle.machine_steps.specs.holder_model.States.{Ending, Faulted, OutOfTurns}
+use Rattle.machine_steps.specs.lowered_run.LowFrames.{LowFrame}
+use Rattle.machine_steps.specs.lowered_run.LowOutcomes.{low_left_by, low_outcome_at}
+use Rattle.machine_steps.specs.lowered_run.LowStepParts.{LowNext, LowState, fails}
+use Rattle.machine_steps.specs.lowered_run.declared.low_fault.LowFault.{LowFault}
 use Rattle.machine_steps.specs.declared.frame.Task.{Task}
 use Rattle.machine_steps.specs.Operands.{faults}
 use Rattle.machine_steps.specs.Turning.{turn}

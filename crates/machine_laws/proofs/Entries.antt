@@ -1,16 +1,16 @@
 -- The frames of a run of lowered code, and those of the machine.
 use Rattle.std.proofs.Common.{◌≡◌, ◌≤◌, ◌<◌, ◌+◌, ◌-◌, ℕ, List, Bool, true, false, Option, Some, None, length, map}
 use Rattle.std.specs.Prelude.{drop, reverse, slice_get, take}
-use Rattle.holder_model.specs.Calling.{value_count}
-use Rattle.holder_model.specs.Data.{AddressOf, Datum, FunctionOf, ValueOf}
-use Rattle.lowered_run.specs.LowFrames.{LowFrame, value_at}
+use Rattle.machine_steps.specs.holder_model.Calling.{value_count}
+use Rattle.machine_steps.specs.holder_model.Data.{AddressOf, Datum, FunctionOf, ValueOf}
+use Rattle.machine_steps.specs.lowered_run.LowFrames.{LowFrame, value_at}
 use Rattle.machine_steps.specs.declared.address.Address.{Address}
 use Rattle.machine_steps.specs.declared.address.OpenSlot.{OpenSlot}
 use Rattle.machine_steps.specs.declared.frame.Frame.{Frame}
 use Rattle.machine_steps.specs.Operands.{address_in, contents, is_there_in}
 use Rattle.machine_steps.specs.Views.{MachineView}
-use Rattle.ready_code.specs.Layout.{addresses_before, leaves_before, local, local_address}
-use Rattle.run_typing.specs.Forms.{Form, OfFunction, OfPlace, OfValue, form_of}
+use Rattle.machine_steps.specs.ready_code.Layout.{addresses_before, leaves_before, local, local_address}
+use Rattle.machine_steps.specs.run_typing.Forms.{Form, OfFunction, OfPlace, OfValue, form_of}
 use Rattle.run_values.specs.Leaves.{leaves_of}
 use Rattle.run_values.specs.Memory.{Memory}
 use Rattle.run_values.specs.Places.{Place}

@@ -1,25 +1,25 @@
 -- The deinitialisers of an object have returned, and its deinitialisation finishes.
 use Rattle.std.proofs.Common.{◌≡◌, ◌==◌, ◌∙◌, ℕ, zero, suc, List, true, false, not, cond, refl, set, sym, ap, arith}
 use Rattle.std.proofs.lemmas.Bool.{cond-false, cond-true, eq-eqb, ne_eqb}
-use Rattle.heap_model.specs.HeapViews.{HeapView, fields_in, phase_in, strong_in}
-use Rattle.holder_model.specs.Dropping.{ended, field_references, finish_with}
-use Rattle.holder_model.specs.ModuleShapes.{shapes_of}
-use Rattle.holder_model.specs.States as low
-use Rattle.holder_model.specs.declared.trap.Trap.TheVariants as trap
-use Rattle.lowered_run.specs.declared.low_fault.LowFault.TheVariants as fault
-use Rattle.lowered_run.specs.LowFrames.{LowFrame}
-use Rattle.lowered_run.specs.LowStepParts.{LowState}
-use Rattle.lowered_run.specs.LowSteps as steps
-use Rattle.lowered_run.specs.Stored.{numbers_of, unnamed}
+use Rattle.machine_steps.specs.heap_model.HeapViews.{HeapView, fields_in, phase_in, strong_in}
+use Rattle.machine_steps.specs.holder_model.Dropping.{ended, field_references, finish_with}
+use Rattle.machine_steps.specs.holder_model.ModuleShapes.{shapes_of}
+use Rattle.machine_steps.specs.holder_model.States as low
+use Rattle.machine_steps.specs.holder_model.declared.trap.Trap.TheVariants as trap
+use Rattle.machine_steps.specs.lowered_run.declared.low_fault.LowFault.TheVariants as fault
+use Rattle.machine_steps.specs.lowered_run.LowFrames.{LowFrame}
+use Rattle.machine_steps.specs.lowered_run.LowStepParts.{LowState}
+use Rattle.machine_steps.specs.lowered_run.LowSteps as steps
+use Rattle.machine_steps.specs.lowered_run.Stored.{numbers_of, unnamed}
 use Rattle.machine_steps.specs.declared.frame.Task.{Task}
 use Rattle.machine_steps.specs.declared.run_end.RunEnd.TheVariants as end
 use Rattle.machine_steps.specs.Operands.{faults}
 use Rattle.machine_steps.specs.Steps as machine
 use Rattle.machine_steps.specs.Turning.{dropping}
 use Rattle.machine_steps.specs.Views.{Goes, MachineView, Stops, Went}
-use Rattle.ready_code.specs.declared.function.ReadyModule.{ReadyModule}
-use Rattle.ready_code.specs.ReadyModules.{IsReadyModule}
-use Rattle.run_typing.specs.RunTyped.{RunTyped}
+use Rattle.machine_steps.specs.ready_code.declared.function.ReadyModule.{ReadyModule}
+use Rattle.machine_steps.specs.ready_code.ReadyModules.{IsReadyModule}
+use Rattle.machine_steps.specs.run_typing.RunTyped.{RunTyped}
 use Rattle.run_values.specs.Memory.{is_dead, is_dead_phase, object_at}
 use Rattle.run_values.specs.Shapes.{Shape}
 use Rattle.run_values.specs.declared.phase.Phase.TheVariants.{Deiniting}

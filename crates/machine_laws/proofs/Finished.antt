@@ -2,18 +2,18 @@
 use Rattle.std.proofs.Common.{◌≡◌, List, false, Option, Some, None, map, refl, sym, ap, ◌∙◌, subst}
 use Rattle.std.specs.Prelude.{option_and_then, slice_get}
 use Rattle.std.proofs.lemmas.Bool.{false≢true}
-use Rattle.heap_model.specs.HeapCalls.{dead, finished, unless_freed}
-use Rattle.heap_model.specs.HeapViews.{HeapObject, HeapView, fields_in, fields_told, object_in}
-use Rattle.holder_model.specs.Dropping.{deinits_of, ended, field_references}
-use Rattle.holder_model.specs.ModuleShapes.{field_shape, field_shapes, shapes_of}
-use Rattle.holder_model.specs.Outcomes.{Numbers}
-use Rattle.lowered_run.specs.Stored.{unnamed}
+use Rattle.machine_steps.specs.heap_model.HeapCalls.{dead, finished, unless_freed}
+use Rattle.machine_steps.specs.heap_model.HeapViews.{HeapObject, HeapView, fields_in, fields_told, object_in}
+use Rattle.machine_steps.specs.holder_model.Dropping.{deinits_of, ended, field_references}
+use Rattle.machine_steps.specs.holder_model.ModuleShapes.{field_shape, field_shapes, shapes_of}
+use Rattle.machine_steps.specs.holder_model.Outcomes.{Numbers}
+use Rattle.machine_steps.specs.lowered_run.Stored.{unnamed}
 use Rattle.machine_steps.specs.Steps.{class_of, fields_unnamed, strong_in_fields}
 use Rattle.machine_steps.specs.Views.{MachineView}
-use Rattle.ready_code.specs.ReadyModules.{IsReadyModule, storage_of}
-use Rattle.ready_code.specs.declared.function.ReadyModule.{ReadyModule}
-use Rattle.run_typing.specs.FieldForms.{HasTypedFields}
-use Rattle.run_typing.specs.RunTyped.{RunTyped}
+use Rattle.machine_steps.specs.ready_code.ReadyModules.{IsReadyModule, storage_of}
+use Rattle.machine_steps.specs.ready_code.declared.function.ReadyModule.{ReadyModule}
+use Rattle.machine_steps.specs.run_typing.FieldForms.{HasTypedFields}
+use Rattle.machine_steps.specs.run_typing.RunTyped.{RunTyped}
 use Rattle.run_values.specs.Memory.{Memory, Object, is_dead, is_dead_phase, object_at, with_object}
 use Rattle.sil_ast.specs.declared.decl.Field.{Field}
 use Rattle.sil_ast.specs.declared.module.Module.{Module}

@@ -2,13 +2,13 @@
 use Rattle.std.proofs.Common.{◌≡◌, Option, Some, None, map, ap, ◌∙◌}
 use Rattle.std.specs.Prelude.{option_map, slice_get, unwrap_or}
 use Rattle.std.proofs.lemmas.Option.{none-some, same_Some, slice_get-map}
-use Rattle.heap_model.specs.HeapViews.{HeapView, class_in}
-use Rattle.holder_model.specs.Dropping.{deinits_of}
+use Rattle.machine_steps.specs.heap_model.HeapViews.{HeapView, class_in}
+use Rattle.machine_steps.specs.holder_model.Dropping.{deinits_of}
 use Rattle.machine_steps.specs.Steps.{class_of, no_class}
 use Rattle.numbered_form.specs.Names.{Name}
-use Rattle.ready_code.specs.ReadyModules.{IsReadyModule, ready_class, storage_of}
-use Rattle.ready_code.specs.declared.function.ReadyClass.{ReadyClass}
-use Rattle.ready_code.specs.declared.function.ReadyModule.{ReadyModule}
+use Rattle.machine_steps.specs.ready_code.ReadyModules.{IsReadyModule, ready_class, storage_of}
+use Rattle.machine_steps.specs.ready_code.declared.function.ReadyClass.{ReadyClass}
+use Rattle.machine_steps.specs.ready_code.declared.function.ReadyModule.{ReadyModule}
 use Rattle.sil_ast.specs.declared.decl.Decl.{Decl}
 use Rattle.sil_ast.specs.declared.decl.Decl.TheVariants.{Class, Enum, Struct}
 use Rattle.sil_ast.specs.declared.module.Module.{Module}

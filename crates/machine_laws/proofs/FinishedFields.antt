@@ -2,17 +2,17 @@
 use Rattle.std.proofs.Common.{◌≡◌, ◌++◌, ℕ, zero, suc, List, [], ◌∷◌, Option, Some, None, true, map, refl, sym, ap, ◌∙◌, subst}
 use Rattle.std.specs.Prelude.{set, slice_get, unwrap_or}
 use Rattle.std.specs.List.{AllZip}
-use Rattle.heap_model.specs.HeapViews.{HeapView}
-use Rattle.holder_model.specs.ModuleShapes.{field_shape}
-use Rattle.holder_model.specs.Outcomes.{Numbers}
-use Rattle.lowered_run.specs.Stored.{changed, each_changed, less_unowned, less_weak, no_numbers, unnamed}
+use Rattle.machine_steps.specs.heap_model.HeapViews.{HeapView}
+use Rattle.machine_steps.specs.holder_model.ModuleShapes.{field_shape}
+use Rattle.machine_steps.specs.holder_model.Outcomes.{Numbers}
+use Rattle.machine_steps.specs.lowered_run.Stored.{changed, each_changed, less_unowned, less_weak, no_numbers, unnamed}
 use Rattle.machine_steps.specs.Naming.{all_unnamed}
 use Rattle.machine_steps.specs.Operands.{object_in_leaf, objects_among}
 use Rattle.machine_steps.specs.Steps.{field_unnamed, fields_unnamed, strong_in_field, strong_in_fields}
 use Rattle.numbered_form.specs.Lists.{Each}
-use Rattle.ready_code.specs.ReadyModules.{storage_of}
-use Rattle.run_typing.specs.FieldForms.{IsTypedField}
-use Rattle.run_typing.specs.StorageForms.{FieldShapeIs, IsNamed, named, plain}
+use Rattle.machine_steps.specs.ready_code.ReadyModules.{storage_of}
+use Rattle.machine_steps.specs.run_typing.FieldForms.{IsTypedField}
+use Rattle.machine_steps.specs.run_typing.StorageForms.{FieldShapeIs, IsNamed, named, plain}
 use Rattle.run_values.specs.Cells.{Cell, cell_count}
 use Rattle.run_values.specs.Leaves.{leaves_of}
 use Rattle.run_values.specs.Memory.{Memory}

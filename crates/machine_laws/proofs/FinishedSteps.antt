@@ -1,22 +1,22 @@
 -- The machine finishes a deinitialisation as the run does.
 use Rattle.std.proofs.Common.{◌≡◌, ◌==◌, ℕ, zero, suc, List, true, false, not, refl, sym, ap, ◌∙◌, arith}
 use Rattle.std.proofs.lemmas.Bool.{cond-false, cond-true, eq-eqb, ne_eqb}
-use Rattle.heap_model.specs.HeapViews.{phase_in, strong_in}
-use Rattle.holder_model.specs.Dropping.{ended, field_references, finish_with}
-use Rattle.holder_model.specs.ModuleShapes.{ModuleShapes}
-use Rattle.holder_model.specs.States as low
-use Rattle.holder_model.specs.declared.trap.Trap.TheVariants as trap
-use Rattle.lowered_run.specs.LowStepParts.{LowState}
-use Rattle.lowered_run.specs.LowSteps.{finishes}
-use Rattle.lowered_run.specs.Stored.{numbers_of, unnamed}
+use Rattle.machine_steps.specs.heap_model.HeapViews.{phase_in, strong_in}
+use Rattle.machine_steps.specs.holder_model.Dropping.{ended, field_references, finish_with}
+use Rattle.machine_steps.specs.holder_model.ModuleShapes.{ModuleShapes}
+use Rattle.machine_steps.specs.holder_model.States as low
+use Rattle.machine_steps.specs.holder_model.declared.trap.Trap.TheVariants as trap
+use Rattle.machine_steps.specs.lowered_run.LowStepParts.{LowState}
+use Rattle.machine_steps.specs.lowered_run.LowSteps.{finishes}
+use Rattle.machine_steps.specs.lowered_run.Stored.{numbers_of, unnamed}
 use Rattle.machine_steps.specs.declared.run_end.RunEnd.TheVariants as end
 use Rattle.machine_steps.specs.Steps as machine
 use Rattle.machine_steps.specs.Steps.{is_deiniting}
 use Rattle.machine_steps.specs.Turning.{dropping}
 use Rattle.machine_steps.specs.Views.{Goes, MachineView, Stops}
-use Rattle.ready_code.specs.ReadyModules.{IsReadyModule}
-use Rattle.ready_code.specs.declared.function.ReadyModule.{ReadyModule}
-use Rattle.run_typing.specs.RunTyped.{RunTyped}
+use Rattle.machine_steps.specs.ready_code.ReadyModules.{IsReadyModule}
+use Rattle.machine_steps.specs.ready_code.declared.function.ReadyModule.{ReadyModule}
+use Rattle.machine_steps.specs.run_typing.RunTyped.{RunTyped}
 use Rattle.run_values.specs.Memory.{is_dead, is_dead_phase, object_at, with_object}
 use Rattle.run_values.specs.declared.phase.Phase.TheVariants.{Deiniting}
 use Rattle.sil_ast.specs.declared.module.Module.{Module}

@@ -2,22 +2,22 @@
 use Rattle.std.proofs.Common.{◌≡◌, ◌∙◌, ℕ, List, [], ◌∷◌, Option, Some, None, map, refl, ap}
 use Rattle.std.specs.Prelude.{Err, Ok}
 use Rattle.std.specs.declared.result.Result.{Result}
-use Rattle.holder_model.specs.Data.{Datum}
-use Rattle.holder_model.specs.Effects.{unchanged}
-use Rattle.holder_model.specs.ModuleShapes.{ModuleShapes}
-use Rattle.holder_model.specs.Standing.{behind}
-use Rattle.holder_model.specs.States as low
+use Rattle.machine_steps.specs.holder_model.Data.{Datum}
+use Rattle.machine_steps.specs.holder_model.Effects.{unchanged}
+use Rattle.machine_steps.specs.holder_model.ModuleShapes.{ModuleShapes}
+use Rattle.machine_steps.specs.holder_model.Standing.{behind}
+use Rattle.machine_steps.specs.holder_model.States as low
 use Rattle.item_operands.specs.Items.{item_defined}
-use Rattle.lowered_run.specs.declared.low_fault.LowFault.{LowFault}
-use Rattle.lowered_run.specs.LowFrames.{LowFrame, and_others, put_all, read_all, there, value_at}
-use Rattle.lowered_run.specs.LowStepParts.{LowNext, LowState, numbers_for, on_ok, on_some}
-use Rattle.lowered_run.specs.LowSteps.{goes_on}
+use Rattle.machine_steps.specs.lowered_run.declared.low_fault.LowFault.{LowFault}
+use Rattle.machine_steps.specs.lowered_run.LowFrames.{LowFrame, and_others, put_all, read_all, there, value_at}
+use Rattle.machine_steps.specs.lowered_run.LowStepParts.{LowNext, LowState, numbers_for, on_ok, on_some}
+use Rattle.machine_steps.specs.lowered_run.LowSteps.{goes_on}
 use Rattle.machine_steps.specs.declared.frame.Frame.{Frame}
 use Rattle.machine_steps.specs.declared.frame.Task.{Task}
 use Rattle.machine_steps.specs.declared.frame.Task.TheVariants as task
 use Rattle.machine_steps.specs.Operands.{put}
 use Rattle.machine_steps.specs.Views.{MachineView}
-use Rattle.run_typing.specs.Forms.{given_shape}
+use Rattle.machine_steps.specs.run_typing.Forms.{given_shape}
 use Rattle.run_values.specs.Memory.{Memory}
 use Rattle.run_values.specs.Shapes.{Shape}
 use Rattle.sil_ast.specs.declared.function.Function.{Function}

@@ -3,19 +3,19 @@ use Rattle.std.proofs.Common.{◌≡◌, ◌∙◌, ℕ, zero, suc, List, ◌∷
 use Rattle.std.specs.Prelude.{slice_get}
 use Rattle.std.proofs.lemmas.Option.{none-some, same_Some}
 use Rattle.item_operands.specs.Parts.{inst_at, inst_in, terminator_in, terminator_of}
-use Rattle.lowered_run.specs.LowFrames.{LowFrame}
+use Rattle.machine_steps.specs.lowered_run.LowFrames.{LowFrame}
 use Rattle.machine_steps.specs.declared.frame.Frame.{Frame}
 use Rattle.machine_steps.specs.Ends.{block_at, block_in}
 use Rattle.machine_steps.specs.Views.{MachineView}
-use Rattle.ready_code.specs.declared.block.ReadyBlock.{ReadyBlock}
-use Rattle.ready_code.specs.declared.function.ReadyFunction.{ReadyFunction}
-use Rattle.ready_code.specs.declared.function.ReadyModule.{ReadyModule}
-use Rattle.ready_code.specs.declared.op.ReadyOp.{ReadyOp}
-use Rattle.ready_code.specs.Matched.{Matched, both, none}
-use Rattle.ready_code.specs.ReadyEnds.{IsReadyEnd}
-use Rattle.ready_code.specs.ReadyModules.{IsReadyBlock, IsReadyFunction, IsReadyModule}
-use Rattle.ready_code.specs.ReadyOps.{IsReadyOp}
-use Rattle.run_typing.specs.RunTyped.{FunctionIsTyped}
+use Rattle.machine_steps.specs.ready_code.declared.block.ReadyBlock.{ReadyBlock}
+use Rattle.machine_steps.specs.ready_code.declared.function.ReadyFunction.{ReadyFunction}
+use Rattle.machine_steps.specs.ready_code.declared.function.ReadyModule.{ReadyModule}
+use Rattle.machine_steps.specs.ready_code.declared.op.ReadyOp.{ReadyOp}
+use Rattle.machine_steps.specs.ready_code.Matched.{Matched, both, none}
+use Rattle.machine_steps.specs.ready_code.ReadyEnds.{IsReadyEnd}
+use Rattle.machine_steps.specs.ready_code.ReadyModules.{IsReadyBlock, IsReadyFunction, IsReadyModule}
+use Rattle.machine_steps.specs.ready_code.ReadyOps.{IsReadyOp}
+use Rattle.machine_steps.specs.run_typing.RunTyped.{FunctionIsTyped}
 use Rattle.run_values.specs.Memory.{Memory}
 use Rattle.sil_ast.specs.declared.function.Block.{Block}
 use Rattle.sil_ast.specs.declared.function.Function.{Function}

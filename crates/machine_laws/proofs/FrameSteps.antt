@@ -1,15 +1,15 @@
 -- A frame goes on: it stands at an instruction, and its operands are read.
 use Rattle.std.proofs.Common.{◌≡◌, ℕ, List, ◌∷◌, Bool, true, false, Some, ap, subst}
 use Rattle.std.specs.Prelude.{Ok}
-use Rattle.holder_model.specs.Data.{Datum}
-use Rattle.holder_model.specs.ModuleShapes.{shapes_in, shapes_of}
-use Rattle.holder_model.specs.States as low
+use Rattle.machine_steps.specs.holder_model.Data.{Datum}
+use Rattle.machine_steps.specs.holder_model.ModuleShapes.{shapes_in, shapes_of}
+use Rattle.machine_steps.specs.holder_model.States as low
 use Rattle.item_operands.specs.Parts.{inst_at}
-use Rattle.lowered_run.specs.LowEffects.{low_effect}
-use Rattle.lowered_run.specs.LowFrames.{LowFrame, read_all}
-use Rattle.lowered_run.specs.LowStepParts.{LowNext, LowState, on_ok}
-use Rattle.lowered_run.specs.LowSteps as run
-use Rattle.lowered_run.specs.declared.low_fault.LowFault.TheVariants as fault
+use Rattle.machine_steps.specs.lowered_run.LowEffects.{low_effect}
+use Rattle.machine_steps.specs.lowered_run.LowFrames.{LowFrame, read_all}
+use Rattle.machine_steps.specs.lowered_run.LowStepParts.{LowNext, LowState, on_ok}
+use Rattle.machine_steps.specs.lowered_run.LowSteps as run
+use Rattle.machine_steps.specs.lowered_run.declared.low_fault.LowFault.TheVariants as fault
 use Rattle.machine_steps.specs.declared.frame.Frame.{Frame}
 use Rattle.machine_steps.specs.declared.frame.Task.{Task}
 use Rattle.machine_steps.specs.declared.frame.Task.TheVariants as task
@@ -17,13 +17,13 @@ use Rattle.machine_steps.specs.Operands.{unless_missing, with_all}
 use Rattle.machine_steps.specs.Rows as machine
 use Rattle.machine_steps.specs.Views.{MachineView, Went}
 use Rattle.numbered_form.specs.Lists.{Each}
-use Rattle.ready_code.specs.declared.function.ReadyModule.{ReadyModule}
-use Rattle.ready_code.specs.declared.op.ReadyOp.{ReadyOp}
-use Rattle.ready_code.specs.declared.op.ReadyOp.TheVariants as op
-use Rattle.ready_code.specs.ReadyOps.{IsReadyOp, operands_of}
-use Rattle.run_typing.specs.CallForms.{IsOf}
-use Rattle.run_typing.specs.Forms.{given_shape}
-use Rattle.run_typing.specs.RunTyped.{InstIsTyped, RunTyped}
+use Rattle.machine_steps.specs.ready_code.declared.function.ReadyModule.{ReadyModule}
+use Rattle.machine_steps.specs.ready_code.declared.op.ReadyOp.{ReadyOp}
+use Rattle.machine_steps.specs.ready_code.declared.op.ReadyOp.TheVariants as op
+use Rattle.machine_steps.specs.ready_code.ReadyOps.{IsReadyOp, operands_of}
+use Rattle.machine_steps.specs.run_typing.CallForms.{IsOf}
+use Rattle.machine_steps.specs.run_typing.Forms.{given_shape}
+use Rattle.machine_steps.specs.run_typing.RunTyped.{InstIsTyped, RunTyped}
 use Rattle.run_values.specs.Shapes.{Shape}
 use Rattle.sil_ast.specs.declared.function.Function.{Function}
 use Rattle.sil_ast.specs.declared.inst.Inst.{Inst}

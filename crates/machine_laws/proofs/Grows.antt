@@ -3,11 +3,11 @@ use Rattle.std.proofs.Common.{◌≡◌, ◌≤◌, ◌<◌, ◌+◌, ℕ, zero,
 use Rattle.std.specs.Prelude.{nat_lt, option_map, slice_get, sum, take, unwrap_or}
 use Rattle.std.proofs.lemmas.Bool.{and_from, and_parts, lt-ltb, ltb-true}
 use Rattle.std.proofs.lemmas.Option.{none-some, same_Some, slice_get_within}
-use Rattle.holder_model.specs.ModuleShapes.{field_shapes, shapes_of}
+use Rattle.machine_steps.specs.holder_model.ModuleShapes.{field_shapes, shapes_of}
 use Rattle.machine_steps.specs.declared.address.Address.{Address}
 use Rattle.machine_steps.specs.declared.address.OpenSlot.{OpenSlot}
 use Rattle.numbered_form.specs.Names.{Name}
-use Rattle.run_typing.specs.Classes.{is_a}
+use Rattle.machine_steps.specs.run_typing.Classes.{is_a}
 use Rattle.run_values.specs.Cells.{cell_count}
 use Rattle.run_values.specs.Memory.{Memory, object_at}
 use Rattle.run_values.specs.Places.{OnStack, Place, offset}

@@ -2,8 +2,8 @@
 use Rattle.std.proofs.Common.{◌≡◌, ◌+◌, List, [], ◌∷◌, length, map, refl, ap, ◌∙◌, arith}
 use Rattle.std.specs.Prelude.{reverse, take}
 use Rattle.std.proofs.lemmas.List.{drop_at, length-append, length-reverse, take-append-le, take_all}
-use Rattle.holder_model.specs.States as low
-use Rattle.lowered_run.specs.LowFrames.{LowFrame}
+use Rattle.machine_steps.specs.holder_model.States as low
+use Rattle.machine_steps.specs.lowered_run.LowFrames.{LowFrame}
 use Rattle.machine_steps.specs.declared.address.OpenSlot.{OpenSlot}
 use Rattle.machine_steps.specs.declared.frame.Frame.{Frame}
 use Rattle.machine_steps.specs.declared.frame.Task.{Task}

@@ -4,17 +4,17 @@ use Rattle.std.specs.Prelude.{find, slice_get, unwrap_or}
 use Rattle.std.specs.List.{list_all}
 use Rattle.std.proofs.lemmas.List.{drop_all, take_all}
 use Rattle.std.proofs.lemmas.Bool.{false≢true}
-use Rattle.heap_model.specs.HeapViews.{HeapObject, fields_told, object_in, phase_told}
-use Rattle.holder_model.specs.Data.{home_references}
-use Rattle.holder_model.specs.ModuleShapes.{field_shapes, shapes_of}
-use Rattle.holder_model.specs.Outcomes.{Numbers}
-use Rattle.lowered_run.specs.Stored.{numbers_of}
+use Rattle.machine_steps.specs.heap_model.HeapViews.{HeapObject, fields_told, object_in, phase_told}
+use Rattle.machine_steps.specs.holder_model.Data.{home_references}
+use Rattle.machine_steps.specs.holder_model.ModuleShapes.{field_shapes, shapes_of}
+use Rattle.machine_steps.specs.holder_model.Outcomes.{Numbers}
+use Rattle.machine_steps.specs.lowered_run.Stored.{numbers_of}
 use Rattle.machine_steps.specs.declared.address.Address.{Address}
 use Rattle.machine_steps.specs.declared.address.OpenSlot.{OpenSlot}
 use Rattle.machine_steps.specs.Held as held
 use Rattle.machine_steps.specs.Held.{Held, held_at, held_by, held_in_field, held_in_slot, slot_in}
 use Rattle.machine_steps.specs.Views.{MachineView}
-use Rattle.ready_code.specs.Layout.{size_of}
+use Rattle.machine_steps.specs.ready_code.Layout.{size_of}
 use Rattle.run_values.specs.Cells as cells
 use Rattle.run_values.specs.Cells.{Cell, cell_count, in_cells}
 use Rattle.run_values.specs.Leaves.{leaves_of}

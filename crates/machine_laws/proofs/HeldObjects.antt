@@ -2,9 +2,9 @@
 use Rattle.std.proofs.Common.{◌≡◌, ◌<◌, ℕ, List, [], Option, Some, None, sym, ap, ◌∙◌, arith}
 use Rattle.std.specs.Prelude.{length, slice_get, unwrap_or}
 use Rattle.std.proofs.lemmas.Option.{slice_get-get_or}
-use Rattle.heap_model.specs.HeapViews.{HeapObject, HeapView, object_in}
-use Rattle.holder_model.specs.Outcomes.{Numbers}
-use Rattle.lowered_run.specs.Stored.{no_numbers, numbers_of}
+use Rattle.machine_steps.specs.heap_model.HeapViews.{HeapObject, HeapView, object_in}
+use Rattle.machine_steps.specs.holder_model.Outcomes.{Numbers}
+use Rattle.machine_steps.specs.lowered_run.Stored.{no_numbers, numbers_of}
 use Rattle.run_values.specs.Memory.{Memory, Object, no_object, object_at}
 use Rattle.run_values.specs.declared.phase.Phase.TheVariants.{Dead}
 use Rattle.sil_ast.specs.declared.module.Module.{Module}

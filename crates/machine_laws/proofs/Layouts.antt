@@ -4,8 +4,8 @@ use Rattle.std.specs.Prelude.{sum}
 use Rattle.std.specs.List.{range_with_len}
 use Rattle.std.proofs.Math.Decide.{dec_lt}
 use Rattle.std.proofs.lemmas.List.FromFn.{sum_by-map-range_with_len_more}
-use Rattle.ready_code.specs.Layout.{addresses_before, addresses_in, leaves_before, leaves_in, local, local_address, value_number}
-use Rattle.run_typing.specs.Forms.{OfPlace, form_of}
+use Rattle.machine_steps.specs.ready_code.Layout.{addresses_before, addresses_in, leaves_before, leaves_in, local, local_address, value_number}
+use Rattle.machine_steps.specs.run_typing.Forms.{OfPlace, form_of}
 use Rattle.run_values.specs.Shapes.{Shape}
 use Rattle.sil_ast.specs.declared.function.Function.{Function}
 use Rattle.sil_ast.specs.declared.place.ValueId.{ValueId}

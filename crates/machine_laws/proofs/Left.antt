@@ -2,10 +2,10 @@
 use Rattle.std.proofs.Common.{◌≡◌, ◌==◌, ◌&&◌, ◌||◌, ℕ, List, [], ◌∷◌, Bool, true, false, not, cond, Option, Some, None, length, refl, sym, ap, ◌∙◌}
 use Rattle.std.specs.Prelude.{is_some, slice_get, unwrap_or}
 use Rattle.std.specs.List.{cons_option, filter_map, range_with_len}
-use Rattle.heap_model.specs.HeapViews.{HeapObject, HeapView, class_told, object_in, phase_told, strong_told, unowned_told, weak_told}
-use Rattle.holder_model.specs.Outcomes.{Numbers, is_named, left_objects, object_number, unfreed}
-use Rattle.holder_model.specs.declared.left_object.LeftObject.{LeftObject}
-use Rattle.lowered_run.specs.Stored.{no_numbers, numbers_of}
+use Rattle.machine_steps.specs.heap_model.HeapViews.{HeapObject, HeapView, class_told, object_in, phase_told, strong_told, unowned_told, weak_told}
+use Rattle.machine_steps.specs.holder_model.Outcomes.{Numbers, is_named, left_objects, object_number, unfreed}
+use Rattle.machine_steps.specs.holder_model.declared.left_object.LeftObject.{LeftObject}
+use Rattle.machine_steps.specs.lowered_run.Stored.{no_numbers, numbers_of}
 use Rattle.machine_laws.specs.inner.Told.{all_left, left_in}
 use Rattle.numbered_form.specs.Names.{Name}
 use Rattle.run_values.specs.Memory.{Memory, Object, is_dead_phase, no_object}

@@ -1,6 +1,6 @@
 -- The memory of a run of lowered code with its stored numbers, and that of the machine.
 use Rattle.std.proofs.Common.{◌≡◌, ℕ, List, length}
-use Rattle.holder_model.specs.Outcomes.{Numbers}
+use Rattle.machine_steps.specs.holder_model.Outcomes.{Numbers}
 use Rattle.machine_steps.specs.declared.address.Address.{Address}
 use Rattle.machine_steps.specs.declared.address.Home.TheVariants as home
 use Rattle.machine_steps.specs.declared.address.OpenSlot.{OpenSlot}

@@ -3,9 +3,9 @@ use Rattle.std.proofs.Common.{◌≡◌, ℕ, List, [], None, Bool, true, false,
 use Rattle.std.specs.Prelude.{find, replicate}
 use Rattle.std.proofs.lemmas.Bool.{false≢true}
 use Rattle.std.proofs.lemmas.List.{append-nil}
-use Rattle.heap_model.specs.HeapViews.{HeapView}
-use Rattle.holder_model.specs.Outcomes.{Numbers}
-use Rattle.lowered_run.specs.Stored.{each_changed, less_unowned, less_weak, more_unowned, more_weak, named, unnamed}
+use Rattle.machine_steps.specs.heap_model.HeapViews.{HeapView}
+use Rattle.machine_steps.specs.holder_model.Outcomes.{Numbers}
+use Rattle.machine_steps.specs.lowered_run.Stored.{each_changed, less_unowned, less_weak, more_unowned, more_weak, named, unnamed}
 use Rattle.machine_steps.specs.Naming.{leaf_named, leaf_unnamed}
 use Rattle.machine_steps.specs.Operands.{first_leaf, object_in_leaf}
 use Rattle.machine_steps.specs.Views.{MachineView}

@@ -5,7 +5,7 @@ use Rattle.std.specs.List.{AllByRecursion, flat_map, list_all}
 use Rattle.std.proofs.lemmas.Bool.{and_parts, false≢true}
 use Rattle.std.proofs.lemmas.List.{append-nil}
 use Rattle.std.proofs.lemmas.List.Concat.{flat_map-append}
-use Rattle.holder_model.specs.Holders.{kept_references, same_storage}
+use Rattle.machine_steps.specs.holder_model.Holders.{kept_references, same_storage}
 use Rattle.run_values.specs.Cells as cells
 use Rattle.run_values.specs.Cells.{Cell, InCells, cells_each, cells_layer, in_cells}
 use Rattle.run_values.specs.Fits.{are_members, fit_each, fits, fits_layer}

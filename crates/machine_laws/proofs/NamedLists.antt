@@ -3,11 +3,11 @@ use Rattle.std.proofs.Common.{◌≡◌, ◌-◌, ◌==◌, ℕ, zero, suc, List
 use Rattle.std.specs.Prelude.{find, option_and_then, option_map, set, slice_get, unwrap_or}
 use Rattle.std.proofs.lemmas.Bool.{eqb-true}
 use Rattle.std.proofs.lemmas.Option.{none-some}
-use Rattle.heap_model.specs.HeapCalls as heap
-use Rattle.heap_model.specs.HeapCalls.{unless_freed, unowned_named, unowned_unnamed, weakly_named, weakly_unnamed}
-use Rattle.heap_model.specs.HeapViews.{HeapView, unowned_in, weak_in}
-use Rattle.holder_model.specs.Outcomes.{Numbers}
-use Rattle.lowered_run.specs.Stored.{changed, each_changed, less_unowned, less_weak, more_unowned, more_weak, no_numbers, numbers_of}
+use Rattle.machine_steps.specs.heap_model.HeapCalls as heap
+use Rattle.machine_steps.specs.heap_model.HeapCalls.{unless_freed, unowned_named, unowned_unnamed, weakly_named, weakly_unnamed}
+use Rattle.machine_steps.specs.heap_model.HeapViews.{HeapView, unowned_in, weak_in}
+use Rattle.machine_steps.specs.holder_model.Outcomes.{Numbers}
+use Rattle.machine_steps.specs.lowered_run.Stored.{changed, each_changed, less_unowned, less_weak, more_unowned, more_weak, no_numbers, numbers_of}
 use Rattle.machine_steps.specs.Naming.{all_named, all_unnamed, less_named, more_named}
 use Rattle.run_values.specs.Memory.{Memory, is_dead}
 use Rattle.sil_ast.specs.declared.decl.Storage.{Storage}

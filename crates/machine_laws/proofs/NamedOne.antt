@@ -2,11 +2,11 @@
 use Rattle.std.proofs.Common.{◌≡◌, ◌+◌, ◌-◌, ◌==◌, ◌&&◌, [], Bool, true, false, cond, Option, Some, None, refl, sym, ap, ◌∙◌}
 use Rattle.std.specs.Prelude.{option_and_then, option_map}
 use Rattle.std.proofs.lemmas.Bool.{and_parts, eqb-true, false≢true, not-false}
-use Rattle.heap_model.specs.HeapCalls as heap
-use Rattle.heap_model.specs.HeapCalls.{is_left, unless_freed}
-use Rattle.heap_model.specs.HeapViews.{HeapObject}
-use Rattle.holder_model.specs.Outcomes.{Numbers}
-use Rattle.lowered_run.specs.Stored.{less_unowned, less_weak, more_unowned, more_weak}
+use Rattle.machine_steps.specs.heap_model.HeapCalls as heap
+use Rattle.machine_steps.specs.heap_model.HeapCalls.{is_left, unless_freed}
+use Rattle.machine_steps.specs.heap_model.HeapViews.{HeapObject}
+use Rattle.machine_steps.specs.holder_model.Outcomes.{Numbers}
+use Rattle.machine_steps.specs.lowered_run.Stored.{less_unowned, less_weak, more_unowned, more_weak}
 use Rattle.run_values.specs.Memory.{Object, is_dead_phase}
 use Rattle.run_values.specs.declared.phase.Phase.{Phase}
 use Rattle.run_values.specs.declared.phase.Phase.TheVariants.{Dead, Deiniting, Live}

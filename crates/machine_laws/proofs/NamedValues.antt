@@ -3,7 +3,7 @@ use Rattle.std.proofs.Common.{◌≡◌, zero, suc, [], ◌∷◌, true, refl}
 use Rattle.std.proofs.lemmas.Bool.{false≢true}
 use Rattle.machine_steps.specs.Naming.{name_of, none_leaves, some_leaves}
 use Rattle.numbered_form.specs.Names.{Name}
-use Rattle.run_typing.specs.StorageForms.{IsNamed}
+use Rattle.machine_steps.specs.run_typing.StorageForms.{IsNamed}
 use Rattle.run_values.specs.Leaves.{leaves_of}
 use Rattle.run_values.specs.Shapes.{Enum, FullCase, NoCase, PlainCase, Reference, Shape, Stored}
 use Rattle.run_values.specs.Values.{Case, Full, Object, Value}

@@ -4,15 +4,15 @@ use Rattle.std.specs.Prelude.{slice_get}
 use Rattle.std.proofs.lemmas.Bool.{and_parts, ltb-true, true≢false}
 use Rattle.std.proofs.lemmas.List.{take-append-le}
 use Rattle.std.proofs.lemmas.Option.{none-some, slice_get_within}
-use Rattle.holder_model.specs.ModuleShapes.{field_shapes, shapes_of}
-use Rattle.holder_model.specs.Outcomes.{Numbers}
+use Rattle.machine_steps.specs.holder_model.ModuleShapes.{field_shapes, shapes_of}
+use Rattle.machine_steps.specs.holder_model.Outcomes.{Numbers}
 use Rattle.machine_steps.specs.declared.address.Address.{Address}
 use Rattle.machine_steps.specs.declared.address.Home.TheVariants as home
 use Rattle.machine_steps.specs.declared.address.OpenSlot.{OpenSlot}
 use Rattle.machine_steps.specs.Views.{MachineView}
 use Rattle.numbered_form.specs.Names.{Name}
-use Rattle.run_typing.specs.Classes.{is_a}
-use Rattle.run_typing.specs.RunTyped.{RunTyped}
+use Rattle.machine_steps.specs.run_typing.Classes.{is_a}
+use Rattle.machine_steps.specs.run_typing.RunTyped.{RunTyped}
 use Rattle.run_values.specs.Cells.{cell_count}
 use Rattle.run_values.specs.Memory.{Memory, object_at}
 use Rattle.run_values.specs.Places.{Place, field_in, part_of}

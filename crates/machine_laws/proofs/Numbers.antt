@@ -3,11 +3,11 @@ use Rattle.std.proofs.Common.{◌≡◌, ◌<◌, ◌==◌, ◌&&◌, List, [], 
 use Rattle.std.specs.Prelude.{slice_get, unwrap_or}
 use Rattle.std.proofs.lemmas.Bool.{cond-true, eq-eqb, true≢false}
 use Rattle.std.proofs.lemmas.Option.{slice_get_within}
-use Rattle.heap_model.specs.HeapCalls.{takes_last}
-use Rattle.heap_model.specs.HeapViews.{HeapObject, HeapView, class_in, class_told, is_dead_in, phase_in, phase_told, strong_in, strong_told, unowned_in, unowned_told, weak_in, weak_told}
-use Rattle.holder_model.specs.Outcomes.{Numbers}
-use Rattle.lowered_run.specs.LowStepParts.{numbers_for}
-use Rattle.lowered_run.specs.Stored.{numbers_of}
+use Rattle.machine_steps.specs.heap_model.HeapCalls.{takes_last}
+use Rattle.machine_steps.specs.heap_model.HeapViews.{HeapObject, HeapView, class_in, class_told, is_dead_in, phase_in, phase_told, strong_in, strong_told, unowned_in, unowned_told, weak_in, weak_told}
+use Rattle.machine_steps.specs.holder_model.Outcomes.{Numbers}
+use Rattle.machine_steps.specs.lowered_run.LowStepParts.{numbers_for}
+use Rattle.machine_steps.specs.lowered_run.Stored.{numbers_of}
 use Rattle.machine_steps.specs.Steps.{name_of}
 use Rattle.machine_steps.specs.Views.{MachineView}
 use Rattle.run_values.specs.Memory.{Memory, Object, is_dead, is_dead_phase, is_live, is_live_phase, no_object, object_at, phase_of}

@@ -4,9 +4,9 @@ use Rattle.std.specs.Prelude.{set, slice_get, unwrap_or}
 use Rattle.std.proofs.lemmas.Bool.{cases_eq}
 use Rattle.std.proofs.lemmas.List.{length-set}
 use Rattle.std.proofs.lemmas.Option.{none-some, same_Some}
-use Rattle.heap_model.specs.HeapViews.{HeapObject}
-use Rattle.holder_model.specs.Outcomes.{Numbers}
-use Rattle.lowered_run.specs.Stored.{no_numbers}
+use Rattle.machine_steps.specs.heap_model.HeapViews.{HeapObject}
+use Rattle.machine_steps.specs.holder_model.Outcomes.{Numbers}
+use Rattle.machine_steps.specs.lowered_run.Stored.{no_numbers}
 use Rattle.run_values.specs.Memory.{Object}
 use Rattle.sil_ast.specs.declared.module.Module.{Module}
 use Rattle.type_definitions.specs.Declarations.{declarations_of, is_class}

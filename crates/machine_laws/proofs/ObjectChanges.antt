@@ -3,10 +3,10 @@ use Rattle.std.proofs.Common.{◌≡◌, ◌≤◌, ◌+◌, ◌++◌, ℕ, zero
 use Rattle.std.specs.Prelude.{set, slice_get, unwrap_or}
 use Rattle.std.proofs.lemmas.Bool.{false≢true}
 use Rattle.std.proofs.lemmas.List.{length-set}
-use Rattle.heap_model.specs.HeapCalls.{with_field_of, with_object_in}
-use Rattle.heap_model.specs.HeapViews.{HeapObject, object_in}
-use Rattle.holder_model.specs.ModuleShapes.{field_shapes, shapes_of}
-use Rattle.holder_model.specs.Outcomes.{Numbers}
+use Rattle.machine_steps.specs.heap_model.HeapCalls.{with_field_of, with_object_in}
+use Rattle.machine_steps.specs.heap_model.HeapViews.{HeapObject, object_in}
+use Rattle.machine_steps.specs.holder_model.ModuleShapes.{field_shapes, shapes_of}
+use Rattle.machine_steps.specs.holder_model.Outcomes.{Numbers}
 use Rattle.machine_steps.specs.declared.address.Address.{Address}
 use Rattle.machine_steps.specs.Views.{MachineView}
 use Rattle.run_values.specs.Cells.{Cell, cell_count}

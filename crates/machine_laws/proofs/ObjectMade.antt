@@ -4,20 +4,20 @@ use Rattle.std.specs.Prelude.{slice_get, unwrap_or}
 use Rattle.std.proofs.lemmas.Bool.{and_from, false≢true, lt-ltb, ne_eqb}
 use Rattle.std.proofs.lemmas.List.{length-map, length_push}
 use Rattle.std.proofs.lemmas.Option.{none-some, same_Some, slice_get_within}
-use Rattle.heap_model.specs.HeapCalls as heap
-use Rattle.heap_model.specs.HeapCalls.{allocated_in}
-use Rattle.heap_model.specs.HeapViews.{HeapObject, class_fields, named_fields}
-use Rattle.holder_model.specs.ModuleShapes.{field_shape, field_shapes, shapes_of}
-use Rattle.holder_model.specs.Outcomes.{Numbers}
-use Rattle.lowered_run.specs.LowStepParts.{numbers_for}
-use Rattle.lowered_run.specs.Stored.{new_numbers}
+use Rattle.machine_steps.specs.heap_model.HeapCalls as heap
+use Rattle.machine_steps.specs.heap_model.HeapCalls.{allocated_in}
+use Rattle.machine_steps.specs.heap_model.HeapViews.{HeapObject, class_fields, named_fields}
+use Rattle.machine_steps.specs.holder_model.ModuleShapes.{field_shape, field_shapes, shapes_of}
+use Rattle.machine_steps.specs.holder_model.Outcomes.{Numbers}
+use Rattle.machine_steps.specs.lowered_run.LowStepParts.{numbers_for}
+use Rattle.machine_steps.specs.lowered_run.Stored.{new_numbers}
 use Rattle.machine_steps.specs.declared.frame.Frame.{Frame}
 use Rattle.machine_steps.specs.declared.frame.Task.{Task}
 use Rattle.machine_steps.specs.Places.{made_object}
 use Rattle.machine_steps.specs.Views.{MachineView}
 use Rattle.numbered_form.specs.Names.{Name}
-use Rattle.run_typing.specs.Classes.{is_a}
-use Rattle.run_typing.specs.RunTyped.{RunTyped}
+use Rattle.machine_steps.specs.run_typing.Classes.{is_a}
+use Rattle.machine_steps.specs.run_typing.RunTyped.{RunTyped}
 use Rattle.run_values.specs.Memory.{Memory, Object, new_object, no_object, object_at}
 use Rattle.run_values.specs.Places.{empty_fields}
 use Rattle.run_values.specs.Shapes.{Shape}

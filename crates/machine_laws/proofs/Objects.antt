@@ -1,12 +1,12 @@
 -- The objects of a run of lowered code, and those of the machine's heap.
 use Rattle.std.proofs.Common.{◌≡◌, ◌<◌, ◌+◌, ◌++◌, ◌&&◌, ℕ, List, [], ◌∷◌, true, false, Option, Some, None, length, nat_lt}
 use Rattle.std.specs.Prelude.{slice_get, replicate}
-use Rattle.heap_model.specs.HeapCalls.{is_left}
-use Rattle.heap_model.specs.HeapViews.{HeapObject}
-use Rattle.holder_model.specs.ModuleShapes.{field_shapes, shapes_of}
-use Rattle.holder_model.specs.Outcomes.{Numbers}
+use Rattle.machine_steps.specs.heap_model.HeapCalls.{is_left}
+use Rattle.machine_steps.specs.heap_model.HeapViews.{HeapObject}
+use Rattle.machine_steps.specs.holder_model.ModuleShapes.{field_shapes, shapes_of}
+use Rattle.machine_steps.specs.holder_model.Outcomes.{Numbers}
 use Rattle.machine_steps.specs.declared.address.Address.{Address}
-use Rattle.run_typing.specs.Classes.{is_a}
+use Rattle.machine_steps.specs.run_typing.Classes.{is_a}
 use Rattle.run_values.specs.Cells as cells
 use Rattle.run_values.specs.Cells.{Cell, cell_count, in_cells}
 use Rattle.run_values.specs.Leaves.{leaves_of}

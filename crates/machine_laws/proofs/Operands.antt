@@ -1,17 +1,17 @@
 -- Operands are read by the run and by the machine alike.
 use Rattle.std.proofs.Common.{◌≡◌, ◌⊎◌, inl, inr, ℕ, List, [], ◌∷◌, Bool, false, true, cond, not, Option, Some, None, refl, sym, ap, ◌∙◌, subst, arith}
 use Rattle.std.specs.Prelude.{Err, Ok, find}
-use Rattle.holder_model.specs.Data.{AddressOf, Datum, FunctionOf, ValueOf}
-use Rattle.lowered_run.specs.declared.low_fault.LowFault.TheVariants as fault
-use Rattle.lowered_run.specs.LowFrames.{LowFrame, and_others, read_all, there, value_at}
+use Rattle.machine_steps.specs.holder_model.Data.{AddressOf, Datum, FunctionOf, ValueOf}
+use Rattle.machine_steps.specs.lowered_run.declared.low_fault.LowFault.TheVariants as fault
+use Rattle.machine_steps.specs.lowered_run.LowFrames.{LowFrame, and_others, read_all, there, value_at}
 use Rattle.machine_steps.specs.declared.address.Address.{Address}
 use Rattle.machine_steps.specs.declared.frame.Frame.{Frame}
 use Rattle.machine_steps.specs.Operands.{address_in, contents, is_missing, is_there_in}
 use Rattle.machine_steps.specs.Views.{MachineView}
 use Rattle.numbered_form.specs.Lists.{Each}
-use Rattle.ready_code.specs.Layout.{local, local_address}
-use Rattle.run_typing.specs.CallForms.{IsOf}
-use Rattle.run_typing.specs.Forms.{Form, OfFunction, OfNothing, OfPlace, OfValue, form_of}
+use Rattle.machine_steps.specs.ready_code.Layout.{local, local_address}
+use Rattle.machine_steps.specs.run_typing.CallForms.{IsOf}
+use Rattle.machine_steps.specs.run_typing.Forms.{Form, OfFunction, OfNothing, OfPlace, OfValue, form_of}
 use Rattle.run_values.specs.Leaves.{leaves_of}
 use Rattle.run_values.specs.Memory.{Memory}
 use Rattle.run_values.specs.Places.{Place}

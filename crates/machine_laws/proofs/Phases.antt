@@ -2,10 +2,10 @@
 use Rattle.std.proofs.Common.{◌≡◌, List, true, false, Option, Some, None, refl, sym, ap, ◌∙◌}
 use Rattle.std.specs.Prelude.{option_map, slice_get}
 use Rattle.std.proofs.lemmas.Bool.{false≢true}
-use Rattle.heap_model.specs.HeapCalls.{deiniting, started}
-use Rattle.heap_model.specs.HeapViews.{HeapObject, object_in}
-use Rattle.holder_model.specs.Dropping.{in_phase}
-use Rattle.holder_model.specs.Outcomes.{Numbers}
+use Rattle.machine_steps.specs.heap_model.HeapCalls.{deiniting, started}
+use Rattle.machine_steps.specs.heap_model.HeapViews.{HeapObject, object_in}
+use Rattle.machine_steps.specs.holder_model.Dropping.{in_phase}
+use Rattle.machine_steps.specs.holder_model.Outcomes.{Numbers}
 use Rattle.machine_steps.specs.Views.{MachineView}
 use Rattle.run_values.specs.Memory.{Memory, Object, is_dead, is_dead_phase, object_at}
 use Rattle.run_values.specs.declared.phase.Phase.TheVariants.{Deiniting}

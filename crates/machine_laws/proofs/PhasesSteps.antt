@@ -2,17 +2,17 @@
 use Rattle.std.proofs.Common.{◌≡◌, ◌+◌, ◌++◌, ℕ, List, [], ◌∷◌, Bool, true, false, refl, ap, ◌∙◌}
 use Rattle.std.specs.Prelude.{nat_lt}
 use Rattle.std.proofs.lemmas.Bool.{cond-false, cond-true}
-use Rattle.heap_model.specs.HeapCalls.{started}
-use Rattle.holder_model.specs.Dropping.{deinitialises, deinits_of, in_phase}
-use Rattle.holder_model.specs.declared.event.Event.TheVariants as event
-use Rattle.holder_model.specs.States as low
-use Rattle.lowered_run.specs.LowStepParts.{LowState}
-use Rattle.lowered_run.specs.declared.low_fault.LowFault.{LowFault}
+use Rattle.machine_steps.specs.heap_model.HeapCalls.{started}
+use Rattle.machine_steps.specs.holder_model.Dropping.{deinitialises, deinits_of, in_phase}
+use Rattle.machine_steps.specs.holder_model.declared.event.Event.TheVariants as event
+use Rattle.machine_steps.specs.holder_model.States as low
+use Rattle.machine_steps.specs.lowered_run.LowStepParts.{LowState}
+use Rattle.machine_steps.specs.lowered_run.declared.low_fault.LowFault.{LowFault}
 use Rattle.machine_steps.specs.declared.frame.Task.TheVariants as task
 use Rattle.machine_steps.specs.declared.run_end.RunEnd.TheVariants as end
 use Rattle.machine_steps.specs.Steps as machine
 use Rattle.machine_steps.specs.Views.{Goes, MachineView, Stops}
-use Rattle.ready_code.specs.declared.function.ReadyModule.{ReadyModule}
+use Rattle.machine_steps.specs.ready_code.declared.function.ReadyModule.{ReadyModule}
 use Rattle.run_values.specs.Memory.{is_dead, object_at}
 use Rattle.run_values.specs.declared.phase.Phase.TheVariants.{Deiniting}
 use Rattle.sil_ast.specs.declared.module.Module.{Module}

@@ -2,12 +2,12 @@
 use Rattle.std.proofs.Common.{◌≡◌, ◌<◌, ◌&&◌, ℕ, zero, suc, List, [], ◌∷◌, true, Option, length, nat_lt, refl, ap, ◌∙◌, arith}
 use Rattle.std.specs.Prelude.{set, slice_get, unwrap_or}
 use Rattle.std.proofs.lemmas.List.{length-set}
-use Rattle.heap_model.specs.HeapViews.{HeapObject, HeapView}
-use Rattle.holder_model.specs.Outcomes.{Numbers}
+use Rattle.machine_steps.specs.heap_model.HeapViews.{HeapObject, HeapView}
+use Rattle.machine_steps.specs.holder_model.Outcomes.{Numbers}
 use Rattle.machine_steps.specs.Views.{MachineView}
 use Rattle.machine_steps.specs.declared.address.OpenSlot.{OpenSlot}
 use Rattle.numbered_form.specs.Names.{Name}
-use Rattle.run_typing.specs.Classes.{is_a}
+use Rattle.machine_steps.specs.run_typing.Classes.{is_a}
 use Rattle.run_values.specs.Cells.{Cell}
 use Rattle.run_values.specs.Memory.{Memory, Object, no_object, object_at, with_object}
 use Rattle.run_values.specs.Shapes.{Shape}

@@ -4,23 +4,23 @@ use Rattle.std.specs.Prelude.{drop, replicate, reverse, slice_get, take}
 use Rattle.std.proofs.lemmas.Bool.{false≢true}
 use Rattle.std.proofs.lemmas.List.{get_or-append-add, get_or-replicate, length-append, length-map, length-replicate, length-take-le, take-append-le, take-take}
 use Rattle.std.proofs.lemmas.Option.{unwrap_or-slice_get}
-use Rattle.holder_model.specs.Calling.{value_count}
-use Rattle.holder_model.specs.Data.{Datum}
-use Rattle.holder_model.specs.Frames.{has_any}
-use Rattle.lowered_run.specs.LowFrames.{LowFrame, no_values, put_all, value_at}
-use Rattle.lowered_run.specs.LowStepParts as low
+use Rattle.machine_steps.specs.holder_model.Calling.{value_count}
+use Rattle.machine_steps.specs.holder_model.Data.{Datum}
+use Rattle.machine_steps.specs.holder_model.Frames.{has_any}
+use Rattle.machine_steps.specs.lowered_run.LowFrames.{LowFrame, no_values, put_all, value_at}
+use Rattle.machine_steps.specs.lowered_run.LowStepParts as low
 use Rattle.machine_steps.specs.declared.frame.Frame.{Frame}
 use Rattle.machine_steps.specs.declared.frame.Task.{Task}
 use Rattle.machine_steps.specs.Calling.{addresses_carried, carried, new_frame, with_frame, without_frame}
 use Rattle.machine_steps.specs.Operands.{address_in, contents, is_there_in, no_address}
 use Rattle.machine_steps.specs.Views.{MachineView}
 use Rattle.numbered_form.specs.Lists.{Each}
-use Rattle.ready_code.specs.declared.function.ReadyFunction.{ReadyFunction}
-use Rattle.ready_code.specs.Layout as layout
-use Rattle.ready_code.specs.Layout.{local, local_address}
-use Rattle.ready_code.specs.ReadyModules.{IsReadyFunction}
-use Rattle.run_typing.specs.CallForms.{IsOf}
-use Rattle.run_typing.specs.Forms.{OfPlace, OfValue, form_of, forms_of}
+use Rattle.machine_steps.specs.ready_code.declared.function.ReadyFunction.{ReadyFunction}
+use Rattle.machine_steps.specs.ready_code.Layout as layout
+use Rattle.machine_steps.specs.ready_code.Layout.{local, local_address}
+use Rattle.machine_steps.specs.ready_code.ReadyModules.{IsReadyFunction}
+use Rattle.machine_steps.specs.run_typing.CallForms.{IsOf}
+use Rattle.machine_steps.specs.run_typing.Forms.{OfPlace, OfValue, form_of, forms_of}
 use Rattle.run_values.specs.Memory.{Memory}
 use Rattle.run_values.specs.Shapes.{Shape}
 use Rattle.run_values.specs.declared.leaf.Leaf.TheVariants as leaf

@@ -1,17 +1,17 @@
 -- Addresses that are carried from a frame into another one, which lies behind it.
 use Rattle.std.proofs.Common.{◌≡◌, ◌<◌, ◌+◌, ◌++◌, List, [], ◌∷◌, Some, Option, length, refl, sym, ap, ◌∙◌, subst, arith}
 use Rattle.std.specs.Prelude.{drop, set}
-use Rattle.holder_model.specs.Data.{AddressOf, Datum}
-use Rattle.lowered_run.specs.LowFrames.{LowFrame}
+use Rattle.machine_steps.specs.holder_model.Data.{AddressOf, Datum}
+use Rattle.machine_steps.specs.lowered_run.LowFrames.{LowFrame}
 use Rattle.machine_steps.specs.Calling as machine
 use Rattle.machine_steps.specs.declared.frame.Frame.{Frame}
 use Rattle.machine_steps.specs.Operands.{address_in, no_address, put_address}
 use Rattle.machine_steps.specs.Views.{MachineView}
 use Rattle.numbered_form.specs.Lists.{Each}
-use Rattle.ready_code.specs.declared.local.CarryAddress.{CarryAddress}
-use Rattle.ready_code.specs.Layout.{address_carried, addresses_carried, carry_address, local_address}
-use Rattle.run_typing.specs.CallForms.{IsOf}
-use Rattle.run_typing.specs.Forms.{Form, OfFunction, OfNothing, OfPlace, OfValue, form_of, forms_of}
+use Rattle.machine_steps.specs.ready_code.declared.local.CarryAddress.{CarryAddress}
+use Rattle.machine_steps.specs.ready_code.Layout.{address_carried, addresses_carried, carry_address, local_address}
+use Rattle.machine_steps.specs.run_typing.CallForms.{IsOf}
+use Rattle.machine_steps.specs.run_typing.Forms.{Form, OfFunction, OfNothing, OfPlace, OfValue, form_of, forms_of}
 use Rattle.run_values.specs.Memory.{Memory}
 use Rattle.run_values.specs.Shapes.{Shape}
 use Rattle.sil_ast.specs.declared.function.Function.{Function}

@@ -1,17 +1,17 @@
 -- Values that are carried from a frame into another one, or into itself: the values' leaves.
 use Rattle.std.proofs.Common.{◌≡◌, ◌++◌, List, [], ◌∷◌, Some, Option, length, map, refl, sym, ap, ◌∙◌, subst, arith}
 use Rattle.std.specs.Prelude.{drop, set}
-use Rattle.holder_model.specs.Data.{Datum, ValueOf}
-use Rattle.lowered_run.specs.LowFrames.{LowFrame}
+use Rattle.machine_steps.specs.holder_model.Data.{Datum, ValueOf}
+use Rattle.machine_steps.specs.lowered_run.LowFrames.{LowFrame}
 use Rattle.machine_steps.specs.Calling as machine
 use Rattle.machine_steps.specs.declared.frame.Frame.{Frame}
 use Rattle.machine_steps.specs.Operands.{contents, put}
 use Rattle.machine_steps.specs.Views.{MachineView}
 use Rattle.numbered_form.specs.Lists.{Each}
-use Rattle.ready_code.specs.declared.local.Carry.{Carry}
-use Rattle.ready_code.specs.Layout.{carry, local, value_carried, values_carried}
-use Rattle.run_typing.specs.CallForms.{IsOf}
-use Rattle.run_typing.specs.Forms.{Form, OfFunction, OfNothing, OfPlace, OfValue, form_of, forms_of}
+use Rattle.machine_steps.specs.ready_code.declared.local.Carry.{Carry}
+use Rattle.machine_steps.specs.ready_code.Layout.{carry, local, value_carried, values_carried}
+use Rattle.machine_steps.specs.run_typing.CallForms.{IsOf}
+use Rattle.machine_steps.specs.run_typing.Forms.{Form, OfFunction, OfNothing, OfPlace, OfValue, form_of, forms_of}
 use Rattle.run_values.specs.Memory.{Memory}
 use Rattle.run_values.specs.declared.leaf.Leaf.{Leaf}
 use Rattle.sil_ast.specs.declared.function.Function.{Function}

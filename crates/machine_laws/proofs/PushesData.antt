@@ -3,11 +3,11 @@ use Rattle.std.proofs.Common.{◌≡◌, ◌≢◌, List, [], ◌∷◌, true, S
 use Rattle.std.specs.Prelude.{drop, set}
 use Rattle.std.proofs.lemmas.Bool.{false≢true}
 use Rattle.std.proofs.lemmas.List.{set_comm}
-use Rattle.holder_model.specs.Data.{Datum}
-use Rattle.lowered_run.specs.LowFrames.{put_all}
+use Rattle.machine_steps.specs.holder_model.Data.{Datum}
+use Rattle.machine_steps.specs.lowered_run.LowFrames.{put_all}
 use Rattle.numbered_form.specs.Lists.{Each}
-use Rattle.ready_code.specs.Layout.{value_number}
-use Rattle.run_typing.specs.Forms.{Form, IsCarried, OfFunction, OfNothing, OfPlace, OfValue, form_of, forms_of, is_carried}
+use Rattle.machine_steps.specs.ready_code.Layout.{value_number}
+use Rattle.machine_steps.specs.run_typing.Forms.{Form, IsCarried, OfFunction, OfNothing, OfPlace, OfValue, form_of, forms_of, is_carried}
 use Rattle.run_values.specs.Shapes.{Shape}
 use Rattle.sil_ast.specs.declared.function.Function.{Function}
 use Rattle.sil_ast.specs.declared.place.ValueId.{ValueId}

@@ -3,16 +3,16 @@ use Rattle.std.proofs.Common.{◌≡◌, ◌≢◌, ◌≤◌, ◌<◌, ◌+◌,
 use Rattle.std.specs.Prelude.{drop, reverse, set, slice_get, take, unwrap_or}
 use Rattle.std.proofs.lemmas.Bool.{cases_eq}
 use Rattle.std.proofs.lemmas.List.{length-set, take-set-le}
-use Rattle.holder_model.specs.Calling.{value_count}
-use Rattle.holder_model.specs.Data.{AddressOf, Datum, FunctionOf, ValueOf}
-use Rattle.lowered_run.specs.LowFrames.{LowFrame, value_at}
+use Rattle.machine_steps.specs.holder_model.Calling.{value_count}
+use Rattle.machine_steps.specs.holder_model.Data.{AddressOf, Datum, FunctionOf, ValueOf}
+use Rattle.machine_steps.specs.lowered_run.LowFrames.{LowFrame, value_at}
 use Rattle.machine_steps.specs.declared.address.Address.{Address}
 use Rattle.machine_steps.specs.declared.frame.Frame.{Frame}
 use Rattle.machine_steps.specs.Operands.{address_in, contents, is_there_in, laid_over, no_address, put, put_address, put_there}
 use Rattle.machine_steps.specs.Views.{MachineView}
-use Rattle.ready_code.specs.Layout.{leaves_in, local, local_address, value_number}
-use Rattle.run_typing.specs.CallForms.{IsOf}
-use Rattle.run_typing.specs.Forms.{Form, OfFunction, OfPlace, OfValue, form_of}
+use Rattle.machine_steps.specs.ready_code.Layout.{leaves_in, local, local_address, value_number}
+use Rattle.machine_steps.specs.run_typing.CallForms.{IsOf}
+use Rattle.machine_steps.specs.run_typing.Forms.{Form, OfFunction, OfPlace, OfValue, form_of}
 use Rattle.run_values.specs.Leaves.{leaves_of}
 use Rattle.run_values.specs.Memory.{Memory}
 use Rattle.run_values.specs.Places.{Place}

@@ -3,18 +3,18 @@ use Rattle.std.proofs.Common.{◌≡◌, ◌+◌, ◌∙◌, ℕ, List, [], ◌�
 use Rattle.std.specs.Prelude.{find, option_and_then, slice_get}
 use Rattle.std.proofs.lemmas.Bool.{false≢true}
 use Rattle.std.proofs.lemmas.Option.{none-some, same_Some}
-use Rattle.heap_model.specs.HeapViews.{is_dead_in}
-use Rattle.holder_model.specs.Data.{ValueOf}
-use Rattle.holder_model.specs.Effects.{unchanged}
-use Rattle.holder_model.specs.Frames.{has_any}
-use Rattle.holder_model.specs.ModuleShapes.{shapes_of}
-use Rattle.holder_model.specs.Outcomes.{left_objects}
-use Rattle.holder_model.specs.States as low
-use Rattle.lowered_run.specs.declared.low_fault.LowFault.TheVariants as fault
-use Rattle.lowered_run.specs.LowFrames.{LowFrame, put_all}
-use Rattle.lowered_run.specs.LowStepParts.{LowState, numbers_for, on_some}
-use Rattle.lowered_run.specs.LowSteps as run
-use Rattle.lowered_run.specs.Stored.{numbers_of}
+use Rattle.machine_steps.specs.heap_model.HeapViews.{is_dead_in}
+use Rattle.machine_steps.specs.holder_model.Data.{ValueOf}
+use Rattle.machine_steps.specs.holder_model.Effects.{unchanged}
+use Rattle.machine_steps.specs.holder_model.Frames.{has_any}
+use Rattle.machine_steps.specs.holder_model.ModuleShapes.{shapes_of}
+use Rattle.machine_steps.specs.holder_model.Outcomes.{left_objects}
+use Rattle.machine_steps.specs.holder_model.States as low
+use Rattle.machine_steps.specs.lowered_run.declared.low_fault.LowFault.TheVariants as fault
+use Rattle.machine_steps.specs.lowered_run.LowFrames.{LowFrame, put_all}
+use Rattle.machine_steps.specs.lowered_run.LowStepParts.{LowState, numbers_for, on_some}
+use Rattle.machine_steps.specs.lowered_run.LowSteps as run
+use Rattle.machine_steps.specs.lowered_run.Stored.{numbers_of}
 use Rattle.machine_steps.specs.declared.frame.Frame.{Frame}
 use Rattle.machine_steps.specs.declared.frame.Task.{Task}
 use Rattle.machine_steps.specs.declared.frame.Task.TheVariants as task
@@ -24,16 +24,16 @@ use Rattle.machine_steps.specs.Ends as machine
 use Rattle.machine_steps.specs.Operands.{contents, objects_among}
 use Rattle.machine_steps.specs.Views.{MachineView}
 use Rattle.numbered_form.specs.Lists.{Each}
-use Rattle.ready_code.specs.declared.function.ReadyModule.{ReadyModule}
-use Rattle.ready_code.specs.declared.local.Local.{Local}
-use Rattle.ready_code.specs.declared.op.ReadyOp.{ReadyOp}
-use Rattle.ready_code.specs.Layout.{local}
-use Rattle.ready_code.specs.ReadyModules.{IsReadyModule}
-use Rattle.ready_code.specs.ReadyOps.{IsReadyOp, calls, calls_out, chooses_full, chooses_plain, computes, drops, field_address, forgets_name, function, groups, literal, loads, loads_name}
-use Rattle.ready_code.specs.ReadyOps.{look, member, member_address, object, removes, retains, same, slot, stores, stores_name, traps}
-use Rattle.run_typing.specs.CallForms.{IsOf}
-use Rattle.run_typing.specs.Forms.{OfFunction, form_of, given_shape}
-use Rattle.run_typing.specs.RunTyped.{FunctionIsTyped, RunTyped}
+use Rattle.machine_steps.specs.ready_code.declared.function.ReadyModule.{ReadyModule}
+use Rattle.machine_steps.specs.ready_code.declared.local.Local.{Local}
+use Rattle.machine_steps.specs.ready_code.declared.op.ReadyOp.{ReadyOp}
+use Rattle.machine_steps.specs.ready_code.Layout.{local}
+use Rattle.machine_steps.specs.ready_code.ReadyModules.{IsReadyModule}
+use Rattle.machine_steps.specs.ready_code.ReadyOps.{IsReadyOp, calls, calls_out, chooses_full, chooses_plain, computes, drops, field_address, forgets_name, function, groups, literal, loads, loads_name}
+use Rattle.machine_steps.specs.ready_code.ReadyOps.{look, member, member_address, object, removes, retains, same, slot, stores, stores_name, traps}
+use Rattle.machine_steps.specs.run_typing.CallForms.{IsOf}
+use Rattle.machine_steps.specs.run_typing.Forms.{OfFunction, form_of, given_shape}
+use Rattle.machine_steps.specs.run_typing.RunTyped.{FunctionIsTyped, RunTyped}
 use Rattle.run_values.specs.Leaves.{leaves_of, value_of}
 use Rattle.run_values.specs.Memory.{is_dead}
 use Rattle.run_values.specs.Shapes.{Shape}

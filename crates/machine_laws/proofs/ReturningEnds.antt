@@ -3,34 +3,34 @@ use Rattle.std.proofs.Common.{◌≡◌, ◌==◌, ◌∙◌, ℕ, List, [], ◌
 use Rattle.std.specs.Prelude.{slice_get}
 use Rattle.std.proofs.lemmas.Bool.{cond-false, cond-true, eq-eqb, ne_eqb}
 use Rattle.std.proofs.lemmas.Option.{same_Some}
-use Rattle.holder_model.specs.Data.{Datum, ValueOf}
-use Rattle.holder_model.specs.Effects.{only}
-use Rattle.holder_model.specs.Frames.{has_any}
-use Rattle.holder_model.specs.ModuleShapes.{shapes_of}
-use Rattle.holder_model.specs.States as low
-use Rattle.holder_model.specs.declared.trap.Trap.TheVariants as trap
+use Rattle.machine_steps.specs.holder_model.Data.{Datum, ValueOf}
+use Rattle.machine_steps.specs.holder_model.Effects.{only}
+use Rattle.machine_steps.specs.holder_model.Frames.{has_any}
+use Rattle.machine_steps.specs.holder_model.ModuleShapes.{shapes_of}
+use Rattle.machine_steps.specs.holder_model.States as low
+use Rattle.machine_steps.specs.holder_model.declared.trap.Trap.TheVariants as trap
 use Rattle.instruction_table.specs.Forms.{ending_of}
 use Rattle.instruction_table.specs.declared.entries.Ending.TheVariants as ending
-use Rattle.lowered_run.specs.declared.low_fault.LowFault.TheVariants as fault
-use Rattle.lowered_run.specs.LowFrames.{LowFrame, read_all}
-use Rattle.lowered_run.specs.LowStepParts.{LowNext, LowState, fails, on_ok, on_some}
-use Rattle.lowered_run.specs.LowSteps as run
+use Rattle.machine_steps.specs.lowered_run.declared.low_fault.LowFault.TheVariants as fault
+use Rattle.machine_steps.specs.lowered_run.LowFrames.{LowFrame, read_all}
+use Rattle.machine_steps.specs.lowered_run.LowStepParts.{LowNext, LowState, fails, on_ok, on_some}
+use Rattle.machine_steps.specs.lowered_run.LowSteps as run
 use Rattle.machine_steps.specs.declared.frame.Frame.{Frame}
 use Rattle.machine_steps.specs.declared.frame.Task.{Task}
 use Rattle.machine_steps.specs.declared.run_end.RunEnd.TheVariants as stop
 use Rattle.machine_steps.specs.Ends as machine
 use Rattle.machine_steps.specs.Operands.{faults}
 use Rattle.machine_steps.specs.Views.{MachineView, Went}
-use Rattle.ready_code.specs.declared.block.ReadyEnd.{ReadyEnd}
-use Rattle.ready_code.specs.declared.block.ReadyEnd.TheVariants as end
-use Rattle.ready_code.specs.declared.function.ReadyModule.{ReadyModule}
-use Rattle.ready_code.specs.Layout.{local}
-use Rattle.ready_code.specs.ReadyEnds.{IsReadyEnd}
-use Rattle.ready_code.specs.ReadyModules.{IsReadyModule}
-use Rattle.ready_code.specs.ReadyOps.{operands_of}
-use Rattle.run_typing.specs.EndForms.{EndForms, branch, branches, cases, operand_forms, returns, unreachable}
-use Rattle.run_typing.specs.Forms.{OfValue, form_of, given_shape}
-use Rattle.run_typing.specs.RunTyped.{RunTyped}
+use Rattle.machine_steps.specs.ready_code.declared.block.ReadyEnd.{ReadyEnd}
+use Rattle.machine_steps.specs.ready_code.declared.block.ReadyEnd.TheVariants as end
+use Rattle.machine_steps.specs.ready_code.declared.function.ReadyModule.{ReadyModule}
+use Rattle.machine_steps.specs.ready_code.Layout.{local}
+use Rattle.machine_steps.specs.ready_code.ReadyEnds.{IsReadyEnd}
+use Rattle.machine_steps.specs.ready_code.ReadyModules.{IsReadyModule}
+use Rattle.machine_steps.specs.ready_code.ReadyOps.{operands_of}
+use Rattle.machine_steps.specs.run_typing.EndForms.{EndForms, branch, branches, cases, operand_forms, returns, unreachable}
+use Rattle.machine_steps.specs.run_typing.Forms.{OfValue, form_of, given_shape}
+use Rattle.machine_steps.specs.run_typing.RunTyped.{RunTyped}
 use Rattle.run_values.specs.Shapes.{Shape}
 use Rattle.sil_ast.specs.declared.function.Function.{Function}
 use Rattle.sil_ast.specs.declared.inst.Inst.{Inst}

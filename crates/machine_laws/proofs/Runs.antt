@@ -4,26 +4,26 @@ use Rattle.std.specs.Prelude.{option_and_then}
 use Rattle.std.proofs.lemmas.Bool.{and_parts}
 use Rattle.std.proofs.lemmas.Option.{none-some, same_Some}
 use Rattle.argument_conventions.specs.Arguments.{arguments_of}
-use Rattle.holder_model.specs.Calling.{value_count}
-use Rattle.holder_model.specs.Frames.{has_any}
-use Rattle.holder_model.specs.ModuleShapes.{shapes_of}
-use Rattle.holder_model.specs.Outcomes.{run}
-use Rattle.holder_model.specs.States as low
-use Rattle.holder_model.specs.States.{Ending, Next}
-use Rattle.lowered_run.specs.declared.low_fault.LowFault.{LowFault}
-use Rattle.lowered_run.specs.LowFrames.{no_values}
-use Rattle.lowered_run.specs.LowOutcomes.{low_begins, low_outcome_after, low_outcome_at}
-use Rattle.lowered_run.specs.LowStepParts.{LowState, new_frame}
-use Rattle.lowered_run.specs.LowSteps.{low_step}
+use Rattle.machine_steps.specs.holder_model.Calling.{value_count}
+use Rattle.machine_steps.specs.holder_model.Frames.{has_any}
+use Rattle.machine_steps.specs.holder_model.ModuleShapes.{shapes_of}
+use Rattle.machine_steps.specs.holder_model.Outcomes.{run}
+use Rattle.machine_steps.specs.holder_model.States as low
+use Rattle.machine_steps.specs.holder_model.States.{Ending, Next}
+use Rattle.machine_steps.specs.lowered_run.declared.low_fault.LowFault.{LowFault}
+use Rattle.machine_steps.specs.lowered_run.LowFrames.{no_values}
+use Rattle.machine_steps.specs.lowered_run.LowOutcomes.{low_begins, low_outcome_after, low_outcome_at}
+use Rattle.machine_steps.specs.lowered_run.LowStepParts.{LowState, new_frame}
+use Rattle.machine_steps.specs.lowered_run.LowSteps.{low_step}
 use Rattle.machine_steps.specs.declared.run_end.RunEnd.{RunEnd}
 use Rattle.machine_steps.specs.Calling as machine
 use Rattle.machine_steps.specs.Runs.{begins, no_tasks, steps, went_on}
 use Rattle.machine_steps.specs.Steps.{machine_step}
 use Rattle.machine_steps.specs.Views.{MachineView, Stops, Went}
-use Rattle.ready_code.specs.declared.function.ReadyModule.{ReadyModule}
-use Rattle.ready_code.specs.ReadyModules.{IsReadyFunction, IsReadyModule}
-use Rattle.run_typing.specs.Forms.{given_shape}
-use Rattle.run_typing.specs.RunTyped.{RunTyped}
+use Rattle.machine_steps.specs.ready_code.declared.function.ReadyModule.{ReadyModule}
+use Rattle.machine_steps.specs.ready_code.ReadyModules.{IsReadyFunction, IsReadyModule}
+use Rattle.machine_steps.specs.run_typing.Forms.{given_shape}
+use Rattle.machine_steps.specs.run_typing.RunTyped.{RunTyped}
 use Rattle.run_values.specs.Memory.{Memory}
 use Rattle.run_values.specs.Shapes.{Shape}
 use Rattle.sil_ast.specs.declared.module.Module.{Module}

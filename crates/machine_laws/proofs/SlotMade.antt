@@ -3,13 +3,13 @@ use Rattle.std.proofs.Common.{◌≡◌, ◌≤◌, ◌+◌, ◌++◌, ℕ, suc,
 use Rattle.std.specs.Prelude.{option_map, slice_get, unwrap_or}
 use Rattle.std.proofs.lemmas.List.{flat_map_more, length-append, length_push, take-append-le, take_at}
 use Rattle.std.proofs.lemmas.List.Sums.{sum_by-cons}
-use Rattle.holder_model.specs.Outcomes.{Numbers}
+use Rattle.machine_steps.specs.holder_model.Outcomes.{Numbers}
 use Rattle.machine_steps.specs.declared.frame.Frame.{Frame}
 use Rattle.machine_steps.specs.declared.frame.Task.{Task}
 use Rattle.machine_steps.specs.Places.{new_slot, slot_address, with_slot}
 use Rattle.machine_steps.specs.Views.{MachineView}
-use Rattle.ready_code.specs.Layout.{size_of}
-use Rattle.run_typing.specs.StorageForms.{FieldShapeIs}
+use Rattle.machine_steps.specs.ready_code.Layout.{size_of}
+use Rattle.machine_steps.specs.run_typing.StorageForms.{FieldShapeIs}
 use Rattle.run_values.specs.Memory.{Memory}
 use Rattle.run_values.specs.Places.{OnStack, Place, empty_slot}
 use Rattle.run_values.specs.Shapes.{Shape, Unknown}

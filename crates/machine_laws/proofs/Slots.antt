@@ -4,7 +4,7 @@ use Rattle.std.specs.Prelude.{take, drop, slice_get, replicate, sum, unwrap_or, 
 use Rattle.std.specs.List.{flat_map}
 use Rattle.machine_steps.specs.declared.address.Address.{Address}
 use Rattle.machine_steps.specs.declared.address.OpenSlot.{OpenSlot}
-use Rattle.run_typing.specs.StorageForms.{FieldShapeIs}
+use Rattle.machine_steps.specs.run_typing.StorageForms.{FieldShapeIs}
 use Rattle.run_values.specs.Cells as cells
 use Rattle.run_values.specs.Cells.{Cell, cell_count, in_cells}
 use Rattle.run_values.specs.Leaves.{leaves_of}
@@ -13,7 +13,7 @@ use Rattle.run_values.specs.Shapes.{Shape, Unknown}
 use Rattle.run_values.specs.Values.{Value}
 use Rattle.run_values.specs.declared.leaf.Leaf.{Leaf}
 use Rattle.sil_ast.specs.declared.decl.Storage.{Storage}
-use Rattle.ready_code.specs.Layout.{size_of}
+use Rattle.machine_steps.specs.ready_code.Layout.{size_of}
 use Rattle.value_parts.specs.inner.Paths.{IsPart, cells_before, leaves_before}
 use Rattle.value_parts.specs.inner.Suits.{ClassTest, suits}
 

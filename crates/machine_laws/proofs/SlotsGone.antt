@@ -5,8 +5,8 @@ use Rattle.std.proofs.lemmas.Bool.{cases_eq, false≢true}
 use Rattle.std.proofs.lemmas.List.{length-take-le, take-take}
 use Rattle.std.proofs.lemmas.Option.{none-some, same_Some, slice_get_within}
 use Rattle.machine_steps.specs.declared.address.OpenSlot.{OpenSlot}
-use Rattle.ready_code.specs.Layout.{size_of}
-use Rattle.run_typing.specs.StorageForms.{FieldShapeIs}
+use Rattle.machine_steps.specs.ready_code.Layout.{size_of}
+use Rattle.machine_steps.specs.run_typing.StorageForms.{FieldShapeIs}
 use Rattle.run_values.specs.declared.leaf.Leaf.{Leaf}
 use Rattle.sil_ast.specs.declared.decl.Storage.{Storage}
 use Rattle.value_parts.specs.inner.Suits.{ClassTest}

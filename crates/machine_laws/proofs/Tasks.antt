@@ -1,19 +1,19 @@
 -- The tasks of a run of lowered code, and those of the machine, which has none where no reference waits.
 use Rattle.std.proofs.Common.{◌≡◌, ◌<◌, ◌+◌, ◌==◌, ◌||◌, ℕ, List, [], ◌∷◌, Bool, true, false, Some, length}
 use Rattle.std.specs.Prelude.{drop, reverse, slice_get, take}
-use Rattle.holder_model.specs.declared.row_effect.RowEffect.TheVariants as row
-use Rattle.holder_model.specs.Dropping.{deinits_of}
-use Rattle.holder_model.specs.Effects.{effect_of}
-use Rattle.holder_model.specs.Frames.{has_any}
-use Rattle.holder_model.specs.States as low
+use Rattle.machine_steps.specs.holder_model.declared.row_effect.RowEffect.TheVariants as row
+use Rattle.machine_steps.specs.holder_model.Dropping.{deinits_of}
+use Rattle.machine_steps.specs.holder_model.Effects.{effect_of}
+use Rattle.machine_steps.specs.holder_model.Frames.{has_any}
+use Rattle.machine_steps.specs.holder_model.States as low
 use Rattle.item_operands.specs.Parts.{inst_at}
-use Rattle.lowered_run.specs.LowFrames.{LowFrame}
+use Rattle.machine_steps.specs.lowered_run.LowFrames.{LowFrame}
 use Rattle.machine_steps.specs.declared.frame.Frame.{Frame}
 use Rattle.machine_steps.specs.declared.frame.Task.{Task}
 use Rattle.machine_steps.specs.declared.frame.Task.TheVariants as task
 use Rattle.machine_steps.specs.Views.{MachineView}
-use Rattle.ready_code.specs.ReadyOps.{operands_of}
-use Rattle.run_typing.specs.Forms.{OfFunction, OfValue, form_of, given_shape}
+use Rattle.machine_steps.specs.ready_code.ReadyOps.{operands_of}
+use Rattle.machine_steps.specs.run_typing.Forms.{OfFunction, OfValue, form_of, given_shape}
 use Rattle.run_values.specs.Memory.{Memory, object_at}
 use Rattle.run_values.specs.Shapes.{Shape}
 use Rattle.run_values.specs.declared.phase.Phase.TheVariants.{Deiniting}

@@ -3,19 +3,19 @@ use Rattle.std.proofs.Common.{◌≡◌, ◌≤◌, ◌+◌, ℕ, zero, suc, Lis
 use Rattle.std.specs.Prelude.{is_some, option_and_then, option_map, slice_get, unwrap_or}
 use Rattle.std.proofs.lemmas.Bool.{eq-eqb, false≢true, le-leb}
 use Rattle.std.proofs.lemmas.Option.{none-some, same_Some}
-use Rattle.heap_model.specs.HeapCalls.{put_leaves, with_field, with_field_of, with_object_in, with_part, with_part_of}
-use Rattle.heap_model.specs.HeapViews.{HeapObject, named_fields, field_in, field_leaves, fields_told, leaves_at, leaves_by_field, object_in}
-use Rattle.holder_model.specs.ModuleShapes.{field_shape, field_shapes, shapes_of}
-use Rattle.holder_model.specs.Outcomes.{Numbers}
+use Rattle.machine_steps.specs.heap_model.HeapCalls.{put_leaves, with_field, with_field_of, with_object_in, with_part, with_part_of}
+use Rattle.machine_steps.specs.heap_model.HeapViews.{HeapObject, named_fields, field_in, field_leaves, fields_told, leaves_at, leaves_by_field, object_in}
+use Rattle.machine_steps.specs.holder_model.ModuleShapes.{field_shape, field_shapes, shapes_of}
+use Rattle.machine_steps.specs.holder_model.Outcomes.{Numbers}
 use Rattle.machine_steps.specs.declared.address.Address.{Address}
 use Rattle.machine_steps.specs.Held.{has_room, has_size, write_field}
 use Rattle.machine_steps.specs.Views.{MachineView}
-use Rattle.lowered_run.specs.Stored.{numbers_of}
+use Rattle.machine_steps.specs.lowered_run.Stored.{numbers_of}
 use Rattle.numbered_form.specs.Lists.{Each}
 use Rattle.numbered_form.specs.Names.{Name}
-use Rattle.run_typing.specs.FieldForms.{IsMeasuredField}
-use Rattle.ready_code.specs.Layout.{size_of}
-use Rattle.run_typing.specs.RunTyped.{RunTyped}
+use Rattle.machine_steps.specs.run_typing.FieldForms.{IsMeasuredField}
+use Rattle.machine_steps.specs.ready_code.Layout.{size_of}
+use Rattle.machine_steps.specs.run_typing.RunTyped.{RunTyped}
 use Rattle.run_values.specs.Cells.{Cell, Empty, cell_count, in_cells}
 use Rattle.run_values.specs.Leaves.{leaves_of}
 use Rattle.run_values.specs.Memory.{Memory, is_dead, is_dead_phase, object_at}

@@ -3,12 +3,12 @@ use Rattle.std.proofs.Common.{◌≡◌, ◌≤◌, ◌+◌, ℕ, List, Bool, tr
 use Rattle.std.specs.Prelude.{is_some}
 use Rattle.std.proofs.lemmas.Bool.{false≢true}
 use Rattle.std.proofs.lemmas.List.{length-drop, length-take-le}
-use Rattle.holder_model.specs.Outcomes.{Numbers}
+use Rattle.machine_steps.specs.holder_model.Outcomes.{Numbers}
 use Rattle.machine_steps.specs.declared.address.Address.{Address}
 use Rattle.machine_steps.specs.Held.{slot_in, write_slot}
 use Rattle.machine_steps.specs.Operands.{laid_over}
 use Rattle.machine_steps.specs.Views.{MachineView}
-use Rattle.ready_code.specs.Layout.{size_of}
+use Rattle.machine_steps.specs.ready_code.Layout.{size_of}
 use Rattle.run_values.specs.Cells.{Cell, cell_count, in_cells}
 use Rattle.run_values.specs.Leaves.{leaves_of}
 use Rattle.run_values.specs.Memory.{Memory}

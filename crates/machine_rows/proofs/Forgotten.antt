@@ -1,7 +1,7 @@
 -- Storage that is emptied, and what it gives.
 use Rattle.std.proofs.Common.{◌≡◌, ℕ, Bool, true, false, cond, List, [], ◌∷◌, Option, Some, None, refl, sym, ap, ◌∙◌}
 use Rattle.std.specs.Prelude.{find, IfSome}
-use Rattle.heap_model.specs.HeapViews.{HeapView, is_dead_in, phase_in}
+use Rattle.machine_steps.specs.heap_model.HeapViews.{HeapView, is_dead_in, phase_in}
 use Rattle.machine_steps.specs.Held.{empty_at, empty_by, empty_slot, slot_in}
 use Rattle.machine_steps.specs.Naming.{leaf_unnamed, none_leaves, some_leaves}
 use Rattle.machine_steps.specs.Operands.{gives, object_in_leaf}

@@ -1,7 +1,7 @@
 //! Weak and unowned storage is emptied, or names an object anew.
 
 ghost use Rattle.std.specs.Prelude.{◌≡◌, ◌∷◌, [], cond, find, None, OnOk};
-ghost use Rattle.heap_model.specs.HeapViews.{is_dead_in};
+ghost use Rattle.machine_steps.specs.heap_model.HeapViews.{is_dead_in};
 ghost use Rattle.machine_steps.specs.Held.{write_at};
 ghost use Rattle.machine_steps.specs.Naming.{leaf_named};
 ghost use Rattle.machine_steps.specs.Operands.{object_in_leaf};

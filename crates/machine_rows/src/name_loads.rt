@@ -1,7 +1,7 @@
 //! Reads of weak and unowned storage.
 
 ghost use Rattle.std.specs.Prelude.{◌≡◌, cond, false, IfSome};
-ghost use Rattle.heap_model.specs.HeapViews.{is_dead_in};
+ghost use Rattle.machine_steps.specs.heap_model.HeapViews.{is_dead_in};
 ghost use Rattle.machine_steps.specs.Held.{Held};
 ghost use Rattle.machine_steps.specs.Operands.{object_in_leaf};
 ghost use Rattle.machine_steps.specs.Places.{forgotten, given, loads_name};

@@ -1,7 +1,7 @@
 //! Weak and unowned storage that is written or emptied.
 
 ghost use Rattle.std.specs.Prelude.{◌≡◌, cond, find, None};
-ghost use Rattle.heap_model.specs.HeapViews.{is_dead_in};
+ghost use Rattle.machine_steps.specs.heap_model.HeapViews.{is_dead_in};
 ghost use Rattle.machine_steps.specs.Held.{Held};
 ghost use Rattle.machine_steps.specs.Naming.{leaf_unnamed};
 ghost use Rattle.machine_steps.specs.Operands.{object_in_leaf};

@@ -1,7 +1,7 @@
 //! Writes of places.
 
 ghost use Rattle.std.specs.Prelude.{◌≡◌, false};
-ghost use Rattle.heap_model.specs.HeapViews.{is_dead_in};
+ghost use Rattle.machine_steps.specs.heap_model.HeapViews.{is_dead_in};
 ghost use Rattle.machine_steps.specs.Held.{write_field};
 ghost use Rattle.machine_steps.specs.Operands.{contents};
 ghost use Rattle.machine_steps.specs.declared.address.Home.TheVariants as home;

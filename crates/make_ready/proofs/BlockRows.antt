@@ -5,9 +5,9 @@ use Rattle.item_operands.specs.Parts.{inst_at, inst_in, terminator_in}
 use Rattle.sil_ast.specs.declared.function.Block.{Block}
 use Rattle.sil_ast.specs.declared.inst.Inst.{Inst}
 use Rattle.sil_ast.specs.declared.place.PointId.{PointId}
-use Rattle.run_typing_laws.proofs.Declared.{each_from}
-use Rattle.run_typing_laws.proofs.RunnableTyped.{runnable_is_typed, well_typed}
-use Rattle.run_typing_laws.proofs.Rows.Known.{known}
+use Rattle.frame_layouts.proofs.run_typing_laws.Declared.{each_from}
+use Rattle.frame_layouts.proofs.run_typing_laws.RunnableTyped.{runnable_is_typed, well_typed}
+use Rattle.frame_layouts.proofs.run_typing_laws.Rows.Known.{known}
 use Rattle.frame_layouts.proofs.ValueSizes.{value_sizes}
 use Rattle.make_ready.specs.declared.body.Body.{Body}
 use Rattle.make_ready.specs.inner.Bodies.{HasOwnRow, HasRows, IsBody}

@@ -10,7 +10,7 @@ use Rattle.numbered_form.specs.Names.{Name}
 use Rattle.type_declarations.proofs.Chains.{chain_is, chain_on}
 use Rattle.type_definitions.specs.Declarations.{Declarations, ancestors_of, chain, superclass_of}
 use Rattle.type_definitions.specs.Lookups.{chain_fields, own_fields}
-use Rattle.run_typing_laws.proofs.ClassChains.{fields_split}
+use Rattle.frame_layouts.proofs.run_typing_laws.ClassChains.{fields_split}
 use Rattle.ready_code.specs.ReadyModules.{storage_of}
 use Rattle.make_ready.specs.inner.Names.{names_told}
 

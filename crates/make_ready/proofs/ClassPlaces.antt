@@ -10,9 +10,9 @@ use Rattle.sil_ast.specs.declared.type_name.TypeName.TheVariants as type
 use Rattle.sil_types.specs.Typing.Shapes.{name_in}
 use Rattle.type_definitions.specs.Declarations.{Declarations, all_names, is_class, place_of, swift_structs}
 use Rattle.type_definitions.specs.Lookups.{class_at, class_named, class_place}
-use Rattle.run_typing_laws.proofs.Declared.{class_found, found_at}
-use Rattle.run_typing_laws.proofs.Opened.{out-Named}
-use Rattle.run_typing_laws.proofs.Rows.Finding.{mapped_from}
+use Rattle.frame_layouts.proofs.run_typing_laws.Declared.{class_found, found_at}
+use Rattle.frame_layouts.proofs.run_typing_laws.Opened.{out-Named}
+use Rattle.frame_layouts.proofs.run_typing_laws.Rows.Finding.{mapped_from}
 
 behind_swift : (swift : Bool) (decls : List Decl) (w : ℕ) (name : Name) (superclass : Option Name) (fields : List Field)
     → slice_get (swift_structs swift ++ decls) w ≡ Some (Class name superclass fields)

@@ -18,14 +18,14 @@ use Rattle.sil_ast.specs.declared.type_name.TypeName.{TypeName}
 use Rattle.sil_types.specs.Typing.RowTypes.{given_by, type_of, written}
 use Rattle.sil_types.specs.Typing.Shapes.{is_enum, target, where_it}
 use Rattle.type_definitions.specs.Declarations.{Declarations, declarations_of}
-use Rattle.run_typing.specs.EndForms.{EndForms, TakenCase, branch, branches, cases, operand_forms, returns, unreachable}
-use Rattle.run_typing.specs.Forms.{OfValue, form_of, form_with}
-use Rattle.run_typing.specs.Runnable.{IsRunnable}
-use Rattle.run_typing_laws.proofs.FunctionFacts.{TypedInst, typed_function}
-use Rattle.run_typing_laws.proofs.RunnableTyped.{runnable_is_typed, well_typed}
-use Rattle.run_typing_laws.proofs.Rows.Finding.{found_behind, where_found}
-use Rattle.run_typing_laws.proofs.Rows.Shares.{taken_from}
-use Rattle.run_typing_laws.proofs.ValueForms.{operand_written, row_kept}
+use Rattle.ready_code.specs.run_typing.EndForms.{EndForms, TakenCase, branch, branches, cases, operand_forms, returns, unreachable}
+use Rattle.ready_code.specs.run_typing.Forms.{OfValue, form_of, form_with}
+use Rattle.ready_code.specs.run_typing.Runnable.{IsRunnable}
+use Rattle.frame_layouts.proofs.run_typing_laws.FunctionFacts.{TypedInst, typed_function}
+use Rattle.frame_layouts.proofs.run_typing_laws.RunnableTyped.{runnable_is_typed, well_typed}
+use Rattle.frame_layouts.proofs.run_typing_laws.Rows.Finding.{found_behind, where_found}
+use Rattle.frame_layouts.proofs.run_typing_laws.Rows.Shares.{taken_from}
+use Rattle.frame_layouts.proofs.run_typing_laws.ValueForms.{operand_written, row_kept}
 use Rattle.ready_code.specs.ReadyOps.{operands_of}
 use Rattle.frame_layouts.proofs.Lists.{element_there}
 use Rattle.make_ready.specs.inner.Cases.{HaveEdges}

@@ -8,7 +8,7 @@ use Rattle.std.proofs.lemmas.List.Quantifiers.{position-Some}
 use Rattle.std.specs.Str.{bytes_eq}
 use Rattle.holder_model.specs.ModuleShapes.{case_place, is_case}
 use Rattle.numbered_form.specs.Names.{Name, case_name}
-use Rattle.run_typing.specs.Runnable.{IsRunnable}
+use Rattle.ready_code.specs.run_typing.Runnable.{IsRunnable}
 use Rattle.run_values.specs.Layers.{CaseLayer}
 use Rattle.run_values.specs.Shapes.{Shape, case_shapes, cases_of, listed_cases, shape_of, with_case}
 use Rattle.sil_ast.specs.declared.decl.Case.{Case}
@@ -20,10 +20,10 @@ use Rattle.sil_ast.specs.declared.type_name.TypeName.{TypeName, TypeName-F, out-
 use Rattle.sil_types.specs.Typing.Shapes.{case_count, case_count_in, declared_cases, is_enum}
 use Rattle.type_definitions.specs.Declarations.{Declarations, decl_of, declarations_of, optional_cases, place_of}
 use Rattle.type_definitions.specs.Lookups.{Payload, case_payload, decl_cases, optional_payload, payload_at, payload_in, payload_of}
-use Rattle.run_typing_laws.proofs.Found.{position-map}
-use Rattle.run_typing_laws.proofs.Rows.Layers.{is_named, is_optional}
-use Rattle.run_typing_laws.proofs.RunnableTyped.{well_typed}
-use Rattle.run_typing_laws.proofs.ShapeFacts.{case_layer_of, enum_shape, optional_shape}
+use Rattle.frame_layouts.proofs.run_typing_laws.Found.{position-map}
+use Rattle.frame_layouts.proofs.run_typing_laws.Rows.Layers.{is_named, is_optional}
+use Rattle.frame_layouts.proofs.run_typing_laws.RunnableTyped.{well_typed}
+use Rattle.frame_layouts.proofs.run_typing_laws.ShapeFacts.{case_layer_of, enum_shape, optional_shape}
 
 abbrev pub place_in : Payload → ℕ
 place_in p = p.place

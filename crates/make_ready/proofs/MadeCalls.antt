@@ -5,7 +5,7 @@ use Rattle.holder_model.specs.Effects.{effect_of}
 use Rattle.holder_model.specs.Frames.{has_any}
 use Rattle.holder_model.specs.declared.row_effect.RowEffect.TheVariants as row
 use Rattle.item_operands.specs.Items.{arg_value}
-use Rattle.run_typing.specs.EndForms.{value_in}
+use Rattle.ready_code.specs.run_typing.EndForms.{value_in}
 use Rattle.sil_ast.specs.Blocks.{args_of}
 use Rattle.sil_ast.specs.declared.function.Function.{Function}
 use Rattle.sil_ast.specs.declared.inst.Inst.{Inst}

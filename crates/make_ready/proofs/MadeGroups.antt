@@ -5,7 +5,7 @@ use Rattle.std.proofs.lemmas.List.{length-map}
 use Rattle.holder_model.specs.ModuleShapes.{case_place}
 use Rattle.holder_model.specs.declared.row_effect.RowEffect.{RowEffect}
 use Rattle.holder_model.specs.declared.row_effect.RowEffect.TheVariants as row
-use Rattle.run_typing.specs.EndForms.{value_in}
+use Rattle.ready_code.specs.run_typing.EndForms.{value_in}
 use Rattle.run_values.specs.Shapes.{member_shapes, shape_of}
 use Rattle.sil_ast.specs.declared.function.Function.{Function}
 use Rattle.sil_ast.specs.declared.inst.Inst.{Inst}

@@ -4,9 +4,9 @@ use Rattle.std.specs.Prelude.{slice_get}
 use Rattle.holder_model.specs.MemoryEffects.{takes}
 use Rattle.holder_model.specs.declared.row_effect.RowEffect.{RowEffect}
 use Rattle.holder_model.specs.declared.row_effect.RowEffect.TheVariants as row
-use Rattle.lowered_run.specs.LowEffects.{is_first_write}
-use Rattle.memory_accesses.specs.Operations.{load_operation, store_operation}
-use Rattle.run_typing.specs.Forms.{OfPlace, form_of}
+use Rattle.ready_code.specs.lowered_run.LowEffects.{is_first_write}
+use Rattle.holder_model.specs.memory_accesses.Operations.{load_operation, store_operation}
+use Rattle.ready_code.specs.run_typing.Forms.{OfPlace, form_of}
 use Rattle.run_values.specs.Shapes as shapes
 use Rattle.run_values.specs.Shapes.{Shape, Stored, member_shapes, shape_of, storage_in}
 use Rattle.sil_ast.specs.declared.decl.Storage.{Storage}

@@ -15,7 +15,7 @@ use Rattle.sil_rules.specs.declared.limits.TheConstants.{LEAVES}
 use Rattle.sil_types.specs.Typing.Shapes.{decl_of_type, elements, elements_in, field_type, fields_of_struct, name_in, struct_fields}
 use Rattle.type_definitions.specs.Declarations.{Declarations, all_decls, decl_of, declarations_of}
 use Rattle.type_definitions.specs.Measures.{leaves_of}
-use Rattle.run_typing.specs.Runnable.{IsRunnable}
+use Rattle.ready_code.specs.run_typing.Runnable.{IsRunnable}
 use Rattle.run_values.specs.Layers.{decl_with, named_within, over}
 use Rattle.run_values.specs.Leaves as leaves
 use Rattle.run_values.specs.Leaves.{leaves_layer}
@@ -23,11 +23,11 @@ use Rattle.run_values.specs.Shapes.{Shape, Shapes, each_by_layers, listed, membe
 use Rattle.run_values.specs.Shapes as shapes
 use Rattle.ready_code.specs.Layout.{size_of}
 use Rattle.ready_code.specs.ReadyOps.{leaf_offset}
-use Rattle.run_typing_laws.proofs.Opened.{fold-Address, fold-Int, fold-Named, fold-Optional, fold-Unowned, fold-Weak}
-use Rattle.run_typing_laws.proofs.Rows.Finding.{found_behind}
-use Rattle.run_typing_laws.proofs.Rows.Layers.{is_int, is_named, is_optional, is_unowned, is_weak, named_type, tuple_type}
-use Rattle.run_typing_laws.proofs.RunnableTyped.{well_typed}
-use Rattle.run_typing_laws.proofs.ShapeFacts.{field_shape_of, struct_shape, tuple_shape}
+use Rattle.frame_layouts.proofs.run_typing_laws.Opened.{fold-Address, fold-Int, fold-Named, fold-Optional, fold-Unowned, fold-Weak}
+use Rattle.frame_layouts.proofs.run_typing_laws.Rows.Finding.{found_behind}
+use Rattle.frame_layouts.proofs.run_typing_laws.Rows.Layers.{is_int, is_named, is_optional, is_unowned, is_weak, named_type, tuple_type}
+use Rattle.frame_layouts.proofs.run_typing_laws.RunnableTyped.{well_typed}
+use Rattle.frame_layouts.proofs.run_typing_laws.ShapeFacts.{field_shape_of, struct_shape, tuple_shape}
 use Rattle.frame_layouts.specs.inner.Sized.{HasSize}
 use Rattle.frame_layouts.proofs.FieldsFit.{elements_fit, fields_fit}
 use Rattle.frame_layouts.proofs.Fitting.{Fits, has_size}

@@ -3,7 +3,7 @@ use Rattle.std.proofs.Common.{◌≡◌, List, [], ◌∷◌, refl}
 use Rattle.sil_ast.specs.declared.function.Function.{Function}
 use Rattle.sil_ast.specs.declared.place.ValueId.{ValueId}
 use Rattle.type_definitions.specs.Declarations.{Declarations}
-use Rattle.run_typing.specs.Forms.{Form, form_of, forms_of}
+use Rattle.ready_code.specs.run_typing.Forms.{Form, form_of, forms_of}
 
 module _ (d : Declarations) (f : Function) where
   pub record OneValue (vs : List ValueId) (x : Form) : Type 0 where

@@ -9,8 +9,8 @@ use Rattle.holder_model.specs.Effects.{effect_of, part_number, part_number_by}
 use Rattle.holder_model.specs.ModuleShapes.{case_place}
 use Rattle.holder_model.specs.declared.row_effect.RowEffect.{RowEffect}
 use Rattle.holder_model.specs.declared.row_effect.RowEffect.TheVariants as row
-use Rattle.memory_accesses.specs.Operations.{access_kind_of, load_operation, operation_by, store_operation}
-use Rattle.memory_accesses.specs.declared.columns.AccessKind.TheVariants as access
+use Rattle.holder_model.specs.memory_accesses.Operations.{access_kind_of, load_operation, operation_by, store_operation}
+use Rattle.holder_model.specs.memory_accesses.declared.columns.AccessKind.TheVariants as access
 use Rattle.run_values.specs.Shapes.{Shape, Stored, shape_of}
 use Rattle.sil_ast.specs.declared.function.Function.{Function}
 use Rattle.sil_ast.specs.declared.inst.Inst.{Inst}
@@ -23,12 +23,12 @@ use Rattle.sil_types.specs.Typing.Shapes.{target}
 use Rattle.sil_types.specs.Typing.Values.{function_at, value_functions, value_types}
 use Rattle.type_definitions.specs.Declarations.{Declarations, declarations_of}
 use Rattle.type_definitions.specs.Lookups.{payload_of}
-use Rattle.run_typing.specs.EndForms.{value_in}
-use Rattle.run_typing.specs.Forms.{Form, OfPlace, OfValue, form_by, form_of, form_with, forms_of}
-use Rattle.run_typing.specs.RowForms as typed
-use Rattle.run_typing.specs.RowForms.{RowForms, operand_shapes, operation_done, shapes_by}
-use Rattle.run_typing.specs.Runnable.{IsRunnable}
-use Rattle.run_typing_laws.proofs.Rows.Finding.{mapped_from}
+use Rattle.ready_code.specs.run_typing.EndForms.{value_in}
+use Rattle.ready_code.specs.run_typing.Forms.{Form, OfPlace, OfValue, form_by, form_of, form_with, forms_of}
+use Rattle.ready_code.specs.run_typing.RowForms as typed
+use Rattle.ready_code.specs.run_typing.RowForms.{RowForms, operand_shapes, operation_done, shapes_by}
+use Rattle.ready_code.specs.run_typing.Runnable.{IsRunnable}
+use Rattle.frame_layouts.proofs.run_typing_laws.Rows.Finding.{mapped_from}
 use Rattle.ready_code.specs.ReadyOps.{operands_of}
 use Rattle.frame_layouts.specs.inner.Sized.{HasSize, HaveSizes}
 use Rattle.frame_layouts.proofs.Targets.{of_address, of_other}

@@ -30,17 +30,17 @@ use Rattle.sil_types.specs.Typing.Shapes.{case_in, is_enum, target, where_it}
 use Rattle.sil_types.specs.Typing.Values.{type_at, type_of_value, value_types}
 use Rattle.type_definitions.specs.Declarations.{Declarations, declarations_of, is_class}
 use Rattle.type_definitions.specs.Rules.{is_class_type}
-use Rattle.run_typing.specs.Forms.{OfValue, forms_of}
-use Rattle.run_typing.specs.Runnable.{IsRunnable}
-use Rattle.run_typing_laws.proofs.Rows.Addresses.{no_target}
-use Rattle.run_typing_laws.proofs.Rows.Finding.{found_behind, if_some, passed, some_of, where_found}
-use Rattle.run_typing_laws.proofs.Rows.Forms.{value_form}
-use Rattle.run_typing_laws.proofs.Rows.Known.{Known}
-use Rattle.run_typing_laws.proofs.Rows.Layers.{target-Named}
-use Rattle.run_typing_laws.proofs.Rows.Shares.{given_one, gives_form, is_nothing, of_parts}
-use Rattle.run_typing_laws.proofs.RunnableTyped.{well_typed}
-use Rattle.run_typing_laws.proofs.ShapeFacts.{class_type_shape, same_types}
-use Rattle.run_typing_laws.proofs.Sizes.{plain_type}
+use Rattle.ready_code.specs.run_typing.Forms.{OfValue, forms_of}
+use Rattle.ready_code.specs.run_typing.Runnable.{IsRunnable}
+use Rattle.frame_layouts.proofs.run_typing_laws.Rows.Addresses.{no_target}
+use Rattle.frame_layouts.proofs.run_typing_laws.Rows.Finding.{found_behind, if_some, passed, some_of, where_found}
+use Rattle.frame_layouts.proofs.run_typing_laws.Rows.Forms.{value_form}
+use Rattle.frame_layouts.proofs.run_typing_laws.Rows.Known.{Known}
+use Rattle.frame_layouts.proofs.run_typing_laws.Rows.Layers.{target-Named}
+use Rattle.frame_layouts.proofs.run_typing_laws.Rows.Shares.{given_one, gives_form, is_nothing, of_parts}
+use Rattle.frame_layouts.proofs.run_typing_laws.RunnableTyped.{well_typed}
+use Rattle.frame_layouts.proofs.run_typing_laws.ShapeFacts.{class_type_shape, same_types}
+use Rattle.frame_layouts.proofs.run_typing_laws.Sizes.{plain_type}
 use Rattle.ready_code.specs.ReadyOps.{operands_of}
 
 module _ (m : Module) (f : Function) (i : Inst) where

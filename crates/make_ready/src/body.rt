@@ -1,7 +1,7 @@
 //! A function while it is made ready.
 
 ghost use Rattle.std.specs.Prelude.{◌≡◌};
-ghost use Rattle.run_typing.specs.Forms.{form_of};
+ghost use Rattle.ready_code.specs.run_typing.Forms.{form_of};
 ghost use Rattle.frame_layouts.specs.inner.Layouts.{kept_of};
 ghost use Rattle.make_ready.specs.inner.Bodies.{IsBody, declared, local, local_address};
 

@@ -3,7 +3,7 @@
 ghost use Rattle.std.specs.Prelude.{◌≡◌, IfOk, map};
 ghost use Rattle.item_operands.specs.Items.{item_defined};
 ghost use Rattle.numbered_form.specs.Lists.{Each};
-ghost use Rattle.run_typing.specs.Runnable.{IsRunnable};
+ghost use Rattle.ready_code.specs.run_typing.Runnable.{IsRunnable};
 ghost use Rattle.sil_cfg.specs.declared.item.Item.TheVariants as item;
 ghost use Rattle.type_definitions.specs.Declarations.{declarations_of};
 ghost use Rattle.ready_code.specs.Matched.{Matched};

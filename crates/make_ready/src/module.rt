@@ -1,7 +1,7 @@
 //! A module, made ready to run.
 
 ghost use Rattle.std.specs.Prelude.{◌≡◌, IfOk};
-ghost use Rattle.run_typing.specs.Runnable.{IsRunnable};
+ghost use Rattle.ready_code.specs.run_typing.Runnable.{IsRunnable};
 ghost use Rattle.type_definitions.specs.Declarations.{declarations_of};
 ghost use Rattle.ready_code.specs.ReadyModules.{IsReadyModule};
 

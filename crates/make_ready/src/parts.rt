@@ -2,8 +2,8 @@
 
 ghost use Rattle.std.specs.Prelude.{◌≡◌, ◌<◌, IfOk, Some, length, map, option_map, slice_get};
 ghost use Rattle.holder_model.specs.Effects as effects;
-ghost use Rattle.memory_accesses.specs.Sources.{element_place, member_place};
-ghost use Rattle.run_typing.specs.EndForms.{value_in};
+ghost use Rattle.holder_model.specs.memory_accesses.Sources.{element_place, member_place};
+ghost use Rattle.ready_code.specs.run_typing.EndForms.{value_in};
 ghost use Rattle.make_ready.specs.inner.Bodies.{IsBody, local};
 ghost use Rattle.ready_code.specs.ReadyOps.{operands_of};
 

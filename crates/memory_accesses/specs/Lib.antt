@@ -6,3 +6,4 @@ pub mod Accesses
 pub mod inner
 pub use Rattle.ownership_marks.specs.Marks
 pub use Rattle.sil_types.specs.Typing
+pub use Rattle.sil_types.specs as sil_types

@@ -7,3 +7,4 @@ mod FirstStatic
 mod OtherValue
 mod Idle
 pub mod RulesOf
+pub use Rattle.memory_slots.proofs as memory_slots

@@ -13,9 +13,9 @@ use Rattle.argument_conventions.specs.Arguments.{arguments_of}
 use Rattle.count_machine.specs.LowRuns.{MayStartAt}
 use Rattle.holder_model.specs.Frames.{has_any}
 use Rattle.holder_model.specs.Outcomes.{may_start}
-use Rattle.lowering_model.specs.LoweredBlocks.{blocks_become}
-use Rattle.lowering_model.specs.LoweredModules.{lowered, lowered_by, lowered_function}
-use Rattle.lowering_model.specs.Numbers.{renumbered}
+use Rattle.ownership_lowering.specs.lowering_model.LoweredBlocks.{blocks_become}
+use Rattle.ownership_lowering.specs.lowering_model.LoweredModules.{lowered, lowered_by, lowered_function}
+use Rattle.ownership_lowering.specs.lowering_model.Numbers.{renumbered}
 use Rattle.numbered_form.specs.Names.{Name}
 use Rattle.ownership_chains.specs.declared.definition.Definition.{Definition}
 use Rattle.sil_ast.specs.declared.function.Block.{Block}

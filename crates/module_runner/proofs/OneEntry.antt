@@ -3,7 +3,7 @@ use Rattle.std.proofs.Common.{◌≡◌, ◌∙◌, ℕ, sym, ap, Some, map, sli
 use Rattle.std.proofs.lemmas.Option.{same_Some}
 use Rattle.numbered_form.specs.Names.{function_name}
 use Rattle.sil_ast.specs.declared.place.FuncId.{FuncId}
-use Rattle.run_typing_laws.proofs.Found.{place_once}
+use Rattle.report_writing.proofs.run_typing_laws.Found.{place_once}
 use Rattle.type_definitions.specs.Declarations.{place_of}
 use Rattle.module_runner.specs.inner.Laws.{HaveOneEntry}
 

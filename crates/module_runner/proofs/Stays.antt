@@ -7,9 +7,9 @@ use Rattle.copy_removal.specs.Rewritten.{changed_at, lent, lent_block, moved, mo
 use Rattle.copy_removal.specs.inner.Laws.{AreUnique}
 use Rattle.holder_model.specs.Frames.{has_any}
 use Rattle.holder_model.specs.Outcomes.{may_start}
-use Rattle.lowering_model.specs.LoweredModules.{lowered}
+use Rattle.ownership_lowering.specs.lowering_model.LoweredModules.{lowered}
 use Rattle.numbered_form.specs.Names.{Name}
-use Rattle.run_typing.specs.Runnable.{IsRunnable}
+use Rattle.report_writing.specs.run_typing.Runnable.{IsRunnable}
 use Rattle.sil_ast.specs.declared.function.Block.{Block}
 use Rattle.sil_ast.specs.declared.function.Function.{Function}
 use Rattle.sil_ast.specs.declared.module.Module.{Module}

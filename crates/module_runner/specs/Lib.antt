@@ -7,7 +7,7 @@ pub use Rattle.holder_model.specs.States
 pub use Rattle.lowered_run.specs.LowOutcomes
 pub use Rattle.lowered_run.specs.declared.low_fault.LowFault
 pub use Rattle.lowered_run.specs.inner.Laws
-pub use Rattle.lowering_model.specs.LoweredModules
+pub use Rattle.ownership_lowering.specs.lowering_model.LoweredModules
 pub use Rattle.report_writing.specs.LowReports
 pub use Rattle.report_writing.specs.RunOutcomes
 pub use Rattle.type_definitions.specs.Mentions

@@ -13,13 +13,13 @@ use Rattle.sil_ast.specs.declared.inst.Inst.{Inst}
 use Rattle.sil_ast.specs.declared.module.Module.{Module}
 use Rattle.sil_rules.specs.declared.rule.Rule.TheVariants as rule
 use Rattle.instruction_table.specs.Forms.{results_of}
-use Rattle.sil_types.specs.Typing.OperandTypes.{are_as_asked, are_as_written, edge_is_as_written, has_operand_types}
-use Rattle.sil_types.specs.Typing.ResultCounts.{is_count_by}
-use Rattle.sil_types.specs.Typing.RowTypes.{keeps_row, row_types}
-use Rattle.sil_types.specs.Typing.Typed.BreaksAt.{point}
-use Rattle.sil_types.specs.Typing.Typed.BreaksAtPoint.{operand_type, result_count}
-use Rattle.sil_types.specs.Typing.Typed.{at_point}
-use Rattle.sil_types.specs.Typing.Values.{value_types}
+use Rattle.sil_verifier.specs.sil_types.Typing.OperandTypes.{are_as_asked, are_as_written, edge_is_as_written, has_operand_types}
+use Rattle.sil_verifier.specs.sil_types.Typing.ResultCounts.{is_count_by}
+use Rattle.sil_verifier.specs.sil_types.Typing.RowTypes.{keeps_row, row_types}
+use Rattle.sil_verifier.specs.sil_types.Typing.Typed.BreaksAt.{point}
+use Rattle.sil_verifier.specs.sil_types.Typing.Typed.BreaksAtPoint.{operand_type, result_count}
+use Rattle.sil_verifier.specs.sil_types.Typing.Typed.{at_point}
+use Rattle.sil_verifier.specs.sil_types.Typing.Values.{value_types}
 use Rattle.type_definitions.specs.Declarations.{declarations_of}
 use Rattle.sil_verifier.specs.Values.{IsCleanIn}
 use Rattle.sil_verifier.specs.inner.Checked.{IsVerified}

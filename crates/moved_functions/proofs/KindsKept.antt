@@ -31,11 +31,11 @@ use Rattle.item_operands.specs.Roles.{by_row, taken_along, taken_as, taken_by}
 use Rattle.item_operands.specs.declared.taken.Taken.{Taken}
 use Rattle.value_tables.specs.Borrows.{is_borrow, is_borrow_in}
 use Rattle.ownership_chains.specs.Chains.{IsCyclic}
-use Rattle.ownership_kinds.specs.Facts.{facts_in, kind_in, kind_of_facts}
-use Rattle.ownership_kinds.specs.Statics.{HasKinds, IsBroken, IsDefinedAt, IsOnRing, all_taken, is_annotated_well, is_guaranteed}
-use Rattle.ownership_kinds.specs.Statics.{is_lacking_default, is_mismatch, lacks_argument, lacks_by, mixed_operand, needs_argument, no_arguments}
-use Rattle.ownership_kinds.specs.Statics.IsBroken.{annotated, lacking, mismatch, mixed, on_ring}
-use Rattle.ownership_kinds.specs.Statics.IsDefinedAt.{argument, result}
+use Rattle.copy_removal.specs.ownership_kinds.Facts.{facts_in, kind_in, kind_of_facts}
+use Rattle.copy_removal.specs.ownership_kinds.Statics.{HasKinds, IsBroken, IsDefinedAt, IsOnRing, all_taken, is_annotated_well, is_guaranteed}
+use Rattle.copy_removal.specs.ownership_kinds.Statics.{is_lacking_default, is_mismatch, lacks_argument, lacks_by, mixed_operand, needs_argument, no_arguments}
+use Rattle.copy_removal.specs.ownership_kinds.Statics.IsBroken.{annotated, lacking, mismatch, mixed, on_ring}
+use Rattle.copy_removal.specs.ownership_kinds.Statics.IsDefinedAt.{argument, result}
 use Rattle.sil_verifier.specs.Shown.IsShownIn.{kind as shown_kind}
 use Rattle.sil_verifier.specs.inner.Checked.{IsVerified}
 use Rattle.copy_removal.specs.Optimised.{facts_of}

@@ -33,8 +33,8 @@ use Rattle.ownership_chains.specs.Facts.{facts_with, is_owned, known_or, value_o
 use Rattle.ownership_chains.specs.declared.facts.Facts.{Facts}
 use Rattle.ownership_marks.specs.Marks.{begin_of, end_of, marks_of, use_of}
 use Rattle.ownership_marks.specs.declared.mark.Mark.{Mark}
-use Rattle.ownership_kinds.specs.Facts.{facts_in}
-use Rattle.lifetime_worklist.specs.Lives.{entry_of, lives_by, lives_of, returned}
+use Rattle.copy_removal.specs.ownership_kinds.Facts.{facts_in}
+use Rattle.sil_verifier.specs.lifetime_worklist.Lives.{entry_of, lives_by, lives_of, returned}
 use Rattle.sil_verifier.specs.Shown.{lives_in}
 use Rattle.sil_verifier.specs.Shown.IsShownIn.{life}
 use Rattle.sil_verifier.specs.inner.Checked.{IsVerified}

@@ -15,7 +15,7 @@ use Rattle.sil_rules.specs.declared.rule.Rule.TheVariants as rule
 use Rattle.numbered_form.specs.Numbering.{values_of}
 use Rattle.type_definitions.specs.Declarations.{Declarations, declarations_of}
 use Rattle.type_definitions.specs.declared.kind.Kind.TheVariants as kind
-use Rattle.sil_types.specs.Typing.RowTypes.{row_types}
+use Rattle.sil_verifier.specs.sil_types.Typing.RowTypes.{row_types}
 use Rattle.value_tables.specs.Borrows.{arg_borrows, borrow_by, borrows_of, result_borrows}
 use Rattle.value_tables.specs.FirstValue.{value_of}
 use Rattle.ownership_chains.specs.Chains.{operands_at}
@@ -26,12 +26,12 @@ use Rattle.ownership_chains.specs.declared.definition.Definition.{Definition}
 use Rattle.ownership_chains.specs.declared.definition.Origin.{Origin}
 use Rattle.ownership_chains.specs.declared.definition.Origin.TheVariants as origin
 use Rattle.ownership_chains.specs.declared.facts.Facts.{Facts}
-use Rattle.ownership_origins.specs.Origins.{arg_definition, arg_definitions, defined, definitions_of, is_zero, result_definition, result_definitions}
-use Rattle.ownership_origins.specs.Renamings.{arg_renaming, arg_renamings, renamed, renames, renamings_of, result_renamings}
-use Rattle.ownership_origins.specs.Switched.{switch_to, switches_from}
-use Rattle.ownership_kinds.specs.Facts.{facts_by, facts_in}
-use Rattle.ownership_kinds.specs.Statics.IsBroken.{on_ring}
-use Rattle.ownership_kinds.specs.Statics.IsDefinedAt.{result}
+use Rattle.copy_removal.specs.ownership_origins.Origins.{arg_definition, arg_definitions, defined, definitions_of, is_zero, result_definition, result_definitions}
+use Rattle.copy_removal.specs.ownership_origins.Renamings.{arg_renaming, arg_renamings, renamed, renames, renamings_of, result_renamings}
+use Rattle.copy_removal.specs.ownership_origins.Switched.{switch_to, switches_from}
+use Rattle.copy_removal.specs.ownership_kinds.Facts.{facts_by, facts_in}
+use Rattle.copy_removal.specs.ownership_kinds.Statics.IsBroken.{on_ring}
+use Rattle.copy_removal.specs.ownership_kinds.Statics.IsDefinedAt.{result}
 use Rattle.sil_verifier.specs.Shown.IsShownIn.{kind}
 use Rattle.sil_verifier.specs.inner.Checked.{IsVerified}
 use Rattle.copy_removal.specs.Rewritten.{moved_block}

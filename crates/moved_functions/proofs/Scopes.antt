@@ -41,13 +41,13 @@ use Rattle.ownership_marks.specs.Marks.{begin_of, end_of, marks_of, use_of}
 use Rattle.ownership_marks.specs.declared.mark.Mark.{Mark}
 use Rattle.ownership_marks.specs.declared.mark.MarkSort.{MarkSort}
 use Rattle.ownership_marks.specs.declared.mark.MarkSort.TheVariants.{Begin, End, Use}
-use Rattle.ownership_kinds.specs.Facts.{facts_in}
+use Rattle.copy_removal.specs.ownership_kinds.Facts.{facts_in}
 use Rattle.value_tables.specs.Borrows.{borrow_in, borrows_of, is_borrow, is_borrow_in, lends}
-use Rattle.borrow_scopes.specs.Others.{other_of}
-use Rattle.borrow_scopes.specs.Scopes.{bases_in, entry_of, is_scope, leaves, left_at_return, lent_bases, lost_at_end}
-use Rattle.borrow_scopes.specs.Scopes.{lost_entries, lost_from, lost_with, mark_entries, returned, scope_entries, scopes_of}
-use Rattle.borrow_scopes.specs.inner.Runs.{scope_along, sort_for, sort_of, sorts_along}
-use Rattle.borrow_scopes.proofs.ScopesAreRuns.{open_while_on}
+use Rattle.copy_removal.specs.borrow_scopes.Others.{other_of}
+use Rattle.copy_removal.specs.borrow_scopes.Scopes.{bases_in, entry_of, is_scope, leaves, left_at_return, lent_bases, lost_at_end}
+use Rattle.copy_removal.specs.borrow_scopes.Scopes.{lost_entries, lost_from, lost_with, mark_entries, returned, scope_entries, scopes_of}
+use Rattle.copy_removal.specs.borrow_scopes.inner.Runs.{scope_along, sort_for, sort_of, sorts_along}
+use Rattle.copy_removal.proofs.borrow_scopes.ScopesAreRuns.{open_while_on}
 use Rattle.sil_verifier.specs.Shown.{scopes_in}
 use Rattle.sil_verifier.specs.Shown.IsShownIn.{scope}
 use Rattle.sil_verifier.specs.inner.Checked.{IsVerified}

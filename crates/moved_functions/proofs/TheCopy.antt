@@ -17,12 +17,12 @@ use Rattle.sil_ast.specs.declared.type_name.TypeName.{TypeName}
 use Rattle.point_checks.specs.Points.{IsAt}
 use Rattle.type_definitions.specs.Declarations.{Declarations}
 use Rattle.type_definitions.specs.Measures.{is_trivial}
-use Rattle.sil_types.specs.Typing.ResultCounts.{is_count_by}
-use Rattle.sil_types.specs.Typing.RowTypes.{MadeTypes, given_by, gives, made_types, row_types, written}
-use Rattle.sil_types.specs.Typing.Shapes.{is_nontrivial, is_object, where_it}
+use Rattle.sil_verifier.specs.sil_types.Typing.ResultCounts.{is_count_by}
+use Rattle.sil_verifier.specs.sil_types.Typing.RowTypes.{MadeTypes, given_by, gives, made_types, row_types, written}
+use Rattle.sil_verifier.specs.sil_types.Typing.Shapes.{is_nontrivial, is_object, where_it}
 use Rattle.ownership_chains.specs.declared.definition.Origin.TheVariants as origin
-use Rattle.ownership_origins.specs.Origins.{defined, is_trivial_or_untyped, result_definition, result_definition_by, result_definitions}
-use Rattle.ownership_origins.specs.Renamings.{renamed, renames, result_renamings}
+use Rattle.copy_removal.specs.ownership_origins.Origins.{defined, is_trivial_or_untyped, result_definition, result_definition_by, result_definitions}
+use Rattle.copy_removal.specs.ownership_origins.Renamings.{renamed, renames, result_renamings}
 use Rattle.value_tables.specs.Borrows.{borrow_by, result_borrows}
 use Rattle.value_tables.specs.FirstValue.{value_of}
 use Rattle.copy_removal.specs.Copies.{is_op}

@@ -10,9 +10,9 @@ use Rattle.instruction_table.specs.Forms.{result_kind_of, results_of}
 use Rattle.instruction_table.specs.declared.op.Op.{Op}
 use Rattle.instruction_table.specs.declared.op.Op.TheVariants as op
 use Rattle.item_operands.specs.Parts.{inst_at, inst_in}
-use Rattle.ownership_kinds.specs.Facts.{facts_by, facts_in}
-use Rattle.ownership_origins.specs.Origins.{arg_definition, arg_definitions, definitions_of, is_trivial_or_untyped, is_zero, result_definition, result_definition_by, result_definitions}
-use Rattle.ownership_origins.specs.Switched.{switch_to, switches_from}
+use Rattle.copy_removal.specs.ownership_kinds.Facts.{facts_by, facts_in}
+use Rattle.copy_removal.specs.ownership_origins.Origins.{arg_definition, arg_definitions, definitions_of, is_trivial_or_untyped, is_zero, result_definition, result_definition_by, result_definitions}
+use Rattle.copy_removal.specs.ownership_origins.Switched.{switch_to, switches_from}
 use Rattle.point_checks.specs.Points.{IsAt}
 use Rattle.sil_ast.specs.declared.function.Block.{Block}
 use Rattle.sil_ast.specs.declared.function.Function.{Function}
@@ -23,14 +23,14 @@ use Rattle.sil_ast.specs.declared.place.ValueId.{ValueId}
 use Rattle.sil_ast.specs.declared.type_name.TypeName.{TypeName}
 use Rattle.sil_cfg.specs.Items.{point_at}
 use Rattle.sil_rules.specs.declared.rule.Rule.TheVariants as rule
-use Rattle.sil_types.specs.Typing.OperandTypes.{are_as_asked, are_as_written, edge_is_as_written, has_operand_types}
-use Rattle.sil_types.specs.Typing.ResultCounts.{is_count_by}
-use Rattle.sil_types.specs.Typing.RowTypes.{MadeTypes, given_by, gives, keeps_row, made_types, row_types, written}
-use Rattle.sil_types.specs.Typing.Shapes.{is_nontrivial, is_object, where_it}
-use Rattle.sil_types.specs.Typing.Typed.BreaksAt.{point}
-use Rattle.sil_types.specs.Typing.Typed.BreaksAtPoint.{operand_type, result_count}
-use Rattle.sil_types.specs.Typing.Typed.{at_point}
-use Rattle.sil_types.specs.Typing.Values.{value_types}
+use Rattle.sil_verifier.specs.sil_types.Typing.OperandTypes.{are_as_asked, are_as_written, edge_is_as_written, has_operand_types}
+use Rattle.sil_verifier.specs.sil_types.Typing.ResultCounts.{is_count_by}
+use Rattle.sil_verifier.specs.sil_types.Typing.RowTypes.{MadeTypes, given_by, gives, keeps_row, made_types, row_types, written}
+use Rattle.sil_verifier.specs.sil_types.Typing.Shapes.{is_nontrivial, is_object, where_it}
+use Rattle.sil_verifier.specs.sil_types.Typing.Typed.BreaksAt.{point}
+use Rattle.sil_verifier.specs.sil_types.Typing.Typed.BreaksAtPoint.{operand_type, result_count}
+use Rattle.sil_verifier.specs.sil_types.Typing.Typed.{at_point}
+use Rattle.sil_verifier.specs.sil_types.Typing.Values.{value_types}
 use Rattle.sil_verifier.specs.Values.{IsCleanIn}
 use Rattle.sil_verifier.specs.inner.Checked.{IsVerified}
 use Rattle.type_definitions.specs.Declarations.{Declarations, declarations_of}

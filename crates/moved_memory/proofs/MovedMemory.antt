@@ -2,9 +2,9 @@
 use Rattle.std.proofs.Common.{◌≡◌, [], subst}
 use Rattle.copy_removal.specs.Copies.{IsDestroy}
 use Rattle.copy_removal.specs.Rewritten.{moved}
-use Rattle.memory_accesses.specs.Sources.{sources_of}
-use Rattle.memory_rules.specs.Broken.{IsBroken}
-use Rattle.ownership_kinds.specs.Facts.{facts_in}
+use Rattle.sil_verifier.specs.memory_accesses.Sources.{sources_of}
+use Rattle.sil_verifier.specs.memory_rules.Broken.{IsBroken}
+use Rattle.copy_removal.specs.ownership_kinds.Facts.{facts_in}
 use Rattle.sil_ast.specs.declared.function.Function.{Function}
 use Rattle.sil_cfg.specs.Items.{point_at}
 use Rattle.sil_verifier.specs.Shown.{memory}

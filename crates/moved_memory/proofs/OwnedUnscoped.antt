@@ -13,14 +13,14 @@ use Rattle.instruction_table.specs.declared.entries.ResultKind.{ResultKind}
 use Rattle.instruction_table.specs.declared.entries.ResultKind.TheVariants.{AddressResult, ForwardedResult, NoneResult, OperandResult, OwnedResult, ScopeResult}
 use Rattle.instruction_table.specs.declared.op.Op.{Op}
 use Rattle.instruction_table.specs.declared.op.Op.TheVariants as op
-use Rattle.memory_accesses.specs.Operations.{access_kind_of}
-use Rattle.memory_accesses.specs.Sources.{arg_sources, argument_source_or, element_place, field_source, handed_source, is_trivial_member, member_place}
-use Rattle.memory_accesses.specs.Sources.{object_source, part_source, result_source, result_sources, slot_source, source_by, sources_of, upcast_source}
-use Rattle.memory_accesses.specs.declared.columns.AccessKind.{AccessKind}
-use Rattle.memory_accesses.specs.declared.columns.AccessKind.TheVariants as access
-use Rattle.memory_accesses.specs.declared.source.Source.{Source}
-use Rattle.memory_accesses.specs.declared.source.Source.TheVariants as source
-use Rattle.memory_parts.specs.Parts.{is_scope, is_scope_source}
+use Rattle.sil_verifier.specs.memory_accesses.Operations.{access_kind_of}
+use Rattle.sil_verifier.specs.memory_accesses.Sources.{arg_sources, argument_source_or, element_place, field_source, handed_source, is_trivial_member, member_place}
+use Rattle.sil_verifier.specs.memory_accesses.Sources.{object_source, part_source, result_source, result_sources, slot_source, source_by, sources_of, upcast_source}
+use Rattle.sil_verifier.specs.memory_accesses.declared.columns.AccessKind.{AccessKind}
+use Rattle.sil_verifier.specs.memory_accesses.declared.columns.AccessKind.TheVariants as access
+use Rattle.sil_verifier.specs.memory_accesses.declared.source.Source.{Source}
+use Rattle.sil_verifier.specs.memory_accesses.declared.source.Source.TheVariants as source
+use Rattle.sil_verifier.specs.memory_parts.Parts.{is_scope, is_scope_source}
 use Rattle.ownership_chains.specs.Chains.{operands_at}
 use Rattle.ownership_chains.specs.Facts.{facts_with, is_known, is_owned, known_or, origin_at, told_by}
 use Rattle.ownership_chains.specs.Steps.{told_in}
@@ -28,16 +28,16 @@ use Rattle.ownership_chains.specs.declared.definition.Definition.{Definition}
 use Rattle.ownership_chains.specs.declared.definition.Origin.{Origin}
 use Rattle.ownership_chains.specs.declared.definition.Origin.TheVariants as origin
 use Rattle.ownership_chains.specs.declared.facts.Facts.{Facts}
-use Rattle.ownership_kinds.specs.Facts.{facts_by, facts_in}
-use Rattle.ownership_origins.specs.Origins.{arg_definition, arg_definitions, definitions_of, is_trivial_or_untyped, result_definition, result_definitions, result_origin}
-use Rattle.ownership_origins.specs.Switched.{switch_to}
+use Rattle.copy_removal.specs.ownership_kinds.Facts.{facts_by, facts_in}
+use Rattle.copy_removal.specs.ownership_origins.Origins.{arg_definition, arg_definitions, definitions_of, is_trivial_or_untyped, result_definition, result_definitions, result_origin}
+use Rattle.copy_removal.specs.ownership_origins.Switched.{switch_to}
 use Rattle.sil_ast.specs.declared.function.BlockArg.{BlockArg}
 use Rattle.sil_ast.specs.declared.function.Function.{Function}
 use Rattle.sil_ast.specs.declared.inst.Inst.{Inst}
 use Rattle.sil_ast.specs.declared.place.ValueId.{ValueId}
 use Rattle.sil_ast.specs.declared.type_name.TypeName.{TypeName}
-use Rattle.sil_types.specs.Typing.RowTypes.{made_types}
-use Rattle.sil_types.specs.Typing.Shapes.{is_trivial_object}
+use Rattle.sil_verifier.specs.sil_types.Typing.RowTypes.{made_types}
+use Rattle.sil_verifier.specs.sil_types.Typing.Shapes.{is_trivial_object}
 use Rattle.type_definitions.specs.Declarations.{Declarations}
 use Rattle.type_definitions.specs.declared.kind.Kind.TheVariants as kind
 use Rattle.value_tables.specs.FirstValue.{first_value}

@@ -1,7 +1,7 @@
 -- Terminators in ownership form: a switch hands a default the whole enum, where its block takes it, and all else ends as in lowered form.
 use Rattle.std.proofs.Common.{◌≡◌, ℕ, List, [], ◌∷◌, map, refl, sym, ap, ◌∙◌, true, false, ◌⊎◌, inl, inr, Option, Some}
 use Rattle.std.specs.Prelude.{not, slice_get}
-use Rattle.holder_model.specs.Edges.{is_default}
+use Rattle.run_typing_laws.specs.holder_model.Edges.{is_default}
 use Rattle.instruction_table.specs.Forms.{ending_of, is_terminator}
 use Rattle.instruction_table.specs.declared.entries.Ending.TheVariants as ending
 use Rattle.instruction_table.specs.declared.op.Op.{Op}
@@ -16,13 +16,13 @@ use Rattle.sil_ast.specs.declared.inst.Edge.{Edge}
 use Rattle.sil_ast.specs.declared.inst.Inst.{Inst}
 use Rattle.sil_ast.specs.declared.module.Module.{Module}
 use Rattle.sil_ast.specs.declared.type_name.TypeName.{TypeName}
-use Rattle.sil_types.specs.Typing.FormRules.{is_lowered}
-use Rattle.sil_types.specs.Typing.Same.{is_same_type}
-use Rattle.sil_types.specs.Typing.SwitchRules.{is_default_argument}
-use Rattle.sil_types.specs.Typing.Values.{arg_type}
+use Rattle.run_typing_laws.specs.sil_types.Typing.FormRules.{is_lowered}
+use Rattle.run_typing_laws.specs.sil_types.Typing.Same.{is_same_type}
+use Rattle.run_typing_laws.specs.sil_types.Typing.SwitchRules.{is_default_argument}
+use Rattle.run_typing_laws.specs.sil_types.Typing.Values.{arg_type}
 use Rattle.type_definitions.specs.Declarations.{declarations_of}
-use Rattle.run_typing.specs.EndForms.{CaseForms, EndForms, arguments_at}
-use Rattle.run_typing.specs.Forms.{OfValue, forms_of}
+use Rattle.run_typing_laws.specs.run_typing.EndForms.{CaseForms, EndForms, arguments_at}
+use Rattle.run_typing_laws.specs.run_typing.Forms.{OfValue, forms_of}
 use Rattle.run_typing_laws.specs.inner.WellTyped.{IsWellTyped}
 use Rattle.run_typing_laws.proofs.EndFacts.{other_end, switched}
 use Rattle.run_typing_laws.proofs.FunctionFacts.{TypedFunction, TypedInst}

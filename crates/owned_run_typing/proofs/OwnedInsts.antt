@@ -10,7 +10,7 @@ use Rattle.sil_ast.specs.declared.function.Function.{Function}
 use Rattle.sil_ast.specs.declared.inst.Inst.{Inst}
 use Rattle.sil_ast.specs.declared.module.Module.{Module}
 use Rattle.sil_ast.specs.declared.place.PointId.{PointId}
-use Rattle.sil_types.specs.Typing.FormRules.{may_stand_owned}
+use Rattle.run_typing_laws.specs.sil_types.Typing.FormRules.{may_stand_owned}
 use Rattle.run_typing_laws.specs.inner.WellTyped.{IsWellTyped}
 use Rattle.run_typing_laws.proofs.CallFacts.{call_row}
 use Rattle.run_typing_laws.proofs.Rows.Builtins.{builtin}

@@ -13,16 +13,16 @@ use Rattle.sil_ast.specs.declared.inst.Qualifier.TheVariants as word
 use Rattle.sil_ast.specs.declared.module.Module.{Module}
 use Rattle.sil_ast.specs.declared.type_name.TypeName.{TypeName}
 use Rattle.sil_ast.specs.declared.type_name.TypeName.TheVariants as type
-use Rattle.holder_model.specs.Effects.{effect_of}
-use Rattle.memory_accesses.specs.Operations.{access_kind_of, load_operation, operation_by, store_operation}
+use Rattle.run_typing_laws.specs.holder_model.Effects.{effect_of}
+use Rattle.run_typing_laws.specs.memory_accesses.Operations.{access_kind_of, load_operation, operation_by, store_operation}
 use Rattle.type_definitions.specs.Declarations.{declarations_of}
 use Rattle.type_definitions.specs.Measures.{is_trivial}
-use Rattle.sil_types.specs.Typing.RowTypes.{gives, given_by, passes, written}
-use Rattle.sil_types.specs.Typing.Shapes.{element_at, elements, field_type, fields_of_struct, is_nontrivial, is_object, is_storage, target, target_in, where_it}
+use Rattle.run_typing_laws.specs.sil_types.Typing.RowTypes.{gives, given_by, passes, written}
+use Rattle.run_typing_laws.specs.sil_types.Typing.Shapes.{element_at, elements, field_type, fields_of_struct, is_nontrivial, is_object, is_storage, target, target_in, where_it}
 use Rattle.run_values.specs.Shapes.{Tuple, members_of, shape_of}
-use Rattle.run_typing.specs.EndForms.{operand_forms}
-use Rattle.run_typing.specs.Forms.{Form, OfPlace, OfValue, forms_of, has_no_storage}
-use Rattle.run_typing.specs.RowForms as lowered
+use Rattle.run_typing_laws.specs.run_typing.EndForms.{operand_forms}
+use Rattle.run_typing_laws.specs.run_typing.Forms.{Form, OfPlace, OfValue, forms_of, has_no_storage}
+use Rattle.run_typing_laws.specs.run_typing.RowForms as lowered
 use Rattle.run_typing_laws.specs.inner.WellTyped.{IsWellTyped}
 use Rattle.run_typing_laws.proofs.MemberFacts.{struct_group, struct_named}
 use Rattle.run_typing_laws.proofs.Rows.Addresses.{element_target, struct_forms}

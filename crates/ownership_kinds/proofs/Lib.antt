@@ -3,3 +3,4 @@ pub mod First
 pub mod FirstRing
 mod FactsTold
 pub mod RulesOf
+pub use Rattle.ownership_origins.proofs as ownership_origins

@@ -5,7 +5,7 @@ use Rattle.sil_ast.specs.declared.function.Function.{Function}
 use Rattle.sil_ast.specs.declared.module.Module.{Module}
 use Rattle.sil_ast.specs.declared.vtable.Vtable.{Vtable}
 use Rattle.type_definitions.specs.Declarations.{Declarations, declarations_of}
-use Rattle.lowering_model.specs.LoweredModules.{lowered, lowered_function}
+use Rattle.lowering_laws.specs.lowering_model.LoweredModules.{lowered, lowered_function}
 
 -- a module whose other parts are those of another one
 abbrev pub with_parts : Module → List Decl → List Function → List Vtable → Module

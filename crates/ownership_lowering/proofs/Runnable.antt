@@ -7,9 +7,9 @@ use Rattle.rule_faults.specs.declared.fault.RuleFault.{RuleFault}
 use Rattle.lowered_numbering_laws.specs.inner.Laws.{AreTypesKept, DeclaresTheSame, IsLoweredNumbered}
 use Rattle.lowered_typing_laws.specs.inner.LoweredTyped.{LoweredIsTyped}
 use Rattle.lowering_laws.specs.inner.Laws.{HaveNoRings}
-use Rattle.lowering_model.specs.LoweredModules.{lowered}
-use Rattle.ownership_kinds.specs.Statics.{HasKinds}
-use Rattle.run_typing.specs.Runnable.{IsRunnable}
+use Rattle.lowering_laws.specs.lowering_model.LoweredModules.{lowered}
+use Rattle.sil_verifier.specs.ownership_kinds.Statics.{HasKinds}
+use Rattle.lowering_laws.specs.run_typing.Runnable.{IsRunnable}
 use Rattle.sil_cfg.specs.Items.{HasBlocks}
 use Rattle.sil_verifier.specs.Shown.IsShownIn.{kind}
 use Rattle.sil_verifier.specs.inner.Checked.{IsVerified}

@@ -1,8 +1,8 @@
 //! The lowered module of an accepted one.
 
 ghost use Rattle.std.specs.Prelude.{◌≡◌, IfOk};
-ghost use Rattle.lowering_model.specs.LoweredModules.{lowered};
-ghost use Rattle.run_typing.specs.Runnable.{IsRunnable};
+ghost use Rattle.lowering_laws.specs.lowering_model.LoweredModules.{lowered};
+ghost use Rattle.lowering_laws.specs.run_typing.Runnable.{IsRunnable};
 ghost use Rattle.type_definitions.specs.Declarations.{declarations_of};
 
 use crate::laws::accepted_lowers_runnable;

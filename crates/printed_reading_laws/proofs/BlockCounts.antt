@@ -17,7 +17,7 @@ use Rattle.numbered_form.specs.Insts.{insts_in, insts_of}
 use Rattle.numbered_form.specs.inner.Limits.{inst_takes_value, takes_value, value_count}
 use Rattle.numbered_form.specs.Numbering.{defined_in, results_of, value_of, values_of}
 use Rattle.numbered_form.specs.inner.Parts.{has_results}
-use Rattle.numbered_reading_laws.proofs.LimitLemmas.{both_lengths, ends_take_none, extra_count, result_count, values_with, values_with-cons}
+use Rattle.sil_grammar.proofs.numbered_reading_laws.LimitLemmas.{both_lengths, ends_take_none, extra_count, result_count, values_with, values_with-cons}
 use Rattle.printed_reading_laws.proofs.BlockReading.{IsBlockPrintable, IsEndPrintable, IsInsidePrintable}
 use Rattle.printed_reading_laws.proofs.ResultNames.{IsDefinedAs, results_defined}
 use Rattle.printed_reading_laws.proofs.Written.{AreBlocksWritten, IsArgWritten, IsBlockWritten, IsInstWritten}

@@ -22,7 +22,7 @@ use Rattle.sil_shape.specs.Grammar.{body, written}
 use Rattle.token_classes.specs.Spelling.{at_spelling, punctuation_spelling}
 use Rattle.sil_rules.specs.declared.limit_word.LimitWord.TheVariants as limit
 use Rattle.written_tree.specs.Faults.{passed}
-use Rattle.written_modules.specs.Leaves.{kept_of}
+use Rattle.sil_grammar.specs.written_modules.Leaves.{kept_of}
 use Rattle.written_values.specs.inner.Meaning.{meaning}
 use Rattle.written_values.specs.Opened.{PartValue}
 use Rattle.written_values.specs.inner.PartFaults.{part_fault}
@@ -31,7 +31,7 @@ use Rattle.written_values.specs.Values.{arg_of, args_of, block_of, blocks_of, in
 use Rattle.numbered_form.specs.Lists.{Each}
 use Rattle.instruction_table.specs.Forms.{is_terminator}
 use Rattle.numbered_form.specs.inner.Types.{IsPlacedType}
-use Rattle.numbered_reading_laws.proofs.ListsAndFaults.{Each-weaker}
+use Rattle.sil_grammar.proofs.numbered_reading_laws.ListsAndFaults.{Each-weaker}
 use Rattle.printed_reading_laws.proofs.Commas.{MoreItems, listed_reads}
 use Rattle.printed_reading_laws.proofs.FixedTokens.{at_here, punctuation_here}
 use Rattle.printed_reading_laws.proofs.InstReading.{inst_reads, terminator_reads}

@@ -9,7 +9,7 @@ use Rattle.sil_shape.specs.declared.grammar.Symbol.TheVariants.{Part, Read}
 use Rattle.sil_shape.specs.declared.grammar.Terminal.TheVariants as t
 use Rattle.sil_shape.specs.Terminals.{punctuation, word}
 use Rattle.token_classes.specs.Spelling.{punctuation_spelling, spelling}
-use Rattle.written_modules.specs.Leaves.{kept_of}
+use Rattle.sil_grammar.specs.written_modules.Leaves.{kept_of}
 use Rattle.written_values.specs.Opened.{PartValue}
 use Rattle.written_values.specs.Values.{token_of}
 use Rattle.numbered_form.specs.Names.{IsWord}

@@ -16,7 +16,7 @@ use Rattle.sil_shape.specs.declared.grammar.Production.TheVariants as p
 use Rattle.sil_shape.specs.declared.grammar.Symbol.TheVariants.{Read}
 use Rattle.sil_shape.specs.declared.grammar.Terminal.TheVariants as t
 use Rattle.written_numbers.proofs.Printed.{printed_number}
-use Rattle.written_modules.specs.Leaves.{kept_of}
+use Rattle.sil_grammar.specs.written_modules.Leaves.{kept_of}
 use Rattle.written_values.specs.inner.Meaning.{meaning}
 use Rattle.written_values.specs.inner.PartFaults.{part_fault}
 use Rattle.written_values.specs.Values.{debug_of, no_debug, token_of}

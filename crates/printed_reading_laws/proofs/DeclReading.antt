@@ -24,7 +24,7 @@ use Rattle.written_tree.specs.declared.written_module.WrittenItem.TheVariants as
 use Rattle.sil_rules.specs.declared.limit_word.LimitWord.TheVariants as limit
 use Rattle.written_tree.specs.Faults.{passed}
 use Rattle.written_tree.specs.Places.{case_place, field_place}
-use Rattle.written_modules.specs.Leaves.{kept_of}
+use Rattle.sil_grammar.specs.written_modules.Leaves.{kept_of}
 use Rattle.written_values.specs.inner.Meaning.{meaning}
 use Rattle.written_values.specs.Opened.{PartValue}
 use Rattle.written_values.specs.inner.PartFaults.{part_fault}

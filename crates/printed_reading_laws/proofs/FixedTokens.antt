@@ -12,7 +12,7 @@ use Rattle.sil_shape.specs.Terminals.{at, punctuation, word}
 use Rattle.token_classes.specs.Spelling.{at_spelling, punctuation_of, punctuation_spelling, spelling}
 use Rattle.token_classes.proofs.SpellingLemmas.{at_word_of-at_spelling, keyword_of-spelling, punctuation_of-punctuation_spelling}
 use Rattle.sil_grammar.specs.Classes.{punctuation_class}
-use Rattle.written_modules.specs.Leaves.{leaf_of}
+use Rattle.sil_grammar.specs.written_modules.Leaves.{leaf_of}
 use Rattle.written_values.specs.Opened.{PartValue}
 use Rattle.numbered_form.specs.Names.{IsWord, is_at_name}
 use Rattle.printed_reading_laws.proofs.Pieces.{Ends, Reads, lexeme_before}

@@ -23,7 +23,7 @@ use Rattle.written_tree.specs.declared.written_declarations.WrittenToken.{Writte
 use Rattle.written_tree.specs.declared.written_functions.WrittenBlock.{WrittenBlock}
 use Rattle.written_tree.specs.declared.written_module.WrittenItem.TheVariants as item
 use Rattle.written_tree.specs.Faults.{passed}
-use Rattle.written_modules.specs.Leaves.{kept_of}
+use Rattle.sil_grammar.specs.written_modules.Leaves.{kept_of}
 use Rattle.written_values.specs.inner.Meaning.{meaning}
 use Rattle.written_values.specs.Opened.{PartValue}
 use Rattle.written_values.specs.inner.PartFaults.{body_fault, part_fault}
@@ -36,7 +36,7 @@ use Rattle.numbered_form.specs.Lists.{Each}
 use Rattle.numbered_form.specs.inner.Limits.{IsFunctionInLimits}
 use Rattle.numbered_form.specs.Names.{IsFunctionSpelled, IsWord}
 use Rattle.numbered_form.specs.inner.Types.{HasSignatureTypes}
-use Rattle.numbered_reading_laws.proofs.ListsAndFaults.{Each-append}
+use Rattle.sil_grammar.proofs.numbered_reading_laws.ListsAndFaults.{Each-append}
 use Rattle.printed_reading_laws.proofs.BlockCounts.{inst_count_is, length_blocks, value_count_is}
 use Rattle.printed_reading_laws.proofs.BlockReading.{IsBlockPrintable, block_reads, blocks_behind, blocks_read}
 use Rattle.printed_reading_laws.proofs.Items.{IsItem}

@@ -11,13 +11,13 @@ use Rattle.sil_shape.specs.declared.grammar.Production.TheVariants as p
 use Rattle.sil_shape.specs.declared.grammar.Symbol.{Symbol}
 use Rattle.sil_shape.specs.declared.grammar.Symbol.TheVariants.{Read}
 use Rattle.sil_shape.specs.declared.grammar.Terminal.TheVariants as t
-use Rattle.written_modules.specs.Leaves.{kept_of}
+use Rattle.sil_grammar.specs.written_modules.Leaves.{kept_of}
 use Rattle.written_values.specs.inner.Meaning.{meaning}
 use Rattle.written_values.specs.Opened.{PartValue}
 use Rattle.written_values.specs.inner.PartFaults.{part_fault}
 use Rattle.written_values.specs.Values.{token_of, tokens_of}
 use Rattle.numbered_form.specs.Lists.{Each}
-use Rattle.numbered_reading_laws.proofs.ListsAndFaults.{Each-weaker}
+use Rattle.sil_grammar.proofs.numbered_reading_laws.ListsAndFaults.{Each-weaker}
 use Rattle.printed_reading_laws.proofs.Commas.{AllItems, MoreItems, list_reads}
 use Rattle.printed_reading_laws.proofs.Pieces.{Ends, Reads as reads, ReadsAs, Stands}
 use Rattle.printed_reading_laws.proofs.Printable.{IsSmallValue}

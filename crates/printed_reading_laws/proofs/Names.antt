@@ -15,7 +15,7 @@ use Rattle.numbered_form.specs.Names.{AreMembersOnce, AreOnce}
 use Rattle.sil_ast.specs.Imports.{reserved}
 use Rattle.numbered_form.specs.Names as spelled
 use Rattle.numbered_form.specs.inner.NumberedForm.{IsNumbered}
-use Rattle.numbered_reading_laws.proofs.OnceLemmas.{decl_kept, members_kept, names_kept}
+use Rattle.sil_grammar.proofs.numbered_reading_laws.OnceLemmas.{decl_kept, members_kept, names_kept}
 use Rattle.printed_reading_laws.proofs.NoFaults.{IsKnown, never_twice, never_unknown, none_of_each}
 use Rattle.printed_reading_laws.proofs.ResolvedFunctions.{IsFunctionRead, function_is, no_function_fault}
 use Rattle.printed_reading_laws.proofs.ResolvedModules.{decls_are, decls_read, functions_are, functions_named, functions_read, names_written, used_known, vtables_are, vtables_read}

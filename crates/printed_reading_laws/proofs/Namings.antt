@@ -17,7 +17,7 @@ use Rattle.name_resolution.specs.Names.{Name}
 use Rattle.name_resolution.specs.Resolved.{has_name, place_among, value_of}
 use Rattle.numbered_form.specs.Names.{AreOnce, function_name}
 use Rattle.numbered_form.specs.Numbering.{AreCountedFrom}
-use Rattle.numbered_reading_laws.proofs.OnceLemmas.{same_name}
+use Rattle.sil_grammar.proofs.numbered_reading_laws.OnceLemmas.{same_name}
 use Rattle.printed_reading_laws.proofs.Tokens.{IsSmall}
 use Rattle.printed_reading_laws.proofs.Written.{name_in}
 

@@ -12,7 +12,7 @@ use Rattle.name_resolution.specs.NameFaults.{is_among, twice_after, unknown_amon
 use Rattle.name_resolution.specs.Names.{Name, name_of}
 use Rattle.numbered_form.specs.Lists.{Each}
 use Rattle.numbered_form.specs.Names.{AreOnce}
-use Rattle.numbered_reading_laws.proofs.ListsAndFaults.{Each-map}
+use Rattle.sil_grammar.proofs.numbered_reading_laws.ListsAndFaults.{Each-map}
 use Rattle.printed_reading_laws.proofs.Namings.{no_match}
 
 abbrev pub IsNone : Option Fault → Type 0

@@ -19,7 +19,7 @@ use Rattle.written_values.specs.inner.RowMeaning.{element_of}
 use Rattle.written_values.specs.Types.{width_in_range, width_of, width_over}
 use Rattle.numbered_form.specs.inner.Literals.{is_element_number, is_residue, literal_width}
 use Rattle.numbered_form.specs.inner.Types.{IsPlainType}
-use Rattle.numbered_reading_laws.proofs.TypeLemmas.{literal_width_is}
+use Rattle.sil_grammar.proofs.numbered_reading_laws.TypeLemmas.{literal_width_is}
 
 le_holds : (a b : ℤ) → int_le a b ≡ true → a ≤ℤ b
 le_holds (pos a) (pos b) h = let k : a ≤ b = grind (arith, nat_tests) in omega (arith, ints)

@@ -18,7 +18,7 @@ use Rattle.numbered_form.specs.inner.NumberedForm.{IsNumbered}
 use Rattle.numbered_form.specs.Numbering.{IsFunctionNumbered, IsInstInRange, IsVtableInRange, defined_in, results_of, value_of, values_of}
 use Rattle.numbered_form.specs.inner.Parts.{BlockHasParts, FunctionHasParts, HasItsParts, IsInside}
 use Rattle.numbered_form.specs.inner.Types.{HasArgType, HasBlockTypes, HasDeclTypes, HasFunctionTypes, HasInstTypes}
-use Rattle.numbered_reading_laws.proofs.UsedLemmas.{Each-split}
+use Rattle.sil_grammar.proofs.numbered_reading_laws.UsedLemmas.{Each-split}
 use Rattle.printed_reading_laws.proofs.BlockReading.{IsArgPrintable, IsBlockPrintable, IsInsidePrintable}
 use Rattle.printed_reading_laws.proofs.DeclReading.{IsDeclPrintable}
 use Rattle.printed_reading_laws.proofs.FunctionReading.{IsFunctionPrintable}

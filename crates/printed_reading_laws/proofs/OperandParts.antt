@@ -20,7 +20,7 @@ use Rattle.sil_shape.specs.declared.grammar.Production.TheVariants as p
 use Rattle.sil_shape.specs.declared.grammar.Symbol.TheVariants.{Part as NamedPart}
 use Rattle.token_classes.specs.Spelling.{punctuation_of, punctuation_spelling, signs}
 use Rattle.sil_rules.specs.declared.limit_word.LimitWord.TheVariants as limit
-use Rattle.written_modules.specs.Leaves.{kept_of}
+use Rattle.sil_grammar.specs.written_modules.Leaves.{kept_of}
 use Rattle.written_values.specs.inner.Meaning.{meaning}
 use Rattle.written_values.specs.inner.PartFaults.{part_fault}
 use Rattle.written_values.specs.inner.RowMeaning.{bare_operand, typed_by}
@@ -30,7 +30,7 @@ use Rattle.written_tree.specs.Places.{operand_place}
 use Rattle.written_tree.specs.declared.written_instructions.WrittenInst.{WrittenInst}
 use Rattle.written_tree.specs.declared.written_instructions.WrittenOperand.{WrittenOperand}
 use Rattle.numbered_form.specs.Lists.{Each, is_empty}
-use Rattle.numbered_reading_laws.proofs.ListsAndFaults.{both}
+use Rattle.sil_grammar.proofs.numbered_reading_laws.ListsAndFaults.{both}
 use Rattle.numbered_form.specs.inner.Parts.{first_then, is_bare, is_typed}
 use Rattle.numbered_form.specs.inner.Types.{HasOperandType}
 use Rattle.printed_reading_laws.proofs.ListLimits.{none_passed}

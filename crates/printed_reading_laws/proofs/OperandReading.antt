@@ -14,7 +14,7 @@ use Rattle.sil_shape.specs.declared.grammar.Production.TheVariants as p
 use Rattle.sil_shape.specs.declared.grammar.Symbol.TheVariants.{Part}
 use Rattle.sil_shape.specs.Grammar.{body, written}
 use Rattle.token_classes.specs.Spelling.{punctuation_of, punctuation_spelling, signs}
-use Rattle.written_modules.specs.Leaves.{kept_of}
+use Rattle.sil_grammar.specs.written_modules.Leaves.{kept_of}
 use Rattle.written_values.specs.inner.Meaning.{meaning}
 use Rattle.written_values.specs.Opened.{PartValue}
 use Rattle.written_values.specs.inner.PartFaults.{part_fault}

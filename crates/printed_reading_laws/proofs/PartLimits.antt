@@ -10,7 +10,7 @@ use Rattle.sil_rules.specs.declared.limit_word.LimitWord.{LimitWord}
 use Rattle.written_tree.specs.Faults.{fault, passed}
 use Rattle.written_values.specs.inner.PartFaults.{too_deep}
 use Rattle.written_values.specs.Types.{deeper, kept}
-use Rattle.numbered_reading_laws.proofs.TypeLemmas.{all_kept, one_more}
+use Rattle.sil_grammar.proofs.numbered_reading_laws.TypeLemmas.{all_kept, one_more}
 
 -- as many as the limit allows
 pub not_passed : (what : LimitWord) (most : ℕ) (places : List Place) → length places ≤ most → passed what most places ≡ None

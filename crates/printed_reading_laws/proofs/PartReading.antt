@@ -30,7 +30,7 @@ use Rattle.sil_shape.specs.declared.grammar.Terminal.TheVariants as t
 use Rattle.token_classes.specs.Spelling.{keyword_of, keywords, known_keyword, punctuation_of, punctuation_spelling, signs, spelling}
 use Rattle.token_classes.specs.declared.classes.Class.TheVariants as c
 use Rattle.builtin_names.specs.BuiltinNames.{is_builtin_name}
-use Rattle.written_modules.specs.Leaves.{kept_of}
+use Rattle.sil_grammar.specs.written_modules.Leaves.{kept_of}
 use Rattle.written_values.specs.Opened.{PartValue}
 use Rattle.written_values.specs.inner.RowMeaning.{number_by}
 use Rattle.written_values.specs.Values.{member_of, token_of}
@@ -38,7 +38,7 @@ use Rattle.numbered_form.specs.inner.Limits.{IsSignatureInLimits}
 use Rattle.numbered_form.specs.inner.Literals.{is_number_by, is_text_by}
 use Rattle.numbered_form.specs.Names.{IsMemberSpelled, is_quotable}
 use Rattle.numbered_form.specs.inner.Parts.{are_of_parts, is_among, is_bare, is_callee, is_member, is_number, is_signature, is_text, is_type, is_typed, row_has}
-use Rattle.numbered_reading_laws.proofs.ListsAndFaults.{implied}
+use Rattle.sil_grammar.proofs.numbered_reading_laws.ListsAndFaults.{implied}
 use Rattle.numbered_form.specs.inner.Types.{HasSignatureTypes, IsPlainType}
 use Rattle.sil_grammar.specs.Classes.{text_class}
 use Rattle.sil_grammar.proofs.NumberedLemmas.{between_quotes}

@@ -11,7 +11,7 @@ use Rattle.sil_shape.specs.declared.grammar.Symbol.{Symbol}
 use Rattle.sil_shape.specs.declared.grammar.Symbol.TheVariants.{Part}
 use Rattle.sil_shape.specs.Derivation.{Accepts}
 use Rattle.sil_shape.specs.Grammar.{body, written}
-use Rattle.written_modules.specs.Leaves.{leaf_of}
+use Rattle.sil_grammar.specs.written_modules.Leaves.{leaf_of}
 use Rattle.written_values.specs.inner.Meaning.{meaning}
 use Rattle.written_values.specs.Opened.{PartValue}
 use Rattle.written_values.specs.inner.PartFaults.{part_fault}

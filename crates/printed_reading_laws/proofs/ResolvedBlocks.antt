@@ -13,7 +13,7 @@ use Rattle.written_tree.specs.declared.written_instructions.WrittenInst.{Written
 use Rattle.name_resolution.specs.Resolved.{defined_by_inst, defined_in, resolved_args, resolved_block, resolved_blocks, resolved_inst, resolved_insts}
 use Rattle.numbered_form.specs.Numbering.{AreCountedFrom}
 use Rattle.numbered_form.specs.Numbering as numbering
-use Rattle.numbered_reading_laws.proofs.NumberingLemmas.{with_end}
+use Rattle.sil_grammar.proofs.numbered_reading_laws.NumberingLemmas.{with_end}
 use Rattle.printed_reading_laws.proofs.WrittenCode.{Counts, IsBlockRead, IsInstRead, block_defined, inst_defined}
 use Rattle.printed_reading_laws.proofs.ResolvedInsts.{counted_split, inst_is, scope_with}
 use Rattle.printed_reading_laws.proofs.ResultNames.{IsDefinedAs}

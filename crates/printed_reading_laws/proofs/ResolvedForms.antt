@@ -16,7 +16,7 @@ use Rattle.numbered_form.specs.Lists.{Each}
 use Rattle.numbered_form.specs.inner.Functions.{IsAttribute}
 use Rattle.printed_reading_laws.proofs.Namings.{no_match}
 use Rattle.printed_reading_laws.proofs.Written.{form_words}
-use Rattle.numbered_reading_laws.proofs.FieldLemmas.{not_empty}
+use Rattle.sil_grammar.proofs.numbered_reading_laws.FieldLemmas.{not_empty}
 
 abbrev tells_form : Name → Bool
 tells_form name = bytes_eq name (codes "ossa")

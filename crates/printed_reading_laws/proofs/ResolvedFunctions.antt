@@ -19,7 +19,7 @@ use Rattle.numbered_form.specs.inner.Limits.{IsFunctionInLimits}
 use Rattle.numbered_form.specs.Numbering.{IsFunctionNumbered}
 use Rattle.numbered_form.specs.Numbering as numbering
 use Rattle.numbered_form.specs.inner.Parts.{FunctionHasParts}
-use Rattle.numbered_reading_laws.proofs.ListsAndFaults.{Each-weaker}
+use Rattle.sil_grammar.proofs.numbered_reading_laws.ListsAndFaults.{Each-weaker}
 use Rattle.printed_reading_laws.proofs.Namings.{IsNaming, counted_names, names_from, numbered_names, tells_blocks, tells_values}
 use Rattle.printed_reading_laws.proofs.NoFaults.{IsKnown, never_twice, never_unknown}
 use Rattle.printed_reading_laws.proofs.ResolvedBlocks.{blocks_are}

@@ -20,7 +20,7 @@ use Rattle.numbered_form.specs.Names as spelled
 use Rattle.numbered_form.specs.Numbering.{IsFunctionNumbered, IsVtableInRange}
 use Rattle.numbered_form.specs.inner.NumberedForm.{IsNumbered}
 use Rattle.numbered_form.specs.inner.Parts.{FunctionHasParts}
-use Rattle.numbered_reading_laws.proofs.ListsAndFaults.{Each-append, Each-flat_map, Each-map}
+use Rattle.sil_grammar.proofs.numbered_reading_laws.ListsAndFaults.{Each-append, Each-flat_map, Each-map}
 use Rattle.printed_reading_laws.proofs.Namings.{IsNaming, known, named_functions, placed}
 use Rattle.printed_reading_laws.proofs.NoFaults.{IsKnown}
 use Rattle.printed_reading_laws.proofs.ResolvedFunctions.{IsFunctionRead, IsSound, calls_known}

@@ -16,7 +16,7 @@ use Rattle.sil_ast.specs.declared.operands.Operand.{Operand}
 use Rattle.sil_printer.specs.CanonicalInsts.{operands_after}
 use Rattle.numbered_form.specs.Lists.{Each, is_empty}
 use Rattle.numbered_form.specs.inner.Parts.{are_of_part, are_of_parts, is_bare, is_type, is_typed, row_has}
-use Rattle.numbered_reading_laws.proofs.ListsAndFaults.{either_first, either_second}
+use Rattle.sil_grammar.proofs.numbered_reading_laws.ListsAndFaults.{either_first, either_second}
 use Rattle.printed_reading_laws.proofs.OperandForms.{impossible, none_there, one_there}
 use Rattle.numbered_form.specs.inner.Types.{HasOperandType}
 use Rattle.printed_reading_laws.proofs.Printable.{IsSmallOperand}

@@ -19,7 +19,7 @@ use Rattle.sil_shape.specs.declared.grammar.Symbol.{Symbol}
 use Rattle.token_classes.specs.Spelling.{spelling}
 use Rattle.token_classes.specs.declared.classes.Keyword.TheVariants as k
 use Rattle.sil_lexer.specs.declared.token.TokenKind.TheVariants as kind
-use Rattle.written_modules.specs.Leaves.{leaf_of}
+use Rattle.sil_grammar.specs.written_modules.Leaves.{leaf_of}
 use Rattle.written_values.specs.inner.Meaning.{meaning}
 use Rattle.written_values.specs.Opened.{PartValue}
 use Rattle.written_values.specs.inner.PartFaults.{fault_of_part, part_fault, parts_fault}
@@ -28,7 +28,7 @@ use Rattle.written_values.specs.Values.{bare_inst, inst_of, token_of}
 use Rattle.written_tree.specs.Faults.{earlier}
 use Rattle.written_tree.specs.declared.written_instructions.WrittenInst.{WrittenInst}
 use Rattle.numbered_form.specs.Names.{is_word}
-use Rattle.numbered_reading_laws.proofs.ListsAndFaults.{either_second}
+use Rattle.sil_grammar.proofs.numbered_reading_laws.ListsAndFaults.{either_second}
 use Rattle.printed_reading_laws.proofs.FixedTokens.{keyword_here}
 use Rattle.printed_reading_laws.proofs.PartEnds.{parts_end}
 use Rattle.printed_reading_laws.proofs.PartPlaces.{fault_moved, with_part_moved}

@@ -28,7 +28,7 @@ use Rattle.written_values.specs.Values.{convention_of, given_before, givens_of, 
 use Rattle.numbered_form.specs.Lists.{Each}
 use Rattle.numbered_form.specs.inner.Limits.{IsSignatureInLimits}
 use Rattle.numbered_form.specs.inner.Types.{HasParamType, HasSignatureTypes, IsGivenWritten, IsPlainType}
-use Rattle.numbered_reading_laws.proofs.ListsAndFaults.{Each-weaker}
+use Rattle.sil_grammar.proofs.numbered_reading_laws.ListsAndFaults.{Each-weaker}
 use Rattle.printed_reading_laws.proofs.Commas.{AllItems, list_reads}
 use Rattle.printed_reading_laws.proofs.PartLimits.{not_passed}
 use Rattle.printed_reading_laws.proofs.Pieces.{Ends, Reads as reads, ReadsAs, Stands, behind}

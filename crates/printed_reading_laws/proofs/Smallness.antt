@@ -5,7 +5,7 @@ use Rattle.sil_ast.specs.declared.operands.Operand.{Operand}
 use Rattle.sil_ast.specs.declared.place.ValueId.{ValueId}
 use Rattle.numbered_form.specs.Lists.{Each}
 use Rattle.numbered_form.specs.Numbering.{AreCountedFrom, IsEdgeInRange, IsValueBelow}
-use Rattle.numbered_reading_laws.proofs.UsedLemmas.{Each-split}
+use Rattle.sil_grammar.proofs.numbered_reading_laws.UsedLemmas.{Each-split}
 use Rattle.printed_reading_laws.proofs.Printable.{IsSmallEdge, IsSmallOperand, IsSmallValue}
 
 -- what holds of all that some items have holds of what each has

@@ -21,11 +21,11 @@ use Rattle.sil_shape.specs.declared.grammar.Terminal.TheVariants as t
 use Rattle.builtin_names.specs.BuiltinNames.{is_builtin_name}
 use Rattle.sil_shape.specs.Derivation.{Accepts}
 use Rattle.token_classes.specs.Spelling.{at_word_of, keyword_of, punctuation_of}
-use Rattle.written_modules.specs.Leaves.{leaf_of}
+use Rattle.sil_grammar.specs.written_modules.Leaves.{leaf_of}
 use Rattle.written_values.specs.Opened.{PartValue}
 use Rattle.written_numbers.specs.Numbers.{next_number, number_of}
 use Rattle.numbered_form.specs.Names.{is_at_name, is_quotable, is_short, is_word}
-use Rattle.numbered_reading_laws.proofs.ListsAndFaults.{both}
+use Rattle.sil_grammar.proofs.numbered_reading_laws.ListsAndFaults.{both}
 use Rattle.sil_grammar.specs.Classes.{class_by, punctuation_class, text_class}
 use Rattle.sil_grammar.proofs.NumberedLemmas.{between_quotes}
 use Rattle.printed_reading_laws.proofs.Pieces.{Ends, Reads, Reads as reads, lexeme_before}

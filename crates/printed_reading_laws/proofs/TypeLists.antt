@@ -26,7 +26,7 @@ use Rattle.printed_reading_laws.proofs.Pieces.{Reads as reads, ReadsAs, Stands, 
 use Rattle.printed_reading_laws.proofs.Tokens.{punctuation_token}
 use Rattle.printed_reading_laws.proofs.TypeForms.{IsTypeOf, no_questions_fault}
 use Rattle.written_tree.proofs.FaultOrder.{neither}
-use Rattle.numbered_reading_laws.proofs.TypeLemmas.{two_or_more}
+use Rattle.sil_grammar.proofs.numbered_reading_laws.TypeLemmas.{two_or_more}
 
 -- the types are these, counted as deep as the deepest
 record AreTypes (ts : List TypeName) (list : PartTypes) : Type 0 where

@@ -29,7 +29,7 @@ use Rattle.printed_reading_laws.proofs.Tokens.{punctuation_token}
 use Rattle.printed_reading_laws.proofs.TypeForms.{IsTypeOf, bare_type, int_reads, named_reads, optional_reads, unowned_reads, weak_reads}
 use Rattle.printed_reading_laws.proofs.TypeLists.{single_payload, tuple_payload, tuple_reads}
 use Rattle.printed_reading_laws.proofs.Written.{IsTypeWritten}
-use Rattle.numbered_reading_laws.proofs.ListsAndFaults.{not_true}
+use Rattle.sil_grammar.proofs.numbered_reading_laws.ListsAndFaults.{not_true}
 
 -- the form in which a type is printed
 data Form (text : List ℕ) (t : TypeName) (depth : ℕ) (written : List ℕ) : Type 0 where

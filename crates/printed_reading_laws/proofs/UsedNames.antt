@@ -18,7 +18,7 @@ use Rattle.name_resolution.specs.Names.{Name, code_of, edge_label, edge_values, 
 use Rattle.numbered_form.specs.Lists.{Each}
 use Rattle.numbered_form.specs.Insts.{insts_in}
 use Rattle.numbered_form.specs.Numbering.{IsEdgeInRange, IsValueBelow}
-use Rattle.numbered_reading_laws.proofs.ListsAndFaults.{Each-append, Each-flat_map, Each-map}
+use Rattle.sil_grammar.proofs.numbered_reading_laws.ListsAndFaults.{Each-append, Each-flat_map, Each-map}
 use Rattle.printed_reading_laws.proofs.Namings.{IsNaming, known}
 use Rattle.printed_reading_laws.proofs.NoFaults.{IsKnown}
 use Rattle.printed_reading_laws.proofs.WrittenCode.{Counts, IsBlockRead, IsInstRead, code_read}

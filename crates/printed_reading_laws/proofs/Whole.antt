@@ -8,8 +8,8 @@ use Rattle.sil_shape.specs.declared.grammar.Symbol.{Symbol}
 use Rattle.sil_shape.specs.Derivation.{start}
 use Rattle.written_tree.specs.declared.written_module.WrittenModule.{WrittenModule}
 use Rattle.written_values.specs.Opened.{PartValue, module_value}
-use Rattle.spelled_parts_laws.specs.Stands.{Stands}
-use Rattle.spelled_parts_laws.proofs.Trees.{Tree, Tree as tree, tree_stands}
+use Rattle.sil_grammar.specs.spelled_parts_laws.Stands.{Stands}
+use Rattle.sil_grammar.proofs.spelled_parts_laws.Trees.{Tree, Tree as tree, tree_stands}
 use Rattle.sil_grammar.specs.Classes.{token_class}
 use Rattle.sil_grammar.specs.Spells.{SpellsWritten}
 use Rattle.printed_reading_laws.proofs.Pieces.{Reads, lexeme_before, Reads as reads}

@@ -24,7 +24,7 @@ use Rattle.written_tree.specs.declared.written_module.WrittenItem.TheVariants as
 use Rattle.written_tree.specs.declared.written_module.WrittenModule.{WrittenModule}
 use Rattle.written_tree.specs.declared.written_module.WrittenVtable.{WrittenVtable}
 use Rattle.written_tree.specs.Faults.{passed}
-use Rattle.written_modules.specs.Leaves.{kept_of}
+use Rattle.sil_grammar.specs.written_modules.Leaves.{kept_of}
 use Rattle.written_values.specs.inner.Meaning.{meaning}
 use Rattle.written_values.specs.Imports.{with_import}
 use Rattle.written_values.specs.Opened.{PartValue, module_value}

@@ -17,7 +17,7 @@ use Rattle.numbered_form.specs.Insts.{EachInBlock, insts_in, insts_of}
 use Rattle.numbered_form.specs.Numbering.{IsInstInRange}
 use Rattle.numbered_form.specs.Numbering as numbering
 use Rattle.numbered_form.specs.inner.Parts.{BlockHasParts, HasItsParts, IsInside, has_results}
-use Rattle.numbered_reading_laws.proofs.NumberingLemmas.{with_end}
+use Rattle.sil_grammar.proofs.numbered_reading_laws.NumberingLemmas.{with_end}
 use Rattle.printed_reading_laws.proofs.ResultNames.{IsDefinedAs, results_defined}
 use Rattle.printed_reading_laws.proofs.SideBySide.{zip_append, zip_flat, zip_left, zip_right}
 use Rattle.printed_reading_laws.proofs.Written.{AreBlocksWritten, IsArgWritten, IsInstWritten, IsValueNamed}

@@ -5,3 +5,4 @@ pub mod Forms
 pub mod Cases
 pub mod Shown
 pub mod Reports
+pub use Rattle.run_typing_laws.proofs as run_typing_laws

@@ -1,7 +1,7 @@
 //! The report of a run.
 
 ghost use Rattle.std.specs.Prelude.{◌≡◌, ◌++◌, IfOk, OnOk};
-ghost use Rattle.run_typing.specs.Runnable.{IsRunnable};
+ghost use Rattle.run_typing_laws.specs.run_typing.Runnable.{IsRunnable};
 ghost use Rattle.run_values.specs.Shapes.{shape_of};
 ghost use Rattle.type_definitions.specs.Declarations.{declarations_of};
 ghost use Rattle.report_writing.specs.LowReports.{low_report};

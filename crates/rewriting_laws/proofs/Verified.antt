@@ -2,25 +2,25 @@
 use Rattle.std.proofs.Common.{◌≡◌, ℕ, zero, suc, List, [], ◌∷◌, refl, sym, ap, ◌∙◌, subst, None, Some, ◌⊎◌, inl, inr}
 use Rattle.std.specs.Prelude.{slice_get}
 use Rattle.std.proofs.lemmas.Option.{same_Some}
-use Rattle.copy_removal.specs.Optimised.{Rewrites, done, lends, more, moves}
-use Rattle.copy_removal.specs.Rewritten.{changed_at, lent, moved}
+use Rattle.rewritten_typing_laws.specs.copy_removal.Optimised.{Rewrites, done, lends, more, moves}
+use Rattle.rewritten_typing_laws.specs.copy_removal.Rewritten.{changed_at, lent, moved}
 use Rattle.sil_ast.specs.declared.function.Function.{Function}
 use Rattle.sil_ast.specs.declared.module.Module.{Module}
 use Rattle.sil_ast.specs.declared.place.PointId.{PointId}
 use Rattle.sil_cfg.specs.Items.{HasBlocks}
 use Rattle.lent_functions.specs.inner.Laws.{LentValuesAreClean}
 use Rattle.lent_memory.specs.inner.Laws.{LentMemoryIsClean}
-use Rattle.memory_accesses.specs.Sources.{sources_of}
-use Rattle.memory_rules.specs.Broken.{IsBroken}
+use Rattle.rewritten_typing_laws.specs.memory_accesses.Sources.{sources_of}
+use Rattle.rewritten_typing_laws.specs.memory_rules.Broken.{IsBroken}
 use Rattle.moved_functions.specs.inner.Laws.{MovedValuesAreClean}
 use Rattle.moved_memory.specs.inner.Laws.{MovedMemoryIsClean}
-use Rattle.ownership_kinds.specs.Facts.{facts_in}
-use Rattle.ownership_kinds.specs.Statics.{HasKinds}
+use Rattle.rewritten_typing_laws.specs.ownership_kinds.Facts.{facts_in}
+use Rattle.rewritten_typing_laws.specs.ownership_kinds.Statics.{HasKinds}
 use Rattle.path_checks.specs.First.{IsFirst}
 use Rattle.rule_faults.specs.declared.fault.RuleFault.{RuleFault}
-use Rattle.sil_verifier.specs.Shown.{kind, life, lives_in, memory as in_memory, scope, scopes_in, undefined}
-use Rattle.sil_verifier.specs.Values.{AcceptedValues, IsCleanIn}
-use Rattle.sil_verifier.specs.inner.Checked.{IsVerified}
+use Rattle.rewritten_typing_laws.specs.sil_verifier.Shown.{kind, life, lives_in, memory as in_memory, scope, scopes_in, undefined}
+use Rattle.rewritten_typing_laws.specs.sil_verifier.Values.{AcceptedValues, IsCleanIn}
+use Rattle.rewritten_typing_laws.specs.sil_verifier.inner.Checked.{IsVerified}
 use Rattle.type_definitions.specs.Declarations.{Declarations, declarations_of}
 use Rattle.value_availability.specs.Accesses.{accesses_of}
 use Rattle.rewritten_typing_laws.specs.inner.KeptTypes.{RewritingKeepsTypes}

@@ -5,7 +5,7 @@ use Rattle.std.specs.List.{flat_map, list_any}
 use Rattle.std.proofs.lemmas.Bool.{ne_eqb}
 use Rattle.std.proofs.lemmas.List.{append-nil}
 use Rattle.std.proofs.lemmas.List.Folds.{list_any-append}
-use Rattle.accepted_values.proofs.Places.{results_once}
+use Rattle.lent_functions.proofs.accepted_values.Places.{results_once}
 use Rattle.item_operands.specs.Items.{item_defined, item_taken}
 use Rattle.item_operands.specs.Parts.{inst_at, inst_in, results_in}
 use Rattle.item_operands.specs.declared.taken.Taken.{Taken}
@@ -24,8 +24,8 @@ use Rattle.sil_ast.specs.declared.place.ValueId.{ValueId}
 use Rattle.sil_cfg.specs.declared.item.Item.TheVariants as item
 use Rattle.type_definitions.specs.declared.kind.Kind.{Kind}
 use Rattle.type_definitions.specs.declared.kind.Kind.TheVariants as kind
-use Rattle.copy_removal.specs.Copies.{IsCopy}
-use Rattle.copy_removal.specs.Removable.{is_mark}
+use Rattle.moved_functions.specs.copy_removal.Copies.{IsCopy}
+use Rattle.moved_functions.specs.copy_removal.Removable.{is_mark}
 use Rattle.lent_functions.proofs.Lists.{each_contained}
 use Rattle.lent_functions.proofs.ValueRows.{same_value}
 

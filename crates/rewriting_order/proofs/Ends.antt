@@ -13,7 +13,7 @@ use Rattle.ownership_marks.specs.declared.mark.MarkSort.TheVariants.{End}
 use Rattle.sil_ast.specs.declared.place.ValueId.{ValueId}
 use Rattle.type_definitions.specs.declared.kind.Kind.{Kind}
 use Rattle.type_definitions.specs.declared.kind.Kind.TheVariants as kind
-use Rattle.copy_removal.specs.Removable.{is_mark}
+use Rattle.moved_functions.specs.copy_removal.Removable.{is_mark}
 
 module _ (e : ValueId) where
   abbrev pub ends : Mark → Bool

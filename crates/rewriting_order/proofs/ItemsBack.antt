@@ -9,7 +9,7 @@ use Rattle.sil_ast.specs.declared.place.ValueId.{ValueId}
 use Rattle.sil_cfg.specs.Items.{IsExit, IsItem, point_at}
 use Rattle.sil_cfg.specs.declared.item.Item.{Item}
 use Rattle.sil_cfg.specs.declared.item.Item.TheVariants as item
-use Rattle.copy_removal.specs.Rewritten.{moved_block}
+use Rattle.moved_functions.specs.copy_removal.Rewritten.{moved_block}
 use Rattle.moved_functions.specs.inner.Structure.{old_item, old_point, stood_at}
 use Rattle.moved_functions.proofs.Items.{gone, old_edge, size_before, size_behind}
 use Rattle.moved_functions.proofs.Lists.{changed_length, stood_before, stood_behind}

@@ -1,16 +1,16 @@
 -- Behind the rewriting of the first copy that can go, each copy that can go comes later in the text.
 use Rattle.std.proofs.Common.{◌≡◌, ℕ, Some}
 use Rattle.std.specs.Prelude.{slice_get}
-use Rattle.copy_removal.specs.Copies.{IsCopy}
-use Rattle.copy_removal.specs.Optimised.{Rewrites, facts_of, lends, moves, text_key}
-use Rattle.copy_removal.specs.Removable.{IsBorrowable}
-use Rattle.copy_removal.specs.Rewritten.{lent, moved}
+use Rattle.moved_functions.specs.copy_removal.Copies.{IsCopy}
+use Rattle.moved_functions.specs.copy_removal.Optimised.{Rewrites, facts_of, lends, moves, text_key}
+use Rattle.moved_functions.specs.copy_removal.Removable.{IsBorrowable}
+use Rattle.moved_functions.specs.copy_removal.Rewritten.{lent, moved}
 use Rattle.sil_ast.specs.declared.function.Function.{Function}
 use Rattle.sil_ast.specs.declared.module.Module.{Module}
 use Rattle.sil_ast.specs.declared.place.PointId.{PointId}
 use Rattle.sil_ast.specs.declared.place.ValueId.{ValueId}
 use Rattle.sil_rules.specs.Order.{NotAfter}
-use Rattle.sil_verifier.specs.inner.Checked.{IsVerified}
+use Rattle.moved_functions.specs.sil_verifier.inner.Checked.{IsVerified}
 use Rattle.type_definitions.specs.Declarations.{declarations_of}
 use Rattle.lent_functions.proofs.Clean.{lent_ready}
 use Rattle.lent_functions.proofs.Ready.{Ready}

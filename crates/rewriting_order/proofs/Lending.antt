@@ -1,7 +1,7 @@
 -- What a borrow keeps for the other copies and values.
-use Rattle.copy_removal.specs.Copies.{IsCopy}
-use Rattle.copy_removal.specs.Optimised.{facts_of}
-use Rattle.copy_removal.specs.Removable.{IsBorrowable}
+use Rattle.moved_functions.specs.copy_removal.Copies.{IsCopy}
+use Rattle.moved_functions.specs.copy_removal.Optimised.{facts_of}
+use Rattle.moved_functions.specs.copy_removal.Removable.{IsBorrowable}
 use Rattle.sil_ast.specs.declared.function.Function.{Function}
 use Rattle.sil_ast.specs.declared.module.Module.{Module}
 use Rattle.sil_ast.specs.declared.place.PointId.{PointId}

@@ -4,13 +4,13 @@ use Rattle.std.specs.Prelude.{◌==◌, filter_map, option_map, unwrap_or}
 use Rattle.std.specs.List.{list_any}
 use Rattle.std.proofs.lemmas.Bool.{eqb-true}
 use Rattle.std.proofs.lemmas.Option.{same_Some}
-use Rattle.borrow_scopes.specs.Scopes.{bases_in, lent_bases}
-use Rattle.borrow_scopes.specs.inner.Runs.{sort_for}
+use Rattle.moved_functions.specs.borrow_scopes.Scopes.{bases_in, lent_bases}
+use Rattle.moved_functions.specs.borrow_scopes.inner.Runs.{sort_for}
 use Rattle.instruction_table.specs.declared.op.Op.TheVariants as op
 use Rattle.item_operands.specs.Parts.{inst_at, item_inst}
 use Rattle.ownership_chains.specs.Facts.{facts_with, has, is_owned, known_or}
 use Rattle.ownership_chains.specs.declared.facts.Facts.{Facts}
-use Rattle.ownership_kinds.specs.Facts.{facts_in}
+use Rattle.moved_functions.specs.ownership_kinds.Facts.{facts_in}
 use Rattle.ownership_marks.specs.Marks.{marks_of}
 use Rattle.ownership_marks.specs.declared.mark.Mark.{Mark}
 use Rattle.ownership_marks.specs.declared.mark.MarkSort.{MarkSort}
@@ -27,9 +27,9 @@ use Rattle.sil_cfg.specs.declared.item.Item.TheVariants.{Entry, Inst, Edge, Exit
 use Rattle.type_definitions.specs.Declarations.{Declarations}
 use Rattle.type_definitions.specs.declared.kind.Kind.TheVariants as kind
 use Rattle.value_tables.specs.Borrows.{borrow_in, borrows_of, lends, lent_by}
-use Rattle.copy_removal.specs.Copies.{IsCopy, IsDestroy, is_op}
-use Rattle.copy_removal.specs.Removable.{IsBorrowable, IsDestroyedNext, IsFreeAt, IsMovable, IsOnlyDestroyed, IsUnlent, concerns, is_destroy, is_mark}
-use Rattle.copy_removal.specs.Rewritten.{lent, lent_inst, with_op}
+use Rattle.moved_functions.specs.copy_removal.Copies.{IsCopy, IsDestroy, is_op}
+use Rattle.moved_functions.specs.copy_removal.Removable.{IsBorrowable, IsDestroyedNext, IsFreeAt, IsMovable, IsOnlyDestroyed, IsUnlent, concerns, is_destroy, is_mark}
+use Rattle.moved_functions.specs.copy_removal.Rewritten.{lent, lent_inst, with_op}
 use Rattle.lent_functions.proofs.Facts.{bases_lent, other_facts}
 use Rattle.lent_functions.proofs.Graph.{flow_lent, is_lent_item}
 use Rattle.lent_functions.proofs.Insts.{Becomes, becomes, borrows, ends, stays}

@@ -4,7 +4,7 @@ use Rattle.std.specs.Prelude.{◌==◌, ◌↔◌, filter_map, option_map}
 use Rattle.std.specs.List.{list_any}
 use Rattle.std.proofs.lemmas.Bool.{eqb-true}
 use Rattle.std.proofs.lemmas.List.{append-nil}
-use Rattle.borrow_scopes.specs.inner.Runs.{sort_for}
+use Rattle.moved_functions.specs.borrow_scopes.inner.Runs.{sort_for}
 use Rattle.instruction_table.specs.Forms.{number_of}
 use Rattle.instruction_table.specs.declared.entries.Role.TheVariants as role
 use Rattle.instruction_table.specs.declared.op.Op.{Op}
@@ -31,9 +31,9 @@ use Rattle.sil_cfg.specs.Items.{flow_of}
 use Rattle.sil_cfg.specs.declared.item.Item.{Item}
 use Rattle.sil_cfg.specs.declared.item.Item.TheVariants.{Entry, Inst, Edge, Exit}
 use Rattle.type_definitions.specs.Declarations.{Declarations}
-use Rattle.copy_removal.specs.Copies.{IsCopy, is_op}
-use Rattle.copy_removal.specs.Removable.{IsBorrowable, IsFreeAt, IsOnlyDestroyed, is_destroy, is_mark}
-use Rattle.copy_removal.specs.Rewritten.{lent, lent_inst, takes}
+use Rattle.moved_functions.specs.copy_removal.Copies.{IsCopy, is_op}
+use Rattle.moved_functions.specs.copy_removal.Removable.{IsBorrowable, IsFreeAt, IsOnlyDestroyed, is_destroy, is_mark}
+use Rattle.moved_functions.specs.copy_removal.Rewritten.{lent, lent_inst, takes}
 use Rattle.lent_functions.proofs.Facts.{bases_lent}
 use Rattle.lent_functions.proofs.Graph.{flow_lent, is_item}
 use Rattle.lent_functions.proofs.Insts.{Becomes, becomes, borrows, ends, stays}

@@ -4,7 +4,7 @@ use Rattle.std.specs.Prelude.{◌||◌, ◌==◌, IsSomeAnd, slice_get}
 use Rattle.std.specs.List.{list_any}
 use Rattle.std.proofs.lemmas.Bool.{cases_eq, cases_lt, eq-eqb, or_parts}
 use Rattle.std.proofs.lemmas.Option.{same_Some}
-use Rattle.borrow_scopes.specs.Scopes.{bases_in, lent_bases}
+use Rattle.moved_functions.specs.borrow_scopes.Scopes.{bases_in, lent_bases}
 use Rattle.instruction_table.specs.declared.op.Op.TheVariants as op
 use Rattle.item_operands.specs.Parts.{inst_at, item_inst}
 use Rattle.ownership_chains.specs.Facts.{facts_with, has, known_or}
@@ -17,12 +17,12 @@ use Rattle.sil_ast.specs.declared.place.PointId.{PointId}
 use Rattle.sil_ast.specs.declared.place.ValueId.{ValueId}
 use Rattle.sil_cfg.specs.Items.{IsItem, point_at}
 use Rattle.sil_cfg.specs.declared.item.Item.TheVariants as item
-use Rattle.sil_verifier.specs.inner.Checked.{IsVerified}
+use Rattle.moved_functions.specs.sil_verifier.inner.Checked.{IsVerified}
 use Rattle.type_definitions.specs.declared.kind.Kind.TheVariants as kind
 use Rattle.value_tables.specs.Borrows.{lent_in}
-use Rattle.copy_removal.specs.Copies.{IsCopy, IsDestroy, is_op}
-use Rattle.copy_removal.specs.Optimised.{facts_of}
-use Rattle.copy_removal.specs.Removable.{IsBorrowable, IsDestroyedNext, IsMovable, IsOnlyDestroyed, IsUnlent, concerns, is_destroy, is_mark}
+use Rattle.moved_functions.specs.copy_removal.Copies.{IsCopy, IsDestroy, is_op}
+use Rattle.moved_functions.specs.copy_removal.Optimised.{facts_of}
+use Rattle.moved_functions.specs.copy_removal.Removable.{IsBorrowable, IsDestroyedNext, IsMovable, IsOnlyDestroyed, IsUnlent, concerns, is_destroy, is_mark}
 use Rattle.moved_functions.specs.inner.Structure.{old_point, stood_at}
 use Rattle.moved_functions.proofs.InModule.{counted}
 use Rattle.moved_functions.proofs.Items.{gone, size_behind}

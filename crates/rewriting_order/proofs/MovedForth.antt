@@ -5,10 +5,10 @@ use Rattle.std.specs.List.{flat_map, list_any}
 use Rattle.std.proofs.lemmas.Bool.{cases_eq, cases_lt, eq-eqb, eqb-true, ne_eqb}
 use Rattle.std.proofs.lemmas.List.{append-nil}
 use Rattle.std.proofs.lemmas.Option.{same_Some, slice_get_within}
-use Rattle.accepted_values.proofs.Addresses.{addresses_of_lenders}
-use Rattle.accepted_values.proofs.Based.{lent_by_lenders, owned_own_bases}
-use Rattle.accepted_values.specs.inner.Bases.{IsLender}
-use Rattle.accepted_values.specs.inner.Known.{IsAcceptedBody, kind_at}
+use Rattle.lent_functions.proofs.accepted_values.Addresses.{addresses_of_lenders}
+use Rattle.lent_functions.proofs.accepted_values.Based.{lent_by_lenders, owned_own_bases}
+use Rattle.lent_functions.specs.accepted_values.inner.Bases.{IsLender}
+use Rattle.lent_functions.specs.accepted_values.inner.Known.{IsAcceptedBody, kind_at}
 use Rattle.instruction_table.specs.declared.entries.Role.TheVariants as role
 use Rattle.instruction_table.specs.declared.op.Op.TheVariants as op
 use Rattle.item_operands.specs.Items.{item_defined, item_taken, taken_in}
@@ -26,13 +26,13 @@ use Rattle.sil_ast.specs.declared.place.PointId.{PointId}
 use Rattle.sil_ast.specs.declared.place.ValueId.{ValueId}
 use Rattle.sil_cfg.specs.Items.{point_at}
 use Rattle.sil_cfg.specs.declared.item.Item.TheVariants as item
-use Rattle.sil_verifier.specs.inner.Checked.{IsVerified}
+use Rattle.moved_functions.specs.sil_verifier.inner.Checked.{IsVerified}
 use Rattle.type_definitions.specs.Declarations.{declarations_of}
 use Rattle.type_definitions.specs.declared.kind.Kind.{Kind}
 use Rattle.type_definitions.specs.declared.kind.Kind.TheVariants as kind
-use Rattle.copy_removal.specs.Copies.{IsCopy}
-use Rattle.copy_removal.specs.Optimised.{facts_of}
-use Rattle.copy_removal.specs.Removable.{IsBorrowable, IsMovable, IsOnlyDestroyed, concerns, is_destroy, is_mark}
+use Rattle.moved_functions.specs.copy_removal.Copies.{IsCopy}
+use Rattle.moved_functions.specs.copy_removal.Optimised.{facts_of}
+use Rattle.moved_functions.specs.copy_removal.Removable.{IsBorrowable, IsMovable, IsOnlyDestroyed, concerns, is_destroy, is_mark}
 use Rattle.lent_functions.proofs.Insts.{op_is}
 use Rattle.lent_functions.proofs.ValueRows.{same_value}
 use Rattle.moved_functions.specs.inner.Structure.{old_item, old_point, stood_at}

@@ -7,10 +7,10 @@ use Rattle.sil_ast.specs.declared.module.Module.{Module}
 use Rattle.sil_ast.specs.declared.place.PointId.{PointId}
 use Rattle.sil_ast.specs.declared.place.ValueId.{ValueId}
 use Rattle.sil_rules.specs.Order.{NotAfter}
-use Rattle.copy_removal.specs.Copies.{IsCopy}
-use Rattle.copy_removal.specs.Optimised.{Rewrites, facts_of, lends, moves, text_key}
-use Rattle.copy_removal.specs.Removable.{IsBorrowable, IsMovable}
-use Rattle.copy_removal.specs.Rewritten.{lent, moved, with_function}
+use Rattle.moved_functions.specs.copy_removal.Copies.{IsCopy}
+use Rattle.moved_functions.specs.copy_removal.Optimised.{Rewrites, facts_of, lends, moves, text_key}
+use Rattle.moved_functions.specs.copy_removal.Removable.{IsBorrowable, IsMovable}
+use Rattle.moved_functions.specs.copy_removal.Rewritten.{lent, moved, with_function}
 use Rattle.moved_functions.proofs.Lists.{changed_elsewhere, changed_there}
 
 -- the point comes before the other one in the text of their function

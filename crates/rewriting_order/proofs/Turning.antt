@@ -25,7 +25,7 @@ use Rattle.ownership_marks.specs.declared.mark.Mark.{Mark}
 use Rattle.ownership_marks.specs.declared.mark.MarkSort.{MarkSort}
 use Rattle.ownership_marks.specs.declared.mark.MarkSort.TheVariants.{Begin, End, Use}
 use Rattle.type_definitions.specs.declared.kind.Kind.TheVariants as kind
-use Rattle.copy_removal.specs.Removable.{IsFreeAt, concerns, is_mark, is_sort}
+use Rattle.moved_functions.specs.copy_removal.Removable.{IsFreeAt, concerns, is_mark, is_sort}
 use Rattle.moved_functions.proofs.Items.{gone, inside}
 use Rattle.moved_functions.proofs.KeptOnWalks.{Turns, turns_join, turns_split}
 use Rattle.moved_functions.proofs.Lives.{none_from}

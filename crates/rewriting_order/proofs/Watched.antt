@@ -23,8 +23,8 @@ use Rattle.ownership_marks.specs.Marks.{marks_of}
 use Rattle.ownership_marks.specs.declared.mark.Mark.{Mark}
 use Rattle.ownership_marks.specs.declared.mark.MarkSort.{MarkSort}
 use Rattle.ownership_marks.specs.declared.mark.MarkSort.TheVariants.{End, Use, Begin}
-use Rattle.borrow_scopes.specs.inner.Runs.{sort_for, sort_of}
-use Rattle.copy_removal.specs.Removable.{IsFreeAt, is_mark}
+use Rattle.moved_functions.specs.borrow_scopes.inner.Runs.{sort_for, sort_of}
+use Rattle.moved_functions.specs.copy_removal.Removable.{IsFreeAt, is_mark}
 
 abbrev pub off : pattern.Mark
 off = needs_off ConsumedWhileBorrowed

@@ -5,3 +5,4 @@ pub mod TurnedTrails
 pub mod WalkEdges
 pub mod SwitchedTrails
 pub mod SplicedRuns
+pub use Rattle.typed_graph_laws.proofs as typed_graph_laws

@@ -18,3 +18,9 @@ pub use Rattle.lowered_run.specs.MemoryEffects
 pub use Rattle.lowered_run.specs.ModuleShapes
 pub use Rattle.lowered_run.specs.Operation
 pub use Rattle.lowered_run.specs.Typing
+pub use Rattle.lowered_run.specs.sil_types as sil_types
+pub use Rattle.lowered_run.specs.memory_accesses as memory_accesses
+pub use Rattle.lowered_run.specs.holder_model as holder_model
+pub use Rattle.lowered_run.specs as lowered_run
+pub use Rattle.lowered_run.specs.ownership_kinds as ownership_kinds
+pub use Rattle.lowered_run.specs.ownership_origins as ownership_origins

@@ -15,11 +15,11 @@ use Rattle.sil_ast.specs.declared.inst.Edge.{Edge}
 use Rattle.sil_ast.specs.declared.inst.Inst.{Inst}
 use Rattle.sil_ast.specs.declared.module.Module.{Module}
 use Rattle.sil_ast.specs.declared.type_name.TypeName.{TypeName}
-use Rattle.sil_types.specs.Typing.EdgeRules.{goes_to_entry, has_address_type, has_block_types, is_to_entry, lets_address_escape, takes_address}
-use Rattle.sil_types.specs.Typing.OperandTypes.{edge_is_as_written}
-use Rattle.sil_types.specs.Typing.RowTypes.{all_written}
-use Rattle.sil_types.specs.Typing.Shapes.{target}
-use Rattle.sil_types.specs.Typing.Values.{arg_type, value_types}
+use Rattle.run_typing.specs.sil_types.Typing.EdgeRules.{goes_to_entry, has_address_type, has_block_types, is_to_entry, lets_address_escape, takes_address}
+use Rattle.run_typing.specs.sil_types.Typing.OperandTypes.{edge_is_as_written}
+use Rattle.run_typing.specs.sil_types.Typing.RowTypes.{all_written}
+use Rattle.run_typing.specs.sil_types.Typing.Shapes.{target}
+use Rattle.run_typing.specs.sil_types.Typing.Values.{arg_type, value_types}
 use Rattle.type_definitions.specs.Declarations.{declarations_of}
 use Rattle.run_values.specs.Shapes.{shape_of}
 use Rattle.run_typing.specs.EndForms.{EdgeForms, arguments_at}

@@ -7,8 +7,8 @@ use Rattle.std.proofs.lemmas.Bool.{eqb-true}
 use Rattle.instruction_table.specs.Forms.{bare_operands_of, results_of}
 use Rattle.instruction_table.specs.declared.op.Op.{Op}
 use Rattle.instruction_table.specs.declared.op.Op.TheVariants as op
-use Rattle.holder_model.specs.Effects.{effect_of}
-use Rattle.holder_model.specs.Frames.{has_any}
+use Rattle.run_typing.specs.holder_model.Effects.{effect_of}
+use Rattle.run_typing.specs.holder_model.Frames.{has_any}
 use Rattle.numbered_form.specs.Insts.{insts_of}
 use Rattle.numbered_form.specs.Lists.{is_empty}
 use Rattle.numbered_form.specs.inner.Parts.{first_then, has_operands, is_bare, is_callee, is_signature, row_has}
@@ -24,12 +24,12 @@ use Rattle.sil_ast.specs.declared.place.FuncId.{FuncId}
 use Rattle.sil_ast.specs.declared.place.ValueId.{ValueId}
 use Rattle.sil_ast.specs.declared.type_name.TypeName.{TypeName}
 use Rattle.sil_ast.specs.declared.type_name.TypeName.TheVariants as type
-use Rattle.sil_types.specs.Typing.OperandTypes.{are_as_asked_by, argument_types, has_type}
-use Rattle.sil_types.specs.Typing.ResultCounts.{is_count_by}
-use Rattle.sil_types.specs.Typing.RowTypes.{given_by, gives, made_types, row_types}
-use Rattle.sil_types.specs.Typing.Same.{all_pairs}
-use Rattle.sil_types.specs.Typing.SignatureRules.{callee, callee_value, calls_no_function, calls_none_by, differs_by, differs_from_signature, has_signature_of, is_signature_of, signature_of}
-use Rattle.sil_types.specs.Typing.Values.{arg_functions, arg_has, arg_types, function_at, functions_by, result_functions, result_types, type_at, value_functions, value_types}
+use Rattle.run_typing.specs.sil_types.Typing.OperandTypes.{are_as_asked_by, argument_types, has_type}
+use Rattle.run_typing.specs.sil_types.Typing.ResultCounts.{is_count_by}
+use Rattle.run_typing.specs.sil_types.Typing.RowTypes.{given_by, gives, made_types, row_types}
+use Rattle.run_typing.specs.sil_types.Typing.Same.{all_pairs}
+use Rattle.run_typing.specs.sil_types.Typing.SignatureRules.{callee, callee_value, calls_no_function, calls_none_by, differs_by, differs_from_signature, has_signature_of, is_signature_of, signature_of}
+use Rattle.run_typing.specs.sil_types.Typing.Values.{arg_functions, arg_has, arg_types, function_at, functions_by, result_functions, result_types, type_at, value_functions, value_types}
 use Rattle.type_definitions.specs.Declarations.{Declarations, declarations_of}
 use Rattle.type_definitions.specs.Mentions.{direct_type, given_type}
 use Rattle.value_tables.specs.ValueRows.{rows_from}

@@ -4,7 +4,7 @@ use Rattle.std.specs.Prelude.{◌||◌}
 use Rattle.std.proofs.lemmas.List.{map-append}
 use Rattle.sil_ast.specs.declared.module.Module.{Module}
 use Rattle.numbered_form.specs.Names.{Name}
-use Rattle.holder_model.specs.ModuleShapes.{field_shape, field_shapes, shapes_of}
+use Rattle.run_typing.specs.holder_model.ModuleShapes.{field_shape, field_shapes, shapes_of}
 use Rattle.run_values.specs.Shapes.{Shape}
 use Rattle.type_definitions.specs.Declarations.{Declarations, declarations_of, inherits, is_class}
 use Rattle.type_definitions.specs.Lookups.{fields_of}

@@ -4,7 +4,7 @@ use Rattle.std.specs.Prelude.{◌||◌, option_map, slice_get}
 use Rattle.std.specs.List.{list_all, list_any}
 use Rattle.std.specs.Option.{option_to_list}
 use Rattle.std.proofs.lemmas.Option.{slice_get-map}
-use Rattle.holder_model.specs.Frames.{has_any}
+use Rattle.run_typing.specs.holder_model.Frames.{has_any}
 use Rattle.numbered_form.specs.Names.{Name, class_name}
 use Rattle.sil_ast.specs.declared.function.Function.{Function}
 use Rattle.sil_ast.specs.declared.module.Module.{Module}
@@ -13,10 +13,10 @@ use Rattle.sil_ast.specs.declared.type_name.TypeName.TheVariants as type
 use Rattle.sil_ast.specs.declared.vtable.DeinitEntry.{DeinitEntry}
 use Rattle.sil_ast.specs.declared.vtable.Vtable.{Vtable}
 use Rattle.sil_rules.specs.declared.rule.Rule.TheVariants as rule
-use Rattle.sil_types.specs.Typing.OperandTypes.{argument_types}
-use Rattle.sil_types.specs.Typing.Same.{is_same_signature}
-use Rattle.sil_types.specs.Typing.SignatureRules.{deinit_signature, has_wrong_deinitialiser, is_deinitialiser, is_external, names_deinitialiser}
-use Rattle.sil_types.specs.Typing.Typed.{at_vtable, deinit_signature as breaks_deinit, vtable}
+use Rattle.run_typing.specs.sil_types.Typing.OperandTypes.{argument_types}
+use Rattle.run_typing.specs.sil_types.Typing.Same.{is_same_signature}
+use Rattle.run_typing.specs.sil_types.Typing.SignatureRules.{deinit_signature, has_wrong_deinitialiser, is_deinitialiser, is_external, names_deinitialiser}
+use Rattle.run_typing.specs.sil_types.Typing.Typed.{at_vtable, deinit_signature as breaks_deinit, vtable}
 use Rattle.type_definitions.specs.Declarations.{at_place, declarations_of, is_class, place_of}
 use Rattle.type_definitions.specs.Lookups.{deinit_in, deinit_of}
 use Rattle.type_definitions.specs.Mentions.{Item, members_named_by, mentioned_by}

@@ -7,7 +7,7 @@ use Rattle.instruction_table.specs.declared.op.Op.{Op}
 use Rattle.instruction_table.specs.declared.op.Op.TheVariants as op
 use Rattle.item_operands.specs.Parts.{terminator_of}
 use Rattle.item_operands.specs.Roles.{taken_by}
-use Rattle.lowered_run.specs.LowStepParts.{taken_value}
+use Rattle.run_typing.specs.lowered_run.LowStepParts.{taken_value}
 use Rattle.numbered_form.specs.Lists.{is_empty}
 use Rattle.numbered_form.specs.inner.Parts.{are_cases, are_edges_by, first_then, has_operands, is_bare, is_branch, is_typed}
 use Rattle.run_values.specs.Shapes.{shape_of}
@@ -19,14 +19,14 @@ use Rattle.sil_ast.specs.declared.module.Module.{Module}
 use Rattle.sil_ast.specs.declared.operands.Operand.{Operand}
 use Rattle.sil_ast.specs.declared.type_name.TypeName.{TypeName, TypeName-F, out-TypeName}
 use Rattle.sil_ast.specs.declared.type_name.TypeName.TheVariants as type
-use Rattle.sil_types.specs.Typing.EdgeRules.{has_block_types, has_wrong_edge_arguments, have_wrong_arguments_by}
-use Rattle.sil_types.specs.Typing.OperandTypes.{are_as_asked_by, has_type}
-use Rattle.sil_types.specs.Typing.RowTypes.{given_by, passes, takes, type_of, written}
-use Rattle.sil_types.specs.Typing.Same.{all_pairs, is_same_type}
-use Rattle.sil_types.specs.Typing.Shapes.{case_count_in, is_enum, target, target_in, where_it}
-use Rattle.sil_types.specs.Typing.SignatureRules.{differs_by, differs_from_signature, returns_what_is_given}
-use Rattle.sil_types.specs.Typing.SwitchRules.{has_wrong_cases_by, switches_wrongly}
-use Rattle.sil_types.specs.Typing.Values.{value_functions, value_types}
+use Rattle.run_typing.specs.sil_types.Typing.EdgeRules.{has_block_types, has_wrong_edge_arguments, have_wrong_arguments_by}
+use Rattle.run_typing.specs.sil_types.Typing.OperandTypes.{are_as_asked_by, has_type}
+use Rattle.run_typing.specs.sil_types.Typing.RowTypes.{given_by, passes, takes, type_of, written}
+use Rattle.run_typing.specs.sil_types.Typing.Same.{all_pairs, is_same_type}
+use Rattle.run_typing.specs.sil_types.Typing.Shapes.{case_count_in, is_enum, target, target_in, where_it}
+use Rattle.run_typing.specs.sil_types.Typing.SignatureRules.{differs_by, differs_from_signature, returns_what_is_given}
+use Rattle.run_typing.specs.sil_types.Typing.SwitchRules.{has_wrong_cases_by, switches_wrongly}
+use Rattle.run_typing.specs.sil_types.Typing.Values.{value_functions, value_types}
 use Rattle.type_definitions.specs.Declarations.{Declarations, declarations_of}
 use Rattle.type_definitions.specs.Mentions.{given_type}
 use Rattle.run_typing.specs.EndForms.{EndForms, branch, branches, cases, operand_forms, returns, unreachable, value_in}

@@ -12,10 +12,10 @@ use Rattle.sil_ast.specs.declared.type_name.TypeName.{TypeName, TypeName-F, out-
 use Rattle.numbered_form.specs.Lists.{Each}
 use Rattle.numbered_form.specs.Names.{Name}
 use Rattle.numbered_form.specs.inner.Types.{HasDeclTypes, HasFieldType, is_plain_type}
-use Rattle.holder_model.specs.ModuleShapes.{field_shape, field_shapes, shapes_of}
+use Rattle.run_typing.specs.holder_model.ModuleShapes.{field_shape, field_shapes, shapes_of}
 use Rattle.run_values.specs.Shapes.{Enum, FullCase, NoCase, PlainCase, Shape, shape_of}
 use Rattle.run_values.specs.inner.Laws.{has_no_address, has_no_address_over}
-use Rattle.sil_types.specs.Typing.Shapes.{stored_as}
+use Rattle.run_typing.specs.sil_types.Typing.Shapes.{stored_as}
 use Rattle.type_definitions.specs.Declarations.{Declarations, declarations_of, is_class}
 use Rattle.type_definitions.specs.Lookups.{chain_fields, decl_fields, fields_of, own_fields}
 use Rattle.type_definitions.specs.Mentions.{field_standing, in_field}

@@ -9,8 +9,8 @@ use Rattle.sil_ast.specs.declared.decl.Decl.TheVariants.{Struct, Enum, Class}
 use Rattle.sil_ast.specs.declared.decl.Field.{Field}
 use Rattle.sil_ast.specs.declared.module.Module.{Module}
 use Rattle.numbered_form.specs.Names.{AreOnce, Name, decl_name}
-use Rattle.holder_model.specs.ModuleShapes.{ClassShape, class_shape, field_shape, field_shapes, fields_in, shapes_of}
-use Rattle.holder_model.specs.ModuleShapes.{is_class as is_named}
+use Rattle.run_typing.specs.holder_model.ModuleShapes.{ClassShape, class_shape, field_shape, field_shapes, fields_in, shapes_of}
+use Rattle.run_typing.specs.holder_model.ModuleShapes.{is_class as is_named}
 use Rattle.run_values.specs.Shapes.{Shape}
 use Rattle.type_definitions.specs.Declarations.{Declarations, declarations_of, is_class}
 use Rattle.type_definitions.specs.Lookups.{fields_of}

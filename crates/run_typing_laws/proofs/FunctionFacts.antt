@@ -16,14 +16,14 @@ use Rattle.sil_ast.specs.declared.module.Module.{Module}
 use Rattle.sil_ast.specs.declared.place.PointId.{PointId}
 use Rattle.sil_rules.specs.declared.rule.Rule.{Rule}
 use Rattle.sil_rules.specs.declared.rule.Rule.TheVariants as rule
-use Rattle.sil_types.specs.Typing.EdgeRules.{goes_to_entry, has_wrong_edge_arguments, lets_address_escape}
-use Rattle.sil_types.specs.Typing.OperandTypes.{has_operand_types}
-use Rattle.sil_types.specs.Typing.ResultCounts.{is_count_by}
-use Rattle.sil_types.specs.Typing.RowTypes.{row_types}
-use Rattle.sil_types.specs.Typing.SignatureRules.{calls_no_function, differs_from_signature, has_wrong_signature, is_no_output_call}
-use Rattle.sil_types.specs.Typing.SwitchRules.{has_wrong_cases}
-use Rattle.sil_types.specs.Typing.Typed.{BreaksAtFunction, BreaksAtPoint, at_function, at_point, function, point}
-use Rattle.sil_types.specs.Typing.Values.{value_functions, value_types}
+use Rattle.run_typing.specs.sil_types.Typing.EdgeRules.{goes_to_entry, has_wrong_edge_arguments, lets_address_escape}
+use Rattle.run_typing.specs.sil_types.Typing.OperandTypes.{has_operand_types}
+use Rattle.run_typing.specs.sil_types.Typing.ResultCounts.{is_count_by}
+use Rattle.run_typing.specs.sil_types.Typing.RowTypes.{row_types}
+use Rattle.run_typing.specs.sil_types.Typing.SignatureRules.{calls_no_function, differs_from_signature, has_wrong_signature, is_no_output_call}
+use Rattle.run_typing.specs.sil_types.Typing.SwitchRules.{has_wrong_cases}
+use Rattle.run_typing.specs.sil_types.Typing.Typed.{BreaksAtFunction, BreaksAtPoint, at_function, at_point, function, point}
+use Rattle.run_typing.specs.sil_types.Typing.Values.{value_functions, value_types}
 use Rattle.type_definitions.specs.Declarations.{declarations_of}
 use Rattle.run_typing_laws.specs.inner.WellTyped.{IsWellTyped}
 use Rattle.run_typing_laws.proofs.Declared.{each_append}

@@ -3,13 +3,13 @@ use Rattle.std.proofs.Common.{◌≡◌, ℕ, suc, ◌+◌, ◌<◌, List, [], �
 use Rattle.std.specs.Prelude.{slice_get}
 use Rattle.std.specs.List.{flat_map}
 use Rattle.std.proofs.lemmas.List.{length-replicate}
-use Rattle.holder_model.specs.Calling.{value_count}
+use Rattle.run_typing.specs.holder_model.Calling.{value_count}
 use Rattle.item_operands.specs.Items.{arg_value, item_defined, item_taken, taken_along_in, taken_in}
 use Rattle.item_operands.specs.Parts.{args_behind, edge_at, edge_in, inst_at, item_edge, item_inst, results_in, terminator_of}
 use Rattle.item_operands.specs.Roles.{consumed, taken_each}
 use Rattle.item_operands.specs.declared.taken.Taken.{Taken}
 use Rattle.item_operands.specs.declared.taken.Treatment.{Treatment}
-use Rattle.lowered_run.specs.LowStepParts.{taken_value, values_taken}
+use Rattle.run_typing.specs.lowered_run.LowStepParts.{taken_value, values_taken}
 use Rattle.numbered_form.specs.Lists.{Each}
 use Rattle.numbered_form.specs.Numbering.{AreCountedFrom, IsEdgeInRange, IsInstInRange, IsValueBelow, defined_in, results_of, values_of}
 use Rattle.sil_ast.specs.Blocks.{args_in, args_of}
@@ -25,7 +25,7 @@ use Rattle.sil_ast.specs.declared.place.PointId.{PointId}
 use Rattle.sil_ast.specs.declared.place.ValueId.{ValueId}
 use Rattle.sil_cfg.specs.declared.item.Item.{Item}
 use Rattle.sil_cfg.specs.declared.item.Item.TheVariants.{Entry, Inst, Edge, Exit}
-use Rattle.sil_types.specs.Typing.Values.{arg_functions, functions_by, result_functions}
+use Rattle.run_typing.specs.sil_types.Typing.Values.{arg_functions, functions_by, result_functions}
 use Rattle.value_tables.proofs.Rows.{rows_count}
 use Rattle.run_typing.specs.CallForms.{IsOf, ItemIsOf}
 use Rattle.run_typing_laws.proofs.FunctionFacts.{TypedFunction}

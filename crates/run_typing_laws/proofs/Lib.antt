@@ -27,3 +27,4 @@ pub mod SignatureFacts
 pub mod CallFacts
 pub mod DeinitFacts
 pub mod RunnableTyped
+pub use Rattle.run_typing.proofs.ownership_origins as ownership_origins

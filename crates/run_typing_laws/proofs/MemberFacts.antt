@@ -14,12 +14,12 @@ use Rattle.sil_ast.specs.declared.module.Module.{Module}
 use Rattle.sil_ast.specs.declared.type_name.TypeName.{TypeName, TypeName-F, out-TypeName}
 use Rattle.sil_ast.specs.declared.type_name.TypeName.TheVariants as type
 use Rattle.numbered_form.specs.Names.{Name, case_name, field_name}
-use Rattle.memory_accesses.specs.Sources.{element_place, member_place}
-use Rattle.holder_model.specs.ModuleShapes.{case_place, field_shape, field_shapes, is_case, shapes_of}
+use Rattle.run_typing.specs.memory_accesses.Sources.{element_place, member_place}
+use Rattle.run_typing.specs.holder_model.ModuleShapes.{case_place, field_shape, field_shapes, is_case, shapes_of}
 use Rattle.run_values.specs.Layers.{CaseLayer}
 use Rattle.run_values.specs.Shapes.{CaseShapes, Enum, Shape, case_shapes, cases_of, listed, listed_cases, member_shapes, members_of, shape_of, with_case}
-use Rattle.sil_types.specs.Typing.Shapes.{case_count, case_count_in, case_in, class_field, class_fields, declared_cases, element_at, element_of, elements_in, field_named, fields_of_class}
-use Rattle.sil_types.specs.Typing.Shapes.{fields_of_struct, found_field, is_case_owner_layer, is_enum, is_owner, is_owner_layer, name_in, struct_field, struct_fields}
+use Rattle.run_typing.specs.sil_types.Typing.Shapes.{case_count, case_count_in, case_in, class_field, class_fields, declared_cases, element_at, element_of, elements_in, field_named, fields_of_class}
+use Rattle.run_typing.specs.sil_types.Typing.Shapes.{fields_of_struct, found_field, is_case_owner_layer, is_enum, is_owner, is_owner_layer, name_in, struct_field, struct_fields}
 use Rattle.type_definitions.specs.Declarations.{Declarations, decl_of, declarations_of, is_class, is_class_found, optional_cases, place_of, superclass_found}
 use Rattle.type_definitions.specs.Lookups.{FoundField, Payload, case_payload, decl_cases, decl_fields, field_at_place, fields_of, inherited_fields, optional_payload, own_fields, payload_at}
 use Rattle.type_definitions.specs.Lookups.{payload_in}

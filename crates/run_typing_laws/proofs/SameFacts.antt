@@ -9,7 +9,7 @@ use Rattle.sil_ast.specs.declared.signature.Passing.{Passing}
 use Rattle.sil_ast.specs.declared.signature.Passing.TheVariants as passing
 use Rattle.sil_ast.specs.declared.signature.Signature.{Signature}
 use Rattle.sil_ast.specs.declared.type_name.TypeName.{TypeName}
-use Rattle.sil_types.specs.Typing.Same.{all_pairs, are_same_types, is_same_convention, is_same_flag, is_same_given, is_same_param, is_same_passing, is_same_signature, is_same_type}
+use Rattle.run_typing.specs.sil_types.Typing.Same.{all_pairs, are_same_types, is_same_convention, is_same_flag, is_same_given, is_same_param, is_same_passing, is_same_signature, is_same_type}
 use Rattle.run_typing_laws.proofs.Found.{both_first, both_second}
 use Rattle.run_typing_laws.proofs.ShapeFacts.{same_types}
 

@@ -3,7 +3,7 @@ use Rattle.std.proofs.Common.{◌≡◌, List, [], ◌∷◌, Bool, true, map, r
 use Rattle.std.proofs.lemmas.Bool.{and_parts, eqb-true, false≢true}
 use Rattle.std.specs.Cmp.Lexicographic.{bytes_decides}
 use Rattle.sil_ast.specs.declared.type_name.TypeName.{TypeName, TypeName-F, fold-roll-TypeName, map-TypeName, out-TypeName, roll-TypeName, roll-out-TypeName}
-use Rattle.sil_types.specs.Typing.Same.{all_pairs, applied, is_same_layer, is_same_type}
+use Rattle.run_typing.specs.sil_types.Typing.Same.{all_pairs, applied, is_same_layer, is_same_type}
 use Rattle.run_typing_laws.proofs.Opened.{Proved, by_layer, type_in, types_in}
 
 abbrev IsFound : TypeName → Type 0

@@ -5,7 +5,7 @@ use Rattle.std.specs.List.{flat_map, list_all}
 use Rattle.argument_conventions.specs.Arguments.{Told, argument_type, arguments_of, convention_of, is_direct, out_argument, param_argument}
 use Rattle.argument_conventions.specs.declared.convention.ArgumentConvention.{ArgumentConvention}
 use Rattle.argument_conventions.specs.declared.convention.ArgumentConvention.TheVariants as convention
-use Rattle.holder_model.specs.Frames.{has_any}
+use Rattle.run_typing.specs.holder_model.Frames.{has_any}
 use Rattle.sil_ast.specs.Blocks.{args_of}
 use Rattle.sil_ast.specs.declared.function.Block.{Block}
 use Rattle.sil_ast.specs.declared.function.BlockArg.{BlockArg}
@@ -17,13 +17,13 @@ use Rattle.sil_ast.specs.declared.signature.Given.{Given}
 use Rattle.sil_ast.specs.declared.signature.Param.{Param}
 use Rattle.sil_ast.specs.declared.type_name.TypeName.{TypeName}
 use Rattle.sil_ast.specs.declared.type_name.TypeName.TheVariants as type
-use Rattle.sil_types.specs.Typing.OperandTypes.{argument_types}
-use Rattle.sil_types.specs.Typing.Same.{all_pairs, is_same_type}
-use Rattle.sil_types.specs.Typing.Shapes.{is_integer, is_object, target}
-use Rattle.sil_types.specs.Typing.SignatureRules.{fits_param, fits_result, gives_nothing, has_entry_arguments, has_fitting_conventions, has_wrong_signature}
-use Rattle.sil_types.specs.Typing.SignatureRules.{is_annotated_for, is_argument_for, is_external}
-use Rattle.sil_types.specs.Typing.SignatureRules.{is_no_output_call, is_plain, is_plain_integer}
-use Rattle.sil_types.specs.Typing.Values.{arg_type}
+use Rattle.run_typing.specs.sil_types.Typing.OperandTypes.{argument_types}
+use Rattle.run_typing.specs.sil_types.Typing.Same.{all_pairs, is_same_type}
+use Rattle.run_typing.specs.sil_types.Typing.Shapes.{is_integer, is_object, target}
+use Rattle.run_typing.specs.sil_types.Typing.SignatureRules.{fits_param, fits_result, gives_nothing, has_entry_arguments, has_fitting_conventions, has_wrong_signature}
+use Rattle.run_typing.specs.sil_types.Typing.SignatureRules.{is_annotated_for, is_argument_for, is_external}
+use Rattle.run_typing.specs.sil_types.Typing.SignatureRules.{is_no_output_call, is_plain, is_plain_integer}
+use Rattle.run_typing.specs.sil_types.Typing.Values.{arg_type}
 use Rattle.type_definitions.specs.Declarations.{Declarations, declarations_of}
 use Rattle.type_definitions.specs.Mentions.{direct_types, given_type, result_type, together}
 use Rattle.numbered_form.specs.Lists.{Each}

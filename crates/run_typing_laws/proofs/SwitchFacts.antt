@@ -9,8 +9,8 @@ use Rattle.std.proofs.lemmas.List.Sums.{fails_before_first}
 use Rattle.std.proofs.lemmas.List.FromFn.{get_or-range_with_len, length-range_with_len}
 use Rattle.std.proofs.lemmas.List.Quantifiers.{position-Some}
 use Rattle.std.proofs.lemmas.Option.{slice_get-get_or}
-use Rattle.holder_model.specs.Edges.{edge_for, is_at, is_default, is_for}
-use Rattle.holder_model.specs.ModuleShapes.{case_place}
+use Rattle.run_typing.specs.holder_model.Edges.{edge_for, is_at, is_default, is_for}
+use Rattle.run_typing.specs.holder_model.ModuleShapes.{case_place}
 use Rattle.numbered_form.specs.Lists.{is_empty}
 use Rattle.numbered_form.specs.inner.Parts.{are_cases, is_case, is_default as is_default_edge}
 use Rattle.run_values.specs.Layers.{CaseLayer}
@@ -24,11 +24,11 @@ use Rattle.sil_ast.specs.declared.inst.Inst.{Inst}
 use Rattle.sil_ast.specs.declared.member.Member.{Member}
 use Rattle.sil_ast.specs.declared.module.Module.{Module}
 use Rattle.sil_ast.specs.declared.type_name.TypeName.{TypeName}
-use Rattle.sil_types.specs.Typing.Same.{are_same_types}
-use Rattle.sil_types.specs.Typing.Shapes.{case_count, case_in, is_enum}
-use Rattle.sil_types.specs.Typing.SwitchRules.{are_all_there, case_of_edge, fits_case, fits_default, fits_payload, has_number, is_default_argument, is_of_enum, leaves_out_case}
-use Rattle.sil_types.specs.Typing.SwitchRules.{misfits_default, misfits_payload, names_other_case, place_in_enum, places_of, repeats_case, shares_block, switches_wrongly}
-use Rattle.sil_types.specs.Typing.Values.{arg_type}
+use Rattle.run_typing.specs.sil_types.Typing.Same.{are_same_types}
+use Rattle.run_typing.specs.sil_types.Typing.Shapes.{case_count, case_in, is_enum}
+use Rattle.run_typing.specs.sil_types.Typing.SwitchRules.{are_all_there, case_of_edge, fits_case, fits_default, fits_payload, has_number, is_default_argument, is_of_enum, leaves_out_case}
+use Rattle.run_typing.specs.sil_types.Typing.SwitchRules.{misfits_default, misfits_payload, names_other_case, place_in_enum, places_of, repeats_case, shares_block, switches_wrongly}
+use Rattle.run_typing.specs.sil_types.Typing.Values.{arg_type}
 use Rattle.type_definitions.specs.Declarations.{Declarations, declarations_of}
 use Rattle.type_definitions.specs.Lookups.{Payload}
 use Rattle.run_typing.specs.EndForms.{CaseForms, TakenCase, arguments_at, payload_forms}

@@ -13,10 +13,10 @@ use Rattle.sil_ast.specs.declared.inst.Inst.{Inst}
 use Rattle.sil_ast.specs.declared.module.Module.{Module}
 use Rattle.sil_ast.specs.declared.operands.Operand.{Operand}
 use Rattle.sil_ast.specs.declared.type_name.TypeName.{TypeName}
-use Rattle.sil_types.specs.Typing.OperandTypes.{are_as_asked, are_as_written, edge_is_as_written, is_as_written}
-use Rattle.sil_types.specs.Typing.RowTypes.{keeps_row, made_types}
-use Rattle.sil_types.specs.Typing.Shapes.{target}
-use Rattle.sil_types.specs.Typing.Values.{arg_has, arg_type, arg_types, function_at, result_types, value_functions, value_types}
+use Rattle.run_typing.specs.sil_types.Typing.OperandTypes.{are_as_asked, are_as_written, edge_is_as_written, is_as_written}
+use Rattle.run_typing.specs.sil_types.Typing.RowTypes.{keeps_row, made_types}
+use Rattle.run_typing.specs.sil_types.Typing.Shapes.{target}
+use Rattle.run_typing.specs.sil_types.Typing.Values.{arg_has, arg_type, arg_types, function_at, result_types, value_functions, value_types}
 use Rattle.type_definitions.specs.Declarations.{Declarations, declarations_of}
 use Rattle.run_values.specs.Shapes.{shape_of}
 use Rattle.run_typing.specs.Forms.{OfValue, form_by, form_of, forms_of}

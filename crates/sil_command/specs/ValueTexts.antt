@@ -8,7 +8,7 @@ use Rattle.sil_cfg.specs.Flow.{edge_to}
 use Rattle.sil_cfg.specs.Items.{flow_of}
 use Rattle.sil_rules.specs.declared.rule.Rule.{Rule}
 use Rattle.rule_faults.specs.declared.fault.RuleFault.{RuleFault}
-use Rattle.type_check.specs.Refusals.{function_id}
+use Rattle.sil_verifier.specs.type_check.Refusals.{function_id}
 use Rattle.sil_verifier.specs.Shown.{has_walk}
 use Rattle.sil_command.specs.Texts.{line, rule_words, site_words}
 

@@ -1,2 +1,3 @@
 pub mod FirstRefusals
 mod PastLimits
+pub use Rattle.type_item_rules.proofs as type_item_rules

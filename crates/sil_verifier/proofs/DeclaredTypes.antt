@@ -11,8 +11,8 @@ use Rattle.sil_types.specs.Refusals.ShownIn.{item, infinite, too_deep, too_wide}
 use Rattle.type_definitions.specs.Declarations.{Declarations, declarations_of}
 use Rattle.type_definitions.specs.Mentions.{Item, items_of}
 use Rattle.type_definitions.specs.Rules.{IsWellNamed}
-use Rattle.type_item_rules.specs.Faults.{Breaks}
-use Rattle.type_item_rules.specs.Faults.Breaks.{unknown_type, bad_member, misplaced_storage}
+use Rattle.sil_types.specs.type_item_rules.Faults.{Breaks}
+use Rattle.sil_types.specs.type_item_rules.Faults.Breaks.{unknown_type, bad_member, misplaced_storage}
 use Rattle.type_check.specs.Refusals.IsBroken.{broken}
 use Rattle.type_check.specs.declared.fault.TypingFault.{TypingFault}
 use Rattle.sil_verifier.specs.Refusals.{HasDeclaredTypes, HasTypes, IsWrong}

@@ -20,7 +20,7 @@ use Rattle.ownership_kinds.specs.Statics.{HasKinds}
 use Rattle.ownership_marks.specs.Known.{AreKindsBy, Known}
 use Rattle.lifetime_worklist.specs.inner.Lifetimes.{AreLivesKept, IsFirstBrokenLife, IsLifeBroken}
 use Rattle.borrow_scopes.specs.inner.Borrows.{AreScopesKept, IsFirstBrokenScope, IsScopeBroken}
-use Rattle.memory_accesses.specs.Sources.{sources_of}
+use Rattle.memory_rules.specs.memory_accesses.Sources.{sources_of}
 use Rattle.memory_rules.specs.Broken as breaks
 use Rattle.memory_rules.specs.inner.Ends.{IsFirstFault, IsMemoryEnd, IsMemoryKept}
 use Rattle.sil_verifier.proofs.Groups.{by_group, of_definitions, of_kinds, of_lifetimes, of_memory, of_scopes, within_group}

@@ -17,7 +17,7 @@ use Rattle.borrow_scopes.proofs.RulesOf.{on_scopes}
 use Rattle.ownership_kinds.proofs.RulesOf.{on_kinds}
 use Rattle.ownership_kinds.specs.Facts.{facts_in}
 use Rattle.ownership_kinds.specs.Statics as kinds
-use Rattle.memory_accesses.specs.Sources.{sources_of}
+use Rattle.memory_rules.specs.memory_accesses.Sources.{sources_of}
 use Rattle.memory_rules.proofs.RulesOf.{on_memory}
 use Rattle.memory_rules.specs.Broken as breaks
 use Rattle.sil_verifier.specs.Shown.{IsShownIn, inner_key, last_key, lives_in, scopes_in}

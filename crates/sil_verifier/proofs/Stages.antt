@@ -18,7 +18,7 @@ use Rattle.type_check.specs.Refusals.IsBroken.{broken}
 use Rattle.type_check.specs.declared.fault.TypingFault.{TypingFault}
 use Rattle.type_definitions.specs.Declarations.{declarations_of}
 use Rattle.type_definitions.specs.Mentions.{items_of}
-use Rattle.type_item_rules.proofs.FirstFaults.{stage_at}
+use Rattle.sil_types.proofs.type_item_rules.FirstFaults.{stage_at}
 use Rattle.sil_verifier.proofs.DeclaredTypes.{declared_not_refused, typed_not_wrong}
 use Rattle.sil_verifier.proofs.Groups.{stage_told}
 use Rattle.sil_verifier.specs.Findings.{Finding, item, limit, typing, value, IsFound, Refusal, finding_key}

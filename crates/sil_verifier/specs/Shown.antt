@@ -18,7 +18,7 @@ use Rattle.ownership_kinds.specs.Statics as kinds
 use Rattle.lifetime_worklist.specs.Lives.{lives_of}
 use Rattle.borrow_scopes.specs.Others.{other_of}
 use Rattle.borrow_scopes.specs.Scopes.{scopes_of}
-use Rattle.memory_accesses.specs.Sources.{sources_of}
+use Rattle.memory_rules.specs.memory_accesses.Sources.{sources_of}
 use Rattle.memory_rules.specs.Broken as breaks
 use Rattle.memory_rules.specs.Statics.{is_static}
 

@@ -1,1 +1,2 @@
 pub mod inner
+pub use Rattle.sil_types.specs as sil_types

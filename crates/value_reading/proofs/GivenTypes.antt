@@ -6,7 +6,7 @@ use Rattle.std.proofs.lemmas.Bool.{and_parts, leb-true}
 use Rattle.argument_conventions.specs.Arguments.{is_direct}
 use Rattle.numbered_form.specs.Lists.{Each}
 use Rattle.numbered_form.specs.inner.Types.{HasFunctionTypes, IsGivenWritten}
-use Rattle.run_typing.specs.Runnable.{IsRunnable}
+use Rattle.run_typing_laws.specs.run_typing.Runnable.{IsRunnable}
 use Rattle.run_typing_laws.proofs.Found.{each_at, neither_first, neither_second, not_false}
 use Rattle.run_typing_laws.proofs.ListFacts.{each_parts, each_within}
 use Rattle.run_typing_laws.proofs.Opened.{fold-Tuple}

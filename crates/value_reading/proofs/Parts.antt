@@ -7,7 +7,7 @@ use Rattle.std.proofs.lemmas.Bool.{and_parts}
 use Rattle.std.proofs.lemmas.List.{map-append}
 use Rattle.numbered_form.specs.Lists.{Each}
 use Rattle.numbered_form.specs.Names.{Name}
-use Rattle.run_typing.specs.Runnable.{IsRunnable}
+use Rattle.run_typing_laws.specs.run_typing.Runnable.{IsRunnable}
 use Rattle.run_typing_laws.proofs.ListFacts.{map_twice}
 use Rattle.run_typing_laws.proofs.Opened.{fold-Tuple}
 use Rattle.run_typing_laws.proofs.Whole.{no_ring, told_named}

@@ -5,7 +5,7 @@ use Rattle.std.specs.List.{flat_map, list_all}
 use Rattle.std.specs.Option.{option_to_list}
 use Rattle.std.proofs.lemmas.Bool.{and_parts}
 use Rattle.std.proofs.lemmas.List.Sums.{sum_by-cons}
-use Rattle.run_typing.specs.Runnable.{IsRunnable}
+use Rattle.run_typing_laws.specs.run_typing.Runnable.{IsRunnable}
 use Rattle.run_typing_laws.proofs.Declared.{found_at}
 use Rattle.run_typing_laws.proofs.RunnableTyped.{well_typed}
 use Rattle.run_typing_laws.proofs.ShapeFacts.{enum_shape, struct_shape}

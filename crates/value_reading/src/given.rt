@@ -2,8 +2,8 @@
 
 ghost use Rattle.std.specs.Prelude.{◌≡◌, ℕ, map, slice_get, IfOk};
 ghost use Rattle.numbered_form.specs.Lists.{Each};
-ghost use Rattle.run_typing.specs.Forms.{given_shape};
-ghost use Rattle.run_typing.specs.Runnable.{IsRunnable};
+ghost use Rattle.run_typing_laws.specs.run_typing.Forms.{given_shape};
+ghost use Rattle.run_typing_laws.specs.run_typing.Runnable.{IsRunnable};
 ghost use Rattle.run_values.specs.Shapes as shape;
 ghost use Rattle.run_values.specs.Shapes.{members_of, shape_of};
 ghost use Rattle.sil_rules.specs.declared.limits.TheConstants.{DEPTH};

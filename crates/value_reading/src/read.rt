@@ -4,7 +4,7 @@ ghost use Rattle.std.specs.Prelude.{◌≡◌, ◌+◌, [], Some, map, option_ma
 ghost use Rattle.std.specs.List.{flat_map};
 ghost use Rattle.std.specs.Option.{option_to_list};
 ghost use Rattle.numbered_form.specs.Lists.{Each};
-ghost use Rattle.run_typing.specs.Runnable.{IsRunnable};
+ghost use Rattle.run_typing_laws.specs.run_typing.Runnable.{IsRunnable};
 ghost use Rattle.run_values.specs.Shapes as shape;
 ghost use Rattle.run_values.specs.Shapes.{cases_of, members_of, shape_of};
 ghost use Rattle.sil_ast.specs.declared.module.Module.{Module};

@@ -1,11 +1,11 @@
 -- Parts that are on together: an address and its slot; an address or a loan and its scope.
 use Rattle.std.specs.Prelude.{◌≡◌, List}
-use Rattle.memory_parts.specs.declared.part.Part.TheVariants.{Allocation, InScope, InSlot, Lent}
+use Rattle.accepted_trails.specs.memory_parts.declared.part.Part.TheVariants.{Allocation, InScope, InSlot, Lent}
 use Rattle.sil_ast.specs.declared.function.Function.{Function}
 use Rattle.sil_ast.specs.declared.place.ValueId.{ValueId}
 use Rattle.sil_cfg.specs.declared.item.Item.{Item}
 use Rattle.type_definitions.specs.Declarations.{Declarations}
-use Rattle.run_trails.specs.inner.RunTrails.{IsRunTrail}
+use Rattle.accepted_trails.specs.run_trails.inner.RunTrails.{IsRunTrail}
 use Rattle.accepted_trails.specs.inner.Accepted.{IsAcceptedIn}
 use Rattle.accepted_trails.specs.inner.Lives.{IsScopeIn, is_open}
 use Rattle.accepted_memory.specs.inner.PartTrails.{IsPartOf, is_on}

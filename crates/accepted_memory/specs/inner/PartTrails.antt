@@ -1,20 +1,20 @@
 -- Parts of memory on the trails of an accepted function: a slot, what a cell holds, a loan, a field that is being built, an address in its scope or slot.
 use Rattle.std.specs.Prelude.{◌≡◌, List, ◌∷◌, ◌++◌, Bool, true, Option, Some, Contains, flat_map}
-use Rattle.memory_accesses.specs.Accesses.{accesses_of}
-use Rattle.memory_accesses.specs.Sources.{sources_of}
-use Rattle.memory_accesses.specs.declared.access.Access.{Access}
-use Rattle.memory_parts.specs.Parts.{at_return, means, parts_of}
-use Rattle.memory_parts.specs.Shown.{marks_of_access, part_marks}
-use Rattle.memory_parts.specs.declared.part.Part.{Part}
+use Rattle.accepted_trails.specs.memory_accesses.Accesses.{accesses_of}
+use Rattle.accepted_trails.specs.memory_accesses.Sources.{sources_of}
+use Rattle.accepted_trails.specs.memory_accesses.declared.access.Access.{Access}
+use Rattle.accepted_trails.specs.memory_parts.Parts.{at_return, means, parts_of}
+use Rattle.accepted_trails.specs.memory_parts.Shown.{marks_of_access, part_marks}
+use Rattle.accepted_trails.specs.memory_parts.declared.part.Part.{Part}
 use Rattle.ownership_chains.specs.Facts.{known_or}
-use Rattle.ownership_kinds.specs.Facts.{facts_in}
+use Rattle.accepted_trails.specs.ownership_kinds.Facts.{facts_in}
 use Rattle.path_patterns.specs.declared.mark.Mark.{Mark}
 use Rattle.sil_ast.specs.declared.function.Function.{Function}
 use Rattle.sil_cfg.specs.Returns.{is_return}
 use Rattle.sil_cfg.specs.declared.item.Item.{Item}
 use Rattle.type_definitions.specs.Declarations.{Declarations}
-use Rattle.run_trails.specs.inner.RunTrails.{IsRunTrail}
-use Rattle.run_trails.specs.inner.Switched.{finds, switched, switched_over}
+use Rattle.accepted_trails.specs.run_trails.inner.RunTrails.{IsRunTrail}
+use Rattle.accepted_trails.specs.run_trails.inner.Switched.{finds, switched, switched_over}
 use Rattle.accepted_trails.specs.inner.Accepted.{IsAcceptedIn}
 
 module _ (d : Declarations) (f : Function) where

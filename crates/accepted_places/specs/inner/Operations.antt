@@ -2,13 +2,13 @@
 use Rattle.std.specs.Prelude.{◌≡◌, List, ◌∷◌, ◌++◌, true, false, ◌&&◌, Contains, Some}
 use Rattle.argument_conventions.specs.declared.row.AddressRow.{AddressRow}
 use Rattle.item_operands.specs.Parts.{item_inst}
-use Rattle.memory_accesses.specs.Locations.{do_overlap, location_of}
-use Rattle.memory_accesses.specs.Operations.{addresses_of, deallocates, operations_of}
-use Rattle.memory_accesses.specs.Rows.{has_operation}
-use Rattle.memory_accesses.specs.Sources.{is_slot, sources_of}
-use Rattle.memory_accesses.specs.declared.access.Operated.{Operated}
-use Rattle.memory_accesses.specs.declared.access.Operation.TheVariants.{Handed}
-use Rattle.memory_accesses.specs.declared.location.Location.{Location}
+use Rattle.run_typing_laws.specs.memory_accesses.Locations.{do_overlap, location_of}
+use Rattle.run_typing_laws.specs.memory_accesses.Operations.{addresses_of, deallocates, operations_of}
+use Rattle.run_typing_laws.specs.memory_accesses.Rows.{has_operation}
+use Rattle.run_typing_laws.specs.memory_accesses.Sources.{is_slot, sources_of}
+use Rattle.run_typing_laws.specs.memory_accesses.declared.access.Operated.{Operated}
+use Rattle.run_typing_laws.specs.memory_accesses.declared.access.Operation.TheVariants.{Handed}
+use Rattle.run_typing_laws.specs.memory_accesses.declared.location.Location.{Location}
 use Rattle.sil_ast.specs.declared.function.Function.{Function}
 use Rattle.sil_ast.specs.declared.inst.Inst.{Inst}
 use Rattle.sil_ast.specs.declared.place.ValueId.{ValueId}

@@ -1,5 +1,5 @@
 -- What the laws of trails and of entries ask of values.
-use Rattle.accepted_trails.specs.inner.Bases.{HasBasesOfTaken, MakesAtStops}
+use Rattle.held_entries.specs.accepted_trails.inner.Bases.{HasBasesOfTaken, MakesAtStops}
 use Rattle.accepted_values.specs.inner.Known.{InAccepted}
 use Rattle.held_entries.specs.inner.Tracked.{EndsWhatMayEnd}
 use Rattle.sil_cfg.specs.declared.item.Item.{Item}

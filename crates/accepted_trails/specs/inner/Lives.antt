@@ -1,12 +1,12 @@
 -- Owned values and scopes, on the trails of an accepted function.
 use Rattle.std.specs.Prelude.{◌≡◌, ◌<◌, List, ◌∷◌, Bool, true, false, Option, Some, length}
 use Rattle.std.specs.List.{list_any}
-use Rattle.borrow_scopes.specs.Scopes.{is_scope, lent_bases}
+use Rattle.sil_verifier.specs.borrow_scopes.Scopes.{is_scope, lent_bases}
 use Rattle.item_operands.specs.Items.{item_taken}
-use Rattle.lifetime_worklist.specs.inner.Runs.{IsOwned}
+use Rattle.sil_verifier.specs.lifetime_worklist.inner.Runs.{IsOwned}
 use Rattle.numbered_form.specs.Numbering.{values_of}
 use Rattle.ownership_chains.specs.Facts.{has, known_or}
-use Rattle.ownership_kinds.specs.Facts.{facts_in}
+use Rattle.sil_verifier.specs.ownership_kinds.Facts.{facts_in}
 use Rattle.path_checks.specs.Entries.{marks_for}
 use Rattle.sil_ast.specs.declared.function.Function.{Function}
 use Rattle.sil_ast.specs.declared.place.ValueId.{ValueId}

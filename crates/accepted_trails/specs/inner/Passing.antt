@@ -1,7 +1,7 @@
 -- How an item finds and leaves a value that begins and ends: its operands end it, then they use it, and then it begins.
 use Rattle.std.specs.Prelude.{◌≡◌, List, ◌∷◌, ◌++◌, Bool, true, false, not, ◌&&◌, ◌||◌, ◌==◌, Option, Some}
 use Rattle.std.specs.List.{list_any}
-use Rattle.holder_model.specs.Frames.{ends, has_any}
+use Rattle.run_trails.specs.holder_model.Frames.{ends, has_any}
 use Rattle.item_operands.specs.Items.{item_defined, item_taken}
 use Rattle.item_operands.specs.declared.taken.Taken.{Taken}
 use Rattle.ownership_chains.specs.declared.facts.Facts.{Facts}

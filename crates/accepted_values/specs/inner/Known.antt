@@ -5,15 +5,15 @@ use Rattle.sil_ast.specs.declared.module.Module.{Module}
 use Rattle.sil_ast.specs.declared.place.FuncId.{FuncId}
 use Rattle.sil_ast.specs.declared.place.ValueId.{ValueId}
 use Rattle.sil_ast.specs.declared.type_name.TypeName.{TypeName}
-use Rattle.holder_model.specs.ModuleFacts.{facts_of, facts_told}
+use Rattle.owned_run_typing.specs.holder_model.ModuleFacts.{facts_of, facts_told}
 use Rattle.numbered_form.specs.Numbering.{values_of}
 use Rattle.ownership_chains.specs.Chains.{operands_at}
 use Rattle.ownership_chains.specs.Facts.{known_or, origin_at, told_by}
 use Rattle.ownership_chains.specs.declared.facts.Facts.{Facts}
-use Rattle.ownership_kinds.specs.Facts.{facts_in}
-use Rattle.ownership_origins.specs.Origins.{definitions_of}
-use Rattle.run_typing_laws.specs.inner.WellTyped.{IsWellTyped}
-use Rattle.sil_types.specs.Typing.Values.{type_at, value_types}
+use Rattle.sil_verifier.specs.ownership_kinds.Facts.{facts_in}
+use Rattle.owned_run_typing.specs.ownership_origins.Origins.{definitions_of}
+use Rattle.owned_run_typing.specs.run_typing_laws.inner.WellTyped.{IsWellTyped}
+use Rattle.sil_verifier.specs.sil_types.Typing.Values.{type_at, value_types}
 use Rattle.sil_verifier.specs.Values.{IsBody}
 use Rattle.sil_verifier.specs.inner.Checked.{IsVerified}
 use Rattle.type_definitions.specs.Declarations.{Declarations, declarations_of}

@@ -5,10 +5,10 @@ use Rattle.sil_ast.specs.declared.function.Function.{Function}
 use Rattle.sil_ast.specs.declared.inst.Inst as inst
 use Rattle.sil_ast.specs.declared.place.PointId.{PointId}
 use Rattle.sil_ast.specs.declared.place.ValueId.{ValueId}
-use Rattle.holder_model.specs.Standing.{behind}
+use Rattle.owned_run_typing.specs.holder_model.Standing.{behind}
 use Rattle.item_operands.specs.Items.{arg_value, item_defined}
 use Rattle.item_operands.specs.Parts.{inst_at}
-use Rattle.run_typing.specs.CallForms.{ItemIsOf}
+use Rattle.owned_run_typing.specs.run_typing.CallForms.{ItemIsOf}
 use Rattle.sil_cfg.specs.Items.{IsItem, flow_of}
 use Rattle.sil_cfg.specs.declared.item.Item.{Item}
 use Rattle.sil_cfg.specs.declared.item.Item.TheVariants.{Entry, Inst}

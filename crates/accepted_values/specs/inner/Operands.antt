@@ -9,8 +9,8 @@ use Rattle.item_operands.specs.Items.{item_taken}
 use Rattle.item_operands.specs.declared.taken.Taken.{Taken}
 use Rattle.numbered_form.specs.Lists.{Each}
 use Rattle.ownership_chains.specs.Facts.{forwarded}
-use Rattle.ownership_kinds.specs.Statics.{forwards}
-use Rattle.ownership_origins.specs.Origins.{is_trivial_or_untyped}
+use Rattle.sil_verifier.specs.ownership_kinds.Statics.{forwards}
+use Rattle.owned_run_typing.specs.ownership_origins.Origins.{is_trivial_or_untyped}
 use Rattle.point_checks.specs.Points.{IsAt}
 use Rattle.sil_ast.specs.declared.function.Function.{Function}
 use Rattle.sil_ast.specs.declared.inst.Inst.{Inst}

@@ -2,22 +2,22 @@
 use Rattle.std.specs.Prelude.{◌≡◌, ℕ, zero, suc, Some, None, slice_get, unwrap_or}
 use Rattle.argument_conventions.specs.Arguments.{arguments_of}
 use Rattle.instruction_table.specs.Forms.{result_kind_of}
-use Rattle.memory_accesses.specs.Sources.{argument_source_or, result_source, source_at, sources_of}
-use Rattle.memory_accesses.specs.declared.source.Source.{Source}
-use Rattle.memory_accesses.specs.declared.source.Source.TheVariants.{Other}
+use Rattle.owned_run_typing.specs.memory_accesses.Sources.{argument_source_or, result_source, source_at, sources_of}
+use Rattle.owned_run_typing.specs.memory_accesses.declared.source.Source.{Source}
+use Rattle.owned_run_typing.specs.memory_accesses.declared.source.Source.TheVariants.{Other}
 use Rattle.ownership_chains.specs.Chains.{operands_at}
 use Rattle.ownership_chains.specs.Facts.{origin_at}
 use Rattle.ownership_chains.specs.declared.definition.Definition.{Definition}
-use Rattle.ownership_origins.specs.Origins.{arg_definition, definitions_of, is_zero, result_definition}
-use Rattle.ownership_origins.specs.Switched.{switch_to}
+use Rattle.owned_run_typing.specs.ownership_origins.Origins.{arg_definition, definitions_of, is_zero, result_definition}
+use Rattle.owned_run_typing.specs.ownership_origins.Switched.{switch_to}
 use Rattle.point_checks.specs.Points.{IsAt}
 use Rattle.sil_ast.specs.Blocks.{args_of}
 use Rattle.sil_ast.specs.declared.function.BlockArg.{BlockArg}
 use Rattle.sil_ast.specs.declared.function.Function.{Function}
 use Rattle.sil_ast.specs.declared.inst.Inst.{Inst}
 use Rattle.sil_ast.specs.declared.place.ValueId.{ValueId}
-use Rattle.sil_types.specs.Typing.RowTypes.{made_types}
-use Rattle.sil_types.specs.Typing.Values.{function_at, result_functions, value_functions}
+use Rattle.sil_verifier.specs.sil_types.Typing.RowTypes.{made_types}
+use Rattle.sil_verifier.specs.sil_types.Typing.Values.{function_at, result_functions, value_functions}
 use Rattle.type_definitions.specs.Declarations.{Declarations}
 use Rattle.value_tables.specs.Borrows.{borrow_by, borrow_in, borrows_of}
 use Rattle.value_tables.specs.declared.borrows.Borrow.TheVariants.{NoBorrow}

@@ -1,7 +1,7 @@
 -- What code keeps of where the values of a function stand.
 use Rattle.std.specs.Prelude.{ℕ, ◌+◌, List, [], ◌∷◌, ◌++◌, Option, map, slice_get, sum, unwrap_or}
 use Rattle.std.specs.List.{range_with_len}
-use Rattle.holder_model.specs.Calling.{value_count}
+use Rattle.ready_code.specs.holder_model.Calling.{value_count}
 use Rattle.run_values.specs.Shapes.{storage_in}
 use Rattle.sil_ast.specs.declared.function.Function.{Function}
 use Rattle.sil_ast.specs.declared.place.FuncId.{FuncId}
@@ -9,7 +9,7 @@ use Rattle.sil_ast.specs.declared.place.ValueId.{ValueId}
 use Rattle.sil_ast.specs.declared.type_name.TypeName.{TypeName}
 use Rattle.sil_types.specs.Typing.Values.{function_at, type_at, value_functions, value_types}
 use Rattle.type_definitions.specs.Declarations.{Declarations}
-use Rattle.run_typing.specs.Forms.{Form, OfFunction, OfNothing, OfPlace, OfValue, form_by}
+use Rattle.ready_code.specs.run_typing.Forms.{Form, OfFunction, OfNothing, OfPlace, OfValue, form_by}
 use Rattle.ready_code.specs.declared.local.Local.{Local}
 use Rattle.ready_code.specs.declared.local.LocalAddress.{LocalAddress}
 use Rattle.ready_code.specs.Layout.{addresses_in, leaves_in, size_of}

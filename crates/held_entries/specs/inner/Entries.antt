@@ -2,8 +2,8 @@
 use Rattle.std.specs.Prelude.{◌≡◌, ◌<◌, List, [], ◌∷◌, ◌++◌, true, false, length, Option, Ok}
 use Rattle.std.specs.List.{list_any}
 use Rattle.accepted_trails.specs.inner.Passing.{is_end}
-use Rattle.holder_model.specs.Data.{Datum}
-use Rattle.holder_model.specs.Frames.{Entry, Gone, Held, Lent, Plain, ends, entry_at, is_held, made_entry, results_put, without_ended}
+use Rattle.accepted_trails.specs.holder_model.Data.{Datum}
+use Rattle.accepted_trails.specs.holder_model.Frames.{Entry, Gone, Held, Lent, Plain, ends, entry_at, is_held, made_entry, results_put, without_ended}
 use Rattle.item_operands.specs.declared.taken.Taken.{Taken}
 use Rattle.ownership_chains.specs.Facts.{has, known_or}
 use Rattle.ownership_chains.specs.declared.facts.Facts.{Facts}

@@ -6,12 +6,12 @@ use Rattle.accepted_trails.specs.inner.Bases.{IsBaseOf}
 use Rattle.accepted_trails.specs.inner.Lives as lives
 use Rattle.accepted_trails.specs.inner.Lives.{IsOwnedIn, IsScopeIn, is_open}
 use Rattle.accepted_trails.specs.inner.Passing.{is_use, left_by}
-use Rattle.holder_model.specs.Data.{Datum}
-use Rattle.holder_model.specs.Frames.{Entry, Gone, Held, Lent, ends, entry_at, is_held}
+use Rattle.accepted_trails.specs.holder_model.Data.{Datum}
+use Rattle.accepted_trails.specs.holder_model.Frames.{Entry, Gone, Held, Lent, ends, entry_at, is_held}
 use Rattle.item_operands.specs.Items.{item_defined, item_taken}
 use Rattle.item_operands.specs.declared.taken.Taken.{Taken}
-use Rattle.ownership_kinds.specs.Facts.{facts_in}
-use Rattle.run_trails.specs.inner.RunTrails.{IsTurnedTrail}
+use Rattle.accepted_trails.specs.ownership_kinds.Facts.{facts_in}
+use Rattle.accepted_trails.specs.run_trails.inner.RunTrails.{IsTurnedTrail}
 use Rattle.sil_ast.specs.declared.function.Function.{Function}
 use Rattle.sil_ast.specs.declared.place.ValueId.{ValueId}
 use Rattle.sil_cfg.specs.Returns.{is_return}

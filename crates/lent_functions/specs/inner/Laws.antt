@@ -4,14 +4,14 @@ use Rattle.copy_removal.specs.Copies.{IsCopy}
 use Rattle.copy_removal.specs.Optimised.{facts_of}
 use Rattle.copy_removal.specs.Removable.{IsBorrowable}
 use Rattle.copy_removal.specs.Rewritten.{lent}
-use Rattle.ownership_kinds.specs.Statics.{HasKinds}
+use Rattle.copy_removal.specs.ownership_kinds.Statics.{HasKinds}
 use Rattle.path_checks.specs.First.{IsFirst}
 use Rattle.sil_ast.specs.declared.function.Function.{Function}
 use Rattle.sil_ast.specs.declared.module.Module.{Module}
 use Rattle.sil_ast.specs.declared.place.PointId.{PointId}
 use Rattle.sil_ast.specs.declared.place.ValueId.{ValueId}
-use Rattle.sil_verifier.specs.Shown.{lives_in, scopes_in}
-use Rattle.sil_verifier.specs.inner.Checked.{IsVerified}
+use Rattle.accepted_values.specs.sil_verifier.Shown.{lives_in, scopes_in}
+use Rattle.accepted_values.specs.sil_verifier.inner.Checked.{IsVerified}
 use Rattle.type_definitions.specs.Declarations.{Declarations, declarations_of}
 use Rattle.value_availability.specs.Accesses.{accesses_of}
 

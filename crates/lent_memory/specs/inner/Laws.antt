@@ -6,14 +6,14 @@ use Rattle.sil_ast.specs.declared.place.PointId.{PointId}
 use Rattle.sil_ast.specs.declared.place.ValueId.{ValueId}
 use Rattle.rule_faults.specs.declared.fault.RuleFault.{RuleFault}
 use Rattle.type_definitions.specs.Declarations.{declarations_of}
-use Rattle.ownership_kinds.specs.Facts.{facts_in}
-use Rattle.memory_accesses.specs.Sources.{sources_of}
-use Rattle.memory_rules.specs.Broken.{IsBroken}
-use Rattle.sil_verifier.specs.inner.Checked.{IsVerified}
-use Rattle.copy_removal.specs.Copies.{IsCopy}
-use Rattle.copy_removal.specs.Optimised.{facts_of}
-use Rattle.copy_removal.specs.Removable.{IsBorrowable}
-use Rattle.copy_removal.specs.Rewritten.{lent}
+use Rattle.accepted_memory.specs.ownership_kinds.Facts.{facts_in}
+use Rattle.accepted_memory.specs.memory_accesses.Sources.{sources_of}
+use Rattle.accepted_memory.specs.memory_rules.Broken.{IsBroken}
+use Rattle.accepted_memory.specs.sil_verifier.inner.Checked.{IsVerified}
+use Rattle.lent_functions.specs.copy_removal.Copies.{IsCopy}
+use Rattle.lent_functions.specs.copy_removal.Optimised.{facts_of}
+use Rattle.lent_functions.specs.copy_removal.Removable.{IsBorrowable}
+use Rattle.lent_functions.specs.copy_removal.Rewritten.{lent}
 
 -- of a verified module's function in which a copy that can become a borrow is one, no rule on memory is broken: 601 to 611
 abbrev pub LentMemoryIsClean : Type 0

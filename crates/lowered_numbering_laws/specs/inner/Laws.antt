@@ -2,11 +2,11 @@
 use Rattle.std.specs.Prelude.{◌≡◌}
 use Rattle.sil_ast.specs.declared.module.Module.{Module}
 use Rattle.lowering_laws.specs.inner.Lowerable.{HasNoRings}
-use Rattle.lowering_model.specs.LoweredModules.{lowered}
+use Rattle.lowering_laws.specs.lowering_model.LoweredModules.{lowered}
 use Rattle.numbered_form.specs.Lists.{Each}
 use Rattle.numbered_form.specs.inner.NumberedForm.{IsNumbered}
-use Rattle.run_typing.specs.Runnable.{IsNearlyNumbered, IsNotOwned}
-use Rattle.sil_types.specs.Typing.Typed.{Typed}
+use Rattle.lowering_laws.specs.run_typing.Runnable.{IsNearlyNumbered, IsNotOwned}
+use Rattle.lowering_laws.specs.sil_types.Typing.Typed.{Typed}
 use Rattle.type_definitions.specs.Declarations.{declarations_of}
 use Rattle.type_definitions.specs.Rules.{Declared, InLimits}
 

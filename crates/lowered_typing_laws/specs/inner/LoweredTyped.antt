@@ -1,8 +1,8 @@
 -- Lowering keeps a module typed.
 use Rattle.numbered_form.specs.inner.NumberedForm.{IsNumbered}
 use Rattle.sil_ast.specs.declared.module.Module.{Module}
-use Rattle.sil_types.specs.Typing.Typed.{Typed}
-use Rattle.lowering_model.specs.LoweredModules.{lowered}
+use Rattle.lowering_laws.specs.sil_types.Typing.Typed.{Typed}
+use Rattle.lowering_laws.specs.lowering_model.LoweredModules.{lowered}
 use Rattle.lowering_laws.specs.inner.Lowerable.{HasNoRings}
 
 -- what lowering makes of a typed module is typed, where no value is another name of itself

@@ -9,10 +9,10 @@ use Rattle.lowering_model.specs.Names.{renamed_from, stands_for}
 use Rattle.lowering_model.specs.Numbers.{new_number, numbering_of}
 use Rattle.numbered_form.specs.Numbering.{AreCountedFrom, values_of}
 use Rattle.numbered_form.specs.inner.NumberedForm.{IsNumbered}
-use Rattle.ownership_kinds.specs.Statics.{HasKinds}
-use Rattle.ownership_origins.specs.Renamings.{renamings_of}
+use Rattle.run_typing_laws.specs.ownership_kinds.Statics.{HasKinds}
+use Rattle.lowering_model.specs.ownership_origins.Renamings.{renamings_of}
 use Rattle.sil_cfg.specs.Items.{HasBlocks}
-use Rattle.sil_types.specs.Typing.Typed.{Typed}
+use Rattle.lowering_model.specs.sil_types.Typing.Typed.{Typed}
 use Rattle.type_definitions.specs.Declarations.{Declarations, declarations_of}
 use Rattle.lowering_laws.specs.inner.Lowerable.{HasNoRings, HaveEnds, IsLowerable}
 

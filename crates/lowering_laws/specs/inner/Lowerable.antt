@@ -9,9 +9,9 @@ use Rattle.numbered_form.specs.Lists.{Each}
 use Rattle.numbered_form.specs.Numbering.{IsFunctionNumbered}
 use Rattle.numbered_form.specs.inner.Parts.{IsInside, IsTerminator}
 use Rattle.ownership_chains.specs.Chains.{HasNoRing, IsInRange}
-use Rattle.ownership_origins.specs.Renamings.{renamings_of}
-use Rattle.sil_types.specs.Typing.ResultCounts.{is_count_by}
-use Rattle.sil_types.specs.Typing.RowTypes.{keeps_row, row_types}
+use Rattle.lowering_model.specs.ownership_origins.Renamings.{renamings_of}
+use Rattle.lowering_model.specs.sil_types.Typing.ResultCounts.{is_count_by}
+use Rattle.lowering_model.specs.sil_types.Typing.RowTypes.{keeps_row, row_types}
 use Rattle.type_definitions.specs.Declarations.{Declarations}
 
 -- the instruction ends no block, has the types that its row asks for, and as many results

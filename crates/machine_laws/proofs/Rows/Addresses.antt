@@ -2,22 +2,22 @@
 use Rattle.std.proofs.Common.{◌≡◌, ◌∙◌, ℕ, [], ◌∷◌, true, false, Bool, None, Some, cond, refl, sym, ap}
 use Rattle.std.proofs.lemmas.Option.{same_Some}
 use Rattle.std.specs.Prelude.{option_map, slice_get}
-use Rattle.holder_model.specs.Data.{AddressOf, ValueOf}
-use Rattle.holder_model.specs.Effects as effects
-use Rattle.holder_model.specs.Effects.{Effect, effect_of, names_field, names_field_of, names_member, part_number, the_place, with_some}
-use Rattle.holder_model.specs.ModuleShapes.{field_shapes, shapes_of}
-use Rattle.holder_model.specs.declared.row_effect.RowEffect.TheVariants as row
-use Rattle.heap_model.specs.HeapViews.{is_dead_in}
-use Rattle.lowered_run.specs.LowEffects.{dead_or, unless_dead}
-use Rattle.lowered_run.specs.declared.low_fault.LowFault.{LowFault}
-use Rattle.lowered_run.specs.declared.low_fault.LowFault.TheVariants as fault
+use Rattle.machine_steps.specs.holder_model.Data.{AddressOf, ValueOf}
+use Rattle.machine_steps.specs.holder_model.Effects as effects
+use Rattle.machine_steps.specs.holder_model.Effects.{Effect, effect_of, names_field, names_field_of, names_member, part_number, the_place, with_some}
+use Rattle.machine_steps.specs.holder_model.ModuleShapes.{field_shapes, shapes_of}
+use Rattle.machine_steps.specs.holder_model.declared.row_effect.RowEffect.TheVariants as row
+use Rattle.machine_steps.specs.heap_model.HeapViews.{is_dead_in}
+use Rattle.machine_steps.specs.lowered_run.LowEffects.{dead_or, unless_dead}
+use Rattle.machine_steps.specs.lowered_run.declared.low_fault.LowFault.{LowFault}
+use Rattle.machine_steps.specs.lowered_run.declared.low_fault.LowFault.TheVariants as fault
 use Rattle.machine_steps.specs.Operands.{address_in, faults, gives_address, objects_among}
 use Rattle.machine_steps.specs.Places.{field_address}
 use Rattle.machine_steps.specs.Views.{Went}
-use Rattle.ready_code.specs.Layout.{local, local_address}
-use Rattle.ready_code.specs.ReadyOps.{leaf_offset, operands_of}
-use Rattle.ready_code.specs.declared.op.ReadyOp.TheVariants as op
-use Rattle.run_typing.specs.Forms.{OfPlace, OfValue, form_of}
+use Rattle.machine_steps.specs.ready_code.Layout.{local, local_address}
+use Rattle.machine_steps.specs.ready_code.ReadyOps.{leaf_offset, operands_of}
+use Rattle.machine_steps.specs.ready_code.declared.op.ReadyOp.TheVariants as op
+use Rattle.machine_steps.specs.run_typing.Forms.{OfPlace, OfValue, form_of}
 use Rattle.run_values.specs.Leaves.{leaves_of}
 use Rattle.run_values.specs.Memory.{is_dead}
 use Rattle.run_values.specs.Places.{field_in, part_of}

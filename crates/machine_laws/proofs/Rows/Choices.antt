@@ -2,15 +2,15 @@
 use Rattle.std.proofs.Common.{◌≡◌, ◌+◌, ◌-◌, ◌∙◌, ◌++◌, ℕ, List, [], ◌∷◌, None, Some, length, refl, sym, ap, subst, arith}
 use Rattle.std.proofs.lemmas.Option.{same_Some}
 use Rattle.std.specs.Prelude.{replicate, slice_get}
-use Rattle.holder_model.specs.Data.{values_of}
-use Rattle.holder_model.specs.Effects.{chooses, effect_of, result_shape_of, with_some}
-use Rattle.holder_model.specs.ModuleShapes.{case_place, shapes_of}
-use Rattle.holder_model.specs.declared.row_effect.RowEffect.TheVariants as row
+use Rattle.machine_steps.specs.holder_model.Data.{values_of}
+use Rattle.machine_steps.specs.holder_model.Effects.{chooses, effect_of, result_shape_of, with_some}
+use Rattle.machine_steps.specs.holder_model.ModuleShapes.{case_place, shapes_of}
+use Rattle.machine_steps.specs.holder_model.declared.row_effect.RowEffect.TheVariants as row
 use Rattle.machine_steps.specs.Operands.{contents}
-use Rattle.ready_code.specs.Layout.{leaves_in, local, size_of}
-use Rattle.ready_code.specs.ReadyOps.{operands_of}
-use Rattle.ready_code.specs.declared.op.ReadyOp.TheVariants as op
-use Rattle.run_typing.specs.Forms.{Form, OfValue, form_of, forms_of}
+use Rattle.machine_steps.specs.ready_code.Layout.{leaves_in, local, size_of}
+use Rattle.machine_steps.specs.ready_code.ReadyOps.{operands_of}
+use Rattle.machine_steps.specs.ready_code.declared.op.ReadyOp.TheVariants as op
+use Rattle.machine_steps.specs.run_typing.Forms.{Form, OfValue, form_of, forms_of}
 use Rattle.run_values.specs.Layers.{CaseLayer}
 use Rattle.run_values.specs.Leaves.{leaves_of}
 use Rattle.run_values.specs.Shapes.{Shape, case_shapes}

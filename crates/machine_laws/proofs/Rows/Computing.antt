@@ -7,24 +7,24 @@ use Rattle.std.specs.Option.{option_to_list}
 use Rattle.builtin_names.specs.declared.names.Operation.{Operation}
 use Rattle.builtin_names.specs.declared.names.Operation.TheVariants as o
 use Rattle.builtin_names.specs.declared.names.Width.{Width}
-use Rattle.holder_model.specs.Builtins.{bit, builtin_value, combined, computed, computed_by, magnitude, signed, unsigned}
-use Rattle.holder_model.specs.Data.{all_of, values_of}
-use Rattle.holder_model.specs.Effects as effects
-use Rattle.holder_model.specs.Effects.{effect_of, with_some}
-use Rattle.holder_model.specs.declared.row_effect.RowEffect.TheVariants as row
+use Rattle.machine_steps.specs.holder_model.Builtins.{bit, builtin_value, combined, computed, computed_by, magnitude, signed, unsigned}
+use Rattle.machine_steps.specs.holder_model.Data.{all_of, values_of}
+use Rattle.machine_steps.specs.holder_model.Effects as effects
+use Rattle.machine_steps.specs.holder_model.Effects.{effect_of, with_some}
+use Rattle.machine_steps.specs.holder_model.declared.row_effect.RowEffect.TheVariants as row
 use Rattle.machine_steps.specs.Computing.{computed_leaves}
-use Rattle.ready_code.specs.Layout.{local}
-use Rattle.ready_code.specs.ReadyOps.{first_of, operands_of}
-use Rattle.ready_code.specs.declared.op.ReadyOp.TheVariants as op
-use Rattle.run_typing.specs.Forms.{Form, OfValue, form_of, forms_of}
-use Rattle.run_typing.specs.RowForms.{computed_shape, operand_shapes, shape_by, shapes_by}
+use Rattle.machine_steps.specs.ready_code.Layout.{local}
+use Rattle.machine_steps.specs.ready_code.ReadyOps.{first_of, operands_of}
+use Rattle.machine_steps.specs.ready_code.declared.op.ReadyOp.TheVariants as op
+use Rattle.machine_steps.specs.run_typing.Forms.{Form, OfValue, form_of, forms_of}
+use Rattle.machine_steps.specs.run_typing.RowForms.{computed_shape, operand_shapes, shape_by, shapes_by}
 use Rattle.run_values.specs.Leaves.{leaves_of}
 use Rattle.run_values.specs.Shapes.{Shape}
 use Rattle.run_values.specs.Values as value
 use Rattle.run_values.specs.Values.{integer_of}
 use Rattle.sil_ast.specs.declared.module.Module.{Module}
 use Rattle.sil_ast.specs.declared.place.ValueId.{ValueId}
-use Rattle.sil_types.specs.Typing.Builtins.{Builtin, Sort, bits, builtin_named, combining, comparing, overflowing, sort_of}
+use Rattle.machine_steps.specs.sil_types.Typing.Builtins.{Builtin, Sort, bits, builtin_named, combining, comparing, overflowing, sort_of}
 use Rattle.value_parts.specs.inner.Suits.{ClassTest, suits}
 use Rattle.machine_laws.proofs.Ending.{alike_by}
 use Rattle.machine_laws.proofs.FrameSteps.{StandsAt}

@@ -1,26 +1,26 @@
 -- An instruction by what its row does: its operands are read, and then the run and the machine do alike.
 use Rattle.std.proofs.Common.{◌≡◌, ℕ, List, sym, subst}
-use Rattle.holder_model.specs.Data.{Datum}
-use Rattle.holder_model.specs.Effects.{Effect, effect_by, effect_of}
-use Rattle.holder_model.specs.ModuleShapes.{shapes_in, shapes_of}
-use Rattle.holder_model.specs.States as low
-use Rattle.holder_model.specs.declared.row_effect.RowEffect.{RowEffect}
-use Rattle.lowered_run.specs.LowEffects.{at_places, operated_on, stored_by, unless_dead}
-use Rattle.lowered_run.specs.LowFrames.{LowFrame}
-use Rattle.lowered_run.specs.LowStepParts.{LowNext, LowState}
-use Rattle.lowered_run.specs.LowSteps as run
-use Rattle.lowered_run.specs.declared.low_fault.LowFault.{LowFault}
+use Rattle.machine_steps.specs.holder_model.Data.{Datum}
+use Rattle.machine_steps.specs.holder_model.Effects.{Effect, effect_by, effect_of}
+use Rattle.machine_steps.specs.holder_model.ModuleShapes.{shapes_in, shapes_of}
+use Rattle.machine_steps.specs.holder_model.States as low
+use Rattle.machine_steps.specs.holder_model.declared.row_effect.RowEffect.{RowEffect}
+use Rattle.machine_steps.specs.lowered_run.LowEffects.{at_places, operated_on, stored_by, unless_dead}
+use Rattle.machine_steps.specs.lowered_run.LowFrames.{LowFrame}
+use Rattle.machine_steps.specs.lowered_run.LowStepParts.{LowNext, LowState}
+use Rattle.machine_steps.specs.lowered_run.LowSteps as run
+use Rattle.machine_steps.specs.lowered_run.declared.low_fault.LowFault.{LowFault}
 use Rattle.machine_steps.specs.declared.frame.Frame.{Frame}
 use Rattle.machine_steps.specs.declared.frame.Task.{Task}
 use Rattle.machine_steps.specs.Rows as machine
 use Rattle.machine_steps.specs.Views.{MachineView}
 use Rattle.numbered_form.specs.Lists.{Each}
-use Rattle.ready_code.specs.declared.function.ReadyModule.{ReadyModule}
-use Rattle.ready_code.specs.declared.op.ReadyOp.{ReadyOp}
-use Rattle.ready_code.specs.ReadyOps.{operands_of}
-use Rattle.run_typing.specs.CallForms.{IsOf}
-use Rattle.run_typing.specs.Forms.{forms_of}
-use Rattle.run_typing.specs.RunTyped.{RunTyped}
+use Rattle.machine_steps.specs.ready_code.declared.function.ReadyModule.{ReadyModule}
+use Rattle.machine_steps.specs.ready_code.declared.op.ReadyOp.{ReadyOp}
+use Rattle.machine_steps.specs.ready_code.ReadyOps.{operands_of}
+use Rattle.machine_steps.specs.run_typing.CallForms.{IsOf}
+use Rattle.machine_steps.specs.run_typing.Forms.{forms_of}
+use Rattle.machine_steps.specs.run_typing.RunTyped.{RunTyped}
 use Rattle.run_values.specs.Shapes.{Shape}
 use Rattle.sil_ast.specs.declared.function.Function.{Function}
 use Rattle.sil_ast.specs.declared.inst.Inst.{Inst}

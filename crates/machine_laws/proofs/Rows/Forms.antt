@@ -1,19 +1,19 @@
 -- What typing says of an instruction, by what its row does: the forms of its operands, and of its results.
 use Rattle.std.proofs.Common.{◌≡◌, ℕ, ℤ, List, [], ◌∷◌, true, None, Some, map, refl, sym, subst}
 use Rattle.std.specs.Prelude.{option_and_then, slice_get}
-use Rattle.holder_model.specs.Effects.{effect_of, part_number}
-use Rattle.holder_model.specs.ModuleShapes.{case_place, field_shapes, shapes_of}
-use Rattle.holder_model.specs.declared.row_effect.RowEffect.{RowEffect}
-use Rattle.holder_model.specs.declared.row_effect.RowEffect.TheVariants as row
-use Rattle.memory_accesses.specs.declared.access.Operation.{Operation}
-use Rattle.memory_accesses.specs.declared.access.Operation.TheVariants as operation
+use Rattle.machine_steps.specs.holder_model.Effects.{effect_of, part_number}
+use Rattle.machine_steps.specs.holder_model.ModuleShapes.{case_place, field_shapes, shapes_of}
+use Rattle.machine_steps.specs.holder_model.declared.row_effect.RowEffect.{RowEffect}
+use Rattle.machine_steps.specs.holder_model.declared.row_effect.RowEffect.TheVariants as row
+use Rattle.machine_steps.specs.memory_accesses.declared.access.Operation.{Operation}
+use Rattle.machine_steps.specs.memory_accesses.declared.access.Operation.TheVariants as operation
 use Rattle.numbered_form.specs.Names.{Name}
 use Rattle.numbered_form.specs.inner.Literals.{is_residue}
-use Rattle.run_typing.specs.Classes.{is_a}
-use Rattle.run_typing.specs.Forms.{Form, OfFunction, OfPlace, OfValue, has_no_storage}
-use Rattle.run_typing.specs.RowForms as forms
-use Rattle.run_typing.specs.RowForms.{IsEnum, IsGroup, IsLoadOf, IsStoreOf, RowForms, bit, computed_shape, operand_shapes, operation_done}
-use Rattle.run_typing.specs.StorageForms.{FieldShapeIs, IsNamed}
+use Rattle.machine_steps.specs.run_typing.Classes.{is_a}
+use Rattle.machine_steps.specs.run_typing.Forms.{Form, OfFunction, OfPlace, OfValue, has_no_storage}
+use Rattle.machine_steps.specs.run_typing.RowForms as forms
+use Rattle.machine_steps.specs.run_typing.RowForms.{IsEnum, IsGroup, IsLoadOf, IsStoreOf, RowForms, bit, computed_shape, operand_shapes, operation_done}
+use Rattle.machine_steps.specs.run_typing.StorageForms.{FieldShapeIs, IsNamed}
 use Rattle.run_values.specs.Layers.{CaseLayer}
 use Rattle.run_values.specs.Shapes.{Integer, Reference, Shape, Stored, case_shapes, member_shapes}
 use Rattle.sil_ast.specs.declared.decl.Storage.{Storage}
@@ -21,7 +21,7 @@ use Rattle.sil_ast.specs.declared.inst.Inst.{Inst}
 use Rattle.sil_ast.specs.declared.member.Member.{Member}
 use Rattle.sil_ast.specs.declared.module.Module.{Module}
 use Rattle.sil_ast.specs.declared.place.FuncId.{FuncId}
-use Rattle.sil_types.specs.Typing.Builtins.{Builtin, builtin_named}
+use Rattle.machine_steps.specs.sil_types.Typing.Builtins.{Builtin, builtin_named}
 use Rattle.type_definitions.specs.Declarations.{declarations_of, is_class}
 
 module _ (m : Module) (i : Inst) where

@@ -1,21 +1,21 @@
 -- An instruction that gives one value, and what it reads.
 use Rattle.std.proofs.Common.{◌≡◌, ◌∙◌, List, [], ◌∷◌, Some, map, refl, sym, ap, subst, true}
-use Rattle.holder_model.specs.Data.{AddressOf, Datum, FunctionOf}
-use Rattle.holder_model.specs.Effects as effects
+use Rattle.machine_steps.specs.holder_model.Data.{AddressOf, Datum, FunctionOf}
+use Rattle.machine_steps.specs.holder_model.Effects as effects
 use Rattle.item_operands.specs.Parts.{inst_at}
-use Rattle.lowered_run.specs.LowStepParts.{fails, numbers_for}
-use Rattle.lowered_run.specs.declared.low_fault.LowFault.{LowFault}
+use Rattle.machine_steps.specs.lowered_run.LowStepParts.{fails, numbers_for}
+use Rattle.machine_steps.specs.lowered_run.declared.low_fault.LowFault.{LowFault}
 use Rattle.machine_steps.specs.declared.address.Address.{Address}
 use Rattle.machine_steps.specs.Operands.{faults, gives, gives_address, go_on, put_there}
 use Rattle.machine_steps.specs.declared.frame.Frame.{Frame}
 use Rattle.machine_steps.specs.declared.run_end.RunEnd.TheVariants as end
 use Rattle.machine_steps.specs.Views.{MachineView}
 use Rattle.numbered_form.specs.Lists.{Each}
-use Rattle.holder_model.specs.Outcomes.{Numbers}
-use Rattle.holder_model.specs.States.{Faulted}
-use Rattle.ready_code.specs.Layout.{local, local_address}
-use Rattle.run_typing.specs.CallForms.{IsOf}
-use Rattle.run_typing.specs.Forms.{OfFunction, OfPlace, OfValue, form_of}
+use Rattle.machine_steps.specs.holder_model.Outcomes.{Numbers}
+use Rattle.machine_steps.specs.holder_model.States.{Faulted}
+use Rattle.machine_steps.specs.ready_code.Layout.{local, local_address}
+use Rattle.machine_steps.specs.run_typing.CallForms.{IsOf}
+use Rattle.machine_steps.specs.run_typing.Forms.{OfFunction, OfPlace, OfValue, form_of}
 use Rattle.run_values.specs.Leaves.{leaves_of}
 use Rattle.run_values.specs.Memory.{Memory}
 use Rattle.run_values.specs.Places.{Place}

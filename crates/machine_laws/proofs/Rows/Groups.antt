@@ -4,20 +4,20 @@ use Rattle.std.proofs.lemmas.Bool.{and_from}
 use Rattle.std.proofs.lemmas.Option.{same_Some}
 use Rattle.std.specs.Prelude.{drop, slice_get, take}
 use Rattle.std.specs.List.{flat_map}
-use Rattle.holder_model.specs.Data.{Datum, ValueOf, values_of, with_first}
-use Rattle.holder_model.specs.Effects as effects
-use Rattle.holder_model.specs.Effects.{effect_of, gives_member, part_number, the_value, with_some}
-use Rattle.holder_model.specs.ModuleShapes.{shapes_of}
-use Rattle.holder_model.specs.declared.row_effect.RowEffect.TheVariants as row
+use Rattle.machine_steps.specs.holder_model.Data.{Datum, ValueOf, values_of, with_first}
+use Rattle.machine_steps.specs.holder_model.Effects as effects
+use Rattle.machine_steps.specs.holder_model.Effects.{effect_of, gives_member, part_number, the_value, with_some}
+use Rattle.machine_steps.specs.holder_model.ModuleShapes.{shapes_of}
+use Rattle.machine_steps.specs.holder_model.declared.row_effect.RowEffect.TheVariants as row
 use Rattle.machine_steps.specs.Operands.{contents}
 use Rattle.machine_steps.specs.Rows.{value_of}
 use Rattle.machine_steps.specs.Views.{MachineView}
 use Rattle.machine_steps.specs.declared.frame.Frame.{Frame}
-use Rattle.ready_code.specs.Layout.{leaves_in, local, size_of}
-use Rattle.ready_code.specs.ReadyOps.{leaf_offset, operands_of}
-use Rattle.ready_code.specs.declared.op.ReadyOp.TheVariants as op
-use Rattle.run_typing.specs.Forms.{OfValue, form_of}
-use Rattle.run_typing.specs.RowForms.{IsGroup}
+use Rattle.machine_steps.specs.ready_code.Layout.{leaves_in, local, size_of}
+use Rattle.machine_steps.specs.ready_code.ReadyOps.{leaf_offset, operands_of}
+use Rattle.machine_steps.specs.ready_code.declared.op.ReadyOp.TheVariants as op
+use Rattle.machine_steps.specs.run_typing.Forms.{OfValue, form_of}
+use Rattle.machine_steps.specs.run_typing.RowForms.{IsGroup}
 use Rattle.run_values.specs.Fits.{fit_each}
 use Rattle.run_values.specs.Leaves.{leaves_of}
 use Rattle.run_values.specs.Memory.{Memory}

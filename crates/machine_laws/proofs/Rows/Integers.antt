@@ -1,12 +1,12 @@
 -- Operands that are integers: what the run reads of them is what the machine has in their leaves.
 use Rattle.std.proofs.Common.{◌≡◌, ◌∙◌, ℕ, ℤ, List, [], ◌∷◌, Some, map, refl, sym, ap}
 use Rattle.std.specs.Prelude.{option_and_then}
-use Rattle.holder_model.specs.Data.{Datum, ValueOf, all_of, values_of, with_first}
+use Rattle.machine_steps.specs.holder_model.Data.{Datum, ValueOf, all_of, values_of, with_first}
 use Rattle.machine_steps.specs.Operands.{contents, int_among}
 use Rattle.machine_steps.specs.Views.{MachineView}
 use Rattle.machine_steps.specs.declared.frame.Frame.{Frame}
-use Rattle.ready_code.specs.Layout.{local}
-use Rattle.run_typing.specs.Forms.{Form, OfValue, form_of}
+use Rattle.machine_steps.specs.ready_code.Layout.{local}
+use Rattle.machine_steps.specs.run_typing.Forms.{Form, OfValue, form_of}
 use Rattle.run_values.specs.Leaves.{leaves_of}
 use Rattle.run_values.specs.Memory.{Memory}
 use Rattle.run_values.specs.Shapes.{Integer}

@@ -2,23 +2,23 @@
 use Rattle.std.proofs.Common.{◌≡◌, ◌∙◌, ◌+◌, List, [], ◌∷◌, true, false, Bool, Some, cond, refl, sym, ap, subst}
 use Rattle.std.proofs.lemmas.Bool.{cond-false, false≢true}
 use Rattle.std.specs.Prelude.{◌&&◌, set}
-use Rattle.heap_model.specs.HeapCalls.{retained}
-use Rattle.heap_model.specs.HeapViews.{phase_in}
-use Rattle.holder_model.specs.Data.{ValueOf}
-use Rattle.holder_model.specs.Effects as effects
-use Rattle.holder_model.specs.Effects.{Effect, effect_of, unchanged, with_some}
-use Rattle.holder_model.specs.MemoryEffects.{all_live, loaded_name, named_again, takes}
-use Rattle.holder_model.specs.ModuleShapes.{shapes_of}
-use Rattle.holder_model.specs.Outcomes.{Numbers}
-use Rattle.holder_model.specs.States.{Trapped}
-use Rattle.holder_model.specs.declared.row_effect.RowEffect.TheVariants as row
-use Rattle.holder_model.specs.declared.trap.Trap.TheVariants as trap
+use Rattle.machine_steps.specs.heap_model.HeapCalls.{retained}
+use Rattle.machine_steps.specs.heap_model.HeapViews.{phase_in}
+use Rattle.machine_steps.specs.holder_model.Data.{ValueOf}
+use Rattle.machine_steps.specs.holder_model.Effects as effects
+use Rattle.machine_steps.specs.holder_model.Effects.{Effect, effect_of, unchanged, with_some}
+use Rattle.machine_steps.specs.holder_model.MemoryEffects.{all_live, loaded_name, named_again, takes}
+use Rattle.machine_steps.specs.holder_model.ModuleShapes.{shapes_of}
+use Rattle.machine_steps.specs.holder_model.Outcomes.{Numbers}
+use Rattle.machine_steps.specs.holder_model.States.{Trapped}
+use Rattle.machine_steps.specs.holder_model.declared.row_effect.RowEffect.TheVariants as row
+use Rattle.machine_steps.specs.holder_model.declared.trap.Trap.TheVariants as trap
 use Rattle.item_operands.specs.Parts.{inst_at}
-use Rattle.lowered_run.specs.LowEffects.{names_by, place_taken}
-use Rattle.lowered_run.specs.LowStepParts.{LowNext, LowState, retains_each}
-use Rattle.lowered_run.specs.Stored.{changed, one_more, unnamed}
-use Rattle.lowered_run.specs.declared.low_fault.LowFault.{LowFault}
-use Rattle.lowered_run.specs.declared.low_fault.LowFault.TheVariants as fault
+use Rattle.machine_steps.specs.lowered_run.LowEffects.{names_by, place_taken}
+use Rattle.machine_steps.specs.lowered_run.LowStepParts.{LowNext, LowState, retains_each}
+use Rattle.machine_steps.specs.lowered_run.Stored.{changed, one_more, unnamed}
+use Rattle.machine_steps.specs.lowered_run.declared.low_fault.LowFault.{LowFault}
+use Rattle.machine_steps.specs.lowered_run.declared.low_fault.LowFault.TheVariants as fault
 use Rattle.machine_steps.specs.declared.address.Address.{Address}
 use Rattle.machine_steps.specs.declared.run_end.RunEnd.TheVariants as end
 use Rattle.machine_steps.specs.Held.{held_at}
@@ -26,14 +26,14 @@ use Rattle.machine_steps.specs.Naming.{none_leaves, some_leaves}
 use Rattle.machine_steps.specs.Operands.{address_in, first_leaf, gives, object_in_leaf}
 use Rattle.machine_steps.specs.Places.{forgotten, given, loads_name, retained_and}
 use Rattle.machine_steps.specs.Views.{MachineView, Stops, Went}
-use Rattle.memory_accesses.specs.declared.access.Operation.{Operation}
-use Rattle.ready_code.specs.Layout.{local, local_address}
-use Rattle.ready_code.specs.ReadyOps.{operands_of}
-use Rattle.ready_code.specs.declared.op.ReadyOp.TheVariants as op
-use Rattle.run_typing.specs.CallForms.{IsOf}
-use Rattle.run_typing.specs.Forms.{OfPlace, OfValue, form_of}
-use Rattle.run_typing.specs.RowForms.{operation_done}
-use Rattle.run_typing.specs.StorageForms.{IsNamed}
+use Rattle.machine_steps.specs.memory_accesses.declared.access.Operation.{Operation}
+use Rattle.machine_steps.specs.ready_code.Layout.{local, local_address}
+use Rattle.machine_steps.specs.ready_code.ReadyOps.{operands_of}
+use Rattle.machine_steps.specs.ready_code.declared.op.ReadyOp.TheVariants as op
+use Rattle.machine_steps.specs.run_typing.CallForms.{IsOf}
+use Rattle.machine_steps.specs.run_typing.Forms.{OfPlace, OfValue, form_of}
+use Rattle.machine_steps.specs.run_typing.RowForms.{operation_done}
+use Rattle.machine_steps.specs.run_typing.StorageForms.{IsNamed}
 use Rattle.run_values.specs.Cells.{in_cells}
 use Rattle.run_values.specs.Leaves.{leaves_of}
 use Rattle.run_values.specs.Memory.{Memory, is_dead, is_dead_phase, is_live, is_live_phase}

@@ -2,26 +2,26 @@
 use Rattle.std.proofs.Common.{◌≡◌, ◌≤◌, ◌∙◌, ◌+◌, ℕ, [], ◌∷◌, Some, cond, length, refl, sym, ap, subst, arith}
 use Rattle.std.proofs.lemmas.List.{length-append, length-take-le}
 use Rattle.std.specs.Prelude.{is_some, option_and_then, set}
-use Rattle.heap_model.specs.HeapCalls.{allocated_in}
-use Rattle.holder_model.specs.Data.{AddressOf, as_place}
-use Rattle.holder_model.specs.Effects as effects
-use Rattle.holder_model.specs.Effects.{Change, ClosesSlot, OpensSlot, effect_of, makes_object, only, result_shape_of, unchanged, with_some}
-use Rattle.holder_model.specs.ModuleShapes.{shapes_of}
-use Rattle.holder_model.specs.declared.row_effect.RowEffect.TheVariants as row
+use Rattle.machine_steps.specs.heap_model.HeapCalls.{allocated_in}
+use Rattle.machine_steps.specs.holder_model.Data.{AddressOf, as_place}
+use Rattle.machine_steps.specs.holder_model.Effects as effects
+use Rattle.machine_steps.specs.holder_model.Effects.{Change, ClosesSlot, OpensSlot, effect_of, makes_object, only, result_shape_of, unchanged, with_some}
+use Rattle.machine_steps.specs.holder_model.ModuleShapes.{shapes_of}
+use Rattle.machine_steps.specs.holder_model.declared.row_effect.RowEffect.TheVariants as row
 use Rattle.item_operands.specs.Parts.{inst_at}
-use Rattle.lowered_run.specs.LowEffects.{removes}
-use Rattle.lowered_run.specs.LowStepParts.{on_ok}
-use Rattle.lowered_run.specs.declared.low_fault.LowFault.TheVariants as fault
+use Rattle.machine_steps.specs.lowered_run.LowEffects.{removes}
+use Rattle.machine_steps.specs.lowered_run.LowStepParts.{on_ok}
+use Rattle.machine_steps.specs.lowered_run.declared.low_fault.LowFault.TheVariants as fault
 use Rattle.machine_steps.specs.Operands.{address_in, faults, gives, gives_address}
 use Rattle.machine_steps.specs.Places.{made_object, new_slot, removes_home, slot_address, with_slot}
 use Rattle.machine_steps.specs.Views.{MachineView, Went}
 use Rattle.numbered_form.specs.Names.{Name}
-use Rattle.ready_code.specs.Layout.{local, local_address, size_of}
-use Rattle.ready_code.specs.ReadyOps.{operands_of}
-use Rattle.ready_code.specs.declared.op.ReadyOp.TheVariants as op
-use Rattle.run_typing.specs.CallForms.{IsOf}
-use Rattle.run_typing.specs.Forms.{OfPlace, OfValue, form_of}
-use Rattle.run_typing.specs.StorageForms.{FieldShapeIs}
+use Rattle.machine_steps.specs.ready_code.Layout.{local, local_address, size_of}
+use Rattle.machine_steps.specs.ready_code.ReadyOps.{operands_of}
+use Rattle.machine_steps.specs.ready_code.declared.op.ReadyOp.TheVariants as op
+use Rattle.machine_steps.specs.run_typing.CallForms.{IsOf}
+use Rattle.machine_steps.specs.run_typing.Forms.{OfPlace, OfValue, form_of}
+use Rattle.machine_steps.specs.run_typing.StorageForms.{FieldShapeIs}
 use Rattle.run_values.specs.Memory.{Memory, new_object}
 use Rattle.run_values.specs.Places.{Place, removed}
 use Rattle.run_values.specs.Shapes.{Reference, Shape, class_in}

@@ -1,13 +1,13 @@
 -- An access to a place: where the place isn't as the instruction has it, the run and the machine fault alike, by the same order.
 use Rattle.std.proofs.Common.{◌≡◌, ◌∙◌, ◌++◌, List, [], ◌∷◌, Bool, true, false, Option, None, Some, cond, not, replicate, refl, ap}
 use Rattle.std.specs.Prelude.{find, is_some, ◌||◌}
-use Rattle.holder_model.specs.Data.{home_references}
-use Rattle.holder_model.specs.Effects.{Effect, Faults}
-use Rattle.holder_model.specs.ModuleShapes.{shapes_of}
-use Rattle.holder_model.specs.Outcomes.{Numbers}
-use Rattle.lowered_run.specs.LowEffects.{accessed, dead_or}
-use Rattle.lowered_run.specs.declared.low_fault.LowFault.{LowFault}
-use Rattle.lowered_run.specs.declared.low_fault.LowFault.TheVariants as fault
+use Rattle.machine_steps.specs.holder_model.Data.{home_references}
+use Rattle.machine_steps.specs.holder_model.Effects.{Effect, Faults}
+use Rattle.machine_steps.specs.holder_model.ModuleShapes.{shapes_of}
+use Rattle.machine_steps.specs.holder_model.Outcomes.{Numbers}
+use Rattle.machine_steps.specs.lowered_run.LowEffects.{accessed, dead_or}
+use Rattle.machine_steps.specs.lowered_run.declared.low_fault.LowFault.{LowFault}
+use Rattle.machine_steps.specs.lowered_run.declared.low_fault.LowFault.TheVariants as fault
 use Rattle.machine_steps.specs.Held as held
 use Rattle.machine_steps.specs.Held.{Held}
 use Rattle.machine_steps.specs.Operands.{faults}

@@ -1,9 +1,9 @@
 -- Memory has changed at a place, and the instruction goes on.
 use Rattle.std.proofs.Common.{◌≡◌, List, [], Some}
-use Rattle.holder_model.specs.Effects.{Makes, unchanged}
-use Rattle.holder_model.specs.Outcomes.{Numbers}
+use Rattle.machine_steps.specs.holder_model.Effects.{Makes, unchanged}
+use Rattle.machine_steps.specs.holder_model.Outcomes.{Numbers}
 use Rattle.item_operands.specs.Parts.{inst_at}
-use Rattle.lowered_run.specs.LowStepParts.{numbers_for}
+use Rattle.machine_steps.specs.lowered_run.LowStepParts.{numbers_for}
 use Rattle.machine_steps.specs.Operands.{go_on}
 use Rattle.machine_steps.specs.Views.{MachineView}
 use Rattle.machine_steps.specs.declared.address.Address.{Address}

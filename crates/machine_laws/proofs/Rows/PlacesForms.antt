@@ -1,11 +1,11 @@
 -- What typing says of a store, by the shape of the place: a value is stored in a place without storage, or storage is given what it is to name.
 use Rattle.std.proofs.Common.{◌≡◌, ◌∙◌, List, [], ◌∷◌, true, None, Some, refl, sym, ap, subst}
 use Rattle.std.proofs.lemmas.Option.{none-some}
-use Rattle.memory_accesses.specs.declared.access.Operation.{Operation}
-use Rattle.memory_accesses.specs.declared.access.Operation.TheVariants as operation
-use Rattle.run_typing.specs.Forms.{Form, OfPlace, OfValue, has_no_storage}
-use Rattle.run_typing.specs.RowForms.{IsStoreOf, operation_done}
-use Rattle.run_typing.specs.StorageForms.{IsNamed}
+use Rattle.machine_steps.specs.memory_accesses.declared.access.Operation.{Operation}
+use Rattle.machine_steps.specs.memory_accesses.declared.access.Operation.TheVariants as operation
+use Rattle.machine_steps.specs.run_typing.Forms.{Form, OfPlace, OfValue, has_no_storage}
+use Rattle.machine_steps.specs.run_typing.RowForms.{IsStoreOf, operation_done}
+use Rattle.machine_steps.specs.run_typing.StorageForms.{IsNamed}
 use Rattle.run_values.specs.Shapes.{Shape, Stored, storage_in}
 use Rattle.sil_ast.specs.declared.decl.Storage.{Storage}
 use Rattle.sil_ast.specs.declared.inst.Inst.{Inst}

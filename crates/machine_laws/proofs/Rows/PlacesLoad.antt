@@ -1,19 +1,19 @@
 -- A value is loaded from its place.
 use Rattle.std.proofs.Common.{◌≡◌, ◌∙◌, [], ◌∷◌, true, Option, refl, sym, ap}
-use Rattle.holder_model.specs.Data.{ValueOf}
-use Rattle.holder_model.specs.Effects.{Effect, Makes, effect_of, unchanged, with_some}
-use Rattle.holder_model.specs.ModuleShapes.{shapes_of}
-use Rattle.holder_model.specs.declared.row_effect.RowEffect.TheVariants as row
-use Rattle.lowered_run.specs.LowEffects as low_effects
-use Rattle.lowered_run.specs.declared.low_fault.LowFault.{LowFault}
+use Rattle.machine_steps.specs.holder_model.Data.{ValueOf}
+use Rattle.machine_steps.specs.holder_model.Effects.{Effect, Makes, effect_of, unchanged, with_some}
+use Rattle.machine_steps.specs.holder_model.ModuleShapes.{shapes_of}
+use Rattle.machine_steps.specs.holder_model.declared.row_effect.RowEffect.TheVariants as row
+use Rattle.machine_steps.specs.lowered_run.LowEffects as low_effects
+use Rattle.machine_steps.specs.lowered_run.declared.low_fault.LowFault.{LowFault}
 use Rattle.machine_steps.specs.Held.{held_at}
 use Rattle.machine_steps.specs.Operands.{address_in}
 use Rattle.machine_steps.specs.Places as machine
-use Rattle.memory_accesses.specs.declared.access.Operation.{Operation}
-use Rattle.ready_code.specs.Layout.{leaves_in, local, local_address, size_of}
-use Rattle.ready_code.specs.ReadyOps.{operands_of}
-use Rattle.ready_code.specs.declared.op.ReadyOp.TheVariants as op
-use Rattle.run_typing.specs.Forms.{OfPlace, OfValue, form_of}
+use Rattle.machine_steps.specs.memory_accesses.declared.access.Operation.{Operation}
+use Rattle.machine_steps.specs.ready_code.Layout.{leaves_in, local, local_address, size_of}
+use Rattle.machine_steps.specs.ready_code.ReadyOps.{operands_of}
+use Rattle.machine_steps.specs.ready_code.declared.op.ReadyOp.TheVariants as op
+use Rattle.machine_steps.specs.run_typing.Forms.{OfPlace, OfValue, form_of}
 use Rattle.run_values.specs.Places.{Place, value_at}
 use Rattle.run_values.specs.Shapes.{Shape}
 use Rattle.run_values.specs.Values.{Value}

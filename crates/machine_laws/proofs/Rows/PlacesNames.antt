@@ -1,8 +1,8 @@
 -- What weak and unowned storage names has changed, and then memory does at its place.
 use Rattle.std.proofs.Common.{◌≡◌, ◌∙◌, List, [], ◌∷◌, Bool, true, false, Some, cond, refl, ap}
 use Rattle.std.specs.Prelude.{find}
-use Rattle.heap_model.specs.HeapViews.{HeapView, is_dead_in}
-use Rattle.holder_model.specs.Outcomes.{Numbers}
+use Rattle.machine_steps.specs.heap_model.HeapViews.{HeapView, is_dead_in}
+use Rattle.machine_steps.specs.holder_model.Outcomes.{Numbers}
 use Rattle.machine_steps.specs.Naming.{leaf_named, leaf_unnamed}
 use Rattle.machine_steps.specs.Views.{MachineView}
 use Rattle.run_values.specs.Memory.{Memory, is_dead}

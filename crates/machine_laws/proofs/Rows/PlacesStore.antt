@@ -2,27 +2,27 @@
 use Rattle.std.proofs.Common.{◌≡◌, ◌∙◌, List, [], ◌∷◌, Bool, true, false, Option, None, Some, cond, refl, sym, ap, subst, map, not}
 use Rattle.std.proofs.lemmas.Bool.{false≢true}
 use Rattle.std.specs.Prelude.{is_some, replicate, ◌||◌}
-use Rattle.holder_model.specs.Data.{ValueOf}
-use Rattle.holder_model.specs.Effects.{Effect, Faults, Makes, effect_of, unchanged, with_some}
-use Rattle.holder_model.specs.ModuleShapes.{shapes_of}
-use Rattle.holder_model.specs.Outcomes.{Numbers}
-use Rattle.holder_model.specs.declared.row_effect.RowEffect.TheVariants as row
+use Rattle.machine_steps.specs.holder_model.Data.{ValueOf}
+use Rattle.machine_steps.specs.holder_model.Effects.{Effect, Faults, Makes, effect_of, unchanged, with_some}
+use Rattle.machine_steps.specs.holder_model.ModuleShapes.{shapes_of}
+use Rattle.machine_steps.specs.holder_model.Outcomes.{Numbers}
+use Rattle.machine_steps.specs.holder_model.declared.row_effect.RowEffect.TheVariants as row
 use Rattle.item_operands.specs.Parts.{inst_at}
-use Rattle.lowered_run.specs.LowEffects as low_effects
-use Rattle.lowered_run.specs.LowStepParts.{LowNext}
-use Rattle.lowered_run.specs.Stored.{named, unnamed}
-use Rattle.lowered_run.specs.declared.low_fault.LowFault.TheVariants as fault
-use Rattle.lowered_run.specs.declared.low_fault.LowFault.{LowFault}
+use Rattle.machine_steps.specs.lowered_run.LowEffects as low_effects
+use Rattle.machine_steps.specs.lowered_run.LowStepParts.{LowNext}
+use Rattle.machine_steps.specs.lowered_run.Stored.{named, unnamed}
+use Rattle.machine_steps.specs.lowered_run.declared.low_fault.LowFault.TheVariants as fault
+use Rattle.machine_steps.specs.lowered_run.declared.low_fault.LowFault.{LowFault}
 use Rattle.machine_steps.specs.Held.{Held, held_at, write_at}
 use Rattle.machine_steps.specs.Operands.{address_in, faults, go_on}
 use Rattle.machine_steps.specs.Places as machine
 use Rattle.machine_steps.specs.Views.{Went}
 use Rattle.machine_steps.specs.declared.address.Address.{Address}
-use Rattle.memory_accesses.specs.declared.access.Operation.{Operation}
-use Rattle.ready_code.specs.Layout.{leaves_in, local, local_address, size_of}
-use Rattle.ready_code.specs.ReadyOps.{operands_of}
-use Rattle.ready_code.specs.declared.op.ReadyOp.TheVariants as op
-use Rattle.run_typing.specs.Forms.{OfPlace, OfValue, form_of, has_no_storage}
+use Rattle.machine_steps.specs.memory_accesses.declared.access.Operation.{Operation}
+use Rattle.machine_steps.specs.ready_code.Layout.{leaves_in, local, local_address, size_of}
+use Rattle.machine_steps.specs.ready_code.ReadyOps.{operands_of}
+use Rattle.machine_steps.specs.ready_code.declared.op.ReadyOp.TheVariants as op
+use Rattle.machine_steps.specs.run_typing.Forms.{OfPlace, OfValue, form_of, has_no_storage}
 use Rattle.run_values.specs.Cells as cells
 use Rattle.run_values.specs.Cells.{Cell, cell_count, in_cells}
 use Rattle.run_values.specs.Leaves.{leaves_of}

@@ -2,15 +2,15 @@
 use Rattle.std.proofs.Common.{◌≡◌, ◌∙◌, List, [], ◌∷◌, Bool, true, false, Option, None, Some, cond, not, refl, sym, ap, subst, ◌||◌, map}
 use Rattle.std.proofs.lemmas.Bool.{false≢true}
 use Rattle.std.specs.Prelude.{find, is_some}
-use Rattle.heap_model.specs.HeapViews.{HeapView, is_dead_in}
-use Rattle.holder_model.specs.Data.{ValueOf}
-use Rattle.holder_model.specs.Effects.{Faults, effect_of}
-use Rattle.holder_model.specs.Outcomes.{Numbers}
-use Rattle.holder_model.specs.declared.row_effect.RowEffect.TheVariants as row
+use Rattle.machine_steps.specs.heap_model.HeapViews.{HeapView, is_dead_in}
+use Rattle.machine_steps.specs.holder_model.Data.{ValueOf}
+use Rattle.machine_steps.specs.holder_model.Effects.{Faults, effect_of}
+use Rattle.machine_steps.specs.holder_model.Outcomes.{Numbers}
+use Rattle.machine_steps.specs.holder_model.declared.row_effect.RowEffect.TheVariants as row
 use Rattle.item_operands.specs.Parts.{inst_at}
-use Rattle.lowered_run.specs.LowEffects.{is_first_write}
-use Rattle.lowered_run.specs.Stored.{named, unnamed}
-use Rattle.lowered_run.specs.declared.low_fault.LowFault.TheVariants as fault
+use Rattle.machine_steps.specs.lowered_run.LowEffects.{is_first_write}
+use Rattle.machine_steps.specs.lowered_run.Stored.{named, unnamed}
+use Rattle.machine_steps.specs.lowered_run.declared.low_fault.LowFault.TheVariants as fault
 use Rattle.machine_steps.specs.Held as held
 use Rattle.machine_steps.specs.Held.{Held, held_at, write_at}
 use Rattle.machine_steps.specs.Naming.{leaf_named, leaf_unnamed, name_of}
@@ -18,12 +18,12 @@ use Rattle.machine_steps.specs.Operands.{address_in, faults, first_leaf, go_on, 
 use Rattle.machine_steps.specs.Places as machine
 use Rattle.machine_steps.specs.Views.{Went}
 use Rattle.machine_steps.specs.declared.address.Address.{Address}
-use Rattle.memory_accesses.specs.declared.access.Operation.{Operation}
-use Rattle.ready_code.specs.Layout.{local, local_address, size_of}
-use Rattle.ready_code.specs.ReadyOps.{operands_of}
-use Rattle.ready_code.specs.declared.op.ReadyOp.TheVariants as op
-use Rattle.run_typing.specs.Forms.{OfPlace, form_of}
-use Rattle.run_typing.specs.RowForms.{operation_done}
+use Rattle.machine_steps.specs.memory_accesses.declared.access.Operation.{Operation}
+use Rattle.machine_steps.specs.ready_code.Layout.{local, local_address, size_of}
+use Rattle.machine_steps.specs.ready_code.ReadyOps.{operands_of}
+use Rattle.machine_steps.specs.ready_code.declared.op.ReadyOp.TheVariants as op
+use Rattle.machine_steps.specs.run_typing.Forms.{OfPlace, form_of}
+use Rattle.machine_steps.specs.run_typing.RowForms.{operation_done}
 use Rattle.run_values.specs.Cells.{in_cells}
 use Rattle.run_values.specs.Leaves.{leaves_of, name_leaf}
 use Rattle.run_values.specs.Memory.{is_dead, object_at}

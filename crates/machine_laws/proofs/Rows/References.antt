@@ -1,19 +1,19 @@
 -- References are made once more, or dropped.
 use Rattle.std.proofs.Common.{◌≡◌, ◌∙◌, List, [], ◌∷◌, Some, refl, sym, ap}
-use Rattle.holder_model.specs.Data.{references_in}
-use Rattle.holder_model.specs.Effects as effects
-use Rattle.holder_model.specs.Effects.{Change, effect_of, only, unchanged, with_some}
-use Rattle.holder_model.specs.Standing.{point_behind}
-use Rattle.holder_model.specs.States as low
-use Rattle.holder_model.specs.declared.row_effect.RowEffect.TheVariants as row
-use Rattle.lowered_run.specs.declared.low_fault.LowFault.TheVariants as fault
+use Rattle.machine_steps.specs.holder_model.Data.{references_in}
+use Rattle.machine_steps.specs.holder_model.Effects as effects
+use Rattle.machine_steps.specs.holder_model.Effects.{Change, effect_of, only, unchanged, with_some}
+use Rattle.machine_steps.specs.holder_model.Standing.{point_behind}
+use Rattle.machine_steps.specs.holder_model.States as low
+use Rattle.machine_steps.specs.holder_model.declared.row_effect.RowEffect.TheVariants as row
+use Rattle.machine_steps.specs.lowered_run.declared.low_fault.LowFault.TheVariants as fault
 use Rattle.machine_steps.specs.Operands.{go_on, objects_among}
 use Rattle.machine_steps.specs.Places.{drops}
 use Rattle.machine_steps.specs.Turning.{retains_all}
-use Rattle.ready_code.specs.Layout.{local}
-use Rattle.ready_code.specs.ReadyOps.{operands_of}
-use Rattle.ready_code.specs.declared.op.ReadyOp.TheVariants as op
-use Rattle.run_typing.specs.Forms.{OfValue, form_of}
+use Rattle.machine_steps.specs.ready_code.Layout.{local}
+use Rattle.machine_steps.specs.ready_code.ReadyOps.{operands_of}
+use Rattle.machine_steps.specs.ready_code.declared.op.ReadyOp.TheVariants as op
+use Rattle.machine_steps.specs.run_typing.Forms.{OfValue, form_of}
 use Rattle.run_values.specs.Shapes.{Shape}
 use Rattle.run_values.specs.Values.{references_of}
 use Rattle.sil_ast.specs.declared.module.Module.{Module}

@@ -6,9 +6,9 @@ use Rattle.std.specs.Prelude.{◌&&◌, int_le, int_lt, nat_lt}
 use Rattle.std.specs.Int.{int_rem_euclid}
 use Rattle.builtin_names.specs.declared.names.Width.{Width}
 use Rattle.builtin_names.specs.declared.names.Width.TheVariants as width
-use Rattle.holder_model.specs.Builtins.{bit, signed}
+use Rattle.machine_steps.specs.holder_model.Builtins.{bit, signed}
 use Rattle.numbered_form.specs.inner.Literals.{is_residue}
-use Rattle.sil_types.specs.Typing.Builtins.{bits}
+use Rattle.machine_steps.specs.sil_types.Typing.Builtins.{bits}
 
 low_enough : (h m k : ℕ) → m ≡ h + h → k < m → nat_lt k h ≡ false → int_le (neg_ℤ (pos h)) (pos k -ℤ pos m) ≡ true
 low_enough h m k e lt not_low = grind (arith, ints)

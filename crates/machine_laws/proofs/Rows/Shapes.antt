@@ -2,16 +2,16 @@
 use Rattle.std.proofs.Common.{◌≡◌, ◌∙◌, [], None, Option, Some, refl, ap}
 use Rattle.std.proofs.lemmas.Option.{slice_get-map}
 use Rattle.std.specs.Prelude.{option_map, slice_get, unwrap_or}
-use Rattle.holder_model.specs.ModuleShapes.{function_shapes, shape_at, shapes_in, shapes_of, value_shape}
-use Rattle.run_typing.specs.Forms.{Form, OfFunction, OfNothing, OfPlace, OfValue, form_by, form_of, form_with}
+use Rattle.machine_steps.specs.holder_model.ModuleShapes.{function_shapes, shape_at, shapes_in, shapes_of, value_shape}
+use Rattle.machine_steps.specs.run_typing.Forms.{Form, OfFunction, OfNothing, OfPlace, OfValue, form_by, form_of, form_with}
 use Rattle.run_values.specs.Shapes.{Shape, Unknown, shape_of}
 use Rattle.sil_ast.specs.declared.function.Function.{Function}
 use Rattle.sil_ast.specs.declared.module.Module.{Module}
 use Rattle.sil_ast.specs.declared.place.FuncId.{FuncId}
 use Rattle.sil_ast.specs.declared.place.ValueId.{ValueId}
 use Rattle.sil_ast.specs.declared.type_name.TypeName.{TypeName}
-use Rattle.sil_types.specs.Typing.Shapes.{target}
-use Rattle.sil_types.specs.Typing.Values.{function_at, type_at, value_functions, value_types}
+use Rattle.machine_steps.specs.sil_types.Typing.Shapes.{target}
+use Rattle.machine_steps.specs.sil_types.Typing.Values.{function_at, type_at, value_functions, value_types}
 use Rattle.type_definitions.specs.Declarations.{Declarations, declarations_of}
 
 pub same_value_form : (s t : Shape) → OfValue s ≡ OfValue t → s ≡ t

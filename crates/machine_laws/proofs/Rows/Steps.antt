@@ -3,15 +3,15 @@ use Rattle.std.proofs.Common.{◌≡◌, ◌<◌, ◌∙◌, ℕ, suc, List, [],
 use Rattle.std.specs.Prelude.{set, slice_get}
 use Rattle.std.proofs.lemmas.List.{append-nil, length-map}
 use Rattle.std.proofs.lemmas.Option.{none-some, slice_get_within}
-use Rattle.heap_model.specs.HeapViews.{HeapView}
-use Rattle.holder_model.specs.Data.{AddressOf, FunctionOf, ValueOf}
-use Rattle.holder_model.specs.Outcomes.{Numbers}
-use Rattle.holder_model.specs.Standing.{point_behind}
-use Rattle.holder_model.specs.States as low
+use Rattle.machine_steps.specs.heap_model.HeapViews.{HeapView}
+use Rattle.machine_steps.specs.holder_model.Data.{AddressOf, FunctionOf, ValueOf}
+use Rattle.machine_steps.specs.holder_model.Outcomes.{Numbers}
+use Rattle.machine_steps.specs.holder_model.Standing.{point_behind}
+use Rattle.machine_steps.specs.holder_model.States as low
 use Rattle.item_operands.specs.Items.{item_defined}
 use Rattle.item_operands.specs.Parts.{inst_at, inst_in, results_in}
-use Rattle.lowered_run.specs.LowFrames.{LowFrame}
-use Rattle.lowered_run.specs.LowStepParts.{LowState}
+use Rattle.machine_steps.specs.lowered_run.LowFrames.{LowFrame}
+use Rattle.machine_steps.specs.lowered_run.LowStepParts.{LowState}
 use Rattle.machine_steps.specs.declared.address.Address.{Address}
 use Rattle.machine_steps.specs.declared.frame.Frame.{Frame}
 use Rattle.machine_steps.specs.declared.frame.Task.{Task}
@@ -19,9 +19,9 @@ use Rattle.machine_steps.specs.declared.frame.Task.TheVariants as task
 use Rattle.machine_steps.specs.Operands.{behind_op, go_on, put, put_address, put_there}
 use Rattle.machine_steps.specs.Turning.{dropping}
 use Rattle.machine_steps.specs.Views.{Goes, MachineView}
-use Rattle.ready_code.specs.Layout.{local, local_address}
-use Rattle.run_typing.specs.CallForms.{IsOf}
-use Rattle.run_typing.specs.Forms.{OfFunction, OfPlace, OfValue, form_of, given_shape}
+use Rattle.machine_steps.specs.ready_code.Layout.{local, local_address}
+use Rattle.machine_steps.specs.run_typing.CallForms.{IsOf}
+use Rattle.machine_steps.specs.run_typing.Forms.{OfFunction, OfPlace, OfValue, form_of, given_shape}
 use Rattle.run_values.specs.Leaves.{leaves_of}
 use Rattle.run_values.specs.Memory.{Memory, is_dead_phase}
 use Rattle.run_values.specs.Places.{Place}

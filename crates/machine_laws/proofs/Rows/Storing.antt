@@ -1,27 +1,27 @@
 -- Weak and unowned storage: its object is named no longer, and it is emptied.
 use Rattle.std.proofs.Common.{◌≡◌, ◌∙◌, List, [], ◌∷◌, true, Some, refl, sym, ap, subst}
-use Rattle.heap_model.specs.HeapViews.{HeapView}
-use Rattle.holder_model.specs.Effects as effects
-use Rattle.holder_model.specs.Effects.{effect_of, unchanged, with_some}
-use Rattle.holder_model.specs.ModuleShapes.{shapes_of}
-use Rattle.holder_model.specs.Outcomes.{Numbers}
-use Rattle.holder_model.specs.declared.row_effect.RowEffect.TheVariants as row
+use Rattle.machine_steps.specs.heap_model.HeapViews.{HeapView}
+use Rattle.machine_steps.specs.holder_model.Effects as effects
+use Rattle.machine_steps.specs.holder_model.Effects.{effect_of, unchanged, with_some}
+use Rattle.machine_steps.specs.holder_model.ModuleShapes.{shapes_of}
+use Rattle.machine_steps.specs.holder_model.Outcomes.{Numbers}
+use Rattle.machine_steps.specs.holder_model.declared.row_effect.RowEffect.TheVariants as row
 use Rattle.item_operands.specs.Parts.{inst_at}
-use Rattle.lowered_run.specs.LowEffects.{destroys_by, place_taken}
-use Rattle.lowered_run.specs.LowStepParts.{numbers_for}
-use Rattle.lowered_run.specs.Stored.{unnamed}
-use Rattle.lowered_run.specs.declared.low_fault.LowFault.TheVariants as fault
+use Rattle.machine_steps.specs.lowered_run.LowEffects.{destroys_by, place_taken}
+use Rattle.machine_steps.specs.lowered_run.LowStepParts.{numbers_for}
+use Rattle.machine_steps.specs.lowered_run.Stored.{unnamed}
+use Rattle.machine_steps.specs.lowered_run.declared.low_fault.LowFault.TheVariants as fault
 use Rattle.machine_steps.specs.declared.address.Address.{Address}
 use Rattle.machine_steps.specs.Held.{held_at}
 use Rattle.machine_steps.specs.Naming.{leaf_unnamed}
 use Rattle.machine_steps.specs.Operands.{address_in, first_leaf, go_on}
 use Rattle.machine_steps.specs.Places.{forgets_name, forgotten}
 use Rattle.machine_steps.specs.Views.{MachineView}
-use Rattle.memory_accesses.specs.declared.access.Operation.TheVariants as operation
-use Rattle.ready_code.specs.Layout.{local_address, size_of}
-use Rattle.ready_code.specs.ReadyOps.{operands_of}
-use Rattle.ready_code.specs.declared.op.ReadyOp.TheVariants as op
-use Rattle.run_typing.specs.Forms.{OfPlace, form_of}
+use Rattle.machine_steps.specs.memory_accesses.declared.access.Operation.TheVariants as operation
+use Rattle.machine_steps.specs.ready_code.Layout.{local_address, size_of}
+use Rattle.machine_steps.specs.ready_code.ReadyOps.{operands_of}
+use Rattle.machine_steps.specs.ready_code.declared.op.ReadyOp.TheVariants as op
+use Rattle.machine_steps.specs.run_typing.Forms.{OfPlace, form_of}
 use Rattle.run_values.specs.Cells.{in_cells}
 use Rattle.run_values.specs.Leaves.{leaves_of}
 use Rattle.run_values.specs.Places.{Place, cells_at, emptied}

@@ -4,7 +4,7 @@ use Rattle.std.proofs.lemmas.Bool.{and_from, and_parts}
 use Rattle.std.proofs.lemmas.Option.{same_Some}
 use Rattle.numbered_form.specs.Names.{Name}
 use Rattle.numbered_form.specs.inner.Literals.{is_residue}
-use Rattle.run_typing.specs.Classes.{ClassesAreSound, is_a}
+use Rattle.machine_steps.specs.run_typing.Classes.{ClassesAreSound, is_a}
 use Rattle.run_values.specs.Leaves.{leaves_of}
 use Rattle.run_values.specs.Memory.{Memory, object_at}
 use Rattle.sil_ast.specs.declared.place.ObjectId.{ObjectId}
@@ -12,25 +12,25 @@ use Rattle.type_definitions.specs.Declarations.{declarations_of}
 use Rattle.value_parts.specs.inner.Suits.{suits}
 use Rattle.sil_ast.specs.declared.module.Module.{Module}
 use Rattle.std.specs.Prelude.{length, nat_lt, slice_get, unwrap_or}
-use Rattle.holder_model.specs.Builtins.{is_set}
-use Rattle.holder_model.specs.Data.{FunctionOf, ValueOf}
-use Rattle.holder_model.specs.Effects as effects
-use Rattle.holder_model.specs.Effects.{Effect, effect_of, only, the_value, traps_where, with_some}
-use Rattle.holder_model.specs.ModuleShapes.{shapes_of}
-use Rattle.holder_model.specs.States.{Trapped}
-use Rattle.holder_model.specs.declared.row_effect.RowEffect.TheVariants as row
-use Rattle.holder_model.specs.declared.trap.Trap.TheVariants as trap
+use Rattle.machine_steps.specs.holder_model.Builtins.{is_set}
+use Rattle.machine_steps.specs.holder_model.Data.{FunctionOf, ValueOf}
+use Rattle.machine_steps.specs.holder_model.Effects as effects
+use Rattle.machine_steps.specs.holder_model.Effects.{Effect, effect_of, only, the_value, traps_where, with_some}
+use Rattle.machine_steps.specs.holder_model.ModuleShapes.{shapes_of}
+use Rattle.machine_steps.specs.holder_model.States.{Trapped}
+use Rattle.machine_steps.specs.holder_model.declared.row_effect.RowEffect.TheVariants as row
+use Rattle.machine_steps.specs.holder_model.declared.trap.Trap.TheVariants as trap
 use Rattle.item_operands.specs.Parts.{inst_at}
-use Rattle.lowered_run.specs.declared.low_fault.LowFault.{LowFault}
+use Rattle.machine_steps.specs.lowered_run.declared.low_fault.LowFault.{LowFault}
 use Rattle.machine_steps.specs.Operands.{contents, go_on, int_among}
 use Rattle.machine_steps.specs.Rows.{point}
 use Rattle.machine_steps.specs.Views.{Stops, Went}
 use Rattle.machine_steps.specs.declared.run_end.RunEnd.TheVariants as end
-use Rattle.ready_code.specs.Layout.{local}
-use Rattle.ready_code.specs.ReadyOps.{operands_of}
-use Rattle.ready_code.specs.declared.op.ReadyOp.TheVariants as op
-use Rattle.run_typing.specs.Forms.{OfFunction, OfValue, form_of}
-use Rattle.run_typing.specs.RowForms.{bit}
+use Rattle.machine_steps.specs.ready_code.Layout.{local}
+use Rattle.machine_steps.specs.ready_code.ReadyOps.{operands_of}
+use Rattle.machine_steps.specs.ready_code.declared.op.ReadyOp.TheVariants as op
+use Rattle.machine_steps.specs.run_typing.Forms.{OfFunction, OfValue, form_of}
+use Rattle.machine_steps.specs.run_typing.RowForms.{bit}
 use Rattle.run_values.specs.Shapes.{Integer, Reference, Shape}
 use Rattle.run_values.specs.Values as value
 use Rattle.run_values.specs.Values.{integer_of}

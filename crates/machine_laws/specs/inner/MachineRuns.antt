@@ -1,17 +1,17 @@
 -- The law of the machine: however it stops, the run of lowered code ends so.
 use Rattle.std.specs.Prelude.{◌≡◌, ◌≤◌, ℕ, true, Some, slice_get}
-use Rattle.holder_model.specs.Outcomes.{may_start}
-use Rattle.holder_model.specs.States.{Ending}
-use Rattle.lowered_run.specs.LowOutcomes.{LowEndsSo}
-use Rattle.lowered_run.specs.declared.low_fault.LowFault.{LowFault}
+use Rattle.machine_steps.specs.holder_model.Outcomes.{may_start}
+use Rattle.machine_steps.specs.holder_model.States.{Ending}
+use Rattle.machine_steps.specs.lowered_run.LowOutcomes.{LowEndsSo}
+use Rattle.machine_steps.specs.lowered_run.declared.low_fault.LowFault.{LowFault}
 use Rattle.machine_steps.specs.declared.run_end.RunEnd.{RunEnd}
 use Rattle.machine_steps.specs.Runs.{Leads, begins}
 use Rattle.machine_steps.specs.Views.{MachineView, Stops}
-use Rattle.ready_code.specs.declared.function.ReadyFunction.{ReadyFunction}
-use Rattle.ready_code.specs.declared.function.ReadyModule.{ReadyModule}
-use Rattle.ready_code.specs.ReadyModules.{IsReadyModule}
-use Rattle.run_typing.specs.Forms.{given_shape}
-use Rattle.run_typing.specs.RunTyped.{RunTyped}
+use Rattle.machine_steps.specs.ready_code.declared.function.ReadyFunction.{ReadyFunction}
+use Rattle.machine_steps.specs.ready_code.declared.function.ReadyModule.{ReadyModule}
+use Rattle.machine_steps.specs.ready_code.ReadyModules.{IsReadyModule}
+use Rattle.machine_steps.specs.run_typing.Forms.{given_shape}
+use Rattle.machine_steps.specs.run_typing.RunTyped.{RunTyped}
 use Rattle.sil_ast.specs.declared.function.Function.{Function}
 use Rattle.sil_ast.specs.declared.module.Module.{Module}
 use Rattle.sil_ast.specs.declared.place.FuncId.{FuncId}

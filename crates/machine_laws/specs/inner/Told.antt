@@ -1,18 +1,18 @@
 -- What the machine tells of a run when it has stopped.
 use Rattle.std.specs.Prelude.{◌≡◌, ℕ, List, [], Option, Some, None, length, slice_get, drop, take}
 use Rattle.std.specs.List.{filter_map, range_with_len}
-use Rattle.heap_model.specs.HeapViews.{HeapView, is_dead_in, is_unfreed, strong_in, unowned_in, weak_in}
-use Rattle.holder_model.specs.declared.left_object.LeftObject.{LeftObject}
-use Rattle.holder_model.specs.declared.trap.Trap.TheVariants as trap
-use Rattle.holder_model.specs.Outcomes.{Outcome, object_number}
-use Rattle.holder_model.specs.States.{Ending, Faulted, OutOfTurns, Returned, Trapped}
+use Rattle.machine_steps.specs.heap_model.HeapViews.{HeapView, is_dead_in, is_unfreed, strong_in, unowned_in, weak_in}
+use Rattle.machine_steps.specs.holder_model.declared.left_object.LeftObject.{LeftObject}
+use Rattle.machine_steps.specs.holder_model.declared.trap.Trap.TheVariants as trap
+use Rattle.machine_steps.specs.holder_model.Outcomes.{Outcome, object_number}
+use Rattle.machine_steps.specs.holder_model.States.{Ending, Faulted, OutOfTurns, Returned, Trapped}
 use Rattle.item_operands.specs.Parts.{inst_at}
-use Rattle.lowered_run.specs.declared.low_fault.LowFault.{LowFault}
+use Rattle.machine_steps.specs.lowered_run.declared.low_fault.LowFault.{LowFault}
 use Rattle.machine_steps.specs.declared.run_end.RunEnd.{RunEnd}
 use Rattle.machine_steps.specs.declared.run_end.RunEnd.TheVariants as end
 use Rattle.machine_steps.specs.Steps.{name_of}
 use Rattle.machine_steps.specs.Views.{MachineView}
-use Rattle.ready_code.specs.declared.local.Local.{Local}
+use Rattle.machine_steps.specs.ready_code.declared.local.Local.{Local}
 use Rattle.run_values.specs.Leaves.{value_of}
 use Rattle.run_values.specs.Shapes.{Shape}
 use Rattle.run_values.specs.declared.leaf.Leaf.{Leaf}

@@ -11,7 +11,7 @@ use Rattle.numbered_form.specs.Lists.{Each}
 use Rattle.holder_model.specs.declared.row_effect.RowEffect.{RowEffect}
 use Rattle.instruction_table.specs.declared.entries.Ending.{Ending}
 use Rattle.type_definitions.specs.Declarations.{Declarations, declarations_of}
-use Rattle.run_typing.specs.Runnable.{IsRunnable}
+use Rattle.ready_code.specs.run_typing.Runnable.{IsRunnable}
 use Rattle.ready_code.specs.Layout as layout
 use Rattle.ready_code.specs.ReadyEnds as ends
 use Rattle.ready_code.specs.ReadyOps as ops

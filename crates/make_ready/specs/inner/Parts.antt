@@ -1,10 +1,10 @@
 -- Operands and results that an instruction has.
 use Rattle.std.specs.Prelude.{◌≡◌, ◌≤◌, ℕ, ℤ, List, [], ◌∷◌, true, Some, option_and_then, length, slice_get}
 use Rattle.numbered_form.specs.Names.{Name}
-use Rattle.memory_accesses.specs.Operations.{load_operation, store_operation}
-use Rattle.memory_accesses.specs.Sources.{member_place}
-use Rattle.run_typing.specs.Forms.{OfFunction, OfPlace, OfValue, form_of}
-use Rattle.run_typing.specs.RowForms.{operation_done}
+use Rattle.holder_model.specs.memory_accesses.Operations.{load_operation, store_operation}
+use Rattle.holder_model.specs.memory_accesses.Sources.{member_place}
+use Rattle.ready_code.specs.run_typing.Forms.{OfFunction, OfPlace, OfValue, form_of}
+use Rattle.ready_code.specs.run_typing.RowForms.{operation_done}
 use Rattle.run_values.specs.Shapes.{Reference, Shape, Stored, shape_of}
 use Rattle.holder_model.specs.Effects.{part_number}
 use Rattle.holder_model.specs.ModuleShapes.{case_place}

@@ -3,13 +3,13 @@ use Rattle.std.specs.Prelude.{◌≡◌, ℕ, Bool, List}
 use Rattle.holder_model.specs.Outcomes.{Outcome}
 use Rattle.lowered_run.specs.declared.low_fault.LowFault.{LowFault}
 use Rattle.lowered_run.specs.LowOutcomes.{LowEndsSo}
-use Rattle.lowering_model.specs.LoweredModules.{lowered}
-use Rattle.machine_laws.specs.inner.Told.{all_left}
+use Rattle.ownership_lowering.specs.lowering_model.LoweredModules.{lowered}
+use Rattle.count_machine.specs.machine_laws.inner.Told.{all_left}
 use Rattle.numbered_form.specs.Names.{Name}
 use Rattle.report_writing.specs.LowReports.{low_report}
 use Rattle.report_writing.specs.RunOutcomes.{ending_of}
 use Rattle.report_writing.specs.declared.outcome.Ending.TheVariants.{Returned}
-use Rattle.run_typing.specs.Runnable.{IsRunnable}
+use Rattle.report_writing.specs.run_typing.Runnable.{IsRunnable}
 use Rattle.run_values.specs.Shapes.{shape_of}
 use Rattle.run_values.specs.declared.value.Val.{Val}
 use Rattle.sil_ast.specs.declared.function.Function.{Function}

@@ -1,11 +1,11 @@
 -- What typing says of a terminator in ownership form, and of its edges.
 use Rattle.std.specs.Prelude.{◌≡◌, ◌<◌, ◌⊎◌, ℕ, [], ◌∷◌, true, false, Some, length, slice_get}
-use Rattle.holder_model.specs.Edges.{edge_for, is_default}
+use Rattle.run_typing_laws.specs.holder_model.Edges.{edge_for, is_default}
 use Rattle.instruction_table.specs.Forms.{ending_of}
 use Rattle.instruction_table.specs.declared.entries.Ending.TheVariants as ending
-use Rattle.run_typing.specs.EndForms.{EndForms, arguments_at, operand_forms, payload_forms}
-use Rattle.run_typing.specs.Forms.{OfValue, forms_of}
-use Rattle.run_typing.specs.RowForms.{IsEnum}
+use Rattle.run_typing_laws.specs.run_typing.EndForms.{EndForms, arguments_at, operand_forms, payload_forms}
+use Rattle.run_typing_laws.specs.run_typing.Forms.{OfValue, forms_of}
+use Rattle.run_typing_laws.specs.run_typing.RowForms.{IsEnum}
 use Rattle.run_values.specs.Layers.{CaseLayer}
 use Rattle.run_values.specs.Shapes.{Shape, case_shapes}
 use Rattle.sil_ast.specs.Blocks.{args_of}

@@ -1,11 +1,11 @@
 -- What typing says of an instruction in ownership form, by what its row does in a run: the forms of its operands and of its results.
 use Rattle.std.specs.Prelude.{◌≡◌, List, [], ◌∷◌, true, Some, map}
-use Rattle.holder_model.specs.declared.row_effect.RowEffect.TheVariants as row
-use Rattle.holder_model.specs.Effects.{effect_of}
-use Rattle.memory_accesses.specs.declared.access.Operation.{Operation}
-use Rattle.memory_accesses.specs.declared.access.Operation.TheVariants as operation
-use Rattle.run_typing.specs.Forms.{Form, OfPlace, OfValue, has_no_storage}
-use Rattle.run_typing.specs.RowForms.{IsGroup, RowForms, operation_done}
+use Rattle.run_typing_laws.specs.holder_model.declared.row_effect.RowEffect.TheVariants as row
+use Rattle.run_typing_laws.specs.holder_model.Effects.{effect_of}
+use Rattle.run_typing_laws.specs.memory_accesses.declared.access.Operation.{Operation}
+use Rattle.run_typing_laws.specs.memory_accesses.declared.access.Operation.TheVariants as operation
+use Rattle.run_typing_laws.specs.run_typing.Forms.{Form, OfPlace, OfValue, has_no_storage}
+use Rattle.run_typing_laws.specs.run_typing.RowForms.{IsGroup, RowForms, operation_done}
 use Rattle.run_values.specs.Shapes.{Shape}
 use Rattle.sil_ast.specs.declared.inst.Inst.{Inst}
 use Rattle.sil_ast.specs.declared.module.Module.{Module}

@@ -2,14 +2,14 @@
 use Rattle.std.specs.Prelude.{◌≡◌, ℕ, Some, map, slice_get}
 use Rattle.item_operands.specs.Parts.{inst_at, terminator_of}
 use Rattle.item_operands.specs.Roles.{taken_by}
-use Rattle.lowered_run.specs.LowStepParts.{taken_value, values_taken}
+use Rattle.run_typing_laws.specs.lowered_run.LowStepParts.{taken_value, values_taken}
 use Rattle.numbered_form.specs.Lists.{Each}
-use Rattle.run_typing.specs.CallForms.{DeinitsAreTyped, ItemIsOf}
-use Rattle.run_typing.specs.Classes.{ClassesAreSound}
-use Rattle.run_typing.specs.EndForms.{value_in}
-use Rattle.run_typing.specs.FieldForms.{AreFieldsTyped}
-use Rattle.run_typing.specs.Forms.{IsCarried, entry_forms, forms_of}
-use Rattle.run_typing.specs.RunTyped.{SizesAreMeasured}
+use Rattle.run_typing_laws.specs.run_typing.CallForms.{DeinitsAreTyped, ItemIsOf}
+use Rattle.run_typing_laws.specs.run_typing.Classes.{ClassesAreSound}
+use Rattle.run_typing_laws.specs.run_typing.EndForms.{value_in}
+use Rattle.run_typing_laws.specs.run_typing.FieldForms.{AreFieldsTyped}
+use Rattle.run_typing_laws.specs.run_typing.Forms.{IsCarried, entry_forms, forms_of}
+use Rattle.run_typing_laws.specs.run_typing.RunTyped.{SizesAreMeasured}
 use Rattle.run_typing_laws.specs.inner.WellTyped.{IsWellTyped}
 use Rattle.sil_ast.specs.declared.function.Form.TheVariants.{Lowered}
 use Rattle.sil_ast.specs.declared.function.Function.{Function}

@@ -1,8 +1,8 @@
 -- What lowering makes of an accepted module.
 use Rattle.std.specs.Prelude.{◌≡◌}
 use Rattle.sil_ast.specs.declared.module.Module.{Module}
-use Rattle.lowering_model.specs.LoweredModules.{lowered}
-use Rattle.run_typing.specs.Runnable.{IsRunnable}
+use Rattle.lowering_laws.specs.lowering_model.LoweredModules.{lowered}
+use Rattle.lowering_laws.specs.run_typing.Runnable.{IsRunnable}
 use Rattle.sil_verifier.specs.inner.Checked.{IsVerified}
 use Rattle.type_definitions.specs.Declarations.{declarations_of}
 

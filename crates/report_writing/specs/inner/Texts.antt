@@ -10,7 +10,7 @@ use Rattle.report_writing.specs.LowReports.{fault_line}
 use Rattle.report_writing.specs.RunOutcomes.{value_of}
 use Rattle.run_report.specs.ReportLines.{class_among, left_lines, trap_words}
 use Rattle.run_report.specs.ValueTexts.{Writer, case_words, chosen_words, grouped, if_integer, if_object, payload_words, text_itself, texts_of, value_text}
-use Rattle.run_typing.specs.Runnable.{IsRunnable}
+use Rattle.run_typing_laws.specs.run_typing.Runnable.{IsRunnable}
 use Rattle.run_values.specs.Layers.{CaseLayer}
 use Rattle.run_values.specs.Shapes.{shape_of}
 use Rattle.run_values.specs.Values.{Value, case_of, integer_of, members_of, object_of}

@@ -1,9 +1,9 @@
 -- A verified module stays verified where copies that can go are rewritten.
 use Rattle.std.specs.Prelude.{◌≡◌, ℕ}
-use Rattle.copy_removal.specs.Optimised.{IsOptimised, Rewrites}
+use Rattle.rewritten_typing_laws.specs.copy_removal.Optimised.{IsOptimised, Rewrites}
 use Rattle.sil_ast.specs.declared.module.Module.{Module}
 use Rattle.sil_ast.specs.declared.place.PointId.{PointId}
-use Rattle.sil_verifier.specs.inner.Checked.{IsVerified, IsVerifiedWith}
+use Rattle.rewritten_typing_laws.specs.sil_verifier.inner.Checked.{IsVerified, IsVerifiedWith}
 use Rattle.type_definitions.specs.Declarations.{Declarations, declarations_of}
 
 -- the other module is verified too, and declares the same

@@ -6,11 +6,11 @@ use Rattle.sil_ast.specs.declared.place.PointId.{PointId}
 use Rattle.sil_ast.specs.declared.place.ValueId.{ValueId}
 use Rattle.sil_rules.specs.Order.{NotAfter}
 use Rattle.ownership_chains.specs.Facts.{has, known_or}
-use Rattle.copy_removal.specs.Copies.{IsCopy}
-use Rattle.copy_removal.specs.Removable.{IsBorrowable, IsMovable}
-use Rattle.copy_removal.specs.Rewritten.{lent, moved}
-use Rattle.copy_removal.specs.Optimised.{Rewrites, RewritesFirst, facts_of, text_key}
-use Rattle.sil_verifier.specs.inner.Checked.{IsVerified}
+use Rattle.moved_functions.specs.copy_removal.Copies.{IsCopy}
+use Rattle.moved_functions.specs.copy_removal.Removable.{IsBorrowable, IsMovable}
+use Rattle.moved_functions.specs.copy_removal.Rewritten.{lent, moved}
+use Rattle.moved_functions.specs.copy_removal.Optimised.{Rewrites, RewritesFirst, facts_of, text_key}
+use Rattle.moved_functions.specs.sil_verifier.inner.Checked.{IsVerified}
 
 -- behind the rewriting of the first copy that can go, each copy that can go comes later in the text
 abbrev pub LaterOnesAreLeft : Type 0

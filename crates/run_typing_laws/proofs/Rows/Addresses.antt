@@ -17,9 +17,9 @@ use Rattle.numbered_form.specs.inner.Types.{HasDeclTypes, HasFieldType, HasPaylo
 use Rattle.type_definitions.specs.Declarations.{Declarations, decl_of, declarations_of, optional_cases, place_of, swift_structs}
 use Rattle.type_definitions.specs.Lookups.{FoundField, Payload, case_payload, decl_cases, decl_fields, field_at_place, field_of, inherited_fields, optional_payload, own_fields}
 use Rattle.type_definitions.specs.Lookups.{payload_at, payload_in}
-use Rattle.sil_types.specs.Typing.Shapes.{case_in, decl_of_type, element_at, element_of, elements, elements_in, field_named, fields_of_struct, found_field}
-use Rattle.sil_types.specs.Typing.Shapes.{is_case_owner_layer, is_owner, is_owner_layer}
-use Rattle.sil_types.specs.Typing.Shapes.{name_in, struct_field, struct_fields, target, target_in}
+use Rattle.run_typing.specs.sil_types.Typing.Shapes.{case_in, decl_of_type, element_at, element_of, elements, elements_in, field_named, fields_of_struct, found_field}
+use Rattle.run_typing.specs.sil_types.Typing.Shapes.{is_case_owner_layer, is_owner, is_owner_layer}
+use Rattle.run_typing.specs.sil_types.Typing.Shapes.{name_in, struct_field, struct_fields, target, target_in}
 use Rattle.run_values.specs.inner.Laws.{has_no_address, has_no_address_over}
 use Rattle.run_typing.specs.Forms.{OfValue}
 use Rattle.run_typing_laws.specs.inner.WellTyped.{IsWellTyped}

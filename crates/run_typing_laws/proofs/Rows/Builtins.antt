@@ -7,12 +7,12 @@ use Rattle.sil_ast.specs.declared.inst.Inst.{Inst}
 use Rattle.sil_ast.specs.declared.module.Module.{Module}
 use Rattle.sil_ast.specs.declared.type_name.TypeName.{TypeName}
 use Rattle.sil_ast.specs.declared.type_name.TypeName.TheVariants as type
-use Rattle.holder_model.specs.Effects.{effect_of}
+use Rattle.run_typing.specs.holder_model.Effects.{effect_of}
 use Rattle.type_definitions.specs.Declarations.{declarations_of}
-use Rattle.sil_types.specs.Typing.Builtins.{Builtin, Sort, bit, bits, builtin_named, builtin_operands, builtin_result, combining, comparing, operands_by, overflowing, result_by, sort_of}
-use Rattle.sil_types.specs.Typing.RowTypes.{all_written, gives, gives_builtin, of_builtin}
-use Rattle.sil_types.specs.Typing.Same.{are_same_types, is_same_type}
-use Rattle.sil_types.specs.Typing.Shapes.{where_it}
+use Rattle.run_typing.specs.sil_types.Typing.Builtins.{Builtin, Sort, bit, bits, builtin_named, builtin_operands, builtin_result, combining, comparing, operands_by, overflowing, result_by, sort_of}
+use Rattle.run_typing.specs.sil_types.Typing.RowTypes.{all_written, gives, gives_builtin, of_builtin}
+use Rattle.run_typing.specs.sil_types.Typing.Same.{are_same_types, is_same_type}
+use Rattle.run_typing.specs.sil_types.Typing.Shapes.{where_it}
 use Rattle.run_values.specs.Shapes.{Tuple, members_of}
 use Rattle.run_typing.specs.Forms.{OfValue}
 use Rattle.run_typing.specs.RowForms.{computed_shape, computes, operand_shapes, shape_by, shapes_by}

@@ -8,12 +8,12 @@ use Rattle.sil_ast.specs.declared.function.Function.{Function}
 use Rattle.sil_ast.specs.declared.inst.Inst.{Inst}
 use Rattle.sil_ast.specs.declared.module.Module.{Module}
 use Rattle.sil_ast.specs.declared.type_name.TypeName.{TypeName}
-use Rattle.holder_model.specs.Effects.{effect_of}
+use Rattle.run_typing.specs.holder_model.Effects.{effect_of}
 use Rattle.type_definitions.specs.Declarations.{declarations_of}
 use Rattle.type_definitions.specs.Measures.{is_trivial}
 use Rattle.type_definitions.specs.Rules.{is_class_type, is_misplaced_value}
-use Rattle.sil_types.specs.Typing.RowTypes.{is_counted_value, type_of, written}
-use Rattle.sil_types.specs.Typing.Shapes.{is_nontrivial, is_object, target, where_it}
+use Rattle.run_typing.specs.sil_types.Typing.RowTypes.{is_counted_value, type_of, written}
+use Rattle.run_typing.specs.sil_types.Typing.Shapes.{is_nontrivial, is_object, target, where_it}
 use Rattle.run_values.specs.Shapes.{shape_of}
 use Rattle.run_typing.specs.Forms.{OfValue, has_no_storage}
 use Rattle.run_typing.specs.RowForms.{drops, retains}

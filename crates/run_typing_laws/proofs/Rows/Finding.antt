@@ -5,8 +5,8 @@ use Rattle.std.specs.List.{list_all, list_any, flat_map, AllByRecursion}
 use Rattle.std.proofs.lemmas.Bool.{and_parts, or_parts}
 use Rattle.std.proofs.lemmas.List.Elements.{All-from_recursion, recursion_from_All}
 use Rattle.numbered_form.specs.Lists.{Each}
-use Rattle.sil_types.specs.Typing.RowTypes.{passes}
-use Rattle.sil_types.specs.Typing.Shapes.{where_it}
+use Rattle.run_typing.specs.sil_types.Typing.RowTypes.{passes}
+use Rattle.run_typing.specs.sil_types.Typing.Shapes.{where_it}
 
 -- ---- tests
 

@@ -16,11 +16,11 @@ use Rattle.numbered_form.specs.Numbering.{AreCountedFrom, values_of}
 use Rattle.numbered_form.specs.inner.Parts.{is_typed}
 use Rattle.point_checks.specs.Points.{IsAt}
 use Rattle.type_definitions.specs.Declarations.{Declarations}
-use Rattle.sil_types.specs.Typing.OperandTypes.{are_as_written, has_type, is_as_written, is_as_written_by}
-use Rattle.sil_types.specs.Typing.RowTypes.{all_written, made_types}
-use Rattle.sil_types.specs.Typing.Same.{all_pairs, is_same_type}
-use Rattle.sil_types.specs.Typing.Shapes.{target}
-use Rattle.sil_types.specs.Typing.Values.{arg_functions, arg_has, arg_types, function_at, functions_by, result_functions, result_types, type_of_value, value_functions, value_types}
+use Rattle.run_typing.specs.sil_types.Typing.OperandTypes.{are_as_written, has_type, is_as_written, is_as_written_by}
+use Rattle.run_typing.specs.sil_types.Typing.RowTypes.{all_written, made_types}
+use Rattle.run_typing.specs.sil_types.Typing.Same.{all_pairs, is_same_type}
+use Rattle.run_typing.specs.sil_types.Typing.Shapes.{target}
+use Rattle.run_typing.specs.sil_types.Typing.Values.{arg_functions, arg_has, arg_types, function_at, functions_by, result_functions, result_types, type_of_value, value_functions, value_types}
 use Rattle.run_values.specs.Shapes.{shape_of}
 use Rattle.run_typing.specs.EndForms.{value_in}
 use Rattle.run_typing.specs.Forms.{Form, OfPlace, OfValue, form_by, form_of, form_with, forms_of}

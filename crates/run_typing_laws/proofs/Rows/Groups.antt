@@ -17,12 +17,12 @@ use Rattle.sil_ast.specs.declared.module.Module.{Module}
 use Rattle.sil_ast.specs.declared.operands.Operand.{Operand}
 use Rattle.sil_ast.specs.declared.type_name.TypeName.{TypeName}
 use Rattle.sil_ast.specs.declared.type_name.TypeName.TheVariants as type
-use Rattle.holder_model.specs.Effects.{effect_of}
-use Rattle.holder_model.specs.ModuleShapes.{case_place}
+use Rattle.run_typing.specs.holder_model.Effects.{effect_of}
+use Rattle.run_typing.specs.holder_model.ModuleShapes.{case_place}
 use Rattle.type_definitions.specs.Declarations.{declarations_of}
 use Rattle.type_definitions.specs.Lookups.{Payload}
-use Rattle.sil_types.specs.Typing.RowTypes.{all_written, are_elements, are_field_types, gives, is_made_by_case, is_payload, is_struct_of}
-use Rattle.sil_types.specs.Typing.Shapes.{case_in, field_type, fields_of_struct, is_enum, is_object, where_it}
+use Rattle.run_typing.specs.sil_types.Typing.RowTypes.{all_written, are_elements, are_field_types, gives, is_made_by_case, is_payload, is_struct_of}
+use Rattle.run_typing.specs.sil_types.Typing.Shapes.{case_in, field_type, fields_of_struct, is_enum, is_object, where_it}
 use Rattle.run_values.specs.Layers.{CaseLayer}
 use Rattle.run_values.specs.Shapes.{Shape, Tuple, case_shapes, members_of, shape_of}
 use Rattle.run_typing.specs.Forms.{OfValue, forms_of}

@@ -7,7 +7,7 @@ use Rattle.instruction_table.specs.declared.op.Op.{Op}
 use Rattle.instruction_table.specs.declared.op.Op.TheVariants as op
 use Rattle.item_operands.specs.Parts.{inst_at}
 use Rattle.item_operands.specs.Roles.{taken_by}
-use Rattle.lowered_run.specs.LowStepParts.{taken_value, values_taken}
+use Rattle.run_typing.specs.lowered_run.LowStepParts.{taken_value, values_taken}
 use Rattle.sil_ast.specs.declared.function.Form.TheVariants.{Lowered}
 use Rattle.sil_ast.specs.declared.function.Function.{Function}
 use Rattle.sil_ast.specs.declared.inst.Inst.{Inst}
@@ -15,9 +15,9 @@ use Rattle.sil_ast.specs.declared.module.Module.{Module}
 use Rattle.sil_ast.specs.declared.place.PointId.{PointId}
 use Rattle.type_definitions.specs.Declarations.{declarations_of}
 use Rattle.sil_cfg.specs.declared.item.Item.TheVariants as item
-use Rattle.sil_types.specs.Typing.FormRules.{may_stand_lowered}
-use Rattle.sil_types.specs.Typing.OperandTypes.{argument_types, has_type}
-use Rattle.sil_types.specs.Typing.Values.{value_types}
+use Rattle.run_typing.specs.sil_types.Typing.FormRules.{may_stand_lowered}
+use Rattle.run_typing.specs.sil_types.Typing.OperandTypes.{argument_types, has_type}
+use Rattle.run_typing.specs.sil_types.Typing.Values.{value_types}
 use Rattle.run_typing.specs.EndForms.{value_in}
 use Rattle.run_typing.specs.RunTyped.{InstIsTyped}
 use Rattle.run_typing.specs.Runnable.{IsNotOwned}

@@ -22,11 +22,11 @@ use Rattle.point_checks.specs.Points.{IsAt}
 use Rattle.type_definitions.specs.Declarations.{declarations_of}
 use Rattle.type_definitions.specs.Rules.{is_misplaced_at, is_misplaced_value}
 use Rattle.type_definitions.specs.Mentions.{standing_in}
-use Rattle.sil_types.specs.Typing.FormRules.{is_annotated_at, is_of_form, may_stand_lowered, may_stand_owned}
-use Rattle.sil_types.specs.Typing.OperandTypes.{are_as_asked, are_as_asked_by, are_as_written, edge_is_as_written}
-use Rattle.sil_types.specs.Typing.ResultCounts.{is_count_by, is_count_of}
-use Rattle.sil_types.specs.Typing.RowTypes.{MadeTypes, given_by, keeps_row, row_types}
-use Rattle.sil_types.specs.Typing.Values.{value_types}
+use Rattle.run_typing.specs.sil_types.Typing.FormRules.{is_annotated_at, is_of_form, may_stand_lowered, may_stand_owned}
+use Rattle.run_typing.specs.sil_types.Typing.OperandTypes.{are_as_asked, are_as_asked_by, are_as_written, edge_is_as_written}
+use Rattle.run_typing.specs.sil_types.Typing.ResultCounts.{is_count_by, is_count_of}
+use Rattle.run_typing.specs.sil_types.Typing.RowTypes.{MadeTypes, given_by, keeps_row, row_types}
+use Rattle.run_typing.specs.sil_types.Typing.Values.{value_types}
 use Rattle.run_typing.specs.Forms.{form_by, forms_of}
 use Rattle.run_typing_laws.specs.inner.WellTyped.{IsWellTyped}
 use Rattle.run_typing_laws.proofs.Rows.Forms.{list_forms, one_form, typed_form}

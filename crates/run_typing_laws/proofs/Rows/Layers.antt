@@ -5,8 +5,8 @@ use Rattle.sil_ast.specs.declared.type_name.TypeName.{TypeName, TypeName-F, out-
 use Rattle.sil_ast.specs.declared.type_name.TypeName.TheVariants as type
 use Rattle.sil_ast.specs.declared.type_name.TypeName.TheVariants.{rolls-Int, rolls-Named, rolls-Optional, rolls-Tuple, rolls-Weak, rolls-Unowned, rolls-Address}
 use Rattle.numbered_form.specs.Names.{Name}
-use Rattle.sil_types.specs.Typing.Shapes.{elements, elements_in, in_unowned, in_weak, is_bit, is_bit_layer, is_integer, is_integer_layer, is_object, is_object_layer, name_in}
-use Rattle.sil_types.specs.Typing.Shapes.{target, target_in, unowned_in, weak_in}
+use Rattle.run_typing.specs.sil_types.Typing.Shapes.{elements, elements_in, in_unowned, in_weak, is_bit, is_bit_layer, is_integer, is_integer_layer, is_object, is_object_layer, name_in}
+use Rattle.run_typing.specs.sil_types.Typing.Shapes.{target, target_in, unowned_in, weak_in}
 
 -- ---- a type with this layer
 

@@ -12,12 +12,12 @@ use Rattle.sil_ast.specs.declared.member.Member.{Member}
 use Rattle.sil_ast.specs.declared.module.Module.{Module}
 use Rattle.sil_ast.specs.declared.type_name.TypeName.{TypeName}
 use Rattle.sil_ast.specs.declared.type_name.TypeName.TheVariants as type
-use Rattle.holder_model.specs.Effects.{effect_of, part_number_by}
-use Rattle.holder_model.specs.ModuleShapes.{field_shape}
-use Rattle.memory_accesses.specs.Sources.{member_place}
+use Rattle.run_typing.specs.holder_model.Effects.{effect_of, part_number_by}
+use Rattle.run_typing.specs.holder_model.ModuleShapes.{field_shape}
+use Rattle.run_typing.specs.memory_accesses.Sources.{member_place}
 use Rattle.type_definitions.specs.Declarations.{declarations_of}
-use Rattle.sil_types.specs.Typing.RowTypes.{address_of, address_of_field, gives, type_of, written}
-use Rattle.sil_types.specs.Typing.Shapes.{class_field, element_of, elements, field_address, field_type, stored_as, struct_field, target}
+use Rattle.run_typing.specs.sil_types.Typing.RowTypes.{address_of, address_of_field, gives, type_of, written}
+use Rattle.run_typing.specs.sil_types.Typing.Shapes.{class_field, element_of, elements, field_address, field_type, stored_as, struct_field, target}
 use Rattle.run_values.specs.Shapes.{Reference, shape_of}
 use Rattle.run_typing.specs.Forms.{OfPlace, OfValue}
 use Rattle.run_typing.specs.RowForms.{member, member_address}

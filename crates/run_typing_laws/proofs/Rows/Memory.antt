@@ -10,16 +10,16 @@ use Rattle.sil_ast.specs.declared.inst.Qualifier.{Qualifier}
 use Rattle.sil_ast.specs.declared.inst.Qualifier.TheVariants as word
 use Rattle.sil_ast.specs.declared.module.Module.{Module}
 use Rattle.sil_ast.specs.declared.type_name.TypeName.{TypeName}
-use Rattle.holder_model.specs.Effects.{effect_of}
-use Rattle.memory_accesses.specs.Operations.{access_kind_of, operation_by}
+use Rattle.run_typing.specs.holder_model.Effects.{effect_of}
+use Rattle.run_typing.specs.memory_accesses.Operations.{access_kind_of, operation_by}
 use Rattle.type_definitions.specs.Declarations.{declarations_of}
 use Rattle.type_definitions.specs.Rules.{is_misplaced_value}
-use Rattle.sil_types.specs.Typing.FormRules.{has_no_word}
-use Rattle.sil_types.specs.Typing.OperandTypes.{has_type}
-use Rattle.sil_types.specs.Typing.RowTypes.{gives, written}
-use Rattle.sil_types.specs.Typing.Same.{all_pairs}
-use Rattle.sil_types.specs.Typing.Shapes.{is_object, object_at, target}
-use Rattle.sil_types.specs.Typing.Values.{value_types}
+use Rattle.run_typing.specs.sil_types.Typing.FormRules.{has_no_word}
+use Rattle.run_typing.specs.sil_types.Typing.OperandTypes.{has_type}
+use Rattle.run_typing.specs.sil_types.Typing.RowTypes.{gives, written}
+use Rattle.run_typing.specs.sil_types.Typing.Same.{all_pairs}
+use Rattle.run_typing.specs.sil_types.Typing.Shapes.{is_object, object_at, target}
+use Rattle.run_typing.specs.sil_types.Typing.Values.{value_types}
 use Rattle.run_values.specs.Shapes.{shape_of}
 use Rattle.run_typing.specs.EndForms.{operand_forms}
 use Rattle.run_typing.specs.Forms.{OfPlace, OfValue, forms_of, has_no_storage}

@@ -14,16 +14,16 @@ use Rattle.sil_ast.specs.declared.inst.Qualifier.TheVariants as word
 use Rattle.sil_ast.specs.declared.module.Module.{Module}
 use Rattle.sil_ast.specs.declared.type_name.TypeName.{TypeName, TypeName-F, out-TypeName}
 use Rattle.sil_ast.specs.declared.type_name.TypeName.TheVariants as type
-use Rattle.holder_model.specs.Effects.{effect_of}
-use Rattle.memory_accesses.specs.Operations.{access_kind_of, load_operation, operation_by, store_operation}
+use Rattle.run_typing.specs.holder_model.Effects.{effect_of}
+use Rattle.run_typing.specs.memory_accesses.Operations.{access_kind_of, load_operation, operation_by, store_operation}
 use Rattle.type_definitions.specs.Declarations.{declarations_of}
 use Rattle.type_definitions.specs.Rules.{is_misplaced_value}
-use Rattle.sil_types.specs.Typing.FormRules.{is_at_storage}
-use Rattle.sil_types.specs.Typing.OperandTypes.{has_type}
-use Rattle.sil_types.specs.Typing.RowTypes.{gives, written}
-use Rattle.sil_types.specs.Typing.Same.{all_pairs}
-use Rattle.sil_types.specs.Typing.Shapes.{in_unowned, in_weak, is_storage, is_storage_layer, target, unowned_at, weak_at}
-use Rattle.sil_types.specs.Typing.Values.{value_types}
+use Rattle.run_typing.specs.sil_types.Typing.FormRules.{is_at_storage}
+use Rattle.run_typing.specs.sil_types.Typing.OperandTypes.{has_type}
+use Rattle.run_typing.specs.sil_types.Typing.RowTypes.{gives, written}
+use Rattle.run_typing.specs.sil_types.Typing.Same.{all_pairs}
+use Rattle.run_typing.specs.sil_types.Typing.Shapes.{in_unowned, in_weak, is_storage, is_storage_layer, target, unowned_at, weak_at}
+use Rattle.run_typing.specs.sil_types.Typing.Values.{value_types}
 use Rattle.run_values.specs.Shapes.{Stored, shape_of}
 use Rattle.run_typing.specs.Forms.{OfPlace, OfValue}
 use Rattle.run_typing.specs.RowForms.{IsLoadOf, IsStoreOf, again, destroys_name, first, loads_name, reads, stores_name, takes}

@@ -6,11 +6,11 @@ use Rattle.numbered_form.specs.inner.Literals.{is_number_of, is_residue, literal
 use Rattle.sil_ast.specs.declared.function.Function.{Function}
 use Rattle.sil_ast.specs.declared.inst.Inst.{Inst}
 use Rattle.sil_ast.specs.declared.module.Module.{Module}
-use Rattle.holder_model.specs.Effects.{effect_of}
+use Rattle.run_typing.specs.holder_model.Effects.{effect_of}
 use Rattle.type_definitions.specs.Declarations.{declarations_of}
 use Rattle.type_definitions.specs.Rules.{is_class_type}
-use Rattle.sil_types.specs.Typing.RowTypes.{address_of, gives, written}
-use Rattle.sil_types.specs.Typing.Shapes.{is_bit, is_integer, target, where_it}
+use Rattle.run_typing.specs.sil_types.Typing.RowTypes.{address_of, gives, written}
+use Rattle.run_typing.specs.sil_types.Typing.Shapes.{is_bit, is_integer, target, where_it}
 use Rattle.run_values.specs.Shapes.{Reference, shape_of}
 use Rattle.run_typing.specs.Forms.{OfFunction, OfPlace, OfValue, form_by}
 use Rattle.run_typing.specs.RowForms.{bit, function, literal, looks, object, removes, slot, traps}

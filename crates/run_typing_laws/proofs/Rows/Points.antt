@@ -16,11 +16,11 @@ use Rattle.numbered_form.specs.inner.Parts.{BlockHasParts, FunctionHasParts, IsI
 use Rattle.numbered_form.specs.inner.Types.{HasBlockTypes, HasFunctionTypes, HasInstTypes}
 use Rattle.point_checks.specs.Points.{IsAt}
 use Rattle.type_definitions.specs.Declarations.{declarations_of}
-use Rattle.sil_types.specs.Typing.FormRules.{is_of_other_form}
-use Rattle.sil_types.specs.Typing.OperandTypes.{has_operand_types}
-use Rattle.sil_types.specs.Typing.ResultCounts.{has_wrong_result_count}
-use Rattle.sil_types.specs.Typing.Typed.{BreaksAtPoint, at_point, mixed_forms, operand_type, point, result_count}
-use Rattle.sil_types.specs.Typing.Values.{value_types}
+use Rattle.run_typing.specs.sil_types.Typing.FormRules.{is_of_other_form}
+use Rattle.run_typing.specs.sil_types.Typing.OperandTypes.{has_operand_types}
+use Rattle.run_typing.specs.sil_types.Typing.ResultCounts.{has_wrong_result_count}
+use Rattle.run_typing.specs.sil_types.Typing.Typed.{BreaksAtPoint, at_point, mixed_forms, operand_type, point, result_count}
+use Rattle.run_typing.specs.sil_types.Typing.Values.{value_types}
 use Rattle.run_typing_laws.specs.inner.WellTyped.{IsWellTyped}
 use Rattle.run_typing_laws.proofs.Rows.Finding.{each_at, never_fails, never_passes}
 

@@ -16,10 +16,10 @@ use Rattle.sil_ast.specs.declared.operands.Operand.{Operand}
 use Rattle.sil_ast.specs.declared.type_name.TypeName.{TypeName}
 use Rattle.sil_ast.specs.declared.type_name.TypeName.TheVariants as type
 use Rattle.type_definitions.specs.Declarations.{declarations_of}
-use Rattle.sil_types.specs.Typing.OperandTypes.{are_as_written, has_type, is_as_written}
-use Rattle.sil_types.specs.Typing.RowTypes.{MadeTypes, all_written, gives, given_by, takes, type_of, written}
-use Rattle.sil_types.specs.Typing.Same.{all_pairs, are_same_types, is_same_type}
-use Rattle.sil_types.specs.Typing.Values.{value_types}
+use Rattle.run_typing.specs.sil_types.Typing.OperandTypes.{are_as_written, has_type, is_as_written}
+use Rattle.run_typing.specs.sil_types.Typing.RowTypes.{MadeTypes, all_written, gives, given_by, takes, type_of, written}
+use Rattle.run_typing.specs.sil_types.Typing.Same.{all_pairs, are_same_types, is_same_type}
+use Rattle.run_typing.specs.sil_types.Typing.Values.{value_types}
 use Rattle.run_values.specs.Shapes.{Integer}
 use Rattle.run_typing.specs.EndForms.{operand_forms, value_in}
 use Rattle.run_typing.specs.Forms.{Form, OfValue, form_by, form_of, forms_of}

@@ -10,7 +10,7 @@ use Rattle.sil_ast.specs.declared.type_name.TypeName.TheVariants as type
 use Rattle.type_definitions.specs.Declarations.{Declarations, declarations_of}
 use Rattle.type_definitions.specs.Rules.{has_storage, is_class_type, is_misplaced_in_storage, is_misplaced_layer, is_misplaced_value}
 use Rattle.type_definitions.specs.Rules.{is_misplaced_value_layer, is_optional_class, is_optional_class_layer}
-use Rattle.sil_types.specs.Typing.Shapes.{is_object, is_object_layer, target, target_in}
+use Rattle.run_typing.specs.sil_types.Typing.Shapes.{is_object, is_object_layer, target, target_in}
 use Rattle.run_values.specs.Shapes.{Enum, FullCase, NoCase, PlainCase, shape_of}
 use Rattle.run_typing.specs.Forms.{has_no_storage}
 use Rattle.run_typing.specs.StorageForms.{FieldShapeIs, IsNamed, named, plain, unowned, weak}

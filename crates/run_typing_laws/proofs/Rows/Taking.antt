@@ -18,9 +18,9 @@ use Rattle.item_operands.specs.Items.{taken_in}
 use Rattle.item_operands.specs.Parts.{inst_at}
 use Rattle.item_operands.specs.Roles.{by_convention, conventions_by, conventions_in, last_roles, roles_for, taken_by, taken_each}
 use Rattle.item_operands.specs.declared.taken.Treatment.{Treatment}
-use Rattle.lowered_run.specs.LowStepParts.{taken_value, values_taken}
-use Rattle.sil_types.specs.Typing.OperandTypes.{argument_types}
-use Rattle.sil_types.specs.Typing.Same.{all_pairs}
+use Rattle.run_typing.specs.lowered_run.LowStepParts.{taken_value, values_taken}
+use Rattle.run_typing.specs.sil_types.Typing.OperandTypes.{argument_types}
+use Rattle.run_typing.specs.sil_types.Typing.Same.{all_pairs}
 use Rattle.run_typing.specs.EndForms.{value_in}
 
 -- where something is done to each operand, all are taken

@@ -13,10 +13,10 @@ use Rattle.sil_ast.specs.declared.type_name.TypeName.{out-TypeName}
 use Rattle.sil_ast.specs.declared.type_name.TypeName.TheVariants as type
 use Rattle.sil_rules.specs.declared.limits.TheConstants.{DEPTH}
 use Rattle.numbered_form.specs.Names.{Name}
-use Rattle.holder_model.specs.Effects.{effect_of}
+use Rattle.run_typing.specs.holder_model.Effects.{effect_of}
 use Rattle.type_definitions.specs.Declarations.{Declarations, ancestors_of, chain, decl_of, declarations_of, inherits, is_class, is_class_found, superclass_found, superclass_of}
-use Rattle.sil_types.specs.Typing.RowTypes.{gives, inherits_by, is_base, is_derived, written}
-use Rattle.sil_types.specs.Typing.Shapes.{name_in, where_it}
+use Rattle.run_typing.specs.sil_types.Typing.RowTypes.{gives, inherits_by, is_base, is_derived, written}
+use Rattle.run_typing.specs.sil_types.Typing.Shapes.{name_in, where_it}
 use Rattle.run_values.specs.Shapes.{Reference}
 use Rattle.run_typing.specs.Forms.{OfValue}
 use Rattle.run_typing.specs.RowForms.{upcast}

@@ -2,7 +2,7 @@
 use Rattle.std.specs.Prelude.{◌≡◌, ◌<◌, ◌≤◌, ◌+◌, ℕ, List, true}
 use Rattle.std.specs.List.{flat_map}
 use Rattle.std.specs.Option.{option_to_list}
-use Rattle.run_typing.specs.Runnable.{IsRunnable}
+use Rattle.run_typing_laws.specs.run_typing.Runnable.{IsRunnable}
 use Rattle.run_values.specs.Layers.{CaseLayer, Layer, Integer, Reference, Struct, Tuple, Enum, Stored, Unknown, told}
 use Rattle.run_values.specs.inner.Laws.{has_no_address}
 use Rattle.sil_ast.specs.TypeName.{largest}

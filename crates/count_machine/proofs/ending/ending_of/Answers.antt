@@ -1,6 +1,6 @@
 use Rattle.std.proofs.Common.{sym, subst}
 use Rattle.holder_model.specs.declared.trap.Trap.TheVariants as trap
-use Rattle.run_typing.specs.Forms.{given_shape}
+use Rattle.run_typing_laws.specs.run_typing.Forms.{given_shape}
 use Rattle.type_definitions.specs.Declarations.{declarations_of}
 use Rattle.value_reading.specs.inner.Reading.{IsValueOf}
 use Rattle.count_machine.specs.declared.low_run.LowEnd.TheVariants as end

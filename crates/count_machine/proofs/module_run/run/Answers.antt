@@ -3,7 +3,7 @@ use Rattle.std.specs.Prelude.{slice_get}
 use Rattle.std.proofs.lemmas.Option.{get_or_from_slice_get}
 use Rattle.std.proofs.lemmas.Result.{IfOk-weaker}
 use Rattle.holder_model.specs.Outcomes.{may_start}
-use Rattle.run_typing.specs.Forms.{given_shape}
+use Rattle.run_typing_laws.specs.run_typing.Forms.{given_shape}
 use Rattle.sil_ast.specs.declared.function.Function.{Function}
 use Rattle.type_definitions.specs.Declarations.{declarations_of}
 use Rattle.count_machine.specs.LowRuns.{EndsAsTold, MayStartAt}

@@ -1,5 +1,5 @@
 use Rattle.std.proofs.Common.{sym}
-use Rattle.run_typing.specs.Forms.{given_shape}
+use Rattle.run_typing_laws.specs.run_typing.Forms.{given_shape}
 use Rattle.type_definitions.specs.Declarations.{declarations_of}
 use Rattle.count_machine.specs.declared.low_run.LowRun.{LowRun}
 use Rattle.count_machine.specs.LowRuns.{HeapIsAsTold}

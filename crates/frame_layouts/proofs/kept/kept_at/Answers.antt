@@ -1,6 +1,6 @@
 use Rattle.std.proofs.Common.{sym, ap, ap₂, ◌∙◌}
 use Rattle.sil_ast.specs.declared.type_name.TypeName.TheVariants as type
-use Rattle.run_typing.specs.Forms.{form_with}
+use Rattle.ready_code.specs.run_typing.Forms.{form_with}
 use Rattle.frame_layouts.specs.declared.layout.Kept.TheVariants as kept
 use Rattle.frame_layouts.specs.inner.Layouts.{kept_of}
 use Rattle.run_typing_laws.proofs.Rows.Layers.{target-Address}

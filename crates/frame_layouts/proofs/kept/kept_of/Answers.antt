@@ -1,6 +1,6 @@
 use Rattle.std.proofs.Common.{sym, ap, ◌∙◌}
 use Rattle.typing_rows.specs.inner.Views.{view_told}
-use Rattle.run_typing.specs.Forms.{form_by}
+use Rattle.ready_code.specs.run_typing.Forms.{form_by}
 use Rattle.frame_layouts.specs.inner.Layouts as layouts
 use Rattle.frame_layouts.proofs.kept.kept_of.Goals as goal
 

@@ -1,5 +1,5 @@
 use Rattle.std.proofs.Common.{◌++◌, append_assoc, append-nil, ap, sym, ◌∙◌, arith}
-use Rattle.heap_model.specs.HeapViews.{fields_in}
+use Rattle.count_heap.specs.heap_model.HeapViews.{fields_in}
 use Rattle.sil_ast.specs.declared.decl.Storage.TheVariants.{Strong}
 use Rattle.heap_leaves.proofs.Unnamed.{strong-done, strong-more}
 use Rattle.heap_leaves.proofs.dying.gather_fields.Goals as goal

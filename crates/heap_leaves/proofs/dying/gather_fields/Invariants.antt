@@ -1,5 +1,5 @@
 use Rattle.std.proofs.Common.{◌≡◌, ◌++◌, drop}
-use Rattle.heap_model.specs.HeapViews.{fields_in}
+use Rattle.count_heap.specs.heap_model.HeapViews.{fields_in}
 use Rattle.leaf_windows.specs.Steps.{strong_in_fields}
 use Rattle.heap_leaves.proofs.dying.gather_fields.Given as goal
 

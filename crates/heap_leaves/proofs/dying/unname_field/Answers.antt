@@ -1,6 +1,6 @@
 use Rattle.std.proofs.Common.{◌≡◌, Some, None, ap, sym, ◌∙◌, arith}
 use Rattle.std.specs.Prelude.{option_and_then, slice_get}
-use Rattle.heap_model.specs.HeapViews.{field_in}
+use Rattle.count_heap.specs.heap_model.HeapViews.{field_in}
 use Rattle.heap_leaves.proofs.Alike.{alike-along, leaf_unnamed-alike}
 use Rattle.heap_leaves.proofs.Unnamed.{field-alike, leaf-more, leaf-within, leaves-done}
 use Rattle.heap_leaves.proofs.dying.unname_field.Goals as goal

@@ -1,5 +1,5 @@
 use Rattle.std.proofs.Common.{◌≡◌, ◌-◌, drop, length}
-use Rattle.heap_model.specs.HeapViews.{field_in, object_in}
+use Rattle.count_heap.specs.heap_model.HeapViews.{field_in, object_in}
 use Rattle.leaf_windows.specs.Steps.{field_unnamed}
 use Rattle.heap_leaves.proofs.Alike.{Alike}
 use Rattle.std.specs.Prelude.{option_map}

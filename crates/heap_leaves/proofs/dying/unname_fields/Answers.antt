@@ -1,5 +1,5 @@
 use Rattle.std.proofs.Common.{sym, ◌∙◌, arith}
-use Rattle.heap_model.specs.HeapViews.{field_in, fields_in}
+use Rattle.count_heap.specs.heap_model.HeapViews.{field_in, fields_in}
 use Rattle.heap_leaves.proofs.Alike.{alike-along}
 use Rattle.heap_leaves.proofs.Unnamed.{field-alike, field_unnamed-alike, fields-done, fields-more}
 use Rattle.heap_leaves.proofs.dying.unname_fields.Goals as goal

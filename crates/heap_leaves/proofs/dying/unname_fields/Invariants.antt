@@ -1,5 +1,5 @@
 use Rattle.std.proofs.Common.{◌≡◌, drop}
-use Rattle.heap_model.specs.HeapViews.{fields_in, object_in}
+use Rattle.count_heap.specs.heap_model.HeapViews.{fields_in, object_in}
 use Rattle.leaf_windows.specs.Steps.{fields_unnamed}
 use Rattle.heap_leaves.proofs.Alike.{Alike}
 use Rattle.heap_leaves.proofs.dying.unname_fields.Given as goal

@@ -1,6 +1,6 @@
 use Rattle.std.proofs.Common.{◌≡◌, ◌∙◌, [], cond, false, sym, subst, ap}
 use Rattle.std.specs.Prelude.{IfSome, Option}
-use Rattle.heap_model.specs.HeapViews.{HeapView, is_dead_in}
+use Rattle.machine_steps.specs.heap_model.HeapViews.{HeapView, is_dead_in}
 use Rattle.machine_steps.specs.Operands.{object_in_leaf}
 use Rattle.machine_steps.specs.Places.{forgotten, given}
 use Rattle.machine_steps.specs.Views.{MachineView, Went}

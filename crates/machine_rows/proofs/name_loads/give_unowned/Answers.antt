@@ -1,5 +1,5 @@
 use Rattle.std.proofs.Common.{[], ◌∷◌}
-use Rattle.heap_model.specs.HeapCalls.{retained}
+use Rattle.machine_steps.specs.heap_model.HeapCalls.{retained}
 use Rattle.machine_steps.specs.Naming.{some_leaves}
 use Rattle.machine_steps.specs.Views.{MachineView}
 use Rattle.run_values.specs.declared.leaf.Leaf.TheVariants as leaf

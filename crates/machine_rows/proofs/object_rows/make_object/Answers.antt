@@ -1,5 +1,5 @@
 use Rattle.std.proofs.Common.{◌≡◌, ℕ, [], ◌∷◌, ap, subst}
-use Rattle.heap_model.specs.HeapCalls.{allocated_in}
+use Rattle.machine_steps.specs.heap_model.HeapCalls.{allocated_in}
 use Rattle.machine_steps.specs.Operands.{put}
 use Rattle.machine_steps.specs.Places.{made_object}
 use Rattle.machine_steps.specs.Views.{MachineView}

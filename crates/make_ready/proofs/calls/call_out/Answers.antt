@@ -1,5 +1,5 @@
 use Rattle.std.proofs.Common.{ap, ◌∙◌, map}
-use Rattle.run_typing.specs.EndForms.{value_in}
+use Rattle.ready_code.specs.run_typing.EndForms.{value_in}
 use Rattle.make_ready.specs.inner.Bodies.{local}
 use Rattle.make_ready.proofs.MadeCalls.{call_out_made}
 use Rattle.make_ready.proofs.calls.call_out.Goals as goal

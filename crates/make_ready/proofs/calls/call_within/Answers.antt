@@ -1,6 +1,6 @@
 use Rattle.std.proofs.Common.{◌≡◌, ap, ap₂, ◌∙◌, get_or, map}
 use Rattle.item_operands.specs.Items.{arg_value}
-use Rattle.run_typing.specs.EndForms.{value_in}
+use Rattle.ready_code.specs.run_typing.EndForms.{value_in}
 use Rattle.ready_code.specs.Layout.{addresses_carried, values_carried}
 use Rattle.type_definitions.specs.Declarations.{Declarations, declarations_of}
 use Rattle.frame_layouts.specs.inner.Layouts.{layout_of}

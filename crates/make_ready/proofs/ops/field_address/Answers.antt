@@ -1,5 +1,5 @@
 use Rattle.std.proofs.Common.{◌≡◌, ap, ◌∙◌, Some}
-use Rattle.memory_accesses.specs.Sources.{member_place}
+use Rattle.holder_model.specs.memory_accesses.Sources.{member_place}
 use Rattle.make_ready.proofs.MadeGroups.{field_address_made}
 use Rattle.make_ready.proofs.ops.field_address.Goals as goal
 

@@ -1,5 +1,5 @@
 use Rattle.std.proofs.Common.{ap, ◌∙◌, map}
-use Rattle.run_typing.specs.EndForms.{value_in}
+use Rattle.ready_code.specs.run_typing.EndForms.{value_in}
 use Rattle.make_ready.specs.inner.Bodies.{local}
 use Rattle.make_ready.proofs.MadeGroups.{group_made}
 use Rattle.make_ready.proofs.ops.group.Goals as goal

@@ -1,5 +1,5 @@
 use Rattle.std.proofs.Common.{◌≡◌, map, take}
-use Rattle.run_typing.specs.EndForms.{value_in}
+use Rattle.ready_code.specs.run_typing.EndForms.{value_in}
 use Rattle.make_ready.proofs.parts.values_of.Given as goal
 
 abbrev pub invariant-loop-operand : goal.invariant-loop-operand

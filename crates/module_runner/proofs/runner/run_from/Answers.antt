@@ -1,7 +1,7 @@
 -- The run of the lowered module, and what is reported of it.
 use Rattle.std.proofs.Common.{◌∙◌, sym, subst}
 use Rattle.count_machine.specs.LowRuns.{MayStartAt}
-use Rattle.lowering_model.specs.LoweredModules.{lowered}
+use Rattle.ownership_lowering.specs.lowering_model.LoweredModules.{lowered}
 use Rattle.module_runner.proofs.Entering.{lowered_starts}
 use Rattle.module_runner.proofs.Stays.{left_enters}
 use Rattle.module_runner.proofs.Reported.{ends_reported}

@@ -1,7 +1,7 @@
 use Rattle.std.proofs.Common.{◌∙◌, ap, subst, sym}
 use Rattle.sil_ast.specs.declared.module.Module.{Module}
 use Rattle.function_lowering.specs.inner.Lowerable.{AreLowerable}
-use Rattle.run_typing.specs.Runnable.{IsRunnable}
+use Rattle.lowering_laws.specs.run_typing.Runnable.{IsRunnable}
 use Rattle.type_definitions.specs.Declarations.{declarations_of}
 use Rattle.ownership_lowering.proofs.Accepted.{all_lowerable}
 use Rattle.ownership_lowering.proofs.Made.{lowered_from}

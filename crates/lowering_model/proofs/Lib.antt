@@ -1,0 +1,1 @@
+pub use Rattle.ownership_origins.proofs as ownership_origins

@@ -1,0 +1,1 @@
+pub use Rattle.lowered_run.proofs.ownership_origins as ownership_origins
