@@ -3,7 +3,8 @@ use Rattle.std.proofs.Common.{◌≡◌, ◌⊎◌, inl, inr, ℕ, zero, suc, Li
 use Rattle.std.specs.Prelude.{is_some}
 use Rattle.std.proofs.lemmas.Bool.{cases_eq}
 use Rattle.sil_ast.specs.declared.place.ValueId.{ValueId}
-use Rattle.accepted_memory.specs.memory_accesses.Locations.{below, below_by, cell_by, cell_of, do_overlap, field_cell, is_object, locate, located_by, location_of, meet, object_built, object_lent, upcast_from}
+use Rattle.accepted_memory.specs.memory_accesses.Locations.{below, below_by, cell_by, cell_of, do_overlap, field_cell, is_object}
+use Rattle.accepted_memory.specs.memory_accesses.Locations.{locate, located_by, location_of, meet, object_built, object_lent, upcast_from}
 use Rattle.accepted_memory.specs.memory_accesses.Rows.{field_has, has_by, has_operation, is_part}
 use Rattle.accepted_memory.specs.memory_accesses.Sources.{is_slot, is_slot_source, is_trivial_at, is_trivial_source, source_at}
 use Rattle.accepted_memory.specs.memory_accesses.declared.access.Operation.{Operation}

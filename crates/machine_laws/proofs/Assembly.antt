@@ -20,7 +20,8 @@ use Rattle.machine_steps.specs.Views.{MachineView, Went}
 use Rattle.machine_steps.specs.ready_code.declared.function.ReadyModule.{ReadyModule}
 use Rattle.machine_steps.specs.ready_code.declared.op.ReadyOp.{ReadyOp}
 use Rattle.machine_steps.specs.ready_code.ReadyModules.{IsReadyModule}
-use Rattle.machine_steps.specs.ready_code.ReadyOps.{IsReadyOp, calls, calls_out, chooses_full, chooses_plain, computes, drops, field_address, forgets_name, function, groups, literal, loads, loads_name}
+use Rattle.machine_steps.specs.ready_code.ReadyOps.{IsReadyOp, calls, calls_out, chooses_full, chooses_plain, computes, drops}
+use Rattle.machine_steps.specs.ready_code.ReadyOps.{field_address, forgets_name, function, groups, literal, loads, loads_name}
 use Rattle.machine_steps.specs.ready_code.ReadyOps.{look, member, member_address, object, removes, retains, same, slot, stores, stores_name, traps}
 use Rattle.machine_steps.specs.run_typing.RunTyped.{FunctionIsTyped, RunTyped}
 use Rattle.run_values.specs.Memory.{is_dead_phase, object_at}

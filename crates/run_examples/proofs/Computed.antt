@@ -8,10 +8,10 @@ use Rattle.sil_ast.specs.declared.place.FuncId.{FuncId}
 use Rattle.type_definitions.specs.Declarations.{declarations_of}
 use Rattle.run_values.specs.Shapes.{Shape}
 use Rattle.run_report.specs.ReportLines.{report}
-use Rattle.run_report.specs.holder_model.Faults.{HolderFault}
-use Rattle.run_report.specs.holder_model.ModuleFacts.{ModuleFacts, facts_of, function_facts}
-use Rattle.run_report.specs.holder_model.ModuleShapes.{ClassShape, ModuleShapes, class_shape, function_shapes, shapes_of}
-use Rattle.run_report.specs.holder_model.Outcomes.{outcome_with}
+use Rattle.holder_model.specs.Faults.{HolderFault}
+use Rattle.holder_model.specs.ModuleFacts.{ModuleFacts, facts_of, function_facts}
+use Rattle.holder_model.specs.ModuleShapes.{ClassShape, ModuleShapes, class_shape, function_shapes, shapes_of}
+use Rattle.holder_model.specs.Outcomes.{outcome_with}
 use Rattle.lowering_model.specs.LoweredModules.{lowered, lowered_function}
 use Rattle.lowered_run.specs.LowOutcomes.{low_outcome_with, low_outcome_within}
 use Rattle.lowered_run.specs.declared.low_fault.LowFault.{LowFault}

@@ -3,7 +3,7 @@ use Rattle.std.proofs.Common.{◌≡◌, refl, List, [], ◌∷◌, Some, Option
 use Rattle.std.specs.Prelude.{codes, slice_get, map}
 use Rattle.std.specs.List.{flat_map}
 use Rattle.std.specs.Fmt.{digits}
-use Rattle.run_report.specs.holder_model.ModuleShapes.{value_shape, ClassShape, ModuleShapes, class_shape, function_shapes, shapes_of}
+use Rattle.holder_model.specs.ModuleShapes.{value_shape, ClassShape, ModuleShapes, class_shape, function_shapes, shapes_of}
 use Rattle.instruction_table.specs.declared.op.Op.TheVariants as op
 use Rattle.lowered_run.specs.LowOutcomes.{low_outcome_with}
 use Rattle.lowered_run.specs.declared.low_fault.LowFault.TheVariants as fault
@@ -19,8 +19,8 @@ use Rattle.sil_ast.specs.declared.decl.Storage.TheVariants as storage
 use Rattle.sil_ast.specs.declared.inst.Inst.{Inst}
 use Rattle.sil_ast.specs.declared.type_name.TypeName.TheVariants as type
 use Rattle.sil_ast.specs.declared.type_name.TypeName.{TypeName}
-use Rattle.lowering_model.specs.sil_types.Typing.RowTypes.{made_types}
-use Rattle.lowering_model.specs.sil_types.Typing.Values.{value_types}
+use Rattle.sil_types.specs.Typing.RowTypes.{made_types}
+use Rattle.sil_types.specs.Typing.Values.{value_types}
 use Rattle.type_definitions.specs.Declarations.{ancestors_of, declarations_of}
 use Rattle.type_definitions.specs.Measures.{of_reference}
 use Rattle.type_definitions.specs.declared.measure.Measure.{Measure}

@@ -3,10 +3,10 @@ use Rattle.std.proofs.Common.{◌≡◌, refl, List, [], ◌∷◌, Some, true, 
 use Rattle.std.specs.Prelude.{codes, slice_get, map}
 use Rattle.std.specs.List.{flat_map, range_with_len}
 use Rattle.std.specs.Fmt.{digits}
-use Rattle.run_report.specs.holder_model.Calling.{value_count}
-use Rattle.run_report.specs.holder_model.ModuleFacts.{ModuleFacts, facts_of, function_facts}
-use Rattle.run_report.specs.holder_model.ModuleShapes.{value_shape, ClassShape, ModuleShapes, class_shape, function_shapes, shapes_of}
-use Rattle.run_report.specs.holder_model.Outcomes.{outcome_with}
+use Rattle.holder_model.specs.Calling.{value_count}
+use Rattle.holder_model.specs.ModuleFacts.{ModuleFacts, facts_of, function_facts}
+use Rattle.holder_model.specs.ModuleShapes.{value_shape, ClassShape, ModuleShapes, class_shape, function_shapes, shapes_of}
+use Rattle.holder_model.specs.Outcomes.{outcome_with}
 use Rattle.instruction_table.specs.Forms.{result_kind_of}
 use Rattle.instruction_table.specs.declared.op.Op.TheVariants as op
 use Rattle.lowered_run.specs.LowOutcomes.{low_outcome_with}
@@ -14,8 +14,8 @@ use Rattle.lowering_model.specs.LoweredModules.{lowered, lowered_function}
 use Rattle.ownership_chains.specs.Facts.{value_of}
 use Rattle.ownership_chains.specs.declared.definition.Definition.{Definition}
 use Rattle.ownership_chains.specs.declared.facts.Facts.{Facts}
-use Rattle.run_report.specs.ownership_kinds.Facts.{facts_by}
-use Rattle.lowering_model.specs.ownership_origins.Origins.{definitions_of, result_definition_by}
+use Rattle.ownership_kinds.specs.Facts.{facts_by}
+use Rattle.ownership_origins.specs.Origins.{definitions_of, result_definition_by}
 use Rattle.run_examples.proofs.Computed.{both, lowered_with, shapes_told, facts_told, by_holders, of_lowered}
 use Rattle.run_examples.proofs.Opened.{opened}
 use Rattle.run_examples.proofs.Told.{seen, seen_named, seen_tuple, at_named, at_tuple, weighed, weighed_named, weighed_tuple, definition_by}
@@ -33,8 +33,8 @@ use Rattle.sil_ast.specs.declared.inst.Inst.{Inst}
 use Rattle.sil_ast.specs.declared.module.Module.{Module}
 use Rattle.sil_ast.specs.declared.type_name.TypeName.TheVariants as type
 use Rattle.sil_ast.specs.declared.type_name.TypeName.{TypeName}
-use Rattle.lowering_model.specs.sil_types.Typing.RowTypes.{made_types}
-use Rattle.lowering_model.specs.sil_types.Typing.Values.{value_types}
+use Rattle.sil_types.specs.Typing.RowTypes.{made_types}
+use Rattle.sil_types.specs.Typing.Values.{value_types}
 use Rattle.type_definitions.specs.Declarations.{ancestors_of, declarations_of}
 use Rattle.type_definitions.specs.Measures.{of_reference, is_trivial, is_trivial_measure}
 use Rattle.type_definitions.specs.declared.measure.Measure.{Measure}

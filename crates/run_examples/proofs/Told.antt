@@ -7,13 +7,13 @@ use Rattle.sil_ast.specs.declared.type_name.TypeName.{TypeName, TypeName-F, out-
 use Rattle.sil_ast.specs.declared.type_name.TypeName.TheVariants as type
 use Rattle.sil_ast.specs.declared.decl.Storage.TheVariants as storage
 use Rattle.instruction_table.specs.Forms.{result_kind_of}
-use Rattle.lowering_model.specs.ownership_origins.Origins.{is_trivial_or_untyped, result_definition, result_definition_by}
-use Rattle.lowering_model.specs.sil_types.Typing.RowTypes.{made_types}
-use Rattle.lowering_model.specs.sil_types.Typing.Same.{all_pairs, applied, is_same_layer, is_same_type}
+use Rattle.ownership_origins.specs.Origins.{is_trivial_or_untyped, result_definition, result_definition_by}
+use Rattle.sil_types.specs.Typing.RowTypes.{made_types}
+use Rattle.sil_types.specs.Typing.Same.{all_pairs, applied, is_same_layer, is_same_type}
 use Rattle.type_definitions.specs.Declarations.{Declarations, all_names}
 use Rattle.type_definitions.specs.Measures.{measure_at, measure_over, measure_with, measures_within, measured, of_members, of_payloads, of_storage}
 use Rattle.type_definitions.specs.declared.measure.Measure.{Measure}
-use Rattle.run_report.specs.holder_model.ModuleShapes.{value_shape}
+use Rattle.holder_model.specs.ModuleShapes.{value_shape}
 use Rattle.run_values.specs.Layers.{CaseLayer, named_within, over, type_with}
 use Rattle.run_values.specs.Shapes as shape
 use Rattle.run_values.specs.Shapes.{Shape, cases_of, members_of, shape_of, shape_with}

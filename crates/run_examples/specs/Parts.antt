@@ -25,8 +25,8 @@ use Rattle.type_definitions.specs.declared.kind.Kind.TheVariants as kinds
 use Rattle.run_values.specs.Layers.{CaseLayer}
 use Rattle.run_values.specs.Shapes as shape
 use Rattle.run_values.specs.Shapes.{Shape}
-use Rattle.run_report.specs.holder_model.ModuleFacts.{ModuleFacts}
-use Rattle.run_report.specs.holder_model.ModuleShapes.{ClassShape, ModuleShapes}
+use Rattle.holder_model.specs.ModuleFacts.{ModuleFacts}
+use Rattle.holder_model.specs.ModuleShapes.{ClassShape, ModuleShapes}
 
 -- the value, the block and the function with this number
 abbrev pub v : ℕ → ValueId

@@ -28,7 +28,8 @@ use Rattle.run_typing.specs.sil_types.Typing.OperandTypes.{are_as_asked_by, argu
 use Rattle.run_typing.specs.sil_types.Typing.ResultCounts.{is_count_by}
 use Rattle.run_typing.specs.sil_types.Typing.RowTypes.{given_by, gives, made_types, row_types}
 use Rattle.run_typing.specs.sil_types.Typing.Same.{all_pairs}
-use Rattle.run_typing.specs.sil_types.Typing.SignatureRules.{callee, callee_value, calls_no_function, calls_none_by, differs_by, differs_from_signature, has_signature_of, is_signature_of, signature_of}
+use Rattle.run_typing.specs.sil_types.Typing.SignatureRules.{callee, callee_value, calls_no_function, calls_none_by}
+use Rattle.run_typing.specs.sil_types.Typing.SignatureRules.{differs_by, differs_from_signature, has_signature_of, is_signature_of, signature_of}
 use Rattle.run_typing.specs.sil_types.Typing.Values.{arg_functions, arg_has, arg_types, function_at, functions_by, result_functions, result_types, type_at, value_functions, value_types}
 use Rattle.type_definitions.specs.Declarations.{Declarations, declarations_of}
 use Rattle.type_definitions.specs.Mentions.{direct_type, given_type}

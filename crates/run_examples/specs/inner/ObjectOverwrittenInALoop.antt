@@ -15,7 +15,7 @@ use Rattle.sil_ast.specs.declared.signature.Signature.{Signature}
 use Rattle.sil_ast.specs.declared.type_name.TypeName.TheVariants as type
 use Rattle.sil_ast.specs.declared.type_name.TypeName.{TypeName}
 use Rattle.run_examples.specs.Parts.{v, fn, typed, bare, inst, edge, arg, signed_as, imports}
-use Rattle.run_report.specs.holder_model.Faults as holder
+use Rattle.holder_model.specs.Faults as holder
 use Rattle.run_examples.specs.inner.Reported.{ReportsWhenLowered, FaultsByHolders}
 
 abbrev pub ty_C : TypeName

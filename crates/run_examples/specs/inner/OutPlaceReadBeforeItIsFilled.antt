@@ -13,7 +13,7 @@ use Rattle.sil_ast.specs.declared.signature.Convention.TheVariants as convention
 use Rattle.sil_ast.specs.declared.signature.Signature.{Signature}
 use Rattle.sil_ast.specs.declared.type_name.TypeName.TheVariants as type
 use Rattle.run_examples.specs.Parts.{v, fn, typed, bare, inst, arg, signed_as, given, given_out, imports}
-use Rattle.run_report.specs.holder_model.Faults as holder
+use Rattle.holder_model.specs.Faults as holder
 use Rattle.run_examples.specs.inner.Reported.{ReportsWhenLowered, FaultsByHolders}
 
 abbrev pub sig_f : Signature

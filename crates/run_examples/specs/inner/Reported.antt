@@ -8,9 +8,9 @@ use Rattle.sil_printer.specs.Words.{line}
 use Rattle.type_definitions.specs.Declarations.{declarations_of}
 use Rattle.type_definitions.specs.Mentions.{given_type}
 use Rattle.run_values.specs.Shapes.{Shape, Unknown, shape_of}
-use Rattle.run_report.specs.holder_model.Faults.{HolderFault}
-use Rattle.run_report.specs.holder_model.Outcomes.{Outcome, outcome_within}
-use Rattle.run_report.specs.holder_model.States.{Ending, Faulted}
+use Rattle.holder_model.specs.Faults.{HolderFault}
+use Rattle.holder_model.specs.Outcomes.{Outcome, outcome_within}
+use Rattle.holder_model.specs.States.{Ending, Faulted}
 use Rattle.lowering_model.specs.LoweredModules.{lowered}
 use Rattle.lowered_run.specs.LowOutcomes.{low_outcome_within}
 use Rattle.lowered_run.specs.declared.low_fault.LowFault.{LowFault}

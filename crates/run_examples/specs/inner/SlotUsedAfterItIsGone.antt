@@ -12,7 +12,7 @@ use Rattle.sil_ast.specs.declared.signature.Convention.TheVariants as convention
 use Rattle.sil_ast.specs.declared.signature.Signature.{Signature}
 use Rattle.sil_ast.specs.declared.type_name.TypeName.TheVariants as type
 use Rattle.run_examples.specs.Parts.{v, fn, typed, bare, inst, signed_as, imports}
-use Rattle.run_report.specs.holder_model.Faults as holder
+use Rattle.holder_model.specs.Faults as holder
 use Rattle.lowered_run.specs.declared.low_fault.LowFault.TheVariants as fault
 use Rattle.lowering_model.specs.LoweredModules.{lowered}
 use Rattle.run_examples.specs.inner.Reported.{FaultsByHolders, FaultsLowered}
