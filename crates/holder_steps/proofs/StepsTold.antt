@@ -1,0 +1,1 @@
+-- Each step of a run by holders goes one of the ways that are told.
