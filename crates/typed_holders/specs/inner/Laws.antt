@@ -9,7 +9,7 @@ use Rattle.holder_model.specs.ModuleFacts.{facts_of}
 use Rattle.holder_model.specs.Outcomes.{begins, may_start}
 use Rattle.holder_model.specs.States.{Ends, Faulted, Goes}
 use Rattle.holder_model.specs.Steps.{step}
-use Rattle.sil_verifier.specs.inner.Checked.{IsVerified}
+use Rattle.accepted_modules.specs.inner.Checked.{IsVerified}
 use Rattle.typed_holders.specs.inner.TypedStates.{IsTypedState}
 
 -- a run begins in a typed state

@@ -3,7 +3,7 @@ use Rattle.std.specs.Prelude.{slice_get}
 use Rattle.type_definitions.specs.Declarations.{declarations_of}
 use Rattle.typed_graph_laws.proofs.Functions.{graphs_by_blocks}
 use Rattle.sil_cfg.specs.Items.{HasBlocks}
-use Rattle.sil_verifier.specs.Values.{IsCleanIn, IsRefusalIn, IsValueRefusal}
+use Rattle.accepted_modules.specs.Values.{IsCleanIn, IsRefusalIn, IsValueRefusal}
 use Rattle.sil_verifier.proofs.Functions.{all_clean, clean_more, first_refusal, is_there}
 use Rattle.sil_verifier.proofs.values.check_values.Goals as goal
 

@@ -20,8 +20,8 @@ use Rattle.ownership_kinds.specs.Statics as kinds
 use Rattle.memory_rules.specs.memory_accesses.Sources.{sources_of}
 use Rattle.memory_rules.proofs.RulesOf.{on_memory}
 use Rattle.memory_rules.specs.Broken as breaks
-use Rattle.sil_verifier.specs.Shown.{IsShownIn, inner_key, last_key, lives_in, scopes_in}
-use Rattle.sil_verifier.specs.Shown.IsShownIn.{undefined, kind, life, scope, memory}
+use Rattle.accepted_modules.specs.Shown.{IsShownIn, inner_key, last_key, lives_in, scopes_in}
+use Rattle.accepted_modules.specs.Shown.IsShownIn.{undefined, kind, life, scope, memory}
 
 -- the rule of what is shown is of this group
 abbrev pub IsOf : Group → RuleFault → Type 0

@@ -15,7 +15,7 @@ use Rattle.sil_types.specs.type_item_rules.Faults.{Breaks}
 use Rattle.sil_types.specs.type_item_rules.Faults.Breaks.{unknown_type, bad_member, misplaced_storage}
 use Rattle.type_check.specs.Refusals.IsBroken.{broken}
 use Rattle.type_check.specs.declared.fault.TypingFault.{TypingFault}
-use Rattle.sil_verifier.specs.Refusals.{HasDeclaredTypes, HasTypes, IsWrong}
+use Rattle.accepted_modules.specs.Refusals.{HasDeclaredTypes, HasTypes, IsWrong}
 
 well_named_keeps : (d : Declarations) (i : Item) (r : Rule) → IsWellNamed d i → Breaks d i r → ⊥
 well_named_keeps d i _ well (unknown_type e) = false≢true (sym well.known ∙ e)

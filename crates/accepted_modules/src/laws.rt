@@ -1,6 +1,6 @@
 //! What the definitions keep, on calls that do nothing.
 
-ghost use Rattle.sil_verifier.specs.inner.Laws.{AreAcceptedWhereNothingIsFound, AreWalksShortest};
+ghost use Rattle.accepted_modules.specs.inner.Laws.{AreAcceptedWhereNothingIsFound, AreWalksShortest};
 
 /// A module is accepted just where nothing is wrong with it.
 pub fn accepted_where_nothing_is_found()

@@ -8,11 +8,11 @@ use Rattle.sil_rules.specs.declared.group.Group.{Group}
 use Rattle.sil_rules.specs.declared.group.Group.TheVariants as group
 use Rattle.type_definitions.specs.Declarations.{declarations_of}
 use Rattle.memory_rules.specs.Statics.{is_static}
-use Rattle.sil_verifier.proofs.Groups.{stage_told}
-use Rattle.sil_verifier.specs.Findings.{value}
-use Rattle.sil_verifier.specs.inner.Laws.{AreWalksShortest}
-use Rattle.sil_verifier.specs.Shown.{has_walk, is_of_kinds, last_key}
-use Rattle.sil_verifier.specs.Values.{IsShown}
+use Rattle.accepted_modules.proofs.Groups.{stage_told}
+use Rattle.accepted_modules.specs.Findings.{value}
+use Rattle.accepted_modules.specs.inner.Laws.{AreWalksShortest}
+use Rattle.accepted_modules.specs.Shown.{has_walk, is_of_kinds, last_key}
+use Rattle.accepted_modules.specs.Values.{IsShown}
 
 -- what comes behind a common front is in the same order
 behind : (front xs ys : List ℕ) → NotAfter (front ++ xs) (front ++ ys) → NotAfter xs ys

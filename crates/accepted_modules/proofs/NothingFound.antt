@@ -10,10 +10,10 @@ use Rattle.sil_types.specs.declared.refusal.TypeRefusal.TheVariants as refusal
 use Rattle.type_check.specs.Refusals.{fault_at}
 use Rattle.type_check.specs.Refusals.IsBroken.{broken}
 use Rattle.type_definitions.specs.Rules.{exceeds_depth, exceeds_leaves}
-use Rattle.sil_verifier.proofs.DeclaredTypes.{declared_not_refused, typed_not_wrong}
-use Rattle.sil_verifier.specs.Findings.{Accepted, Finding, item, limit, typing, value, IsFound}
-use Rattle.sil_verifier.specs.inner.Laws.{AreAcceptedWhereNothingIsFound}
-use Rattle.sil_verifier.specs.Refusals.{HasTypes}
+use Rattle.accepted_modules.proofs.DeclaredTypes.{declared_not_refused, typed_not_wrong}
+use Rattle.accepted_modules.specs.Findings.{Accepted, Finding, item, limit, typing, value, IsFound}
+use Rattle.accepted_modules.specs.inner.Laws.{AreAcceptedWhereNothingIsFound}
+use Rattle.accepted_modules.specs.Refusals.{HasTypes}
 
 module _ (m : Module) where
   accepted_not_found : Accepted m → (x : Finding) → IsFound m x → ⊥

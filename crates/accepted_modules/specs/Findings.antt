@@ -9,8 +9,8 @@ use Rattle.sil_types.specs.Refusals as types
 use Rattle.sil_types.specs.declared.refusal.TypeRefusal.TheVariants as type_refusal
 use Rattle.type_check.specs.Refusals.{fault_key}
 use Rattle.type_check.specs.declared.fault.TypingFault.{TypingFault}
-use Rattle.sil_verifier.specs.Refusals.{HasTypes, IsWrong}
-use Rattle.sil_verifier.specs.Values.{AcceptedValues, IsShown, showing_key}
+use Rattle.accepted_modules.specs.Refusals.{HasTypes, IsWrong}
+use Rattle.accepted_modules.specs.Values.{AcceptedValues, IsShown, showing_key}
 
 -- an item breaks one of 101 to 104; a type exceeds a limit; one of 201 to 212 is broken; or one of 301 to 611, in the function with this number
 pub data Finding : Type 0 where

@@ -3,7 +3,7 @@ use Rattle.sil_ast.specs.declared.module.Module.{Module}
 use Rattle.numbered_form.specs.inner.NumberedForm.{IsNumbered}
 use Rattle.type_definitions.specs.Declarations.{Declarations}
 use Rattle.type_definitions.specs.Rules.{AreDeclarationsOf}
-use Rattle.sil_verifier.specs.Findings.{Accepted}
+use Rattle.accepted_modules.specs.Findings.{Accepted}
 
 -- it is in numbered form and accepted
 pub record IsVerified (m : Module) : Type 0 where

@@ -2,9 +2,9 @@
 use Rattle.std.specs.Prelude.{◌≡◌, ◌↔◌, ◌≤◌, ℕ, length, true}
 use Rattle.sil_ast.specs.declared.module.Module.{Module}
 use Rattle.rule_faults.specs.declared.fault.RuleFault.{RuleFault}
-use Rattle.sil_verifier.specs.Findings.{Accepted, Finding, IsFound, Refusal, value}
-use Rattle.sil_verifier.specs.Shown.{has_walk}
-use Rattle.sil_verifier.specs.Values.{IsShown}
+use Rattle.accepted_modules.specs.Findings.{Accepted, Finding, IsFound, Refusal, value}
+use Rattle.accepted_modules.specs.Shown.{has_walk}
+use Rattle.accepted_modules.specs.Values.{IsShown}
 
 -- a module is accepted just where nothing is wrong with it
 abbrev pub AreAcceptedWhereNothingIsFound : Type 0

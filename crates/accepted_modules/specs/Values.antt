@@ -9,9 +9,9 @@ use Rattle.sil_rules.specs.Order.{IsLeast, subject_key}
 use Rattle.sil_rules.specs.Rules.{group_of}
 use Rattle.type_definitions.specs.Declarations.{Declarations, declarations_of}
 use Rattle.sil_cfg.specs.Items.{HasBlocks}
-use Rattle.sil_verifier.specs.Shown.{IsShownIn, inner_key, last_key}
-use Rattle.sil_verifier.specs.declared.values.ValueRefusal.{ValueRefusal}
-use Rattle.sil_verifier.specs.declared.values.ValueRefusal.TheVariants as refusal
+use Rattle.accepted_modules.specs.Shown.{IsShownIn, inner_key, last_key}
+use Rattle.accepted_modules.specs.declared.refusals.ValueRefusal.{ValueRefusal}
+use Rattle.accepted_modules.specs.declared.refusals.ValueRefusal.TheVariants as refusal
 
 -- the function with this number, which has a body
 pub record IsBody (m : Module) (n : ℕ) (f : Function) : Type 0 where

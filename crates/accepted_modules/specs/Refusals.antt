@@ -11,8 +11,8 @@ use Rattle.sil_types.specs.declared.refusal.TypeRefusal.TheVariants as type_refu
 use Rattle.type_check.specs.Refusals.{IsBroken, fault_at, fault_key}
 use Rattle.type_check.specs.declared.fault.TypingFault.{TypingFault}
 use Rattle.type_definitions.specs.Rules.{Declared, InLimits}
-use Rattle.sil_verifier.specs.declared.types.StaticRefusal.{StaticRefusal}
-use Rattle.sil_verifier.specs.declared.types.StaticRefusal.TheVariants as refusal
+use Rattle.accepted_modules.specs.declared.refusals.StaticRefusal.{StaticRefusal}
+use Rattle.accepted_modules.specs.declared.refusals.StaticRefusal.TheVariants as refusal
 
 -- 207 here too: a function has a body and no `[ossa]`
 pub data IsLowered (m : Module) : TypingFault → Type 0 where
