@@ -5,14 +5,14 @@ use Rattle.std.proofs.lemmas.List.Elements.{All-get_or}
 use Rattle.std.proofs.lemmas.Option.{slice_get_cases}
 use Rattle.sil_ast.specs.declared.module.Module.{Module}
 use Rattle.sil_rules.specs.declared.rule.Rule.{Rule}
-use Rattle.sil_types.specs.declared.refusal.TypeRefusal.{TypeRefusal}
-use Rattle.sil_types.specs.Refusals.{ShownIn}
-use Rattle.sil_types.specs.Refusals.ShownIn.{item, infinite, too_deep, too_wide}
+use Rattle.typed_graph_laws.specs.sil_types.declared.refusal.TypeRefusal.{TypeRefusal}
+use Rattle.typed_graph_laws.specs.sil_types.Refusals.{ShownIn}
+use Rattle.typed_graph_laws.specs.sil_types.Refusals.ShownIn.{item, infinite, too_deep, too_wide}
 use Rattle.type_definitions.specs.Declarations.{Declarations, declarations_of}
 use Rattle.type_definitions.specs.Mentions.{Item, items_of}
 use Rattle.type_definitions.specs.Rules.{IsWellNamed}
-use Rattle.sil_types.specs.type_item_rules.Faults.{Breaks}
-use Rattle.sil_types.specs.type_item_rules.Faults.Breaks.{unknown_type, bad_member, misplaced_storage}
+use Rattle.typed_graph_laws.specs.sil_types.type_item_rules.Faults.{Breaks}
+use Rattle.typed_graph_laws.specs.sil_types.type_item_rules.Faults.Breaks.{unknown_type, bad_member, misplaced_storage}
 use Rattle.type_check.specs.Refusals.IsBroken.{broken}
 use Rattle.type_check.specs.declared.fault.TypingFault.{TypingFault}
 use Rattle.accepted_modules.specs.Refusals.{HasDeclaredTypes, HasTypes, IsWrong}

@@ -4,9 +4,9 @@ use Rattle.std.proofs.lemmas.Bool.{false_from_ne_true}
 use Rattle.sil_ast.specs.declared.module.Module.{Module}
 use Rattle.sil_rules.specs.declared.limit_word.LimitWord.TheVariants as word
 use Rattle.sil_rules.specs.declared.rule.Rule.TheVariants as rule
-use Rattle.sil_types.proofs.FirstRefusals.{all_declared}
-use Rattle.sil_types.specs.Refusals.ShownIn.{item as shown_item, infinite, too_deep, too_wide}
-use Rattle.sil_types.specs.declared.refusal.TypeRefusal.TheVariants as refusal
+use Rattle.typed_graph_laws.proofs.sil_types.FirstRefusals.{all_declared}
+use Rattle.typed_graph_laws.specs.sil_types.Refusals.ShownIn.{item as shown_item, infinite, too_deep, too_wide}
+use Rattle.typed_graph_laws.specs.sil_types.declared.refusal.TypeRefusal.TheVariants as refusal
 use Rattle.type_check.specs.Refusals.{fault_at}
 use Rattle.type_check.specs.Refusals.IsBroken.{broken}
 use Rattle.type_definitions.specs.Rules.{exceeds_depth, exceeds_leaves}

@@ -5,8 +5,8 @@ use Rattle.sil_rules.specs.Order.{IsLeast, item_key}
 use Rattle.sil_rules.specs.declared.limit_word.LimitWord.{LimitWord}
 use Rattle.sil_rules.specs.declared.rule.Rule.{Rule}
 use Rattle.rule_faults.specs.declared.fault.RuleFault.{RuleFault}
-use Rattle.sil_types.specs.Refusals as types
-use Rattle.sil_types.specs.declared.refusal.TypeRefusal.TheVariants as type_refusal
+use Rattle.typed_graph_laws.specs.sil_types.Refusals as types
+use Rattle.typed_graph_laws.specs.sil_types.declared.refusal.TypeRefusal.TheVariants as type_refusal
 use Rattle.type_check.specs.Refusals.{fault_key}
 use Rattle.type_check.specs.declared.fault.TypingFault.{TypingFault}
 use Rattle.accepted_modules.specs.Refusals.{HasTypes, IsWrong}

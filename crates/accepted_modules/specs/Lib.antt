@@ -3,7 +3,7 @@ pub mod Shown
 pub mod Values
 pub mod Findings
 pub mod inner
-pub use Rattle.sil_types.specs as sil_types
+pub use Rattle.typed_graph_laws.specs.sil_types as sil_types
 pub use Rattle.ownership_kinds.specs as ownership_kinds
 pub use Rattle.lifetime_worklist.specs as lifetime_worklist
 pub use Rattle.borrow_scopes.specs as borrow_scopes

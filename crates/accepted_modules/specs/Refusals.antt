@@ -5,9 +5,9 @@ use Rattle.sil_ast.specs.declared.function.Function.{Function}
 use Rattle.sil_ast.specs.declared.module.Module.{Module}
 use Rattle.sil_rules.specs.Order.{Either, IsLeast}
 use Rattle.sil_rules.specs.declared.rule.Rule.TheVariants as rule
-use Rattle.sil_types.specs.Refusals as types
-use Rattle.sil_types.specs.Typing.Typed.{Typed, at_function}
-use Rattle.sil_types.specs.declared.refusal.TypeRefusal.TheVariants as type_refusal
+use Rattle.typed_graph_laws.specs.sil_types.Refusals as types
+use Rattle.typed_graph_laws.specs.sil_types.Typing.Typed.{Typed, at_function}
+use Rattle.typed_graph_laws.specs.sil_types.declared.refusal.TypeRefusal.TheVariants as type_refusal
 use Rattle.type_check.specs.Refusals.{IsBroken, fault_at, fault_key}
 use Rattle.type_check.specs.declared.fault.TypingFault.{TypingFault}
 use Rattle.type_definitions.specs.Rules.{Declared, InLimits}

@@ -4,14 +4,12 @@ ghost use Rattle.std.specs.Prelude.{◌≡◌, IfErr, IfOk, OnOk};
 ghost use Rattle.numbered_form.specs.inner.NumberedForm.{IsNumbered};
 ghost use Rattle.type_definitions.specs.Rules.{AreDeclarationsOf};
 ghost use Rattle.accepted_modules.specs.Refusals.{HasTypes, IsRefusal};
-ghost use Rattle.accepted_modules.specs.declared.refusals.StaticRefusal.TheVariants.{Memory};
 
 use crate::typing::first_fault;
-use sil_ast::{Exhausted, Module};
-use sil_rules::{LimitWord, Rule};
+use accepted_modules::StaticRefusal;
+use sil_ast::Module;
 use sil_types::{TypeRefusal, TypeTable};
 use std::alloc::Global;
-use type_check::TypingFault;
 
 /// The type table of a module that keeps 101 to 104, the limits on types and 201 to 212, and whose functions with a body all have
 /// `[ossa]`. The refusal is the first of what is wrong: first by item, then the limits, then by function and point, then by vtable.

@@ -9,6 +9,7 @@ ghost use Rattle.sil_cfg.specs.Items.{HasBlocks};
 ghost use Rattle.accepted_modules.specs.Refusals.{HasTypes};
 ghost use Rattle.accepted_modules.specs.Values.{AcceptedValues, IsCleanIn, IsEndIn, IsRefusalIn, IsValueRefusal};
 
+use accepted_modules::ValueRefusal;
 use ownership_kinds::kinds_in;
 use rule_faults::{RuleEnd, RuleFault};
 use sil_ast::{FuncId, Function, Module};

@@ -12,8 +12,9 @@ ghost use Rattle.accepted_modules.specs.declared.refusals.StaticRefusal.TheVaria
 use crate::checked::Checked;
 use crate::refusal::Refusal;
 use crate::reports::{item_refusal, typing_refusal, value_refusal};
-use crate::types::{StaticRefusal, check_types};
-use crate::values::{ValueRefusal, check_values};
+use crate::types::check_types;
+use crate::values::check_values;
+use accepted_modules::{StaticRefusal, ValueRefusal};
 use sil_ast::Module;
 use sil_rules::LimitWord;
 use std::alloc::Global;

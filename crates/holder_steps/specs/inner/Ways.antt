@@ -1,5 +1,5 @@
 -- The ways that a step of a run by holders can take, each with what it found: what a proof on runs goes by, case by case.
-use Rattle.std.specs.Prelude.{◌≡◌, ℕ, suc, ℤ, ◌+◌, List, [], ◌∷◌, ◌++◌, true, false, drop, length, nat_lt, Option, Some, None, Ok, Err, slice_get}
+use Rattle.std.specs.Prelude.{◌≡◌, ℕ, suc, ℤ, ◌+◌, List, [], ◌∷◌, ◌++◌, true, false, drop, length, map, nat_lt, Option, Some, None, Ok, Err, slice_get}
 use Rattle.std.specs.declared.result.Result.{Result}
 use Rattle.instruction_table.specs.Forms.{ending_of}
 use Rattle.instruction_table.specs.declared.entries.Ending.TheVariants as ending
@@ -10,7 +10,6 @@ use Rattle.sil_ast.specs.declared.operands.Operand.{Operand}
 use Rattle.sil_ast.specs.declared.place.EdgeId.{EdgeId}
 use Rattle.sil_ast.specs.declared.place.FuncId.{FuncId}
 use Rattle.sil_ast.specs.declared.place.ObjectId.{ObjectId}
-use Rattle.sil_ast.specs.declared.place.PointId.{PointId}
 use Rattle.sil_cfg.specs.declared.item.Item.{Item}
 use Rattle.sil_cfg.specs.declared.item.Item.TheVariants as item
 use Rattle.item_operands.specs.Items.{item_defined, item_taken}
@@ -25,7 +24,7 @@ use Rattle.holder_model.specs.declared.event.Event.TheVariants as event
 use Rattle.holder_model.specs.declared.limits.TheConstants.{FRAMES}
 use Rattle.holder_model.specs.declared.trap.Trap.{Trap}
 use Rattle.holder_model.specs.declared.trap.Trap.TheVariants as trap
-use Rattle.holder_model.specs.Calling.{are_as_after, are_as_before, handed_over, holds_something, lent_places, places_given, value_count}
+use Rattle.holder_model.specs.Calling.{are_as_after, are_as_before, as_argument, handed_over, holds_something, lent_places, places_given, value_count}
 use Rattle.holder_model.specs.Data.{Datum, ValueOf, as_value}
 use Rattle.holder_model.specs.Dropping.{deinits_of, ended, field_references, in_phase}
 use Rattle.holder_model.specs.Edges.{branch_of, carried_along, edge_of}
@@ -87,12 +86,12 @@ module _ (m : Module) (told : ModuleFacts) (bound : ℕ) where
     makes : (c : Change) (next : HolderNext) → GoesBehind s rest frame f i c next → Performs s rest frame f i (effects.Makes c) next
     calls : (g : FuncId) (args : List Datum) (callee : Function) (next : HolderNext) → slice_get m.functions g.0 ≡ Some callee → has_any callee.blocks ≡ true
         → are_as_before s.memory (lent_at f i args) ≡ true
-        → Enters (record s { memory = handed_over s.memory (lent_at f i args) }) (waiting rest frame (lent_at f i args)) g callee args next
+        → Enters (record s { memory = handed_over s.memory (lent_at f i args) }) (waiting rest frame (lent_at f i args)) g callee (map as_argument args) next
         → Performs s rest frame f i (effects.Calls g args) next
     calls_out : (g : FuncId) (args : List Datum) (callee : Function) (numbers : List ℤ) (next : HolderNext) → slice_get m.functions g.0 ≡ Some callee
         → has_any callee.blocks ≡ false → steps.numbers_of m told bound args ≡ Some numbers → nat_lt s.turns bound ≡ true
         → GoesBehind (record (turned s) { events = s.events ++ event.Call g numbers ∷ [] }) rest frame f i
-          (record (unchanged s.memory) { results = ValueOf (value.Group value.NoValue) ∷ [] }) next
+        (record (unchanged s.memory) { results = ValueOf (value.Group value.NoValue) ∷ [] }) next
         → Performs s rest frame f i (effects.Calls g args) next
     no_turn : (g : FuncId) (args : List Datum) (callee : Function) (numbers : List ℤ) → slice_get m.functions g.0 ≡ Some callee
         → has_any callee.blocks ≡ false → steps.numbers_of m told bound args ≡ Some numbers → nat_lt s.turns bound ≡ false

@@ -1,24 +1,21 @@
 -- Laws of typed memory: what is read and written there is typed, and stays so while the world grows.
-use Rattle.std.specs.Prelude.{◌≡◌, ◌×◌, ℕ, List, [], ◌∷◌, ◌++◌, true, false, length, Option, Some, None, slice_get}
+use Rattle.std.specs.Prelude.{◌≡◌, ℕ, List, [], ◌∷◌, ◌++◌, true, false, length, Some, slice_get}
 use Rattle.std.specs.List.{AllZip}
 use Rattle.sil_ast.specs.declared.module.Module.{Module}
 use Rattle.sil_ast.specs.declared.place.ObjectId.{ObjectId}
 use Rattle.numbered_form.specs.Names.{Name}
-use Rattle.type_definitions.specs.Declarations.{declarations_of}
 use Rattle.run_values.specs.Cells.{Cell, in_cells}
-use Rattle.run_values.specs.declared.phase.Phase.{Phase}
 use Rattle.run_values.specs.declared.phase.Phase.TheVariants.{Deiniting, Live}
-use Rattle.run_values.specs.Memory.{Memory, Object, is_dead, new_object, object_at, with_object}
-use Rattle.run_values.specs.Places.{Inside, OnStack, Place, cells_at, emptied, empty_fields, empty_slot, field_place, filled, member_place, removed, value_at}
+use Rattle.run_values.specs.Memory.{Memory, is_dead, new_object, object_at, with_object}
+use Rattle.run_values.specs.Places.{OnStack, Place, emptied, empty_fields, empty_slot, field_place, filled, member_place, removed, value_at}
 use Rattle.run_values.specs.Shapes.{Shape, member_shapes}
 use Rattle.run_values.specs.Trivial.{is_trivial}
 use Rattle.run_values.specs.Values.{Value, references_of}
-use Rattle.run_values.specs.Values as value
-use Rattle.holder_model.specs.Data.{AddressOf, Datum, ValueOf}
-use Rattle.holder_model.specs.Dropping.{ended, in_phase}
+use Rattle.run_typing.specs.holder_model.Data.{Datum}
+use Rattle.run_typing.specs.holder_model.Dropping.{ended, in_phase}
 use Rattle.run_typing.specs.Classes.{ClassesAreSound}
 use Rattle.run_typing.specs.Forms.{Form}
-use Rattle.typed_memory.specs.inner.Worlds.{CellIs, CellsAre, DatumIs, Grows, IsWorldOf, MemoryIs, PlaceIs, Suits, World, cell_shapes, fields_of_class, names}
+use Rattle.typed_memory.specs.inner.Worlds.{CellIs, DatumIs, Grows, IsWorldOf, MemoryIs, PlaceIs, Suits, World, cell_shapes, fields_of_class, names}
 
 -- ---- values as cells, and cells as values
 
@@ -54,8 +51,8 @@ AreMembersPlaces = (m : Module) (w : World) (p : Place) (k : ℕ) (s : Shape) �
 
 -- a field of an object, as its class or an ancestor has it
 abbrev pub AreFieldsPlaces : Type 0
-AreFieldsPlaces = (m : Module) (w : World) → ClassesAreSound m → IsWorldOf m w → (o : ObjectId) (class : Name) (k : ℕ) (s : Shape) → names m w class o ≡ true
-    → slice_get (fields_of_class m w class) k ≡ Some s
+AreFieldsPlaces = (m : Module) (w : World) → ClassesAreSound m → IsWorldOf m w → (o : ObjectId) (class : Name) (k : ℕ) (s : Shape)
+    → names m w class o ≡ true → slice_get (fields_of_class m w class) k ≡ Some s
     → (q : Place) × (field_place (fields_of_class m w class) o k ≡ Some q) × (q.shape ≡ s) × PlaceIs m w q
 
 -- ---- what is made
@@ -70,7 +67,7 @@ with_slot w s = record w { slots = w.slots ++ s ∷ [] }
 abbrev pub AreObjectsMade : Type 0
 AreObjectsMade = (m : Module) (w : World) (memory : Memory) (class : Name) → ClassesAreSound m → MemoryIs m w memory
     → MemoryIs m (with_class w class)
-        (record memory { objects = memory.objects ++ record { class = class; phase = Live; cells = empty_fields (fields_of_class m w class) } ∷ [] })
+    (record memory { objects = memory.objects ++ record { class = class; phase = Live; cells = empty_fields (fields_of_class m w class) } ∷ [] })
     × (names m (with_class w class) class (new_object memory) ≡ true)
 
 -- a new slot

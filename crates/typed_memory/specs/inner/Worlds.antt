@@ -1,5 +1,5 @@
 -- What a run has made so far, and what values, places and memory are typed by it.
-use Rattle.std.specs.Prelude.{◌≡◌, ℕ, ◌+◌, List, [], ◌∷◌, ◌++◌, Bool, true, false, cond, Option, Some, option_map, slice_get, unwrap_or}
+use Rattle.std.specs.Prelude.{◌≡◌, ℕ, ◌+◌, List, [], ◌∷◌, ◌++◌, true, false, Some, option_map, slice_get, unwrap_or}
 use Rattle.std.specs.List.{AllZip, flat_map}
 use Rattle.sil_ast.specs.declared.decl.Storage.TheVariants as storage
 use Rattle.sil_ast.specs.declared.module.Module.{Module}
@@ -15,8 +15,8 @@ use Rattle.run_values.specs.Shapes.{Shape, Shapes, Integer, Reference, Struct, T
 use Rattle.run_values.specs.Values.{Value}
 use Rattle.value_parts.specs.inner.Paths.{IsPart, cells_before}
 use Rattle.value_parts.specs.inner.Suits.{ClassTest, suits}
-use Rattle.holder_model.specs.Data.{AddressOf, Datum, FunctionOf, ValueOf}
-use Rattle.holder_model.specs.ModuleShapes.{field_shapes, shapes_of}
+use Rattle.run_typing.specs.holder_model.Data.{AddressOf, Datum, FunctionOf, ValueOf}
+use Rattle.run_typing.specs.holder_model.ModuleShapes.{field_shapes, shapes_of}
 use Rattle.run_typing.specs.Classes.{is_a}
 use Rattle.run_typing.specs.Forms.{Form, OfFunction, OfPlace, OfValue}
 
@@ -51,6 +51,15 @@ abbrev mutual
   each_cell_shapes NoMember = []
   each_cell_shapes (Member first others) = cell_shapes first ++ each_cell_shapes others
 
+-- a place among shapes whose cells lie side by side: the shape that it is in, and the way to it there
+pub record IsIn (shapes : List Shape) (p : Place) : Type 0 where
+  pub number : ℕ
+  pub whole : Shape
+  pub there : slice_get shapes number ≡ Some whole
+  pub path : List ℕ
+  pub part : IsPart whole path p.shape
+  pub first : p.first ≡ offset shapes number + cells_before whole path
+
 module _ (m : Module) (w : World) where
   -- the object may stand where a reference of the class is asked: it is of this class, or of one that inherits from it
   abbrev pub names : ClassTest
@@ -74,10 +83,11 @@ module _ (m : Module) (w : World) where
   abbrev pub fields_of_class : Name → List Shape
   fields_of_class class = field_shapes (shapes_of m) class
 
-  -- an object that isn't dead has the cells of its class's fields
+  -- an object that isn't dead has the cells of its class's fields, and a dead one has none
   pub record ObjectIs (class : Name) (x : Object) : Type 0 where
     pub is : x.class ≡ class
     pub cells : is_dead_phase x.phase ≡ false → CellsAre (fields_of_class class) x.cells
+    pub ended : is_dead_phase x.phase ≡ true → x.cells ≡ []
 
   pub record MemoryIs (memory : Memory) : Type 0 where
     pub stack : CellsAre w.slots memory.stack
@@ -85,15 +95,7 @@ module _ (m : Module) (w : World) where
 
   -- ---- places and data
 
-  -- a part of a slot, or of a field of an object: the shapes side by side, the one that it is in, and the way to it there
-  pub record IsIn (shapes : List Shape) (p : Place) : Type 0 where
-    pub number : ℕ
-    pub whole : Shape
-    pub there : slice_get shapes number ≡ Some whole
-    pub path : List ℕ
-    pub part : IsPart whole path p.shape
-    pub first : p.first ≡ offset shapes number + cells_before whole path
-
+  -- a slot or a field of an object, or a part of one
   pub data PlaceIs (p : Place) : Type 0 where
     on_stack : p.home ≡ OnStack → IsIn w.slots p → PlaceIs p
     inside : (o : ObjectId) (class : Name) → p.home ≡ Inside o → slice_get w.classes o.0 ≡ Some class → IsIn (fields_of_class class) p → PlaceIs p
