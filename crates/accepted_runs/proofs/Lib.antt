@@ -1,0 +1,2 @@
+pub mod KeptOnRuns
+pub mod RightRuns
