@@ -1,7 +1,6 @@
 -- What runs begin with and steps keep holds of each state of a run, and the faults that it excludes don't end one. Two parts are kept together.
 use Rattle.std.proofs.Common.{◌≡◌, ℕ, zero, suc, refl, sym, ap, ◌∙◌, subst, Bool, true, false, Option, Some, None}
 use Rattle.std.specs.Prelude.{◌||◌, option_and_then, slice_get}
-use Rattle.std.proofs.lemmas.Bool.{or-false}
 use Rattle.sil_ast.specs.declared.function.Function.{Function}
 use Rattle.sil_ast.specs.declared.module.Module.{Module}
 use Rattle.sil_ast.specs.declared.place.FuncId.{FuncId}
@@ -48,14 +47,14 @@ module _ (P : Module → HolderState → Type 0) (excludes : HolderFault → Boo
     one s is (Goes next) by = RunsRight.goes next (kept.goes m bound s next v tt tt is by)
     one s is (Ends e last) by = RunsRight.ends e last (λ x faulted. kept.faults m bound s last x v tt is (by ∙ ap (λ y. Ends y last) faulted))
 
+    onward : (steps : ℕ) → ((s : HolderState) → P m s → RunsRight (run (step m (facts_of m) bound) steps s)) → (n : HolderNext) → RunsRight n
+        → RunsRight (step_on (run (step m (facts_of m) bound) steps) n)
+    onward steps from _ (RunsRight.goes s is) = from s is
+    onward steps from _ (RunsRight.ends e s other) = RunsRight.ends e s other
+
     from : (steps : ℕ) (s : HolderState) → P m s → RunsRight (run (step m (facts_of m) bound) steps s)
-    onward : (steps : ℕ) (n : HolderNext) → RunsRight n → RunsRight (step_on (run (step m (facts_of m) bound) steps) n)
-
     from zero s is = RunsRight.goes s is
-    from (suc steps) s is = onward steps (step m (facts_of m) bound s) (one s is (step m (facts_of m) bound s) refl)
-
-    onward steps _ (RunsRight.goes s is) = from steps s is
-    onward steps _ (RunsRight.ends e s other) = RunsRight.ends e s other
+    from (suc steps) s is = onward steps (from steps) (step m (facts_of m) bound s) (one s is (step m (facts_of m) bound s) refl)
 
     came : (n : HolderNext) (s : HolderState) → RunsRight n → n ≡ Goes s → P m s
     came _ s (RunsRight.goes t is) e = let same : t ≡ s = cc in subst (P m) same is
