@@ -1,5 +1,5 @@
 -- A step of a tracked state leads to a tracked one, and ends in no fault of entries.
-use Rattle.std.proofs.Common.{◌≡◌, ℕ, List, [], ◌∷◌, length, map, refl, sym, ap, ◌∙◌, subst, true, false, Option, Some, None, Ok, Err}
+use Rattle.std.proofs.Common.{◌≡◌, ℕ, List, [], ◌∷◌, length, refl, sym, ap, ◌∙◌, subst, true, false, Option, Some, None, Ok, Err}
 use Rattle.std.specs.Prelude.{slice_get, unwrap_or}
 use Rattle.std.proofs.lemmas.Bool.{true≢false}
 use Rattle.std.proofs.lemmas.Option.{same_Some}
@@ -24,7 +24,7 @@ use Rattle.accepted_values.specs.accepted_modules.inner.Checked.{IsVerified}
 use Rattle.accepted_values.proofs.Facts.{run_facts}
 use Rattle.accepted_values.proofs.run_typing_laws.ListFacts.{get_next}
 use Rattle.held_entries.specs.accepted_trails.run_trails.inner.RunTrails.{ComesAt, IsTurnedTrail}
-use Rattle.held_entries.specs.holder_model.Calling.{as_argument, holds_something, value_count}
+use Rattle.held_entries.specs.holder_model.Calling.{holds_something, value_count}
 use Rattle.held_entries.specs.holder_model.Data.{Datum}
 use Rattle.held_entries.specs.holder_model.Dropping.{field_references}
 use Rattle.held_entries.specs.holder_model.Edges.{edge_of}
@@ -155,7 +155,7 @@ module _ (m : Module) (bound : ℕ) (verified : IsVerified m) (w : World) where
         → ((x : HolderFault) → e ≡ effects.Faults x → is_entry_fault x ≡ false) → TrackedNext m next
     performs_tracked _ next (Performs.makes c n moves) h = behind_tracked s rest frame f (item.Inst (stands_at f frame.trail)) c a turned are below next moves
     performs_tracked _ next (Performs.calls g args callee n there bodied before entering) h =
-        enters_tracked _ _ g callee (map as_argument args) (accepted_body m g.0 callee verified there bodied)
+        enters_tracked _ _ g callee _ (accepted_body m g.0 callee verified there bodied)
         (λ new. (
           in_function m WaitsAlong (record frame { lent = lent_at m told bound f (item.Inst (stands_at f frame.trail)) args }) f a.body.there
               (record { tracked = are.tracked; others = are.others }),
