@@ -13,4 +13,5 @@ pub mod Keys
 pub mod Shapes
 pub mod Passed
 pub mod TurnsThere
-pub mod KeptSurveys
+pub mod KeptNotes
+pub mod Answering
