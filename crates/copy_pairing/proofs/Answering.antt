@@ -1,6 +1,6 @@
 -- What is known of copies.
 use Rattle.std.proofs.Common.{◌≡◌, ◌≢◌, ◌⊎◌, inl, inr, ℕ, zero, suc, ◌+◌, ◌<◌, ◌≤◌, get_or, set, List, [], ◌∷◌, length, refl, sym, ap, ◌∙◌, subst, Bool, true, false, Option, Some, None, arith}
-use Rattle.std.specs.Prelude.{◌&&◌, ◌||◌, ◌==◌, ◌↔◌, IsSomeAnd, IsTrue, replicate}
+use Rattle.std.specs.Prelude.{◌&&◌, ◌||◌, ◌==◌, ◌↔◌, IfSome, IsSomeAnd, IsTrue, replicate}
 use Rattle.std.proofs.lemmas.Bool.{cases_eq, cases_lt, eq-eqb, eqb-true}
 use Rattle.std.proofs.lemmas.List.{get_or-set_other, get_or-set_same}
 use Rattle.std.proofs.lemmas.Option.{same_Some}
@@ -87,3 +87,15 @@ spared_all v old new n most h c x known = ((h c x known).0, λ doubt. at (cases_
         past [] k le = refl
         past (y ∷ xs) zero le = absurd (omega arith)
         past (y ∷ xs) (suc k) le = past xs k (omega arith)
+
+-- an answer of the same operand
+
+pub answer_told : (facts : ValueId → Option Facts) (f : Function) (answers : List (Option Answer)) (c v : ValueId) (x : Answer) → answer_in answers c.0 ≡ Some x → x.operand.0 ≡ v.0
+    → AreAnswers facts f answers → IsToldOf facts f c v x.borrowable
+answer_told facts f answers c v x known same are = subst (λ w. IsToldOf facts f c w x.borrowable) (same_value x.operand v same) (are c x known)
+
+pub told_some : (answers : List (Option Answer)) (c v : ValueId) (o : Option Bool) (b : Bool) → o ≡ Some b
+    → IfSome o (λ k. (facts : ValueId → Option Facts) (f : Function) → AreAnswers facts f answers → IsToldOf facts f c v k)
+    → (facts : ValueId → Option Facts) (f : Function) → AreAnswers facts f answers → IsToldOf facts f c v b
+told_some answers c v o b is h =
+    subst (λ (x : Option Bool). IfSome x (λ k. (facts : ValueId → Option Facts) (f : Function) → AreAnswers facts f answers → IsToldOf facts f c v k)) is h

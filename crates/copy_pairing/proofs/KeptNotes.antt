@@ -16,8 +16,16 @@ use Rattle.copy_removal.specs.Copies.{IsCopy}
 use Rattle.copy_removal.specs.Optimised.{facts_of}
 use Rattle.copy_removal.specs.Removable.{IsBorrowable, IsMovable}
 use Rattle.copy_removal.specs.Rewritten.{changed_at, lent, moved, with_function}
-use Rattle.rewriting_order.specs.inner.Laws.{HasValuesOf, IsVerifiedIn, LendingKeepsBorrowable, LendingMakesNoCopy, MovingKeepsBorrowable, MovingKeepsValues, MovingLetsNoneBorrow,
-  MovingMakesNoCopy}
+use Rattle.rewriting_order.specs.inner.Laws.{
+  HasValuesOf,
+  IsVerifiedIn,
+  LendingKeepsBorrowable,
+  LendingMakesNoCopy,
+  MovingKeepsBorrowable,
+  MovingKeepsValues,
+  MovingLetsNoneBorrow,
+  MovingMakesNoCopy,
+}
 use Rattle.copy_pairing.specs.declared.answers.Answer.{Answer}
 use Rattle.copy_pairing.specs.declared.notes.Age.{Age}
 use Rattle.copy_pairing.specs.declared.notes.Age.TheVariants.{Current, Moved, Lent}
@@ -87,8 +95,7 @@ module _ (m : Module) (verified : IsVerified m) (n : ℕ) (f : Function) (there 
     moved_answers old new are spared d x known q here =
         let was = spared d x known in
         let before = makes m f p q c v d x.operand in_module copy h here in
-        let told = are d x was.0 before.0 before.1 in
-        (
+        let told = are d x was.0 before.0 before.1 in (
           λ t. (keeps m f p q c v d x.operand in_module copy never h here (λ e. was.1 (t, inl e)) (λ e. was.1 (t, inr e))).1 (told.0 t),
           λ b. told.1 (none m f p q c v d x.operand in_module copy never h here b),
         )

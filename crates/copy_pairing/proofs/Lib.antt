@@ -15,3 +15,4 @@ pub mod Passed
 pub mod TurnsThere
 pub mod KeptNotes
 pub mod Answering
+pub mod FoundTogether

@@ -2,7 +2,7 @@
 use Rattle.std.proofs.Common.{◌≡◌, ◌≢◌, ◌⊎◌, inl, inr, ℕ, ◌+◌, ◌<◌, ◌≤◌, get_or, List, [], ◌∷◌, ◌++◌, length, refl, sym, ap, ap₂, ◌∙◌, subst, Bool, true, false, Option, Some, None, arith}
 use Rattle.std.specs.Prelude.{◌&&◌, ◌||◌, ◌==◌, ◌↔◌, IfNone, IfSome, IsTrue, nat_lt, unwrap_or}
 use Rattle.std.specs.List.{list_any, slice_get}
-use Rattle.std.proofs.lemmas.Bool.{cases_eq, cases_lt}
+use Rattle.std.proofs.lemmas.Bool.{cases_eq, cases_lt, eqb-true}
 use Rattle.std.proofs.lemmas.Bool.Decides.{nat_tests}
 use Rattle.std.proofs.lemmas.List.Folds.{list_any-append}
 use Rattle.std.proofs.lemmas.Option.{slice_get_cases, slice_get_within}
@@ -42,6 +42,10 @@ borrower_below borrows facts n v e = at (slice_get_cases borrows n).1
     at : ((x : Borrow) × (n < length borrows) × (slice_get borrows n ≡ Some x) × (get_or borrows n x ≡ x)) ⊎ ((length borrows ≤ n) × (slice_get borrows n ≡ None)) → n < length borrows
     at (inl h) = h.1
     at (inr h) = absurd (lent_of facts v (slice_get borrows n) e h.1)
+
+pub empty_is : {A : Type 0} (xs : List A) → (length xs == 0) ≡ true → xs ≡ []
+empty_is [] e = refl
+empty_is (x ∷ xs) e = let wrong : length (x ∷ xs) ≡ 0 = eqb-true (length (x ∷ xs)) 0 e in absurd (omega arith)
 
 or_false : (a : Bool) → (a || false) ≡ a
 or_false true = refl
@@ -131,11 +135,10 @@ module _ (f : Function) (k : Known) (borrows : List Borrow) (same : borrows ≡ 
   -- where there is no such scope
   pub unlent_without : (c v : ValueId) (scopes : List ValueId) → ((n : ℕ) → has scopes n ≡ (nat_lt n (length k.table) && has (lent_bases_in (facts_of k) borrows n) v.0))
       → scopes ≡ [] → IsTrue true ↔ IsUnlent facts f c v
-  unlent_without c v scopes are none =
-      (
-        λ t. (unlent c v scopes are).0 (λ h among. absurd (let wrong : false ≡ true = sym (ap (λ vs. has vs h.0) none) ∙ among in cc)),
-        λ h. refl,
-      )
+  unlent_without c v scopes are none = (
+    λ t. (unlent c v scopes are).0 (λ h among. absurd (let wrong : false ≡ true = sym (ap (λ vs. has vs h.0) none) ∙ among in cc)),
+    λ h. refl,
+  )
 
 -- the next destroy
 

@@ -78,13 +78,12 @@ module _ (facts : ValueId → Option Facts) (f : Function) (p : PointId) where
       let same = same_copy f p c d v w copy other in
       subst (λ x. (IsBorrowable facts f x w → ⊥) × (IsMovable facts f p x w → ⊥)) same.result (subst (λ x. (IsBorrowable facts f c x → ⊥) × (IsMovable facts f p c x → ⊥)) same.operand h)
   turn_of_copy c v copy (Lend value) h = (v, subst (λ x. IsCopy f p x v) (sym h.0) copy, subst (λ x. IsBorrowable facts f x v) (sym h.0) h.1)
-  turn_of_copy c v copy (Move last w) h =
-      (
-        c,
-        subst (λ x. IsCopy f p c x) (sym h.0) copy,
-        subst (λ x. IsBorrowable facts f c x → ⊥) (sym h.0) h.1,
-        subst (λ x. IsMovableTo facts f p c x last) (sym h.0) h.2,
-      )
+  turn_of_copy c v copy (Move last w) h = (
+    c,
+    subst (λ x. IsCopy f p c x) (sym h.0) copy,
+    subst (λ x. IsBorrowable facts f c x → ⊥) (sym h.0) h.1,
+    subst (λ x. IsMovableTo facts f p c x last) (sym h.0) h.2,
+  )
 
   -- how it can go
 

@@ -4,3 +4,4 @@ pub mod Answers
 pub mod Surveys
 pub mod Turns
 pub mod Passes
+pub mod Together

@@ -13,6 +13,7 @@ mod optimiser;
 mod passes;
 mod removals;
 mod surveys;
+mod together;
 mod turns;
 mod watched;
 

@@ -185,8 +185,14 @@ fn is_unlent(
     ensures notes { IfOk result (λ r. AreNotesOf types.now f.now r.1) }
 {
     let found = &notes.survey.found;
-    let scopes = scopes_over(alloc, &found.kinds, found.borrows.as_slice(), copied.operand)?;
-    if scopes.is_empty() {
+    let scopes = scopes_over(
+        alloc,
+        &found.kinds,
+        found.borrows.as_slice(),
+        copied.operand,
+    )?;
+    let lenders = scopes.as_slice();
+    if lenders.is_empty() {
         return Ok((true, notes));
     }
     let notes = surveyed(alloc, types, f, notes)?;
@@ -197,7 +203,7 @@ fn is_unlent(
         &notes.survey.found.kinds,
         MarkSort::Begin,
         &[copied.value],
-        scopes.as_slice(),
+        lenders,
     )?;
     Ok((free, notes))
 }

@@ -48,11 +48,7 @@ fn new_notes(alloc: Global, types: &TypeTable, f: &Function) -> Result<Notes, Ex
 }
 
 /// The same without any answer, for one question.
-pub(crate) fn unanswered(
-    alloc: Global,
-    types: &TypeTable,
-    f: &Function,
-) -> Result<Notes, Exhausted>
+pub(crate) fn unanswered(alloc: Global, types: &TypeTable, f: &Function) -> Result<Notes, Exhausted>
     requires of_module { IsOfNumberedModule f.now }
     requires graph { HasGraph f.now }
     ensures { IfOk result (AreNotesOf types.now f.now) }

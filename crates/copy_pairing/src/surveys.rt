@@ -19,7 +19,11 @@ pub(crate) struct Survey {
 }
 
 /// The survey of the function.
-pub(crate) fn new_survey(alloc: Global, types: &TypeTable, f: &Function) -> Result<Survey, Exhausted>
+pub(crate) fn new_survey(
+    alloc: Global,
+    types: &TypeTable,
+    f: &Function,
+) -> Result<Survey, Exhausted>
     requires of_module { IsOfNumberedModule f.now }
     requires graph { HasGraph f.now }
     ensures { IfOk result (IsSurveyOf types.now f.now) }

@@ -1,6 +1,5 @@
 -- A switch that a mark has broken stays in state 2: some block's items bring a subject there exactly where some walk breaks it.
-use Rattle.std.proofs.Common.{◌≡◌, ◌⊎◌, inl, inr, ℕ, zero, suc, ◌+◌, ◌*◌, ◌<◌, ◌≤◌, List, [], ◌∷◌, ◌++◌, length, take, drop, refl, sym, ap, ◌∙◌, subst, Bool, true, false, cond, Option, Some, None, arith,
-  append_assoc, length-append}
+use Rattle.std.proofs.Common.{◌≡◌, ◌⊎◌, inl, inr, ℕ, zero, suc, ◌+◌, ◌<◌, List, [], ◌∷◌, ◌++◌, length, take, drop, refl, sym, ap, ◌∙◌, subst, Bool, true, false, cond, Option, Some, None, arith, append_assoc, length-append}
 use Rattle.std.proofs.lemmas.List.{take-append-drop, take_all}
 use Rattle.sil_ast.specs.declared.place.EdgeId.{EdgeId}
 use Rattle.sil_cfg.specs.Flow.{Flow, IsEdge, block_count, edge_to, items_at}
@@ -12,7 +11,7 @@ use Rattle.reach_engine.specs.inner.Reach.{Enters, ReachesFirst}
 use Rattle.reach_engine.specs.inner.Reached.{AreExact}
 use Rattle.reach_engine.specs.inner.Run.{StaysBelow, run}
 use Rattle.reach_engine.specs.inner.Search.{IsClean}
-use Rattle.reach_engine.proofs.Runs.{bad_at, run-append, run_bad, run_breaks, run_join, run_split, same_Go}
+use Rattle.reach_engine.proofs.Runs.{bad_at, run_bad, run_breaks, run_join, run_split, same_Go}
 use Rattle.path_patterns.specs.Switch.{code_of}
 use Rattle.path_patterns.specs.declared.mark.Mark.{Mark}
 use Rattle.path_patterns.specs.inner.Automaton.{fits, mark_step, turned}

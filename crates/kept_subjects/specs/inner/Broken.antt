@@ -1,9 +1,8 @@
 -- Which subjects some walk brings to a mark that breaks them.
-use Rattle.std.specs.Prelude.{◌≡◌, ◌↔◌, ◌⊎◌, ℕ, ◌+◌, ◌*◌, ◌<◌, List, slice_index_or, Bool, true, false}
+use Rattle.std.specs.Prelude.{◌≡◌, ◌↔◌, ◌⊎◌, ℕ, ◌+◌, ◌<◌, List, slice_index_or, Bool, true, false}
 use Rattle.sil_cfg.specs.Flow.{Flow, items_at}
 use Rattle.reach_engine.specs.declared.scan.Step.{Step}
 use Rattle.reach_engine.specs.declared.scan.Step.TheVariants.{Go}
-use Rattle.reach_engine.specs.inner.Columns.{Has}
 use Rattle.reach_engine.specs.inner.Reached.{RowHas}
 use Rattle.reach_engine.specs.inner.Run.{run}
 use Rattle.reach_engine.specs.inner.Search.{IsClean}

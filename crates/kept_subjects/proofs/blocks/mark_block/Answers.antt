@@ -1,4 +1,4 @@
-use Rattle.std.proofs.Common.{◌≡◌, ℕ, ◌+◌, List, length, sym, ap, ◌∙◌, subst}
+use Rattle.std.proofs.Common.{◌≡◌, ℕ, ◌+◌, length, sym, ap, ◌∙◌, subst}
 use Rattle.sil_cfg.specs.Flow.{numbered}
 use Rattle.path_lists.specs.inner.Lists.{list_at}
 use Rattle.reach_engine.specs.declared.scan.Step.{Step}

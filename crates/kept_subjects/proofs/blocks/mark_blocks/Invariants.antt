@@ -1,4 +1,4 @@
-use Rattle.std.proofs.Common.{◌≡◌, ◌+◌, ℕ, length}
+use Rattle.std.proofs.Common.{◌≡◌, ◌+◌, length}
 use Rattle.sil_cfg.specs.Flow.{numbered}
 use Rattle.path_lists.specs.inner.Lists.{list_at}
 use Rattle.kept_subjects.specs.inner.Broken.{AreMarked, GoesBrokenBefore}

@@ -1,8 +1,6 @@
-use Rattle.std.proofs.Common.{◌≡◌, ◌+◌, ℕ, List, subst, ap, sym, ◌∙◌}
+use Rattle.std.proofs.Common.{◌+◌, ℕ, subst}
 use Rattle.std.proofs.lemmas.Result.{on_ok_weaker}
-use Rattle.sil_ast.specs.declared.place.EdgeId.{EdgeId}
-use Rattle.sil_ast.specs.declared.place.PointId.{PointId}
-use Rattle.sil_cfg.specs.Flow.{block_count, numbered}
+use Rattle.sil_cfg.specs.Flow.{numbered}
 use Rattle.path_lists.specs.inner.Lists.{list_at}
 use Rattle.reach_engine.specs.declared.scan.Step.{Step}
 use Rattle.reach_engine.specs.declared.together.FoundAll.{FoundAll}
