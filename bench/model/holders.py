@@ -23,6 +23,13 @@ from values import (FRAMES, STORED, UNIT, UNSET, Ends, Fault, Outcome, builtin, 
 HELD, LENT, PLAIN = 'Held', 'Lent', 'Plain'
 
 
+def parts_of(f):
+    """The values of a function that are addresses of members: to the function an argument's place is a whole one."""
+    if not hasattr(f, 'parts'):
+        f.parts = {v for b in f.blocks for i in b.insts if i.op in ('struct_element_addr', 'tuple_element_addr') for v in i.results}
+    return f.parts
+
+
 class Cell:
     """A slot or a field: contents are None, a value, or a group of which some members are None."""
 
@@ -377,7 +384,7 @@ class Holders:
             if i.q == 'init':
                 self.first(values[1], x)
             elif i.q == 'trivial':
-                if values[1][-1]:
+                if i.operands[1][0] in parts_of(frame.f):
                     self.full(values[1])
                 else:
                     self.cell(values[1])

@@ -15,7 +15,7 @@ use Rattle.path_patterns.specs.declared.mark.Mark.{Mark}
 use Rattle.sil_ast.specs.declared.function.Function.{Function}
 use Rattle.sil_ast.specs.declared.place.ValueId.{ValueId}
 use Rattle.sil_cfg.specs.declared.item.Item.{Item}
-use Rattle.accepted_trails.specs.sil_verifier.Shown.{scopes_in}
+use Rattle.accepted_trails.specs.accepted_modules.Shown.{scopes_in}
 use Rattle.type_definitions.specs.Declarations.{Declarations}
 use Rattle.accepted_trails.specs.run_trails.inner.RunTrails.{IsRunTrail}
 use Rattle.accepted_trails.specs.inner.Accepted.{IsAcceptedIn}

@@ -7,7 +7,7 @@ use Rattle.accepted_trails.specs.memory_parts.declared.part.Part.{Part}
 use Rattle.accepted_trails.specs.memory_rules.Broken.{at_part}
 use Rattle.accepted_trails.specs.ownership_kinds.Facts.{facts_in}
 use Rattle.sil_ast.specs.declared.function.Function.{Function}
-use Rattle.accepted_trails.specs.sil_verifier.Shown.{memory}
+use Rattle.accepted_trails.specs.accepted_modules.Shown.{memory}
 use Rattle.type_definitions.specs.Declarations.{Declarations}
 use Rattle.accepted_trails.specs.run_trails.inner.Switched.{IsUnbroken}
 use Rattle.accepted_trails.proofs.run_trails.SwitchedTrails.{are_followed}

@@ -10,5 +10,5 @@ pub use Rattle.accepted_trails.specs.memory_slots as memory_slots
 pub use Rattle.accepted_trails.specs.memory_rules as memory_rules
 pub use Rattle.accepted_trails.specs.holder_model as holder_model
 pub use Rattle.accepted_trails.specs.run_trails as run_trails
-pub use Rattle.accepted_trails.specs.sil_verifier as sil_verifier
+pub use Rattle.accepted_trails.specs.accepted_modules as accepted_modules
 pub use Rattle.accepted_trails.specs as accepted_trails

@@ -29,7 +29,7 @@ use Rattle.sil_cfg.specs.declared.item.Item.{Item}
 use Rattle.sil_cfg.specs.declared.item.Item.TheVariants as item
 use Rattle.sil_rules.specs.declared.rule.Rule.{Rule}
 use Rattle.sil_rules.specs.declared.rule.Rule.TheVariants as rule
-use Rattle.accepted_trails.specs.sil_verifier.Shown.{memory}
+use Rattle.accepted_trails.specs.accepted_modules.Shown.{memory}
 use Rattle.type_definitions.specs.Declarations.{Declarations}
 use Rattle.run_typing_laws.proofs.Rows.Points.{in_front}
 use Rattle.accepted_trails.specs.inner.Accepted.{IsAcceptedIn}

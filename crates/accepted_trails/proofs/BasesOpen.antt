@@ -6,10 +6,10 @@ use Rattle.std.proofs.lemmas.Bool.{and_parts, cases_Bool, eqb-true, false≢true
 use Rattle.std.proofs.lemmas.Option.{same_Some}
 use Rattle.run_trails.specs.holder_model.Frames.{has_any}
 use Rattle.item_operands.specs.Items.{item_defined, item_taken}
-use Rattle.sil_verifier.specs.lifetime_worklist.inner.Runs.{IsOwned}
+use Rattle.accepted_modules.specs.lifetime_worklist.inner.Runs.{IsOwned}
 use Rattle.ownership_chains.specs.Facts.{has, is_guaranteed, is_owned, known_or}
 use Rattle.ownership_chains.specs.declared.facts.Facts.{Facts}
-use Rattle.sil_verifier.specs.ownership_kinds.Facts.{facts_in}
+use Rattle.accepted_modules.specs.ownership_kinds.Facts.{facts_in}
 use Rattle.ownership_marks.specs.Marks.{begin_of, begun, begun_with, is_own_base}
 use Rattle.sil_ast.specs.declared.function.Function.{Function}
 use Rattle.sil_ast.specs.declared.place.ValueId.{ValueId}

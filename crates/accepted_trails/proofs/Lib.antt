@@ -10,4 +10,4 @@ pub mod ScopesPassed
 pub mod BasesMade
 pub mod BasesOpen
 pub use Rattle.run_trails.proofs as run_trails
-pub use Rattle.sil_verifier.proofs.lifetime_worklist as lifetime_worklist
+pub use Rattle.accepted_modules.proofs.lifetime_worklist as lifetime_worklist

@@ -2,19 +2,19 @@
 use Rattle.std.proofs.Common.{ℕ, ◌<◌, ◌∷◌, length, sym, arith, true, false, Option}
 use Rattle.std.proofs.lemmas.Bool.{false≢true}
 use Rattle.std.proofs.lemmas.Option.{same_Some}
-use Rattle.sil_verifier.specs.lifetime_worklist.Lives.{lives_by, returned, turned_by}
-use Rattle.sil_verifier.specs.lifetime_worklist.inner.Runs.{IsOwned}
+use Rattle.accepted_modules.specs.lifetime_worklist.Lives.{lives_by, returned, turned_by}
+use Rattle.accepted_modules.specs.lifetime_worklist.inner.Runs.{IsOwned}
 use Rattle.numbered_form.specs.Numbering.{values_of}
 use Rattle.ownership_chains.specs.Facts.{is_owned, known_or, value_of}
 use Rattle.ownership_chains.specs.declared.facts.Facts.{Facts}
-use Rattle.sil_verifier.specs.ownership_kinds.Facts.{facts_in}
+use Rattle.accepted_modules.specs.ownership_kinds.Facts.{facts_in}
 use Rattle.ownership_marks.specs.declared.mark.MarkSort.TheVariants.{Begin, End, Use}
 use Rattle.path_checks.specs.Entries.{marks_for}
 use Rattle.sil_ast.specs.declared.place.ValueId.{ValueId}
 use Rattle.sil_rules.specs.declared.rule.Rule.TheVariants as rule
 use Rattle.run_trails.proofs.SwitchedTrails.{followed_turned}
 use Rattle.run_trails.proofs.TurnedTrails.{turned_older}
-use Rattle.sil_verifier.specs.Shown.{lives_in}
+use Rattle.accepted_modules.specs.Shown.{lives_in}
 use Rattle.accepted_trails.specs.inner.Lives.{AreLivesPassed}
 use Rattle.accepted_trails.proofs.Passed.{AsksOff, ReadsMarks, passed}
 use Rattle.accepted_trails.proofs.OwnMarks.{TurnsAsRead, own_reads}

@@ -5,14 +5,14 @@ use Rattle.std.specs.List.{list_any}
 use Rattle.std.proofs.lemmas.Bool.{eqb-true, false≢true}
 use Rattle.std.proofs.lemmas.Grind.{flat_map-append}
 use Rattle.std.proofs.lemmas.Option.{same_Some}
-use Rattle.sil_verifier.specs.borrow_scopes.Scopes.{is_scope, lent_bases, lost_entries, lost_with, mark_entries, returned, scope_entries, scopes_of, turned_by}
+use Rattle.accepted_modules.specs.borrow_scopes.Scopes.{is_scope, lent_bases, lost_entries, lost_with, mark_entries, returned, scope_entries, scopes_of, turned_by}
 use Rattle.run_trails.specs.holder_model.Frames.{ends}
 use Rattle.item_operands.specs.Items.{item_defined, item_taken}
 use Rattle.item_operands.specs.declared.taken.Taken.{Taken}
 use Rattle.numbered_form.specs.Numbering.{values_of}
 use Rattle.ownership_chains.specs.Facts.{has, known_or, value_of}
 use Rattle.ownership_chains.specs.declared.facts.Facts.{Facts}
-use Rattle.sil_verifier.specs.ownership_kinds.Facts.{facts_in}
+use Rattle.accepted_modules.specs.ownership_kinds.Facts.{facts_in}
 use Rattle.ownership_marks.specs.Marks.{begun, end_of, ended, marks_of, used}
 use Rattle.ownership_marks.specs.declared.mark.MarkSort.{MarkSort}
 use Rattle.ownership_marks.specs.declared.mark.MarkSort.TheVariants.{Begin, End, Use}
@@ -25,7 +25,7 @@ use Rattle.sil_rules.specs.declared.rule.Rule.TheVariants as rule
 use Rattle.run_trails.specs.inner.Switched.{switched_over}
 use Rattle.run_trails.proofs.SwitchedTrails.{followed_turned}
 use Rattle.run_trails.proofs.TurnedTrails.{turned_older}
-use Rattle.sil_verifier.specs.Shown.{scopes_in}
+use Rattle.accepted_modules.specs.Shown.{scopes_in}
 use Rattle.accepted_trails.specs.inner.Lives.{AreBasesKept, AreScopesPassed}
 use Rattle.accepted_trails.specs.inner.Passing.{is_end}
 use Rattle.accepted_trails.proofs.OwnMarks.{TurnsAsRead, own_reads}

@@ -3,14 +3,14 @@ use Rattle.std.proofs.Common.{refl, length, None}
 use Rattle.sil_ast.specs.declared.function.Function.{Function}
 use Rattle.sil_ast.specs.declared.place.ValueId.{ValueId}
 use Rattle.path_checks.specs.Entries.{marks_for}
-use Rattle.sil_verifier.specs.ownership_kinds.Facts.{facts_in}
-use Rattle.sil_verifier.specs.borrow_scopes.Others.{other_of}
+use Rattle.accepted_modules.specs.ownership_kinds.Facts.{facts_in}
+use Rattle.accepted_modules.specs.borrow_scopes.Others.{other_of}
 use Rattle.value_availability.specs.Accesses.{accesses_of}
 use Rattle.type_definitions.specs.Declarations.{Declarations}
 use Rattle.run_trails.proofs.typed_graph_laws.Functions.{graphs_by_blocks}
-use Rattle.sil_verifier.specs.Shown.{lives_in, scopes_in}
-use Rattle.sil_verifier.specs.Shown.IsShownIn.{life, scope, undefined}
-use Rattle.sil_verifier.specs.Values.{IsCleanIn}
+use Rattle.accepted_modules.specs.Shown.{lives_in, scopes_in}
+use Rattle.accepted_modules.specs.Shown.IsShownIn.{life, scope, undefined}
+use Rattle.accepted_modules.specs.Values.{IsCleanIn}
 use Rattle.run_trails.specs.inner.Switched.{IsUnbroken}
 use Rattle.run_trails.proofs.RunPaths.{are_entered_once}
 use Rattle.accepted_trails.specs.inner.Accepted.{AreAccepted}

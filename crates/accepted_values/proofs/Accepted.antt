@@ -17,8 +17,8 @@ use Rattle.numbered_form.specs.Lists.{Each}
 use Rattle.numbered_form.specs.Numbering.{AreCountedFrom, values_of}
 use Rattle.numbered_form.specs.inner.Limits.{IsFunctionInLimits}
 use Rattle.ownership_chains.specs.Chains.{HasNoRing, IsInRange}
-use Rattle.sil_verifier.specs.ownership_kinds.Statics.{HasKinds}
-use Rattle.sil_verifier.specs.ownership_kinds.Statics.IsBroken.{on_ring}
+use Rattle.accepted_modules.specs.ownership_kinds.Statics.{HasKinds}
+use Rattle.accepted_modules.specs.ownership_kinds.Statics.IsBroken.{on_ring}
 use Rattle.owned_run_typing.proofs.ownership_origins.Counts.{are_of_values}
 use Rattle.owned_run_typing.proofs.ownership_origins.Ranges.{are_in_range}
 use Rattle.owned_run_typing.specs.ownership_origins.Origins.{definitions_of}
@@ -29,9 +29,9 @@ use Rattle.owned_run_typing.proofs.run_typing_laws.SignatureFacts.{inner_form}
 use Rattle.sil_rules.specs.declared.limits.TheConstants.{INSTRUCTIONS}
 use Rattle.sil_rules.specs.declared.rule.Rule.{Rule}
 use Rattle.sil_rules.specs.declared.rule.Rule.TheVariants as rule
-use Rattle.sil_verifier.specs.sil_types.Typing.SignatureRules.{is_external}
-use Rattle.sil_verifier.specs.Refusals.{lowered}
-use Rattle.sil_verifier.specs.Shown.IsShownIn.{kind}
+use Rattle.accepted_modules.specs.sil_types.Typing.SignatureRules.{is_external}
+use Rattle.accepted_modules.specs.Refusals.{lowered}
+use Rattle.accepted_modules.specs.Shown.IsShownIn.{kind}
 use Rattle.type_definitions.specs.Declarations.{declarations_of}
 use Rattle.accepted_values.specs.inner.Known.{AreWellTyped, IsAcceptedBody, IsValue}
 

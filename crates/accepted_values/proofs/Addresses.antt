@@ -54,12 +54,12 @@ use Rattle.sil_ast.specs.declared.operands.Operand.{Operand}
 use Rattle.sil_ast.specs.declared.place.ValueId.{ValueId}
 use Rattle.sil_ast.specs.declared.type_name.TypeName.{TypeName}
 use Rattle.sil_cfg.specs.Items.{point_at}
-use Rattle.sil_verifier.specs.sil_types.Typing.EdgeRules.{lets_address_escape}
-use Rattle.sil_verifier.specs.sil_types.Typing.OperandTypes.{is_as_written}
-use Rattle.sil_verifier.specs.sil_types.Typing.RowTypes.{address_of, address_of_field, given_by, gives, type_of, written}
-use Rattle.sil_verifier.specs.sil_types.Typing.Shapes.{element_of, is_object, struct_field, target}
-use Rattle.sil_verifier.specs.sil_types.Typing.SignatureRules.{fits_by, is_argument_for}
-use Rattle.sil_verifier.specs.sil_types.Typing.Values.{function_at, value_functions, value_types}
+use Rattle.accepted_modules.specs.sil_types.Typing.EdgeRules.{lets_address_escape}
+use Rattle.accepted_modules.specs.sil_types.Typing.OperandTypes.{is_as_written}
+use Rattle.accepted_modules.specs.sil_types.Typing.RowTypes.{address_of, address_of_field, given_by, gives, type_of, written}
+use Rattle.accepted_modules.specs.sil_types.Typing.Shapes.{element_of, is_object, struct_field, target}
+use Rattle.accepted_modules.specs.sil_types.Typing.SignatureRules.{fits_by, is_argument_for}
+use Rattle.accepted_modules.specs.sil_types.Typing.Values.{function_at, value_functions, value_types}
 use Rattle.type_definitions.specs.Declarations.{Declarations, declarations_of}
 use Rattle.type_definitions.specs.Measures.{is_trivial}
 use Rattle.type_definitions.specs.declared.kind.Kind.{Kind}

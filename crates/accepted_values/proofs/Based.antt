@@ -13,7 +13,7 @@ use Rattle.ownership_chains.specs.Facts.{AreFactsOf, facts_with, has, origin_at,
 use Rattle.ownership_chains.specs.declared.definition.Definition.{Definition}
 use Rattle.ownership_chains.specs.declared.definition.Origin.TheVariants as origin
 use Rattle.ownership_chains.specs.declared.facts.Facts.{Facts}
-use Rattle.sil_verifier.specs.ownership_kinds.Facts.{facts_in}
+use Rattle.accepted_modules.specs.ownership_kinds.Facts.{facts_in}
 use Rattle.owned_run_typing.specs.ownership_origins.Origins.{definitions_of}
 use Rattle.type_definitions.specs.Declarations.{Declarations, declarations_of}
 use Rattle.type_definitions.specs.declared.kind.Kind.{Kind}

@@ -34,9 +34,9 @@ use Rattle.sil_ast.specs.declared.inst.Inst.{Inst}
 use Rattle.sil_ast.specs.declared.module.Module.{Module}
 use Rattle.sil_ast.specs.declared.place.ValueId.{ValueId}
 use Rattle.sil_ast.specs.declared.type_name.TypeName.{TypeName}
-use Rattle.sil_verifier.specs.sil_types.Typing.ResultCounts.{is_count_by}
-use Rattle.sil_verifier.specs.sil_types.Typing.RowTypes.{given_by, gives, made_types, row_types}
-use Rattle.sil_verifier.specs.sil_types.Typing.Shapes.{is_nontrivial, is_object, where_it}
+use Rattle.accepted_modules.specs.sil_types.Typing.ResultCounts.{is_count_by}
+use Rattle.accepted_modules.specs.sil_types.Typing.RowTypes.{given_by, gives, made_types, row_types}
+use Rattle.accepted_modules.specs.sil_types.Typing.Shapes.{is_nontrivial, is_object, where_it}
 use Rattle.type_definitions.specs.Declarations.{Declarations, declarations_of}
 use Rattle.type_definitions.specs.Measures.{is_trivial}
 use Rattle.value_tables.proofs.Rows.{rows_count}

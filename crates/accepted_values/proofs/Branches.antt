@@ -17,9 +17,9 @@ use Rattle.ownership_chains.specs.Chains.{operands_at}
 use Rattle.ownership_chains.specs.Facts.{origin_at, told_by}
 use Rattle.ownership_chains.specs.declared.definition.Origin.TheVariants as origin
 use Rattle.ownership_chains.specs.declared.facts.Facts.{Facts}
-use Rattle.sil_verifier.specs.ownership_kinds.Facts.{kind_in}
-use Rattle.sil_verifier.specs.ownership_kinds.Statics.{fits_block, is_annotated_well, is_owned_annotation}
-use Rattle.sil_verifier.specs.ownership_kinds.Statics.IsBroken.{annotated}
+use Rattle.accepted_modules.specs.ownership_kinds.Facts.{kind_in}
+use Rattle.accepted_modules.specs.ownership_kinds.Statics.{fits_block, is_annotated_well, is_owned_annotation}
+use Rattle.accepted_modules.specs.ownership_kinds.Statics.IsBroken.{annotated}
 use Rattle.owned_run_typing.specs.ownership_origins.Origins.{arg_definition_by, definitions_of, is_trivial_or_untyped, is_zero}
 use Rattle.owned_run_typing.specs.ownership_origins.Switched.{switch_to}
 use Rattle.point_checks.specs.Points.{IsAt}
@@ -41,11 +41,11 @@ use Rattle.sil_ast.specs.declared.operands.Operand.{Operand}
 use Rattle.sil_ast.specs.declared.place.EdgeId.{EdgeId}
 use Rattle.sil_ast.specs.declared.type_name.TypeName.{TypeName}
 use Rattle.sil_rules.specs.declared.rule.Rule.TheVariants as rule
-use Rattle.sil_verifier.specs.sil_types.Typing.EdgeRules.{goes_to_entry, has_block_types, has_wrong_edge_arguments, have_wrong_arguments_by, is_to_entry}
-use Rattle.sil_verifier.specs.sil_types.Typing.OperandTypes.{edge_is_as_written, is_as_written}
-use Rattle.sil_verifier.specs.sil_types.Typing.RowTypes.{all_written}
-use Rattle.sil_verifier.specs.sil_types.Typing.Same.{are_same_types, is_same_type}
-use Rattle.sil_verifier.specs.sil_types.Typing.Values.{arg_type, value_types}
+use Rattle.accepted_modules.specs.sil_types.Typing.EdgeRules.{goes_to_entry, has_block_types, has_wrong_edge_arguments, have_wrong_arguments_by, is_to_entry}
+use Rattle.accepted_modules.specs.sil_types.Typing.OperandTypes.{edge_is_as_written, is_as_written}
+use Rattle.accepted_modules.specs.sil_types.Typing.RowTypes.{all_written}
+use Rattle.accepted_modules.specs.sil_types.Typing.Same.{are_same_types, is_same_type}
+use Rattle.accepted_modules.specs.sil_types.Typing.Values.{arg_type, value_types}
 use Rattle.type_definitions.specs.Declarations.{Declarations, declarations_of}
 use Rattle.type_definitions.specs.Measures.{is_trivial}
 use Rattle.type_definitions.specs.declared.kind.Kind.TheVariants as kind

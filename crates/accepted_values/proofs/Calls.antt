@@ -14,7 +14,7 @@ use Rattle.instruction_table.specs.declared.op.Op.TheVariants as op
 use Rattle.item_operands.specs.Roles.{by_convention, by_row, conventions_by, conventions_in, role_handed, roles_for, taken_as, taken_by, taken_each}
 use Rattle.item_operands.specs.declared.taken.Treatment.{Treatment}
 use Rattle.lowering_laws.proofs.Lowerable.{contained}
-use Rattle.sil_verifier.specs.ownership_kinds.Statics.{all_taken}
+use Rattle.accepted_modules.specs.ownership_kinds.Statics.{all_taken}
 use Rattle.point_checks.specs.Points.{IsAt}
 use Rattle.owned_run_typing.proofs.run_typing_laws.CallFacts.{called}
 use Rattle.owned_run_typing.proofs.run_typing_laws.FunctionFacts.{TypedInst, typed_function}
@@ -25,11 +25,11 @@ use Rattle.sil_ast.specs.declared.inst.Inst.{Inst}
 use Rattle.sil_ast.specs.declared.module.Module.{Module}
 use Rattle.sil_ast.specs.declared.operands.Operand.{Operand}
 use Rattle.sil_ast.specs.declared.signature.Signature.{Signature}
-use Rattle.sil_verifier.specs.sil_types.Typing.OperandTypes.{are_as_asked_by, argument_types, has_type}
-use Rattle.sil_verifier.specs.sil_types.Typing.Same.{all_pairs}
-use Rattle.sil_verifier.specs.sil_types.Typing.Shapes.{is_object}
-use Rattle.sil_verifier.specs.sil_types.Typing.SignatureRules.{fits_by}
-use Rattle.sil_verifier.specs.sil_types.Typing.Values.{value_types}
+use Rattle.accepted_modules.specs.sil_types.Typing.OperandTypes.{are_as_asked_by, argument_types, has_type}
+use Rattle.accepted_modules.specs.sil_types.Typing.Same.{all_pairs}
+use Rattle.accepted_modules.specs.sil_types.Typing.Shapes.{is_object}
+use Rattle.accepted_modules.specs.sil_types.Typing.SignatureRules.{fits_by}
+use Rattle.accepted_modules.specs.sil_types.Typing.Values.{value_types}
 use Rattle.type_definitions.specs.Declarations.{Declarations, declarations_of}
 use Rattle.type_definitions.specs.Measures.{is_trivial}
 use Rattle.owned_run_typing.specs.ownership_origins.Origins.{is_trivial_or_untyped}

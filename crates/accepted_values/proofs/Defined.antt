@@ -1,8 +1,8 @@
 -- Each value of an accepted function is a result of an instruction or an argument of a block.
 use Rattle.std.proofs.Common.{◌≡◌, ℕ, ap, ◌∙◌, subst, Some}
 use Rattle.std.specs.Prelude.{slice_get}
-use Rattle.sil_verifier.specs.ownership_kinds.Statics.{IsDefinedAt}
-use Rattle.sil_verifier.specs.ownership_kinds.Statics.IsDefinedAt.{argument, result}
+use Rattle.accepted_modules.specs.ownership_kinds.Statics.{IsDefinedAt}
+use Rattle.accepted_modules.specs.ownership_kinds.Statics.IsDefinedAt.{argument, result}
 use Rattle.point_checks.specs.Points.{IsAt}
 use Rattle.sil_ast.specs.Blocks.{args_in, args_of}
 use Rattle.sil_ast.specs.declared.function.BlockArg.{BlockArg}

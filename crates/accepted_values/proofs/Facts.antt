@@ -18,7 +18,7 @@ use Rattle.ownership_chains.proofs.Enough.{told_in_time}
 use Rattle.ownership_chains.specs.Steps.{told_in}
 use Rattle.ownership_chains.specs.declared.definition.Definition.{Definition}
 use Rattle.ownership_chains.specs.declared.facts.Facts.{Facts}
-use Rattle.sil_verifier.specs.ownership_kinds.Facts.{facts_in}
+use Rattle.accepted_modules.specs.ownership_kinds.Facts.{facts_in}
 use Rattle.owned_run_typing.proofs.ownership_origins.Counts.{are_of_values}
 use Rattle.owned_run_typing.specs.ownership_origins.Origins.{definitions_of}
 use Rattle.owned_run_typing.proofs.run_typing_laws.ItemFacts.{values_counted}

@@ -10,8 +10,8 @@ use Rattle.item_operands.specs.Items.{arg_value, item_defined}
 use Rattle.item_operands.specs.Parts.{args_behind, edge_at, edge_in, inst_at, inst_in, results_in, terminator_in, terminator_of}
 use Rattle.numbered_form.specs.Insts.{insts_of}
 use Rattle.numbered_form.specs.Numbering.{AreCountedFrom, defined_in, results_of}
-use Rattle.sil_verifier.specs.ownership_kinds.Statics.{IsDefinedAt}
-use Rattle.sil_verifier.specs.ownership_kinds.Statics.IsDefinedAt.{argument as of_block, result as of_inst}
+use Rattle.accepted_modules.specs.ownership_kinds.Statics.{IsDefinedAt}
+use Rattle.accepted_modules.specs.ownership_kinds.Statics.IsDefinedAt.{argument as of_block, result as of_inst}
 use Rattle.point_checks.specs.Points.{IsAt}
 use Rattle.owned_run_typing.proofs.run_typing_laws.ItemFacts.{item_is_of}
 use Rattle.owned_run_typing.proofs.run_typing_laws.ListFacts.{get_below}
@@ -30,7 +30,7 @@ use Rattle.sil_cfg.specs.Items.{IsItem, flow_of, point_at, targets_in}
 use Rattle.sil_cfg.specs.declared.item.Item.{Item}
 use Rattle.sil_cfg.specs.declared.item.Item.TheVariants.{Entry, Inst, Edge, Exit}
 use Rattle.sil_cfg.specs.inner.Splice.{Stop, into, is_at, item, same_item}
-use Rattle.sil_verifier.specs.sil_types.Typing.EdgeRules.{goes_to_entry, is_to_entry}
+use Rattle.accepted_modules.specs.sil_types.Typing.EdgeRules.{goes_to_entry, is_to_entry}
 use Rattle.lowering_laws.proofs.Lists.{counted_split}
 use Rattle.lowering_laws.proofs.Rings.{defined_somewhere}
 use Rattle.accepted_values.specs.inner.Known.{IsAcceptedBody}

@@ -14,8 +14,8 @@ use Rattle.instruction_table.specs.declared.op.Op.TheVariants as op
 use Rattle.item_operands.specs.Parts.{edge_in, terminator_in}
 use Rattle.numbered_form.specs.Lists.{Each}
 use Rattle.ownership_chains.specs.Facts.{forwarded, is_guaranteed, is_owned}
-use Rattle.sil_verifier.specs.ownership_kinds.Facts.{kind_in}
-use Rattle.sil_verifier.specs.ownership_kinds.Statics.{fits_block, forwards_by, is_annotated_well}
+use Rattle.accepted_modules.specs.ownership_kinds.Facts.{kind_in}
+use Rattle.accepted_modules.specs.ownership_kinds.Statics.{fits_block, forwards_by, is_annotated_well}
 use Rattle.owned_run_typing.specs.ownership_origins.Origins.{is_trivial_or_untyped}
 use Rattle.owned_run_typing.specs.ownership_origins.Switched.{switch_to, switched_by}
 use Rattle.owned_run_typing.specs.ownership_origins.declared.switched.Switched.{Switched}
@@ -34,11 +34,11 @@ use Rattle.sil_ast.specs.declared.place.EdgeId.{EdgeId}
 use Rattle.sil_ast.specs.declared.place.ValueId.{ValueId}
 use Rattle.sil_ast.specs.declared.type_name.TypeName.{TypeName, TypeName-F, out-TypeName}
 use Rattle.sil_ast.specs.declared.type_name.TypeName.TheVariants as type
-use Rattle.sil_verifier.specs.sil_types.Typing.Builtins.{Builtin, Sort, bit, builtin_named, builtin_operands, builtin_result, combining, comparing, overflowing, result_by, sort_of}
-use Rattle.sil_verifier.specs.sil_types.Typing.RowTypes.{address_of, address_of_field, all_written, given_by, gives, gives_builtin, made_types, takes}
-use Rattle.sil_verifier.specs.sil_types.Typing.Same.{are_same_types, is_same_type}
-use Rattle.sil_verifier.specs.sil_types.Typing.Shapes.{field_address, stored_as, is_integer, is_integer_layer, is_object, target, where_it}
-use Rattle.sil_verifier.specs.sil_types.Typing.SignatureRules.{fits_by, is_argument_for}
+use Rattle.accepted_modules.specs.sil_types.Typing.Builtins.{Builtin, Sort, bit, builtin_named, builtin_operands, builtin_result, combining, comparing, overflowing, result_by, sort_of}
+use Rattle.accepted_modules.specs.sil_types.Typing.RowTypes.{address_of, address_of_field, all_written, given_by, gives, gives_builtin, made_types, takes}
+use Rattle.accepted_modules.specs.sil_types.Typing.Same.{are_same_types, is_same_type}
+use Rattle.accepted_modules.specs.sil_types.Typing.Shapes.{field_address, stored_as, is_integer, is_integer_layer, is_object, target, where_it}
+use Rattle.accepted_modules.specs.sil_types.Typing.SignatureRules.{fits_by, is_argument_for}
 use Rattle.type_definitions.specs.Declarations.{Declarations, all_names, declarations_of}
 use Rattle.type_definitions.specs.Measures.{is_trivial, is_trivial_measure, measure_at, measures_of}
 use Rattle.type_definitions.specs.declared.kind.Kind.{Kind}

@@ -30,10 +30,10 @@ use Rattle.sil_ast.specs.declared.place.ValueId.{ValueId}
 use Rattle.sil_ast.specs.declared.signature.Given.{Given}
 use Rattle.sil_ast.specs.declared.signature.Param.{Param}
 use Rattle.sil_ast.specs.declared.type_name.TypeName.{TypeName}
-use Rattle.sil_verifier.specs.sil_types.Typing.Same.{all_pairs, is_same_type}
-use Rattle.sil_verifier.specs.sil_types.Typing.Shapes.{is_nontrivial, is_object}
-use Rattle.sil_verifier.specs.sil_types.Typing.SignatureRules.{annotation_of, fits_by, fits_param, fits_result, has_entry_arguments, has_fitting_conventions}
-use Rattle.sil_verifier.specs.sil_types.Typing.SignatureRules.{is_annotated_for, is_argument_for, is_external, is_same_kind}
+use Rattle.accepted_modules.specs.sil_types.Typing.Same.{all_pairs, is_same_type}
+use Rattle.accepted_modules.specs.sil_types.Typing.Shapes.{is_nontrivial, is_object}
+use Rattle.accepted_modules.specs.sil_types.Typing.SignatureRules.{annotation_of, fits_by, fits_param, fits_result, has_entry_arguments, has_fitting_conventions}
+use Rattle.accepted_modules.specs.sil_types.Typing.SignatureRules.{is_annotated_for, is_argument_for, is_external, is_same_kind}
 use Rattle.type_definitions.specs.Declarations.{Declarations, declarations_of}
 use Rattle.type_definitions.specs.Measures.{is_trivial}
 use Rattle.type_definitions.specs.declared.kind.Kind.{Kind}

@@ -16,11 +16,11 @@ use Rattle.sil_ast.specs.declared.function.Function.{Function}
 use Rattle.sil_ast.specs.declared.inst.Inst.{Inst}
 use Rattle.sil_ast.specs.declared.module.Module.{Module}
 use Rattle.sil_ast.specs.declared.operands.Operand.{Operand}
-use Rattle.sil_verifier.specs.sil_types.Typing.OperandTypes.{is_as_written}
-use Rattle.sil_verifier.specs.sil_types.Typing.RowTypes.{type_of, written}
-use Rattle.sil_verifier.specs.sil_types.Typing.Same.{is_same_type}
-use Rattle.sil_verifier.specs.sil_types.Typing.SignatureRules.{differs_by, differs_from_signature, returns_what_is_given}
-use Rattle.sil_verifier.specs.sil_types.Typing.Values.{value_functions, value_types}
+use Rattle.accepted_modules.specs.sil_types.Typing.OperandTypes.{is_as_written}
+use Rattle.accepted_modules.specs.sil_types.Typing.RowTypes.{type_of, written}
+use Rattle.accepted_modules.specs.sil_types.Typing.Same.{is_same_type}
+use Rattle.accepted_modules.specs.sil_types.Typing.SignatureRules.{differs_by, differs_from_signature, returns_what_is_given}
+use Rattle.accepted_modules.specs.sil_types.Typing.Values.{value_functions, value_types}
 use Rattle.type_definitions.specs.Declarations.{Declarations, declarations_of}
 use Rattle.type_definitions.specs.Mentions.{given_type}
 use Rattle.accepted_values.specs.inner.Handed.{AreGiven}

@@ -19,9 +19,9 @@ use Rattle.ownership_chains.specs.Chains.{operands_at}
 use Rattle.ownership_chains.specs.Facts.{by_kind, facts_with, forwarded, is_guaranteed as guarantees, is_owned as owns, origin_at, told_by}
 use Rattle.ownership_chains.specs.declared.definition.Origin.TheVariants as origin
 use Rattle.ownership_chains.specs.declared.facts.Facts.{Facts}
-use Rattle.sil_verifier.specs.ownership_kinds.Facts.{facts_in, kind_in, kind_of_facts}
-use Rattle.sil_verifier.specs.ownership_kinds.Statics.{all_taken, forwards, is_guaranteed, is_mismatch, is_owned, mixed_among, mixed_operand}
-use Rattle.sil_verifier.specs.ownership_kinds.Statics.IsBroken.{mismatch, mixed}
+use Rattle.accepted_modules.specs.ownership_kinds.Facts.{facts_in, kind_in, kind_of_facts}
+use Rattle.accepted_modules.specs.ownership_kinds.Statics.{all_taken, forwards, is_guaranteed, is_mismatch, is_owned, mixed_among, mixed_operand}
+use Rattle.accepted_modules.specs.ownership_kinds.Statics.IsBroken.{mismatch, mixed}
 use Rattle.owned_run_typing.specs.ownership_origins.Origins.{arg_definition_by, chain_operands, definitions_of, is_trivial_or_untyped, is_zero, result_origin}
 use Rattle.owned_run_typing.specs.ownership_origins.Switched.{switch_to}
 use Rattle.owned_run_typing.specs.ownership_origins.declared.switched.Switched.{Switched}
@@ -39,7 +39,7 @@ use Rattle.sil_ast.specs.declared.place.ValueId.{ValueId}
 use Rattle.sil_cfg.specs.declared.item.Item.{Item}
 use Rattle.sil_cfg.specs.declared.item.Item.TheVariants.{Entry, Inst, Edge, Exit}
 use Rattle.sil_rules.specs.declared.rule.Rule.TheVariants as rule
-use Rattle.sil_verifier.specs.sil_types.Typing.RowTypes.{made_types}
+use Rattle.accepted_modules.specs.sil_types.Typing.RowTypes.{made_types}
 use Rattle.type_definitions.specs.Declarations.{Declarations, declarations_of}
 use Rattle.type_definitions.specs.Measures.{is_trivial}
 use Rattle.type_definitions.specs.declared.kind.Kind.{Kind}

@@ -14,9 +14,9 @@ use Rattle.ownership_chains.specs.Facts.{facts_with, origin_at, told_by}
 use Rattle.ownership_chains.specs.declared.definition.Definition.{Definition}
 use Rattle.ownership_chains.specs.declared.definition.Origin.TheVariants as origin
 use Rattle.ownership_chains.specs.declared.facts.Facts.{Facts}
-use Rattle.sil_verifier.specs.ownership_kinds.Facts.{kind_in, kind_of_facts}
-use Rattle.sil_verifier.specs.ownership_kinds.Statics.{fits_switch, is_annotated_well, is_guaranteed_annotation, is_lacking_default, lacks_argument, lacks_by, needs_argument, no_arguments}
-use Rattle.sil_verifier.specs.ownership_kinds.Statics.IsBroken.{lacking}
+use Rattle.accepted_modules.specs.ownership_kinds.Facts.{kind_in, kind_of_facts}
+use Rattle.accepted_modules.specs.ownership_kinds.Statics.{fits_switch, is_annotated_well, is_guaranteed_annotation, is_lacking_default, lacks_argument, lacks_by, needs_argument, no_arguments}
+use Rattle.accepted_modules.specs.ownership_kinds.Statics.IsBroken.{lacking}
 use Rattle.owned_run_typing.specs.ownership_origins.Origins.{arg_definition_by, definitions_of, is_trivial_or_untyped, is_zero}
 use Rattle.owned_run_typing.specs.ownership_origins.Switched.{switch_to, switched_by}
 use Rattle.owned_run_typing.proofs.run_typing_laws.FunctionFacts.{TypedInst}
@@ -41,13 +41,13 @@ use Rattle.sil_ast.specs.declared.place.EdgeId.{EdgeId}
 use Rattle.sil_ast.specs.declared.place.ValueId.{ValueId}
 use Rattle.sil_ast.specs.declared.type_name.TypeName.{TypeName}
 use Rattle.sil_rules.specs.declared.rule.Rule.TheVariants as rule
-use Rattle.sil_verifier.specs.sil_types.Typing.FormRules.{is_lowered}
-use Rattle.sil_verifier.specs.sil_types.Typing.OperandTypes.{is_as_written}
-use Rattle.sil_verifier.specs.sil_types.Typing.RowTypes.{type_of, written}
-use Rattle.sil_verifier.specs.sil_types.Typing.Same.{are_same_types, is_same_type}
-use Rattle.sil_verifier.specs.sil_types.Typing.SwitchRules as switches
-use Rattle.sil_verifier.specs.sil_types.Typing.SwitchRules.{case_of_edge, fits_payload, has_wrong_cases_by, is_default_argument, is_of_enum, switches_wrongly}
-use Rattle.sil_verifier.specs.sil_types.Typing.Values.{arg_type, value_types}
+use Rattle.accepted_modules.specs.sil_types.Typing.FormRules.{is_lowered}
+use Rattle.accepted_modules.specs.sil_types.Typing.OperandTypes.{is_as_written}
+use Rattle.accepted_modules.specs.sil_types.Typing.RowTypes.{type_of, written}
+use Rattle.accepted_modules.specs.sil_types.Typing.Same.{are_same_types, is_same_type}
+use Rattle.accepted_modules.specs.sil_types.Typing.SwitchRules as switches
+use Rattle.accepted_modules.specs.sil_types.Typing.SwitchRules.{case_of_edge, fits_payload, has_wrong_cases_by, is_default_argument, is_of_enum, switches_wrongly}
+use Rattle.accepted_modules.specs.sil_types.Typing.Values.{arg_type, value_types}
 use Rattle.type_definitions.specs.Declarations.{Declarations, declarations_of}
 use Rattle.type_definitions.specs.Lookups.{Payload}
 use Rattle.type_definitions.specs.Measures.{is_trivial}

@@ -23,10 +23,10 @@ use Rattle.sil_ast.specs.declared.inst.Inst.{Inst}
 use Rattle.sil_ast.specs.declared.module.Module.{Module}
 use Rattle.sil_ast.specs.declared.place.ValueId.{ValueId}
 use Rattle.sil_ast.specs.declared.type_name.TypeName.{TypeName}
-use Rattle.sil_verifier.specs.sil_types.Typing.RowTypes.{written}
-use Rattle.sil_verifier.specs.sil_types.Typing.SwitchRules.{edges_of, edges_of_block, has_wrong_cases_by, incoming, is_alone}
-use Rattle.sil_verifier.specs.sil_types.Typing.SwitchRules.{is_to, leaves_out_case, misfits_default, misfits_payload, names_other_case}
-use Rattle.sil_verifier.specs.sil_types.Typing.SwitchRules.{repeats_case, shares_block, switches_wrongly}
+use Rattle.accepted_modules.specs.sil_types.Typing.RowTypes.{written}
+use Rattle.accepted_modules.specs.sil_types.Typing.SwitchRules.{edges_of, edges_of_block, has_wrong_cases_by, incoming, is_alone}
+use Rattle.accepted_modules.specs.sil_types.Typing.SwitchRules.{is_to, leaves_out_case, misfits_default, misfits_payload, names_other_case}
+use Rattle.accepted_modules.specs.sil_types.Typing.SwitchRules.{repeats_case, shares_block, switches_wrongly}
 use Rattle.type_definitions.specs.Declarations.{Declarations, declarations_of}
 use Rattle.value_tables.specs.FirstValue.{first_value}
 use Rattle.accepted_values.specs.inner.Known.{IsAcceptedBody}

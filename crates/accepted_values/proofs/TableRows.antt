@@ -23,8 +23,8 @@ use Rattle.sil_ast.specs.declared.function.BlockArg.{BlockArg}
 use Rattle.sil_ast.specs.declared.function.Function.{Function}
 use Rattle.sil_ast.specs.declared.inst.Inst.{Inst}
 use Rattle.sil_ast.specs.declared.place.ValueId.{ValueId}
-use Rattle.sil_verifier.specs.sil_types.Typing.RowTypes.{made_types}
-use Rattle.sil_verifier.specs.sil_types.Typing.Values.{arg_functions, arg_has, arg_types, result_functions, result_types}
+use Rattle.accepted_modules.specs.sil_types.Typing.RowTypes.{made_types}
+use Rattle.accepted_modules.specs.sil_types.Typing.Values.{arg_functions, arg_has, arg_types, result_functions, result_types}
 use Rattle.type_definitions.specs.Declarations.{Declarations, declarations_of}
 use Rattle.value_tables.specs.Borrows.{arg_borrows, borrow_by, result_borrows}
 use Rattle.value_tables.specs.ValueRows.{value_rows}

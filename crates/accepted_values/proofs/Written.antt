@@ -5,9 +5,9 @@ use Rattle.owned_run_typing.proofs.run_typing_laws.ShapeFacts.{same_types}
 use Rattle.sil_ast.specs.declared.function.Function.{Function}
 use Rattle.sil_ast.specs.declared.operands.Operand.{Operand}
 use Rattle.sil_ast.specs.declared.type_name.TypeName.{TypeName}
-use Rattle.sil_verifier.specs.sil_types.Typing.OperandTypes.{has_type, is_as_written, is_as_written_by}
-use Rattle.sil_verifier.specs.sil_types.Typing.Same.{is_same_type}
-use Rattle.sil_verifier.specs.sil_types.Typing.Values.{type_of_value, value_types}
+use Rattle.accepted_modules.specs.sil_types.Typing.OperandTypes.{has_type, is_as_written, is_as_written_by}
+use Rattle.accepted_modules.specs.sil_types.Typing.Same.{is_same_type}
+use Rattle.accepted_modules.specs.sil_types.Typing.Values.{type_of_value, value_types}
 use Rattle.type_definitions.specs.Declarations.{Declarations}
 use Rattle.accepted_values.specs.inner.Known.{type_in}
 

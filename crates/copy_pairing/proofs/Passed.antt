@@ -7,7 +7,7 @@ use Rattle.sil_rules.specs.Order.{NotAfter}
 use Rattle.type_definitions.specs.Declarations.{Declarations, declarations_of}
 use Rattle.type_definitions.specs.Rules.{AreDeclarationsOf}
 use Rattle.copy_removal.specs.Optimised.{HasNoRemovable, IsOptimised, Rewrites, RewritesFirst, done, more, text_key}
-use Rattle.sil_verifier.specs.inner.Checked.{IsVerified}
+use Rattle.sil_verifier.specs.accepted_modules.inner.Checked.{IsVerified}
 use Rattle.rewriting_order.specs.inner.Laws.{LaterOnesAreLeft}
 use Rattle.rewriting_laws.specs.inner.Laws.{RewritingKeepsVerified}
 use Rattle.copy_pairing.specs.inner.Passes.{ArePassed, NoneBefore, blocks_at, insts_at}

@@ -8,8 +8,8 @@ use Rattle.sil_ast.specs.declared.function.Block.{Block}
 use Rattle.sil_ast.specs.declared.function.Function.{Function}
 use Rattle.sil_ast.specs.declared.module.Module.{Module}
 use Rattle.sil_cfg.specs.Items.{HasBlocks}
-use Rattle.sil_verifier.proofs.typed_graph_laws.Functions.{graphs_by_blocks}
-use Rattle.sil_verifier.specs.inner.Checked.{IsVerified}
+use Rattle.sil_verifier.proofs.accepted_modules.typed_graph_laws.Functions.{graphs_by_blocks}
+use Rattle.sil_verifier.specs.accepted_modules.inner.Checked.{IsVerified}
 use Rattle.copy_pairing.specs.inner.Passes.{blocks_at, blocks_in, insts_at, insts_in}
 use Rattle.sil_cfg.proofs.Blocks.{all_get}
 use Rattle.sil_cfg.specs.inner.Build.{HasGraph, IsBlockLinked}

@@ -3,7 +3,7 @@
 ghost use Rattle.std.specs.Prelude.{◌≡◌, IfErr, IfOk};
 ghost use Rattle.type_definitions.specs.Declarations.{declarations_of};
 ghost use Rattle.copy_removal.specs.Optimised.{IsOptimised};
-ghost use Rattle.sil_verifier.specs.inner.Checked.{IsVerified};
+ghost use Rattle.sil_verifier.specs.accepted_modules.inner.Checked.{IsVerified};
 
 use crate::passes::pass_module;
 use sil_ast::{Exhausted, Module};

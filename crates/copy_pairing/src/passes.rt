@@ -3,7 +3,7 @@
 ghost use Rattle.std.specs.Prelude.{◌≡◌, ◌+◌, length, IfOk, OnOk};
 ghost use Rattle.sil_cfg.specs.Items.{point_at};
 ghost use Rattle.type_definitions.specs.Declarations.{declarations_of};
-ghost use Rattle.sil_verifier.specs.inner.Checked.{IsVerified};
+ghost use Rattle.sil_verifier.specs.accepted_modules.inner.Checked.{IsVerified};
 ghost use Rattle.copy_pairing.specs.inner.Passes.{ArePassed, blocks_at, insts_at};
 ghost use Rattle.copy_pairing.specs.inner.Surveys.{IsKeptIn};
 ghost use Rattle.copy_pairing.specs.inner.Turns.{IsTurn, IsTurnThere, Turned};

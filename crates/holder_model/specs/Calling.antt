@@ -1,5 +1,5 @@
 -- Calls and returns in a run by holders: places that are lent, and how they are handed over and back.
-use Rattle.std.specs.Prelude.{ℕ, List, [], ◌∷◌, ◌++◌, ◌&&◌, Bool, map, length, Option, Some, None, option_map}
+use Rattle.std.specs.Prelude.{ℕ, List, [], ◌∷◌, ◌++◌, ◌&&◌, Bool, false, map, length, Option, Some, None, option_map}
 use Rattle.std.specs.List.{list_all, list_any}
 use Rattle.std.specs.Option.{option_to_list}
 use Rattle.argument_conventions.specs.Arguments.{Told, arguments_of}
@@ -15,7 +15,7 @@ use Rattle.sil_cfg.specs.declared.item.Item.TheVariants as item
 use Rattle.memory_accesses.specs.Typing.Values.{value_functions}
 use Rattle.run_values.specs.Memory.{Memory}
 use Rattle.run_values.specs.Places.{Place, emptied, is_there_at}
-use Rattle.holder_model.specs.Data.{Datum, as_place}
+use Rattle.holder_model.specs.Data.{AddressOf, Datum, FunctionOf, ValueOf, as_place}
 use Rattle.holder_model.specs.Frames.{Entry, LentPlace, datum_in, entry_at, is_held}
 use Rattle.holder_model.specs.MemoryEffects.{holds}
 
@@ -48,6 +48,12 @@ emptied_for m l content.Full = m
 abbrev pub handed_over : Memory → List LentPlace → Memory
 handed_over m [] = m
 handed_over m (l ∷ ls) = handed_over (emptied_for m l l.row.before) ls
+
+-- to the callee the place of an argument is a whole one, also where the caller hands over a part
+abbrev pub as_argument : Datum → Datum
+as_argument (ValueOf x) = ValueOf x
+as_argument (AddressOf p) = AddressOf (record p { is_part = false })
+as_argument (FunctionOf g) = FunctionOf g
 
 -- how many values a function has
 abbrev pub value_count : Function → ℕ

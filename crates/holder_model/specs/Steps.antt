@@ -1,5 +1,5 @@
 -- The steps of a run by holders: one drop, one call of a waiting deinitialiser, one finish, or one item.
-use Rattle.std.specs.Prelude.{ℕ, ℤ, ◌+◌, List, [], ◌∷◌, ◌++◌, cond, length, Option, Some, None, slice_get, option_and_then, drop}
+use Rattle.std.specs.Prelude.{ℕ, ℤ, ◌+◌, List, [], ◌∷◌, ◌++◌, cond, length, map, Option, Some, None, slice_get, option_and_then, drop}
 use Rattle.instruction_table.specs.Forms.{ending_of}
 use Rattle.instruction_table.specs.declared.entries.Ending as table
 use Rattle.instruction_table.specs.declared.entries.Ending.TheVariants as ending
@@ -22,7 +22,7 @@ use Rattle.run_values.specs.Values as value
 use Rattle.run_values.specs.Values.{Value, integer_of}
 use Rattle.holder_model.specs.declared.event.Event.TheVariants as event
 use Rattle.holder_model.specs.declared.trap.Trap.TheVariants as trap
-use Rattle.holder_model.specs.Calling.{are_as_after, are_as_before, handed_over, holds_something, lent_places, places_given, value_count}
+use Rattle.holder_model.specs.Calling.{are_as_after, are_as_before, as_argument, handed_over, holds_something, lent_places, places_given, value_count}
 use Rattle.holder_model.specs.Data.{Datum, ValueOf, all_of, as_value, values_of}
 use Rattle.holder_model.specs.Dropping.{drop_with, finish_with}
 use Rattle.holder_model.specs.Effects as effects
@@ -73,7 +73,7 @@ module _ (m : Module) (told : ModuleFacts) (bound : ℕ) where
   abbrev pub lends : HolderState → List (Task Frame) → Frame → FuncId → Function → List LentPlace → List Datum → HolderNext
   lends s rest frame g callee lent args =
       cond (are_as_before s.memory lent)
-      (calls_in (record s { memory = handed_over s.memory lent }) (Runs (record frame { lent = lent }) ∷ rest) g callee args)
+      (calls_in (record s { memory = handed_over s.memory lent }) (Runs (record frame { lent = lent }) ∷ rest) g callee (map as_argument args))
       (fault s PlaceNotAsAsked)
 
   abbrev pub numbers_of : List Datum → Option (List ℤ)

@@ -39,10 +39,10 @@ use Rattle.sil_ast.specs.declared.type_name.TypeName.{TypeName}
 use Rattle.copy_removal.specs.sil_types.Typing.ResultCounts.{is_count_by}
 use Rattle.copy_removal.specs.sil_types.Typing.RowTypes.{gives, given_by, keeps_row, row_types, written}
 use Rattle.copy_removal.specs.sil_types.Typing.Shapes.{is_nontrivial, is_object, where_it}
-use Rattle.accepted_values.specs.sil_verifier.Shown.{lives_in, scopes_in}
-use Rattle.accepted_values.specs.sil_verifier.Shown.IsShownIn.{life, scope, undefined}
-use Rattle.accepted_values.specs.sil_verifier.Values.{IsCleanIn}
-use Rattle.accepted_values.specs.sil_verifier.inner.Checked.{IsVerified}
+use Rattle.accepted_values.specs.accepted_modules.Shown.{lives_in, scopes_in}
+use Rattle.accepted_values.specs.accepted_modules.Shown.IsShownIn.{life, scope, undefined}
+use Rattle.accepted_values.specs.accepted_modules.Values.{IsCleanIn}
+use Rattle.accepted_values.specs.accepted_modules.inner.Checked.{IsVerified}
 use Rattle.type_definitions.specs.Declarations.{Declarations, declarations_of}
 use Rattle.type_definitions.specs.Measures.{is_trivial}
 use Rattle.type_definitions.specs.declared.kind.Kind.TheVariants as kind

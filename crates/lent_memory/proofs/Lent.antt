@@ -33,7 +33,7 @@ use Rattle.rule_faults.specs.declared.fault.RuleFault.{RuleFault}
 use Rattle.accepted_memory.specs.memory_rules.Broken.{IsBroken, at_part, crossing, static}
 use Rattle.sil_cfg.specs.Flow.{point_of}
 use Rattle.sil_cfg.specs.Items.{flow_of}
-use Rattle.accepted_memory.specs.sil_verifier.Shown.{memory}
+use Rattle.accepted_memory.specs.accepted_modules.Shown.{memory}
 use Rattle.lent_functions.proofs.run_typing_laws.Rows.Shares.{of_parts}
 use Rattle.accepted_memory.specs.accepted_trails.inner.Accepted.{IsAcceptedIn}
 use Rattle.accepted_memory.proofs.accepted_trails.Unbroken.{are_accepted}

@@ -24,7 +24,7 @@ use Rattle.path_patterns.specs.inner.Runs.{IsHeld, Sort}
 use Rattle.sil_ast.specs.declared.function.Function.{Function}
 use Rattle.sil_ast.specs.declared.place.ValueId.{ValueId}
 use Rattle.sil_cfg.specs.declared.item.Item.{Item}
-use Rattle.accepted_memory.specs.sil_verifier.Shown.{lives_in}
+use Rattle.accepted_memory.specs.accepted_modules.Shown.{lives_in}
 use Rattle.type_definitions.specs.Declarations.{Declarations}
 use Rattle.accepted_memory.specs.holder_model.Frames.{has_any}
 use Rattle.accepted_memory.specs.run_trails.inner.RunTrails.{IsTurnedTrail}

@@ -13,16 +13,16 @@ use Rattle.sil_ast.specs.declared.inst.Inst.{Inst}
 use Rattle.sil_ast.specs.declared.module.Module.{Module}
 use Rattle.sil_rules.specs.declared.rule.Rule.TheVariants as rule
 use Rattle.instruction_table.specs.Forms.{results_of}
-use Rattle.sil_verifier.specs.sil_types.Typing.OperandTypes.{are_as_asked, are_as_written, edge_is_as_written, has_operand_types}
-use Rattle.sil_verifier.specs.sil_types.Typing.ResultCounts.{is_count_by}
-use Rattle.sil_verifier.specs.sil_types.Typing.RowTypes.{keeps_row, row_types}
-use Rattle.sil_verifier.specs.sil_types.Typing.Typed.BreaksAt.{point}
-use Rattle.sil_verifier.specs.sil_types.Typing.Typed.BreaksAtPoint.{operand_type, result_count}
-use Rattle.sil_verifier.specs.sil_types.Typing.Typed.{at_point}
-use Rattle.sil_verifier.specs.sil_types.Typing.Values.{value_types}
+use Rattle.accepted_modules.specs.sil_types.Typing.OperandTypes.{are_as_asked, are_as_written, edge_is_as_written, has_operand_types}
+use Rattle.accepted_modules.specs.sil_types.Typing.ResultCounts.{is_count_by}
+use Rattle.accepted_modules.specs.sil_types.Typing.RowTypes.{keeps_row, row_types}
+use Rattle.accepted_modules.specs.sil_types.Typing.Typed.BreaksAt.{point}
+use Rattle.accepted_modules.specs.sil_types.Typing.Typed.BreaksAtPoint.{operand_type, result_count}
+use Rattle.accepted_modules.specs.sil_types.Typing.Typed.{at_point}
+use Rattle.accepted_modules.specs.sil_types.Typing.Values.{value_types}
 use Rattle.type_definitions.specs.Declarations.{declarations_of}
-use Rattle.sil_verifier.specs.Values.{IsCleanIn}
-use Rattle.sil_verifier.specs.inner.Checked.{IsVerified}
+use Rattle.accepted_modules.specs.Values.{IsCleanIn}
+use Rattle.accepted_modules.specs.inner.Checked.{IsVerified}
 
 each_there : {A : Type 0} (P : A → Type 0) (xs : List A) (k : ℕ) (x : A) → Each P xs → slice_get xs k ≡ Some x → P x
 each_there P [] k x h e = absurd (let no : None ≡ Some x = e in cc)

@@ -36,8 +36,8 @@ use Rattle.copy_removal.specs.ownership_kinds.Statics.{HasKinds, IsBroken, IsDef
 use Rattle.copy_removal.specs.ownership_kinds.Statics.{is_lacking_default, is_mismatch, lacks_argument, lacks_by, mixed_operand, needs_argument, no_arguments}
 use Rattle.copy_removal.specs.ownership_kinds.Statics.IsBroken.{annotated, lacking, mismatch, mixed, on_ring}
 use Rattle.copy_removal.specs.ownership_kinds.Statics.IsDefinedAt.{argument, result}
-use Rattle.sil_verifier.specs.Shown.IsShownIn.{kind as shown_kind}
-use Rattle.sil_verifier.specs.inner.Checked.{IsVerified}
+use Rattle.accepted_modules.specs.Shown.IsShownIn.{kind as shown_kind}
+use Rattle.accepted_modules.specs.inner.Checked.{IsVerified}
 use Rattle.copy_removal.specs.Optimised.{facts_of}
 use Rattle.copy_removal.specs.Removable.{IsMovable}
 use Rattle.moved_functions.specs.inner.Structure.{stood_at}

@@ -34,10 +34,10 @@ use Rattle.ownership_chains.specs.declared.facts.Facts.{Facts}
 use Rattle.ownership_marks.specs.Marks.{begin_of, end_of, marks_of, use_of}
 use Rattle.ownership_marks.specs.declared.mark.Mark.{Mark}
 use Rattle.copy_removal.specs.ownership_kinds.Facts.{facts_in}
-use Rattle.sil_verifier.specs.lifetime_worklist.Lives.{entry_of, lives_by, lives_of, returned}
-use Rattle.sil_verifier.specs.Shown.{lives_in}
-use Rattle.sil_verifier.specs.Shown.IsShownIn.{life}
-use Rattle.sil_verifier.specs.inner.Checked.{IsVerified}
+use Rattle.accepted_modules.specs.lifetime_worklist.Lives.{entry_of, lives_by, lives_of, returned}
+use Rattle.accepted_modules.specs.Shown.{lives_in}
+use Rattle.accepted_modules.specs.Shown.IsShownIn.{life}
+use Rattle.accepted_modules.specs.inner.Checked.{IsVerified}
 use Rattle.copy_removal.specs.Optimised.{facts_of}
 use Rattle.copy_removal.specs.Removable.{IsMovable, concerns}
 use Rattle.moved_functions.specs.inner.Structure.{old_item}

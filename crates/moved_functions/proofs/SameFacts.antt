@@ -15,7 +15,7 @@ use Rattle.sil_rules.specs.declared.rule.Rule.TheVariants as rule
 use Rattle.numbered_form.specs.Numbering.{values_of}
 use Rattle.type_definitions.specs.Declarations.{Declarations, declarations_of}
 use Rattle.type_definitions.specs.declared.kind.Kind.TheVariants as kind
-use Rattle.sil_verifier.specs.sil_types.Typing.RowTypes.{row_types}
+use Rattle.accepted_modules.specs.sil_types.Typing.RowTypes.{row_types}
 use Rattle.value_tables.specs.Borrows.{arg_borrows, borrow_by, borrows_of, result_borrows}
 use Rattle.value_tables.specs.FirstValue.{value_of}
 use Rattle.ownership_chains.specs.Chains.{operands_at}
@@ -32,8 +32,8 @@ use Rattle.copy_removal.specs.ownership_origins.Switched.{switch_to, switches_fr
 use Rattle.copy_removal.specs.ownership_kinds.Facts.{facts_by, facts_in}
 use Rattle.copy_removal.specs.ownership_kinds.Statics.IsBroken.{on_ring}
 use Rattle.copy_removal.specs.ownership_kinds.Statics.IsDefinedAt.{result}
-use Rattle.sil_verifier.specs.Shown.IsShownIn.{kind}
-use Rattle.sil_verifier.specs.inner.Checked.{IsVerified}
+use Rattle.accepted_modules.specs.Shown.IsShownIn.{kind}
+use Rattle.accepted_modules.specs.inner.Checked.{IsVerified}
 use Rattle.copy_removal.specs.Rewritten.{moved_block}
 use Rattle.moved_functions.proofs.InModule.{clean, count_kept, counted, row_kept}
 use Rattle.moved_functions.proofs.Lists.{told_alike}

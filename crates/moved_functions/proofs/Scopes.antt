@@ -48,9 +48,9 @@ use Rattle.copy_removal.specs.borrow_scopes.Scopes.{bases_in, entry_of, is_scope
 use Rattle.copy_removal.specs.borrow_scopes.Scopes.{lost_entries, lost_from, lost_with, mark_entries, returned, scope_entries, scopes_of}
 use Rattle.copy_removal.specs.borrow_scopes.inner.Runs.{scope_along, sort_for, sort_of, sorts_along}
 use Rattle.copy_removal.proofs.borrow_scopes.ScopesAreRuns.{open_while_on}
-use Rattle.sil_verifier.specs.Shown.{scopes_in}
-use Rattle.sil_verifier.specs.Shown.IsShownIn.{scope}
-use Rattle.sil_verifier.specs.inner.Checked.{IsVerified}
+use Rattle.accepted_modules.specs.Shown.{scopes_in}
+use Rattle.accepted_modules.specs.Shown.IsShownIn.{scope}
+use Rattle.accepted_modules.specs.inner.Checked.{IsVerified}
 use Rattle.copy_removal.specs.Optimised.{facts_of}
 use Rattle.copy_removal.specs.Removable.{IsMovable}
 use Rattle.moved_functions.specs.inner.Structure.{old_item}

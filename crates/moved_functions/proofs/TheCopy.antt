@@ -17,9 +17,9 @@ use Rattle.sil_ast.specs.declared.type_name.TypeName.{TypeName}
 use Rattle.point_checks.specs.Points.{IsAt}
 use Rattle.type_definitions.specs.Declarations.{Declarations}
 use Rattle.type_definitions.specs.Measures.{is_trivial}
-use Rattle.sil_verifier.specs.sil_types.Typing.ResultCounts.{is_count_by}
-use Rattle.sil_verifier.specs.sil_types.Typing.RowTypes.{MadeTypes, given_by, gives, made_types, row_types, written}
-use Rattle.sil_verifier.specs.sil_types.Typing.Shapes.{is_nontrivial, is_object, where_it}
+use Rattle.accepted_modules.specs.sil_types.Typing.ResultCounts.{is_count_by}
+use Rattle.accepted_modules.specs.sil_types.Typing.RowTypes.{MadeTypes, given_by, gives, made_types, row_types, written}
+use Rattle.accepted_modules.specs.sil_types.Typing.Shapes.{is_nontrivial, is_object, where_it}
 use Rattle.ownership_chains.specs.declared.definition.Origin.TheVariants as origin
 use Rattle.copy_removal.specs.ownership_origins.Origins.{defined, is_trivial_or_untyped, result_definition, result_definition_by, result_definitions}
 use Rattle.copy_removal.specs.ownership_origins.Renamings.{renamed, renames, result_renamings}

@@ -19,8 +19,8 @@ use Rattle.path_checks.specs.Entries.{marks_for, means}
 use Rattle.path_checks.specs.First.{IsFirst}
 use Rattle.ownership_chains.specs.Facts.{value_of}
 use Rattle.value_availability.specs.Accesses.{accesses_of, begun, defined, used}
-use Rattle.sil_verifier.specs.Shown.IsShownIn.{undefined}
-use Rattle.sil_verifier.specs.inner.Checked.{IsVerified}
+use Rattle.accepted_modules.specs.Shown.IsShownIn.{undefined}
+use Rattle.accepted_modules.specs.inner.Checked.{IsVerified}
 use Rattle.moved_functions.specs.inner.Structure.{old_item}
 use Rattle.moved_functions.proofs.InModule.{clean}
 use Rattle.moved_functions.proofs.Items.{gone}

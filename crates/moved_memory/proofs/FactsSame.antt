@@ -23,16 +23,16 @@ use Rattle.sil_ast.specs.declared.place.ValueId.{ValueId}
 use Rattle.sil_ast.specs.declared.type_name.TypeName.{TypeName}
 use Rattle.sil_cfg.specs.Items.{point_at}
 use Rattle.sil_rules.specs.declared.rule.Rule.TheVariants as rule
-use Rattle.sil_verifier.specs.sil_types.Typing.OperandTypes.{are_as_asked, are_as_written, edge_is_as_written, has_operand_types}
-use Rattle.sil_verifier.specs.sil_types.Typing.ResultCounts.{is_count_by}
-use Rattle.sil_verifier.specs.sil_types.Typing.RowTypes.{MadeTypes, given_by, gives, keeps_row, made_types, row_types, written}
-use Rattle.sil_verifier.specs.sil_types.Typing.Shapes.{is_nontrivial, is_object, where_it}
-use Rattle.sil_verifier.specs.sil_types.Typing.Typed.BreaksAt.{point}
-use Rattle.sil_verifier.specs.sil_types.Typing.Typed.BreaksAtPoint.{operand_type, result_count}
-use Rattle.sil_verifier.specs.sil_types.Typing.Typed.{at_point}
-use Rattle.sil_verifier.specs.sil_types.Typing.Values.{value_types}
-use Rattle.sil_verifier.specs.Values.{IsCleanIn}
-use Rattle.sil_verifier.specs.inner.Checked.{IsVerified}
+use Rattle.accepted_modules.specs.sil_types.Typing.OperandTypes.{are_as_asked, are_as_written, edge_is_as_written, has_operand_types}
+use Rattle.accepted_modules.specs.sil_types.Typing.ResultCounts.{is_count_by}
+use Rattle.accepted_modules.specs.sil_types.Typing.RowTypes.{MadeTypes, given_by, gives, keeps_row, made_types, row_types, written}
+use Rattle.accepted_modules.specs.sil_types.Typing.Shapes.{is_nontrivial, is_object, where_it}
+use Rattle.accepted_modules.specs.sil_types.Typing.Typed.BreaksAt.{point}
+use Rattle.accepted_modules.specs.sil_types.Typing.Typed.BreaksAtPoint.{operand_type, result_count}
+use Rattle.accepted_modules.specs.sil_types.Typing.Typed.{at_point}
+use Rattle.accepted_modules.specs.sil_types.Typing.Values.{value_types}
+use Rattle.accepted_modules.specs.Values.{IsCleanIn}
+use Rattle.accepted_modules.specs.inner.Checked.{IsVerified}
 use Rattle.type_definitions.specs.Declarations.{Declarations, declarations_of}
 use Rattle.type_definitions.specs.Measures.{is_trivial}
 use Rattle.moved_memory.proofs.MovedAccesses.{op_is}

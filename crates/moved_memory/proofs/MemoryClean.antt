@@ -1,8 +1,8 @@
 -- No rule on memory is broken in a function in which a copy became a move, where none is in the function itself.
 use Rattle.std.proofs.Common.{◌≡◌, false, true, Option, List}
-use Rattle.sil_verifier.specs.memory_accesses.declared.source.Source.{Source}
-use Rattle.sil_verifier.specs.memory_parts.Parts.{is_scope}
-use Rattle.sil_verifier.specs.memory_rules.Broken.{IsBroken, at_part, crossing, static}
+use Rattle.accepted_modules.specs.memory_accesses.declared.source.Source.{Source}
+use Rattle.accepted_modules.specs.memory_parts.Parts.{is_scope}
+use Rattle.accepted_modules.specs.memory_rules.Broken.{IsBroken, at_part, crossing, static}
 use Rattle.ownership_chains.specs.Facts.{is_owned, known_or}
 use Rattle.ownership_chains.specs.declared.facts.Facts.{Facts}
 use Rattle.rule_faults.specs.declared.fault.RuleFault.{RuleFault}

@@ -16,13 +16,13 @@ use Rattle.item_operands.specs.Items.{item_defined, item_taken}
 use Rattle.item_operands.specs.Parts.{item_inst}
 use Rattle.item_operands.specs.Roles.{by_row, conventions_in, roles_for, taken_as, taken_by, taken_each}
 use Rattle.item_operands.specs.declared.taken.Taken.{Taken}
-use Rattle.sil_verifier.specs.memory_accesses.Accesses as accesses
-use Rattle.sil_verifier.specs.memory_accesses.Accesses.{accesses_of, allowance_of, deallocations_of, does_of, made, mentioned, mentions_of}
-use Rattle.sil_verifier.specs.memory_accesses.Operations.{access_kind_of, address_of, deallocates_by, operated_at}
-use Rattle.sil_verifier.specs.memory_accesses.declared.access.Access.{Access}
-use Rattle.sil_verifier.specs.memory_accesses.declared.access.Access.TheVariants.{Deallocates, Does, Ends, Mentions}
-use Rattle.sil_verifier.specs.memory_accesses.declared.columns.Allowance.TheVariants.{NeitherOfThem}
-use Rattle.sil_verifier.specs.memory_accesses.declared.source.Source.{Source}
+use Rattle.accepted_modules.specs.memory_accesses.Accesses as accesses
+use Rattle.accepted_modules.specs.memory_accesses.Accesses.{accesses_of, allowance_of, deallocations_of, does_of, made, mentioned, mentions_of}
+use Rattle.accepted_modules.specs.memory_accesses.Operations.{access_kind_of, address_of, deallocates_by, operated_at}
+use Rattle.accepted_modules.specs.memory_accesses.declared.access.Access.{Access}
+use Rattle.accepted_modules.specs.memory_accesses.declared.access.Access.TheVariants.{Deallocates, Does, Ends, Mentions}
+use Rattle.accepted_modules.specs.memory_accesses.declared.columns.Allowance.TheVariants.{NeitherOfThem}
+use Rattle.accepted_modules.specs.memory_accesses.declared.source.Source.{Source}
 use Rattle.ownership_chains.specs.Facts.{facts_with, is_owned, known_or}
 use Rattle.ownership_chains.specs.declared.facts.Facts.{Facts}
 use Rattle.ownership_marks.specs.Marks.{begun, end_of, ended, ended_by, ended_with, marks_with, use_of, used, used_by, used_with}

@@ -2,12 +2,12 @@
 use Rattle.std.proofs.Common.{◌≡◌, [], subst}
 use Rattle.copy_removal.specs.Copies.{IsDestroy}
 use Rattle.copy_removal.specs.Rewritten.{moved}
-use Rattle.sil_verifier.specs.memory_accesses.Sources.{sources_of}
-use Rattle.sil_verifier.specs.memory_rules.Broken.{IsBroken}
+use Rattle.accepted_modules.specs.memory_accesses.Sources.{sources_of}
+use Rattle.accepted_modules.specs.memory_rules.Broken.{IsBroken}
 use Rattle.copy_removal.specs.ownership_kinds.Facts.{facts_in}
 use Rattle.sil_ast.specs.declared.function.Function.{Function}
 use Rattle.sil_cfg.specs.Items.{point_at}
-use Rattle.sil_verifier.specs.Shown.{memory}
+use Rattle.accepted_modules.specs.Shown.{memory}
 use Rattle.type_definitions.specs.Declarations.{Declarations, declarations_of}
 use Rattle.moved_memory.specs.inner.Laws.{MovedMemoryIsClean}
 use Rattle.moved_memory.proofs.FactsSame.{destroy_makes_none, facts_same, nothing_shown}

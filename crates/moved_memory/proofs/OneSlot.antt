@@ -2,14 +2,14 @@
 use Rattle.std.proofs.Common.{◌≡◌, ℕ, List, [], ◌∷◌, Bool, true, false, Some, None, refl}
 use Rattle.std.specs.Prelude.{◌==◌, cond, filter_map, ⊤}
 use Rattle.std.specs.List.{cons_option, flat_map}
-use Rattle.sil_verifier.specs.memory_accesses.declared.access.Access.{Access}
-use Rattle.sil_verifier.specs.memory_accesses.declared.access.Access.TheVariants.{Allocates, Begins, Deallocates, Does, Ends, Given, Mentions}
-use Rattle.sil_verifier.specs.memory_slots.Marks.{pair_mark}
-use Rattle.sil_verifier.specs.memory_slots.Order.{IsOrdered, code_of}
-use Rattle.sil_verifier.specs.memory_slots.declared.mark.SlotMark.{SlotMark}
-use Rattle.sil_verifier.specs.memory_slots.declared.mark.SlotMark.TheVariants.{FirstIn, FirstOut, SecondIn, SecondOut}
-use Rattle.sil_verifier.specs.memory_slots.inner.Automaton.{order_step}
-use Rattle.sil_verifier.proofs.memory_slots.OrderDecided.{order_decides}
+use Rattle.accepted_modules.specs.memory_accesses.declared.access.Access.{Access}
+use Rattle.accepted_modules.specs.memory_accesses.declared.access.Access.TheVariants.{Allocates, Begins, Deallocates, Does, Ends, Given, Mentions}
+use Rattle.accepted_modules.specs.memory_slots.Marks.{pair_mark}
+use Rattle.accepted_modules.specs.memory_slots.Order.{IsOrdered, code_of}
+use Rattle.accepted_modules.specs.memory_slots.declared.mark.SlotMark.{SlotMark}
+use Rattle.accepted_modules.specs.memory_slots.declared.mark.SlotMark.TheVariants.{FirstIn, FirstOut, SecondIn, SecondOut}
+use Rattle.accepted_modules.specs.memory_slots.inner.Automaton.{order_step}
+use Rattle.accepted_modules.proofs.memory_slots.OrderDecided.{order_decides}
 use Rattle.numbered_form.specs.Lists.{Each}
 use Rattle.path_patterns.specs.Lawful.{AreLawful}
 use Rattle.path_patterns.proofs.PatternsDecided.{read_lawful}

@@ -13,14 +13,14 @@ use Rattle.instruction_table.specs.declared.entries.ResultKind.{ResultKind}
 use Rattle.instruction_table.specs.declared.entries.ResultKind.TheVariants.{AddressResult, ForwardedResult, NoneResult, OperandResult, OwnedResult, ScopeResult}
 use Rattle.instruction_table.specs.declared.op.Op.{Op}
 use Rattle.instruction_table.specs.declared.op.Op.TheVariants as op
-use Rattle.sil_verifier.specs.memory_accesses.Operations.{access_kind_of}
-use Rattle.sil_verifier.specs.memory_accesses.Sources.{arg_sources, argument_source_or, element_place, field_source, handed_source, is_trivial_member, member_place}
-use Rattle.sil_verifier.specs.memory_accesses.Sources.{object_source, part_source, result_source, result_sources, slot_source, source_by, sources_of, upcast_source}
-use Rattle.sil_verifier.specs.memory_accesses.declared.columns.AccessKind.{AccessKind}
-use Rattle.sil_verifier.specs.memory_accesses.declared.columns.AccessKind.TheVariants as access
-use Rattle.sil_verifier.specs.memory_accesses.declared.source.Source.{Source}
-use Rattle.sil_verifier.specs.memory_accesses.declared.source.Source.TheVariants as source
-use Rattle.sil_verifier.specs.memory_parts.Parts.{is_scope, is_scope_source}
+use Rattle.accepted_modules.specs.memory_accesses.Operations.{access_kind_of}
+use Rattle.accepted_modules.specs.memory_accesses.Sources.{arg_sources, argument_source_or, element_place, field_source, handed_source, is_trivial_member, member_place}
+use Rattle.accepted_modules.specs.memory_accesses.Sources.{object_source, part_source, result_source, result_sources, slot_source, source_by, sources_of, upcast_source}
+use Rattle.accepted_modules.specs.memory_accesses.declared.columns.AccessKind.{AccessKind}
+use Rattle.accepted_modules.specs.memory_accesses.declared.columns.AccessKind.TheVariants as access
+use Rattle.accepted_modules.specs.memory_accesses.declared.source.Source.{Source}
+use Rattle.accepted_modules.specs.memory_accesses.declared.source.Source.TheVariants as source
+use Rattle.accepted_modules.specs.memory_parts.Parts.{is_scope, is_scope_source}
 use Rattle.ownership_chains.specs.Chains.{operands_at}
 use Rattle.ownership_chains.specs.Facts.{facts_with, is_known, is_owned, known_or, origin_at, told_by}
 use Rattle.ownership_chains.specs.Steps.{told_in}
@@ -36,8 +36,8 @@ use Rattle.sil_ast.specs.declared.function.Function.{Function}
 use Rattle.sil_ast.specs.declared.inst.Inst.{Inst}
 use Rattle.sil_ast.specs.declared.place.ValueId.{ValueId}
 use Rattle.sil_ast.specs.declared.type_name.TypeName.{TypeName}
-use Rattle.sil_verifier.specs.sil_types.Typing.RowTypes.{made_types}
-use Rattle.sil_verifier.specs.sil_types.Typing.Shapes.{is_trivial_object}
+use Rattle.accepted_modules.specs.sil_types.Typing.RowTypes.{made_types}
+use Rattle.accepted_modules.specs.sil_types.Typing.Shapes.{is_trivial_object}
 use Rattle.type_definitions.specs.Declarations.{Declarations}
 use Rattle.type_definitions.specs.declared.kind.Kind.TheVariants as kind
 use Rattle.value_tables.specs.FirstValue.{first_value}

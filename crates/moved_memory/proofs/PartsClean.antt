@@ -2,12 +2,12 @@
 use Rattle.std.proofs.Common.{◌≡◌, ℕ, List, [], ◌∷◌, ◌++◌, refl, subst, true, false, Option}
 use Rattle.std.specs.Prelude.{Contains}
 use Rattle.std.specs.List.{flat_map}
-use Rattle.sil_verifier.specs.memory_accesses.declared.source.Source.{Source}
-use Rattle.sil_verifier.specs.memory_parts.Parts.{is_scope, parts_of, subject_of}
-use Rattle.sil_verifier.specs.memory_parts.Shown as parts
-use Rattle.sil_verifier.specs.memory_parts.Shown.{other_of, part_marks}
-use Rattle.sil_verifier.specs.memory_parts.declared.part.Part.{Part}
-use Rattle.sil_verifier.specs.memory_rules.Broken.{IsBroken, at_part}
+use Rattle.accepted_modules.specs.memory_accesses.declared.source.Source.{Source}
+use Rattle.accepted_modules.specs.memory_parts.Parts.{is_scope, parts_of, subject_of}
+use Rattle.accepted_modules.specs.memory_parts.Shown as parts
+use Rattle.accepted_modules.specs.memory_parts.Shown.{other_of, part_marks}
+use Rattle.accepted_modules.specs.memory_parts.declared.part.Part.{Part}
+use Rattle.accepted_modules.specs.memory_rules.Broken.{IsBroken, at_part}
 use Rattle.ownership_chains.specs.Facts.{is_owned, known_or}
 use Rattle.ownership_chains.specs.declared.facts.Facts.{Facts}
 use Rattle.path_patterns.specs.Along.{IsKept, Shows}

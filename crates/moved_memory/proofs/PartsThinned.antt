@@ -3,22 +3,22 @@ use Rattle.std.proofs.Common.{◌≡◌, List, [], ◌∷◌, ◌++◌, length, 
 use Rattle.std.specs.Prelude.{Contains, cond, option_to_list, ⊤}
 use Rattle.std.specs.List.{flat_map, range_with_len}
 use Rattle.argument_conventions.specs.declared.row.AddressRow.{AddressRow}
-use Rattle.sil_verifier.specs.memory_accesses.Accesses.{accesses_of}
-use Rattle.sil_verifier.specs.memory_accesses.Locations.{location_of}
-use Rattle.sil_verifier.specs.memory_accesses.Sources.{source_at}
-use Rattle.sil_verifier.specs.memory_accesses.declared.access.Access.{Access}
-use Rattle.sil_verifier.specs.memory_accesses.declared.access.Access.TheVariants.{Ends, Mentions}
-use Rattle.sil_verifier.specs.memory_accesses.declared.columns.Allowance.{Allowance}
-use Rattle.sil_verifier.specs.memory_accesses.declared.columns.Allowance.TheVariants.{NeitherOfThem}
-use Rattle.sil_verifier.specs.memory_accesses.declared.location.Location.{Location}
-use Rattle.sil_verifier.specs.memory_accesses.declared.source.Source.{Source}
-use Rattle.sil_verifier.specs.memory_accesses.declared.source.Source.TheVariants as source
-use Rattle.sil_verifier.specs.memory_parts.Building.{is_forbidden}
-use Rattle.sil_verifier.specs.memory_parts.Parts.{address_parts, at_return, field_parts, is_scope, is_scope_source, means, parts_by, parts_of, scope_part, scope_parts, slot_part, slot_part_at}
-use Rattle.sil_verifier.specs.memory_parts.Shown.{marks_of_access, part_marks}
-use Rattle.sil_verifier.specs.memory_parts.Switches.{is_same, when}
-use Rattle.sil_verifier.specs.memory_parts.declared.part.Part.{Part}
-use Rattle.sil_verifier.specs.memory_parts.declared.part.Part.TheVariants.{Allocation, Building, Contents, InScope, InSlot, Lent}
+use Rattle.accepted_modules.specs.memory_accesses.Accesses.{accesses_of}
+use Rattle.accepted_modules.specs.memory_accesses.Locations.{location_of}
+use Rattle.accepted_modules.specs.memory_accesses.Sources.{source_at}
+use Rattle.accepted_modules.specs.memory_accesses.declared.access.Access.{Access}
+use Rattle.accepted_modules.specs.memory_accesses.declared.access.Access.TheVariants.{Ends, Mentions}
+use Rattle.accepted_modules.specs.memory_accesses.declared.columns.Allowance.{Allowance}
+use Rattle.accepted_modules.specs.memory_accesses.declared.columns.Allowance.TheVariants.{NeitherOfThem}
+use Rattle.accepted_modules.specs.memory_accesses.declared.location.Location.{Location}
+use Rattle.accepted_modules.specs.memory_accesses.declared.source.Source.{Source}
+use Rattle.accepted_modules.specs.memory_accesses.declared.source.Source.TheVariants as source
+use Rattle.accepted_modules.specs.memory_parts.Building.{is_forbidden}
+use Rattle.accepted_modules.specs.memory_parts.Parts.{address_parts, at_return, field_parts, is_scope, is_scope_source, means, parts_by, parts_of, scope_part, scope_parts, slot_part, slot_part_at}
+use Rattle.accepted_modules.specs.memory_parts.Shown.{marks_of_access, part_marks}
+use Rattle.accepted_modules.specs.memory_parts.Switches.{is_same, when}
+use Rattle.accepted_modules.specs.memory_parts.declared.part.Part.{Part}
+use Rattle.accepted_modules.specs.memory_parts.declared.part.Part.TheVariants.{Allocation, Building, Contents, InScope, InSlot, Lent}
 use Rattle.numbered_form.specs.Lists.{Each}
 use Rattle.ownership_chains.specs.Facts.{is_owned, known_or, value_of}
 use Rattle.ownership_chains.specs.declared.facts.Facts.{Facts}

@@ -3,16 +3,16 @@ use Rattle.std.proofs.Common.{◌≡◌, ◌≢◌, ◌⊎◌, inl, inr, ℕ, ze
 use Rattle.std.specs.Prelude.{filter_map}
 use Rattle.std.specs.List.{flat_map}
 use Rattle.std.proofs.lemmas.Bool.{cases_eq}
-use Rattle.sil_verifier.specs.memory_accesses.Accesses.{accesses_of}
-use Rattle.sil_verifier.specs.memory_accesses.declared.source.Source.{Source}
-use Rattle.sil_verifier.specs.memory_rules.Broken.{IsBroken, crossing}
-use Rattle.sil_verifier.specs.memory_slots.Marks.{pair_mark}
-use Rattle.sil_verifier.specs.memory_slots.Order.{IsOrdered, code_of}
-use Rattle.sil_verifier.specs.memory_slots.Pairs.{IsCrossing, IsSlot, ShowsPair, pair_marks}
-use Rattle.sil_verifier.specs.memory_slots.declared.crossing.Crossing.{Crossing}
-use Rattle.sil_verifier.specs.memory_slots.declared.mark.SlotMark.{SlotMark}
-use Rattle.sil_verifier.specs.memory_slots.inner.Automaton.{order_step}
-use Rattle.sil_verifier.proofs.memory_slots.OrderDecided.{order_decides}
+use Rattle.accepted_modules.specs.memory_accesses.Accesses.{accesses_of}
+use Rattle.accepted_modules.specs.memory_accesses.declared.source.Source.{Source}
+use Rattle.accepted_modules.specs.memory_rules.Broken.{IsBroken, crossing}
+use Rattle.accepted_modules.specs.memory_slots.Marks.{pair_mark}
+use Rattle.accepted_modules.specs.memory_slots.Order.{IsOrdered, code_of}
+use Rattle.accepted_modules.specs.memory_slots.Pairs.{IsCrossing, IsSlot, ShowsPair, pair_marks}
+use Rattle.accepted_modules.specs.memory_slots.declared.crossing.Crossing.{Crossing}
+use Rattle.accepted_modules.specs.memory_slots.declared.mark.SlotMark.{SlotMark}
+use Rattle.accepted_modules.specs.memory_slots.inner.Automaton.{order_step}
+use Rattle.accepted_modules.proofs.memory_slots.OrderDecided.{order_decides}
 use Rattle.ownership_chains.specs.Facts.{is_owned, known_or, value_of}
 use Rattle.ownership_chains.specs.declared.facts.Facts.{Facts}
 use Rattle.path_patterns.specs.Along.{IsKept, Shows}

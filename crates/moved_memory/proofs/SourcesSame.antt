@@ -3,8 +3,8 @@ use Rattle.std.proofs.Common.{◌≡◌, ℕ, ◌<◌, List, [], length, replica
 use Rattle.copy_removal.specs.Copies.{IsCopy, IsDestroy}
 use Rattle.copy_removal.specs.Rewritten.{moved, with_op}
 use Rattle.instruction_table.specs.declared.op.Op.TheVariants as op
-use Rattle.sil_verifier.specs.memory_accesses.Operations.{access_kind_of}
-use Rattle.sil_verifier.specs.memory_accesses.Sources.{arg_sources, result_source, result_sources, source_by, sources_of}
+use Rattle.accepted_modules.specs.memory_accesses.Operations.{access_kind_of}
+use Rattle.accepted_modules.specs.memory_accesses.Sources.{arg_sources, result_source, result_sources, source_by, sources_of}
 use Rattle.sil_ast.specs.declared.function.Function.{Function}
 use Rattle.sil_ast.specs.declared.inst.Inst.{Inst}
 use Rattle.sil_ast.specs.declared.place.PointId.{PointId}

@@ -5,11 +5,11 @@ use Rattle.std.specs.List.{flat_map}
 use Rattle.instruction_table.specs.declared.op.Op.TheVariants as op
 use Rattle.copy_removal.specs.Copies.{Copies}
 use Rattle.copy_removal.specs.Rewritten.{with_op}
-use Rattle.sil_verifier.specs.memory_accesses.Operations.{access_kind_of, operated_at, operations_of}
-use Rattle.sil_verifier.specs.memory_accesses.declared.access.Operated.{Operated}
-use Rattle.sil_verifier.specs.memory_accesses.declared.source.Source.{Source}
-use Rattle.sil_verifier.specs.memory_rules.Broken.{IsBroken, static}
-use Rattle.sil_verifier.specs.memory_rules.Statics.{IsBrokenAt, address_in, crossed_with, crosses, handed, lacking, lacking_at, lacks, overlapping, pairs_of, second_of}
+use Rattle.accepted_modules.specs.memory_accesses.Operations.{access_kind_of, operated_at, operations_of}
+use Rattle.accepted_modules.specs.memory_accesses.declared.access.Operated.{Operated}
+use Rattle.accepted_modules.specs.memory_accesses.declared.source.Source.{Source}
+use Rattle.accepted_modules.specs.memory_rules.Broken.{IsBroken, static}
+use Rattle.accepted_modules.specs.memory_rules.Statics.{IsBrokenAt, address_in, crossed_with, crosses, handed, lacking, lacking_at, lacks, overlapping, pairs_of, second_of}
 use Rattle.ownership_chains.specs.declared.facts.Facts.{Facts}
 use Rattle.rule_faults.specs.declared.fault.RuleFault.{RuleFault}
 use Rattle.sil_ast.specs.declared.function.Function.{Function}

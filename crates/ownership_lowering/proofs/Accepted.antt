@@ -9,7 +9,7 @@ use Rattle.sil_ast.specs.declared.module.Module.{Module}
 use Rattle.numbered_form.specs.Lists.{Each}
 use Rattle.numbered_form.specs.inner.Limits.{IsFunctionInLimits}
 use Rattle.lowering_laws.specs.inner.Laws as laws
-use Rattle.sil_verifier.specs.inner.Checked.{IsVerified}
+use Rattle.sil_verifier.specs.accepted_modules.inner.Checked.{IsVerified}
 use Rattle.function_lowering.specs.inner.Lowerable.{AreLowerable, IsLowerable, IsLowerableByForm, IsLowerableFunction}
 use Rattle.ownership_lowering.proofs.Runnable.{have_kinds}
 

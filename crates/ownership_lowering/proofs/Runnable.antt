@@ -8,11 +8,11 @@ use Rattle.lowered_numbering_laws.specs.inner.Laws.{AreTypesKept, DeclaresTheSam
 use Rattle.lowered_typing_laws.specs.inner.LoweredTyped.{LoweredIsTyped}
 use Rattle.lowering_laws.specs.inner.Laws.{HaveNoRings}
 use Rattle.lowering_laws.specs.lowering_model.LoweredModules.{lowered}
-use Rattle.sil_verifier.specs.ownership_kinds.Statics.{HasKinds}
+use Rattle.sil_verifier.specs.accepted_modules.ownership_kinds.Statics.{HasKinds}
 use Rattle.lowering_laws.specs.run_typing.Runnable.{IsRunnable}
 use Rattle.sil_cfg.specs.Items.{HasBlocks}
-use Rattle.sil_verifier.specs.Shown.IsShownIn.{kind}
-use Rattle.sil_verifier.specs.inner.Checked.{IsVerified}
+use Rattle.sil_verifier.specs.accepted_modules.Shown.IsShownIn.{kind}
+use Rattle.sil_verifier.specs.accepted_modules.inner.Checked.{IsVerified}
 use Rattle.type_definitions.specs.Declarations.{declarations_of}
 use Rattle.ownership_lowering.specs.inner.Laws.{AcceptedLowersRunnable}
 

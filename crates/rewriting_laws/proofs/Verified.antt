@@ -18,9 +18,9 @@ use Rattle.rewritten_typing_laws.specs.ownership_kinds.Facts.{facts_in}
 use Rattle.rewritten_typing_laws.specs.ownership_kinds.Statics.{HasKinds}
 use Rattle.path_checks.specs.First.{IsFirst}
 use Rattle.rule_faults.specs.declared.fault.RuleFault.{RuleFault}
-use Rattle.rewritten_typing_laws.specs.sil_verifier.Shown.{kind, life, lives_in, memory as in_memory, scope, scopes_in, undefined}
-use Rattle.rewritten_typing_laws.specs.sil_verifier.Values.{AcceptedValues, IsCleanIn}
-use Rattle.rewritten_typing_laws.specs.sil_verifier.inner.Checked.{IsVerified}
+use Rattle.rewritten_typing_laws.specs.accepted_modules.Shown.{kind, life, lives_in, memory as in_memory, scope, scopes_in, undefined}
+use Rattle.rewritten_typing_laws.specs.accepted_modules.Values.{AcceptedValues, IsCleanIn}
+use Rattle.rewritten_typing_laws.specs.accepted_modules.inner.Checked.{IsVerified}
 use Rattle.type_definitions.specs.Declarations.{Declarations, declarations_of}
 use Rattle.value_availability.specs.Accesses.{accesses_of}
 use Rattle.rewritten_typing_laws.specs.inner.KeptTypes.{RewritingKeepsTypes}

@@ -10,7 +10,7 @@ use Rattle.sil_ast.specs.declared.module.Module.{Module}
 use Rattle.sil_ast.specs.declared.place.PointId.{PointId}
 use Rattle.sil_ast.specs.declared.place.ValueId.{ValueId}
 use Rattle.sil_rules.specs.Order.{NotAfter}
-use Rattle.moved_functions.specs.sil_verifier.inner.Checked.{IsVerified}
+use Rattle.moved_functions.specs.accepted_modules.inner.Checked.{IsVerified}
 use Rattle.type_definitions.specs.Declarations.{declarations_of}
 use Rattle.lent_functions.proofs.Clean.{lent_ready}
 use Rattle.lent_functions.proofs.Ready.{Ready}

@@ -17,7 +17,7 @@ use Rattle.sil_ast.specs.declared.place.PointId.{PointId}
 use Rattle.sil_ast.specs.declared.place.ValueId.{ValueId}
 use Rattle.sil_cfg.specs.Items.{IsItem, point_at}
 use Rattle.sil_cfg.specs.declared.item.Item.TheVariants as item
-use Rattle.moved_functions.specs.sil_verifier.inner.Checked.{IsVerified}
+use Rattle.moved_functions.specs.accepted_modules.inner.Checked.{IsVerified}
 use Rattle.type_definitions.specs.declared.kind.Kind.TheVariants as kind
 use Rattle.value_tables.specs.Borrows.{lent_in}
 use Rattle.moved_functions.specs.copy_removal.Copies.{IsCopy, IsDestroy, is_op}

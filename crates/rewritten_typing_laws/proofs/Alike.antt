@@ -12,7 +12,7 @@ use Rattle.sil_ast.specs.declared.function.Block.{Block}
 use Rattle.sil_ast.specs.declared.function.BlockArg.{BlockArg}
 use Rattle.sil_ast.specs.declared.function.Function.{Function}
 use Rattle.sil_ast.specs.declared.inst.Inst.{Inst}
-use Rattle.sil_verifier.specs.sil_types.Typing.RowTypes.{row_types}
+use Rattle.accepted_modules.specs.sil_types.Typing.RowTypes.{row_types}
 use Rattle.type_definitions.specs.Declarations.{Declarations}
 use Rattle.value_tables.specs.ValueRows.{rows_from}
 

@@ -23,12 +23,12 @@ use Rattle.sil_ast.specs.declared.place.PointId.{PointId}
 use Rattle.sil_ast.specs.declared.place.ValueId.{ValueId}
 use Rattle.sil_ast.specs.declared.type_name.TypeName.{TypeName}
 use Rattle.sil_rules.specs.declared.rule.Rule.TheVariants as rule
-use Rattle.sil_verifier.specs.sil_types.Typing.OperandTypes.{are_as_asked, are_as_written, edge_is_as_written, has_operand_types}
-use Rattle.sil_verifier.specs.sil_types.Typing.ResultCounts.{is_count_by}
-use Rattle.sil_verifier.specs.sil_types.Typing.RowTypes.{given_by, gives, keeps_row, row_types, written}
-use Rattle.sil_verifier.specs.sil_types.Typing.Shapes.{is_nontrivial, is_object, where_it}
-use Rattle.sil_verifier.specs.sil_types.Typing.Typed.{Typed, at_point, operand_type, point, result_count}
-use Rattle.sil_verifier.specs.sil_types.Typing.Values.{value_types}
+use Rattle.accepted_modules.specs.sil_types.Typing.OperandTypes.{are_as_asked, are_as_written, edge_is_as_written, has_operand_types}
+use Rattle.accepted_modules.specs.sil_types.Typing.ResultCounts.{is_count_by}
+use Rattle.accepted_modules.specs.sil_types.Typing.RowTypes.{given_by, gives, keeps_row, row_types, written}
+use Rattle.accepted_modules.specs.sil_types.Typing.Shapes.{is_nontrivial, is_object, where_it}
+use Rattle.accepted_modules.specs.sil_types.Typing.Typed.{Typed, at_point, operand_type, point, result_count}
+use Rattle.accepted_modules.specs.sil_types.Typing.Values.{value_types}
 use Rattle.type_definitions.specs.Declarations.{Declarations, declarations_of}
 use Rattle.type_definitions.specs.Measures.{is_trivial}
 use Rattle.rewritten_typing_laws.proofs.Alike.{Alike, Blocks, Functions, Rest, block, borrows, changed, ends, function, goes, keeps, moves as moves_op, no_block}

@@ -20,19 +20,19 @@ use Rattle.sil_ast.specs.declared.module.Module.{Module}
 use Rattle.sil_ast.specs.declared.place.FuncId.{FuncId}
 use Rattle.sil_ast.specs.declared.type_name.TypeName.{TypeName}
 use Rattle.sil_rules.specs.declared.rule.Rule.{Rule}
-use Rattle.sil_verifier.specs.sil_types.Typing.EdgeRules.{goes_to_entry, has_wrong_edge_arguments, have_wrong_arguments_by, is_to_entry}
-use Rattle.sil_verifier.specs.sil_types.Typing.FormRules.{first_form, form_of, has_body, has_wrong_qualifier, is_annotated, is_annotated_at, is_lowered, is_of_form}
-use Rattle.sil_verifier.specs.sil_types.Typing.FormRules.{is_of_other_form}
-use Rattle.sil_verifier.specs.sil_types.Typing.OperandTypes.{are_as_asked, are_as_written, edge_is_as_written, has_operand_types}
-use Rattle.sil_verifier.specs.sil_types.Typing.ResultCounts.{is_count_by}
-use Rattle.sil_verifier.specs.sil_types.Typing.RowTypes.{all_written, row_types, written}
-use Rattle.sil_verifier.specs.sil_types.Typing.Same.{are_same_types}
-use Rattle.sil_verifier.specs.sil_types.Typing.SignatureRules.{callee, calls_no_function, calls_none_by, differs_by, differs_from_signature, is_signature_of, signature_of}
-use Rattle.sil_verifier.specs.sil_types.Typing.SwitchRules.{case_of_edge, edges_of, edges_of_block, has_case, has_wrong_cases, has_wrong_cases_by, is_default_argument, is_to}
-use Rattle.sil_verifier.specs.sil_types.Typing.SwitchRules.{leaves_out_case, names_other_case, repeats_case, switches_wrongly}
-use Rattle.sil_verifier.specs.sil_types.Typing.Typed.{BreaksAtPoint, callee as no_callee, edge_arguments, entry_has_predecessor, mixed_forms, operand_type, qualifier, result_count}
-use Rattle.sil_verifier.specs.sil_types.Typing.Typed.{signature, switch_cases}
-use Rattle.sil_verifier.specs.sil_types.Typing.Values.{arg_functions, arg_type, arg_types, functions_by, result_functions, result_types, value_functions, value_types}
+use Rattle.accepted_modules.specs.sil_types.Typing.EdgeRules.{goes_to_entry, has_wrong_edge_arguments, have_wrong_arguments_by, is_to_entry}
+use Rattle.accepted_modules.specs.sil_types.Typing.FormRules.{first_form, form_of, has_body, has_wrong_qualifier, is_annotated, is_annotated_at, is_lowered, is_of_form}
+use Rattle.accepted_modules.specs.sil_types.Typing.FormRules.{is_of_other_form}
+use Rattle.accepted_modules.specs.sil_types.Typing.OperandTypes.{are_as_asked, are_as_written, edge_is_as_written, has_operand_types}
+use Rattle.accepted_modules.specs.sil_types.Typing.ResultCounts.{is_count_by}
+use Rattle.accepted_modules.specs.sil_types.Typing.RowTypes.{all_written, row_types, written}
+use Rattle.accepted_modules.specs.sil_types.Typing.Same.{are_same_types}
+use Rattle.accepted_modules.specs.sil_types.Typing.SignatureRules.{callee, calls_no_function, calls_none_by, differs_by, differs_from_signature, is_signature_of, signature_of}
+use Rattle.accepted_modules.specs.sil_types.Typing.SwitchRules.{case_of_edge, edges_of, edges_of_block, has_case, has_wrong_cases, has_wrong_cases_by, is_default_argument, is_to}
+use Rattle.accepted_modules.specs.sil_types.Typing.SwitchRules.{leaves_out_case, names_other_case, repeats_case, switches_wrongly}
+use Rattle.accepted_modules.specs.sil_types.Typing.Typed.{BreaksAtPoint, callee as no_callee, edge_arguments, entry_has_predecessor, mixed_forms, operand_type, qualifier, result_count}
+use Rattle.accepted_modules.specs.sil_types.Typing.Typed.{signature, switch_cases}
+use Rattle.accepted_modules.specs.sil_types.Typing.Values.{arg_functions, arg_type, arg_types, functions_by, result_functions, result_types, value_functions, value_types}
 use Rattle.type_definitions.specs.Declarations.{Declarations, declarations_of}
 use Rattle.rewritten_typing_laws.proofs.Alike.{Alike, Blocks, Functions, block, changed, function, kept, no_block, no_function, same, same_of_both, told_of_blocks}
 

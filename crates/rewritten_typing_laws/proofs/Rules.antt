@@ -17,16 +17,16 @@ use Rattle.sil_ast.specs.declared.vtable.DeinitEntry.{DeinitEntry}
 use Rattle.sil_ast.specs.declared.vtable.Vtable.{Vtable}
 use Rattle.sil_rules.specs.declared.rule.Rule.{Rule}
 use Rattle.sil_rules.specs.declared.rule.Rule.TheVariants as rule
-use Rattle.sil_verifier.specs.sil_types.Typing.EdgeRules.{lets_address_escape, takes_address}
-use Rattle.sil_verifier.specs.sil_types.Typing.FormRules.{has_other_form, is_lowered}
-use Rattle.sil_verifier.specs.sil_types.Typing.RowTypes.{passes}
-use Rattle.sil_verifier.specs.sil_types.Typing.Same.{all_pairs}
-use Rattle.sil_verifier.specs.sil_types.Typing.SignatureRules.{has_fitting_conventions, has_wrong_deinitialiser, has_wrong_signature, is_argument_for, is_deinitialiser, is_external}
-use Rattle.sil_verifier.specs.sil_types.Typing.SignatureRules.{is_no_output_call, names_deinitialiser}
-use Rattle.sil_verifier.specs.sil_types.Typing.Typed.{BreaksAtFunction, BreaksAtPoint, BreaksAtVtable, Typed, address_escapes, at_function, at_point, at_vtable}
-use Rattle.sil_verifier.specs.sil_types.Typing.Typed.{deinit_signature, external, function, mixed_forms, point, signature, vtable}
-use Rattle.sil_verifier.specs.Refusals.{IsOwned, lowered}
-use Rattle.sil_verifier.specs.type_check.Refusals.{fault_at}
+use Rattle.accepted_modules.specs.sil_types.Typing.EdgeRules.{lets_address_escape, takes_address}
+use Rattle.accepted_modules.specs.sil_types.Typing.FormRules.{has_other_form, is_lowered}
+use Rattle.accepted_modules.specs.sil_types.Typing.RowTypes.{passes}
+use Rattle.accepted_modules.specs.sil_types.Typing.Same.{all_pairs}
+use Rattle.accepted_modules.specs.sil_types.Typing.SignatureRules.{has_fitting_conventions, has_wrong_deinitialiser, has_wrong_signature, is_argument_for, is_deinitialiser, is_external}
+use Rattle.accepted_modules.specs.sil_types.Typing.SignatureRules.{is_no_output_call, names_deinitialiser}
+use Rattle.accepted_modules.specs.sil_types.Typing.Typed.{BreaksAtFunction, BreaksAtPoint, BreaksAtVtable, Typed, address_escapes, at_function, at_point, at_vtable}
+use Rattle.accepted_modules.specs.sil_types.Typing.Typed.{deinit_signature, external, function, mixed_forms, point, signature, vtable}
+use Rattle.accepted_modules.specs.Refusals.{IsOwned, lowered}
+use Rattle.accepted_modules.specs.type_check.Refusals.{fault_at}
 use Rattle.type_definitions.specs.Declarations.{Declarations, declarations_of}
 use Rattle.rewritten_typing_laws.proofs.Alike.{Blocks, Functions, block, block_from, function_from, inst_from, no_block}
 use Rattle.rewritten_typing_laws.proofs.Points.{breaks_before, same_args, same_first, same_found}

@@ -15,7 +15,7 @@ use Rattle.sil_rules.specs.declared.limits.TheConstants.{TEXT_BYTES}
 use Rattle.sil_command.specs.declared.status.Status.{Status}
 use Rattle.sil_command.specs.declared.status.Status.TheVariants.{Usage, Limit}
 use Rattle.sil_command.specs.Statuses.{code_of}
-use Rattle.sil_verifier.specs.Findings.{Accepted}
+use Rattle.accepted_modules.specs.Findings.{Accepted}
 use Rattle.sil_command.specs.Texts.{limit_text, usage_text}
 use Rattle.sil_command.specs.declared.answer.Answer.{Answer}
 use Rattle.sil_command.specs.declared.words.Mode.{Mode}

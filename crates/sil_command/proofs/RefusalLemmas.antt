@@ -3,7 +3,7 @@ use Rattle.std.proofs.Common.{◌≡◌, refl, subst}
 use Rattle.std.proofs.lemmas.List.{append-nil}
 use Rattle.std.proofs.lemmas.Option.{same_Some}
 use Rattle.sil_ast.specs.declared.module.Module.{Module}
-use Rattle.sil_verifier.specs.Findings.{Finding, item, limit, typing, value, IsLimit}
+use Rattle.accepted_modules.specs.Findings.{Finding, item, limit, typing, value, IsLimit}
 use Rattle.sil_verifier.specs.inner.Reports.{Reported}
 use Rattle.sil_verifier.specs.declared.refusal.Refusal.{Refusal}
 use Rattle.sil_command.specs.RefusalTexts.{refusal_text}

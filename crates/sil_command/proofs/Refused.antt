@@ -19,7 +19,7 @@ use Rattle.sil_command.specs.Answers.{AnswersChecked, AnswersModule, AnswersRun,
 use Rattle.sil_command.specs.Answers.{limit_passed, refused, wrong, accepted, written, no_entry, ran, too_long, unread, spelled}
 use Rattle.sil_command.specs.Laws.{AreRefusedForTheFirst, AreReportedRightly, ChecksRules}
 use Rattle.sil_command.specs.RefusalTexts.{refusal_text}
-use Rattle.sil_verifier.specs.Findings.{Accepted, Finding, Refusal, limit as found_limit}
+use Rattle.accepted_modules.specs.Findings.{Accepted, Finding, Refusal, limit as found_limit}
 use Rattle.sil_command.proofs.StatusLemmas.{mode_answers}
 use Rattle.sil_command.proofs.Unread.{unread_none}
 

@@ -18,8 +18,8 @@ use Rattle.sil_ast.specs.declared.place.FuncId.{FuncId}
 use Rattle.sil_grammar.specs.inner.Laws.{AreSpelledNumbered, AreSpelledOnce}
 use Rattle.sil_command.specs.declared.status.Status.TheVariants.{Refused, Limit, NoEntry}
 use Rattle.sil_command.specs.Statuses.{code_of}
-use Rattle.sil_verifier.specs.Findings.{Accepted, limit as found_limit}
-use Rattle.sil_verifier.specs.inner.Laws.{AreAcceptedWhereNothingIsFound}
+use Rattle.accepted_modules.specs.Findings.{Accepted, limit as found_limit}
+use Rattle.accepted_modules.specs.inner.Laws.{AreAcceptedWhereNothingIsFound}
 use Rattle.sil_command.specs.declared.words.Mode.TheVariants.{Run}
 use Rattle.sil_command.specs.Answers.{AnswersModule, AnswersRun, AnswersWrong, limit_passed, refused, wrong, accepted, no_entry, ran, status_of}
 use Rattle.sil_command.specs.Laws.{AreRunExactly, HaveNoEntryExactly, RunsTo}

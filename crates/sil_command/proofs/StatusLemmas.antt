@@ -17,8 +17,8 @@ use Rattle.sil_command.specs.Words.{AsksFor}
 use Rattle.sil_command.specs.Answers.{Answers, usage, in_mode, AnswersText, too_long, unread, spelled, AnswersModule, AnswersChecked, AnswersWrong}
 use Rattle.sil_command.specs.Answers.{limit_passed, refused, wrong, accepted, Writes, WritesOf, written}
 use Rattle.sil_command.specs.Laws.{AnswersExactly, AreAcceptedExactly, AreLoweredExactly, AreOptimisedExactly, ArePrintedExactly}
-use Rattle.sil_verifier.specs.Findings.{Accepted, limit as found_limit}
-use Rattle.sil_verifier.specs.inner.Laws.{AreAcceptedWhereNothingIsFound}
+use Rattle.accepted_modules.specs.Findings.{Accepted, limit as found_limit}
+use Rattle.accepted_modules.specs.inner.Laws.{AreAcceptedWhereNothingIsFound}
 use Rattle.sil_command.proofs.Asked.{asks_for_one}
 use Rattle.sil_command.proofs.Unread.{unread_none, unread_status}
 

@@ -16,7 +16,7 @@ use Rattle.sil_rules.specs.declared.limits.TheConstants.{TEXT_BYTES}
 use Rattle.sil_command.specs.declared.status.Status.{Status}
 use Rattle.sil_command.specs.declared.status.Status.TheVariants.{Done, NotAModule, NoEntry}
 use Rattle.sil_command.specs.Statuses.{code_of}
-use Rattle.sil_verifier.specs.Findings.{Accepted, Finding, Refusal}
+use Rattle.accepted_modules.specs.Findings.{Accepted, Finding, Refusal}
 use Rattle.sil_command.specs.declared.words.Mode.{Mode}
 use Rattle.sil_command.specs.declared.words.Mode.TheVariants.{Check, Lower, Optimize, Print, Run}
 use Rattle.sil_command.specs.Words.{AsksFor}

@@ -1,7 +1,7 @@
 -- The lines of a refusal, by what is found first.
 use Rattle.std.specs.Prelude.{List, ℕ}
 use Rattle.sil_ast.specs.declared.module.Module.{Module}
-use Rattle.sil_verifier.specs.Findings.{Finding, item, limit, typing, value}
+use Rattle.accepted_modules.specs.Findings.{Finding, item, limit, typing, value}
 use Rattle.sil_command.specs.Texts.{refused_item_text, type_limit_text, typing_text}
 use Rattle.sil_command.specs.ValueTexts.{value_text}
 

@@ -10,8 +10,8 @@ use Rattle.sil_rules.specs.declared.limit_word.LimitWord.{LimitWord}
 use Rattle.sil_rules.specs.declared.rule.Rule.{Rule}
 use Rattle.sil_rules.specs.LimitWords.{word_of}
 use Rattle.sil_rules.specs.Rules.{number_of, name_of}
-use Rattle.sil_verifier.specs.type_check.declared.fault.TypingFault.{TypingFault}
-use Rattle.sil_verifier.specs.Findings.{vtable_item}
+use Rattle.accepted_modules.specs.type_check.declared.fault.TypingFault.{TypingFault}
+use Rattle.accepted_modules.specs.Findings.{vtable_item}
 
 -- the bytes, and a line feed
 abbrev pub line : List ℕ → List ℕ

@@ -8,8 +8,8 @@ use Rattle.sil_cfg.specs.Flow.{edge_to}
 use Rattle.sil_cfg.specs.Items.{flow_of}
 use Rattle.sil_rules.specs.declared.rule.Rule.{Rule}
 use Rattle.rule_faults.specs.declared.fault.RuleFault.{RuleFault}
-use Rattle.sil_verifier.specs.type_check.Refusals.{function_id}
-use Rattle.sil_verifier.specs.Shown.{has_walk}
+use Rattle.accepted_modules.specs.type_check.Refusals.{function_id}
+use Rattle.accepted_modules.specs.Shown.{has_walk}
 use Rattle.sil_command.specs.Texts.{line, rule_words, site_words}
 
 -- the rule, the function and the point

@@ -4,8 +4,8 @@ ghost use Rattle.std.specs.Prelude.{◌≡◌, ◌++◌, OnOk};
 ghost use Rattle.std.specs.Option.{option_copied};
 ghost use Rattle.sil_cfg.specs.Flow.{edge_to};
 ghost use Rattle.sil_cfg.specs.Items.{flow_of};
-ghost use Rattle.sil_verifier.specs.memory_rules.Statics as statics;
-ghost use Rattle.sil_verifier.specs.Shown as shown;
+ghost use Rattle.accepted_modules.specs.memory_rules.Statics as statics;
+ghost use Rattle.accepted_modules.specs.Shown as shown;
 ghost use Rattle.sil_command.specs.ValueTexts.{other_lines, shown_lines, subject_line, walk_line, walk_lines, walk_words};
 
 use crate::texts::push_number;

@@ -23,10 +23,10 @@ use Rattle.borrow_scopes.specs.inner.Borrows.{AreScopesKept, IsFirstBrokenScope,
 use Rattle.memory_rules.specs.memory_accesses.Sources.{sources_of}
 use Rattle.memory_rules.specs.Broken as breaks
 use Rattle.memory_rules.specs.inner.Ends.{IsFirstFault, IsMemoryEnd, IsMemoryKept}
-use Rattle.sil_verifier.proofs.Groups.{by_group, of_definitions, of_kinds, of_lifetimes, of_memory, of_scopes, within_group}
-use Rattle.sil_verifier.specs.Shown.{IsShownIn, inner_key, lives_in, scopes_in}
-use Rattle.sil_verifier.specs.Shown.IsShownIn.{undefined, kind, life, scope, memory}
-use Rattle.sil_verifier.specs.Values.{IsCleanIn, IsEndIn, IsFirstIn}
+use Rattle.accepted_modules.proofs.Groups.{by_group, of_definitions, of_kinds, of_lifetimes, of_memory, of_scopes, within_group}
+use Rattle.accepted_modules.specs.Shown.{IsShownIn, inner_key, lives_in, scopes_in}
+use Rattle.accepted_modules.specs.Shown.IsShownIn.{undefined, kind, life, scope, memory}
+use Rattle.accepted_modules.specs.Values.{IsCleanIn, IsEndIn, IsFirstIn}
 
 module _ (d : Declarations) (f : Function) where
   -- 301

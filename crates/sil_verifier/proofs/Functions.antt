@@ -10,11 +10,11 @@ use Rattle.sil_rules.specs.Order.{NotAfter}
 use Rattle.sil_rules.proofs.Keys.{compared}
 use Rattle.type_definitions.specs.Declarations.{declarations_of}
 use Rattle.sil_cfg.specs.Items.{HasBlocks}
-use Rattle.sil_verifier.proofs.Groups.{stage_told}
-use Rattle.sil_verifier.specs.Shown.{IsShownIn, inner_key}
-use Rattle.sil_verifier.specs.Values.{IsCleanIn, IsFirstIn, IsFirstOf, IsRefusalIn, IsShown, IsValueRefusal, ModuleShowing, showing_key}
-use Rattle.sil_verifier.specs.declared.values.ValueRefusal.{ValueRefusal}
-use Rattle.sil_verifier.specs.declared.values.ValueRefusal.TheVariants as refusal
+use Rattle.accepted_modules.proofs.Groups.{stage_told}
+use Rattle.accepted_modules.specs.Shown.{IsShownIn, inner_key}
+use Rattle.accepted_modules.specs.Values.{IsCleanIn, IsFirstIn, IsFirstOf, IsRefusalIn, IsShown, IsValueRefusal, ModuleShowing, showing_key}
+use Rattle.accepted_modules.specs.declared.refusals.ValueRefusal.{ValueRefusal}
+use Rattle.accepted_modules.specs.declared.refusals.ValueRefusal.TheVariants as refusal
 
 -- nothing is shown in the functions before this one
 abbrev pub IsCleanBefore : Module → ℕ → Type 0

@@ -1,11 +1,5 @@
 pub mod FirstFaults
-pub mod DeclaredTypes
-mod Groups
 mod FirstShown
 mod Functions
 mod Stages
-mod NothingFound
-mod ShortestWalks
-pub use Rattle.lifetime_worklist.proofs as lifetime_worklist
-pub use Rattle.memory_rules.proofs.memory_slots as memory_slots
-pub use Rattle.typed_graph_laws.proofs as typed_graph_laws
+pub use Rattle.accepted_modules.proofs as accepted_modules

@@ -19,12 +19,12 @@ use Rattle.type_check.specs.declared.fault.TypingFault.{TypingFault}
 use Rattle.type_definitions.specs.Declarations.{declarations_of}
 use Rattle.type_definitions.specs.Mentions.{items_of}
 use Rattle.sil_types.proofs.type_item_rules.FirstFaults.{stage_at}
-use Rattle.sil_verifier.proofs.DeclaredTypes.{declared_not_refused, typed_not_wrong}
-use Rattle.sil_verifier.proofs.Groups.{stage_told}
-use Rattle.sil_verifier.specs.Findings.{Finding, item, limit, typing, value, IsFound, Refusal, finding_key}
-use Rattle.sil_verifier.specs.Refusals.{HasDeclaredTypes, HasTypes, IsWrong}
-use Rattle.sil_verifier.specs.Refusals.IsLowered.{lowered}
-use Rattle.sil_verifier.specs.Values.{IsShown, ModuleShowing, showing_key}
+use Rattle.accepted_modules.proofs.DeclaredTypes.{declared_not_refused, typed_not_wrong}
+use Rattle.accepted_modules.proofs.Groups.{stage_told}
+use Rattle.accepted_modules.specs.Findings.{Finding, item, limit, typing, value, IsFound, Refusal, finding_key}
+use Rattle.accepted_modules.specs.Refusals.{HasDeclaredTypes, HasTypes, IsWrong}
+use Rattle.accepted_modules.specs.Refusals.IsLowered.{lowered}
+use Rattle.accepted_modules.specs.Values.{IsShown, ModuleShowing, showing_key}
 
 -- the first number of a key is at most this, or at least
 abbrev IsAtMost : ℕ → List ℕ → Type 0

@@ -3,7 +3,7 @@
 ghost use Rattle.std.specs.Prelude.{◌≡◌, IfOk};
 ghost use Rattle.numbered_form.specs.inner.NumberedForm.{IsNumbered};
 ghost use Rattle.type_definitions.specs.Rules.{AreDeclarationsOf};
-ghost use Rattle.sil_verifier.specs.inner.Checked.{IsVerified, IsVerifiedWith};
+ghost use Rattle.accepted_modules.specs.inner.Checked.{IsVerified, IsVerifiedWith};
 
 use sil_ast::{Exhausted, Module};
 use sil_types::TypeTable;
@@ -21,7 +21,7 @@ impl Model for Checked {
     ghost use Rattle.std.specs.Coded.{codes};
     ghost use Rattle.sil_ast.specs.contracts.type_name.TypeName as type_name;
     ghost use Rattle.sil_ast.specs.declared.module.Module.{Module};
-    ghost use Rattle.sil_verifier.specs.inner.Checked.{IsVerifiedWith};
+    ghost use Rattle.accepted_modules.specs.inner.Checked.{IsVerifiedWith};
 
     ghost Value = { Module };
 

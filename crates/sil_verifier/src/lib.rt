@@ -3,7 +3,6 @@
 #![tactic(auto)]
 
 mod checked;
-mod laws;
 mod lowered;
 mod refusal;
 mod reports;
@@ -13,6 +12,5 @@ mod values;
 mod verifier;
 
 pub use checked::Checked;
-pub use laws::{accepted_where_nothing_is_found, walks_are_shortest};
 pub use refusal::Refusal;
 pub use verifier::{VerifyEnd, verify};

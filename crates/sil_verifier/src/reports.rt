@@ -2,8 +2,8 @@
 
 ghost use Rattle.std.specs.Prelude.{◌≡◌, ◌+◌, ◌<◌, ◌^◌, length, IfSome};
 ghost use Rattle.sil_ast.specs.declared.module.Module as any;
-ghost use Rattle.sil_verifier.specs.Findings as finding;
-ghost use Rattle.sil_verifier.specs.Findings.{vtable_item};
+ghost use Rattle.accepted_modules.specs.Findings as finding;
+ghost use Rattle.accepted_modules.specs.Findings.{vtable_item};
 ghost use Rattle.sil_verifier.specs.inner.Reports.{Reported};
 
 use crate::refusal::Refusal;

@@ -7,7 +7,7 @@ ghost use Rattle.sil_rules.specs.Order.{IsEarlier, IsFirst};
 ghost use Rattle.type_check.specs.Refusals.{IsBroken, fault_key};
 ghost use Rattle.type_definitions.specs.Rules.{AreDeclarationsOf};
 ghost use Rattle.sil_verifier.specs.inner.Lowered as lowering;
-ghost use Rattle.sil_verifier.specs.Refusals.{IsLowered, IsWrong};
+ghost use Rattle.accepted_modules.specs.Refusals.{IsLowered, IsWrong};
 
 use crate::lowered::first_lowered;
 use sil_ast::{Exhausted, Module};

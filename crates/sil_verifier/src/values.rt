@@ -6,24 +6,16 @@ ghost use Rattle.type_definitions.specs.Rules.{AreDeclarationsOf};
 ghost use Rattle.sil_cfg.specs.inner.Build.{HasGraph};
 ghost use Rattle.point_checks.specs.inner.Numbered.{IsOfNumberedModule};
 ghost use Rattle.sil_cfg.specs.Items.{HasBlocks};
-ghost use Rattle.sil_verifier.specs.Refusals.{HasTypes};
-ghost use Rattle.sil_verifier.specs.Values.{AcceptedValues, IsCleanIn, IsEndIn, IsRefusalIn, IsValueRefusal};
+ghost use Rattle.accepted_modules.specs.Refusals.{HasTypes};
+ghost use Rattle.accepted_modules.specs.Values.{AcceptedValues, IsCleanIn, IsEndIn, IsRefusalIn, IsValueRefusal};
 
+use accepted_modules::ValueRefusal;
 use ownership_kinds::kinds_in;
 use rule_faults::{RuleEnd, RuleFault};
 use sil_ast::{FuncId, Function, Module};
 use sil_cfg::Graph;
 use sil_types::TypeTable;
 use std::alloc::Global;
-
-/// Why a module is refused whose items, types and typing are right.
-#[derive(Drop)]
-pub(crate) enum ValueRefusal {
-    /// One of 301 to 305, 401 to 404, 501 to 505 and 601 to 611 is broken in the function.
-    Rule { function: FuncId, fault: RuleFault },
-    /// There is no memory left.
-    Memory,
-}
 
 /// The checks of one function, in order.
 fn check_function(alloc: Global, f: &Function, table: &TypeTable) -> Result<(), RuleEnd>

@@ -3,17 +3,18 @@
 ghost use Rattle.std.specs.Prelude.{◌≡◌, IfErr, IfOk, OnOk};
 ghost use Rattle.numbered_form.specs.inner.NumberedForm.{IsNumbered};
 ghost use Rattle.sil_verifier.specs.inner.Ends.{IsVerifyEnd};
-ghost use Rattle.sil_verifier.specs.Findings.{Accepted};
-ghost use Rattle.sil_verifier.specs.Refusals as types;
-ghost use Rattle.sil_verifier.specs.Refusals.{HasTypes};
-ghost use Rattle.sil_verifier.specs.Values.{IsValueRefusal};
-ghost use Rattle.sil_verifier.specs.declared.types.StaticRefusal.TheVariants as static;
+ghost use Rattle.accepted_modules.specs.Findings.{Accepted};
+ghost use Rattle.accepted_modules.specs.Refusals as types;
+ghost use Rattle.accepted_modules.specs.Refusals.{HasTypes};
+ghost use Rattle.accepted_modules.specs.Values.{IsValueRefusal};
+ghost use Rattle.accepted_modules.specs.declared.refusals.StaticRefusal.TheVariants as static;
 
 use crate::checked::Checked;
 use crate::refusal::Refusal;
 use crate::reports::{item_refusal, typing_refusal, value_refusal};
-use crate::types::{StaticRefusal, check_types};
-use crate::values::{ValueRefusal, check_values};
+use crate::types::check_types;
+use crate::values::check_values;
+use accepted_modules::{StaticRefusal, ValueRefusal};
 use sil_ast::Module;
 use sil_rules::LimitWord;
 use std::alloc::Global;

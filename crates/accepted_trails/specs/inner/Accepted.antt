@@ -4,8 +4,8 @@ use Rattle.sil_ast.specs.declared.function.Function.{Function}
 use Rattle.sil_ast.specs.declared.module.Module.{Module}
 use Rattle.type_definitions.specs.Declarations.{Declarations, declarations_of}
 use Rattle.run_trails.specs.inner.RunTrails.{IsEnteredOnce}
-use Rattle.sil_verifier.specs.Values.{IsBody, IsCleanIn}
-use Rattle.sil_verifier.specs.inner.Checked.{IsVerified}
+use Rattle.accepted_modules.specs.Values.{IsBody, IsCleanIn}
+use Rattle.accepted_modules.specs.inner.Checked.{IsVerified}
 
 -- no rule on its values is broken, and no edge goes back to its entry block
 pub record IsAcceptedIn (d : Declarations) (f : Function) : Type 0 where

@@ -1,12 +1,12 @@
 -- Owned values and scopes, on the trails of an accepted function.
 use Rattle.std.specs.Prelude.{◌≡◌, ◌<◌, List, ◌∷◌, Bool, true, false, Option, Some, length}
 use Rattle.std.specs.List.{list_any}
-use Rattle.sil_verifier.specs.borrow_scopes.Scopes.{is_scope, lent_bases}
+use Rattle.accepted_modules.specs.borrow_scopes.Scopes.{is_scope, lent_bases}
 use Rattle.item_operands.specs.Items.{item_taken}
-use Rattle.sil_verifier.specs.lifetime_worklist.inner.Runs.{IsOwned}
+use Rattle.accepted_modules.specs.lifetime_worklist.inner.Runs.{IsOwned}
 use Rattle.numbered_form.specs.Numbering.{values_of}
 use Rattle.ownership_chains.specs.Facts.{has, known_or}
-use Rattle.sil_verifier.specs.ownership_kinds.Facts.{facts_in}
+use Rattle.accepted_modules.specs.ownership_kinds.Facts.{facts_in}
 use Rattle.path_checks.specs.Entries.{marks_for}
 use Rattle.sil_ast.specs.declared.function.Function.{Function}
 use Rattle.sil_ast.specs.declared.place.ValueId.{ValueId}
@@ -14,7 +14,7 @@ use Rattle.sil_cfg.specs.declared.item.Item.{Item}
 use Rattle.type_definitions.specs.Declarations.{Declarations}
 use Rattle.run_trails.specs.inner.RunTrails.{IsTurnedTrail}
 use Rattle.run_trails.specs.inner.Switched.{switched}
-use Rattle.sil_verifier.specs.Shown.{lives_in, scopes_in}
+use Rattle.accepted_modules.specs.Shown.{lives_in, scopes_in}
 use Rattle.accepted_trails.specs.inner.Accepted.{IsAcceptedIn}
 use Rattle.accepted_trails.specs.inner.Passing.{IsPassed, is_end}
 

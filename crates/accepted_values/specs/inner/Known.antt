@@ -10,12 +10,12 @@ use Rattle.numbered_form.specs.Numbering.{values_of}
 use Rattle.ownership_chains.specs.Chains.{operands_at}
 use Rattle.ownership_chains.specs.Facts.{known_or, origin_at, told_by}
 use Rattle.ownership_chains.specs.declared.facts.Facts.{Facts}
-use Rattle.sil_verifier.specs.ownership_kinds.Facts.{facts_in}
+use Rattle.accepted_modules.specs.ownership_kinds.Facts.{facts_in}
 use Rattle.owned_run_typing.specs.ownership_origins.Origins.{definitions_of}
 use Rattle.owned_run_typing.specs.run_typing_laws.inner.WellTyped.{IsWellTyped}
-use Rattle.sil_verifier.specs.sil_types.Typing.Values.{type_at, value_types}
-use Rattle.sil_verifier.specs.Values.{IsBody}
-use Rattle.sil_verifier.specs.inner.Checked.{IsVerified}
+use Rattle.accepted_modules.specs.sil_types.Typing.Values.{type_at, value_types}
+use Rattle.accepted_modules.specs.Values.{IsBody}
+use Rattle.accepted_modules.specs.inner.Checked.{IsVerified}
 use Rattle.type_definitions.specs.Declarations.{Declarations, declarations_of}
 use Rattle.type_definitions.specs.declared.kind.Kind.{Kind}
 

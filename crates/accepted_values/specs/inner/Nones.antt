@@ -6,7 +6,7 @@ use Rattle.sil_ast.specs.declared.function.Function.{Function}
 use Rattle.sil_ast.specs.declared.inst.Inst.{Inst}
 use Rattle.sil_ast.specs.declared.place.ValueId.{ValueId}
 use Rattle.sil_ast.specs.declared.type_name.TypeName.{TypeName}
-use Rattle.sil_verifier.specs.sil_types.Typing.Shapes.{target}
+use Rattle.accepted_modules.specs.sil_types.Typing.Shapes.{target}
 use Rattle.type_definitions.specs.Declarations.{Declarations}
 use Rattle.type_definitions.specs.Measures.{is_trivial}
 use Rattle.value_tables.specs.FirstValue.{value_of}

@@ -9,7 +9,7 @@ use Rattle.item_operands.specs.Items.{item_taken}
 use Rattle.item_operands.specs.declared.taken.Taken.{Taken}
 use Rattle.numbered_form.specs.Lists.{Each}
 use Rattle.ownership_chains.specs.Facts.{forwarded}
-use Rattle.sil_verifier.specs.ownership_kinds.Statics.{forwards}
+use Rattle.accepted_modules.specs.ownership_kinds.Statics.{forwards}
 use Rattle.owned_run_typing.specs.ownership_origins.Origins.{is_trivial_or_untyped}
 use Rattle.point_checks.specs.Points.{IsAt}
 use Rattle.sil_ast.specs.declared.function.Function.{Function}

@@ -16,8 +16,8 @@ use Rattle.sil_ast.specs.declared.function.BlockArg.{BlockArg}
 use Rattle.sil_ast.specs.declared.function.Function.{Function}
 use Rattle.sil_ast.specs.declared.inst.Inst.{Inst}
 use Rattle.sil_ast.specs.declared.place.ValueId.{ValueId}
-use Rattle.sil_verifier.specs.sil_types.Typing.RowTypes.{made_types}
-use Rattle.sil_verifier.specs.sil_types.Typing.Values.{function_at, result_functions, value_functions}
+use Rattle.accepted_modules.specs.sil_types.Typing.RowTypes.{made_types}
+use Rattle.accepted_modules.specs.sil_types.Typing.Values.{function_at, result_functions, value_functions}
 use Rattle.type_definitions.specs.Declarations.{Declarations}
 use Rattle.value_tables.specs.Borrows.{borrow_by, borrow_in, borrows_of}
 use Rattle.value_tables.specs.declared.borrows.Borrow.TheVariants.{NoBorrow}

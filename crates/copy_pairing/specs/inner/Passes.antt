@@ -8,7 +8,7 @@ use Rattle.sil_ast.specs.declared.place.PointId.{PointId}
 use Rattle.sil_rules.specs.Order.{NotAfter}
 use Rattle.type_definitions.specs.Declarations.{declarations_of}
 use Rattle.copy_removal.specs.Optimised.{IsOptimised, Rewrites, text_key}
-use Rattle.sil_verifier.specs.inner.Checked.{IsVerified}
+use Rattle.sil_verifier.specs.accepted_modules.inner.Checked.{IsVerified}
 
 abbrev pub blocks_in : Option Function → List Block
 blocks_in None = []

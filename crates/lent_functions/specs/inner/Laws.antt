@@ -10,8 +10,8 @@ use Rattle.sil_ast.specs.declared.function.Function.{Function}
 use Rattle.sil_ast.specs.declared.module.Module.{Module}
 use Rattle.sil_ast.specs.declared.place.PointId.{PointId}
 use Rattle.sil_ast.specs.declared.place.ValueId.{ValueId}
-use Rattle.accepted_values.specs.sil_verifier.Shown.{lives_in, scopes_in}
-use Rattle.accepted_values.specs.sil_verifier.inner.Checked.{IsVerified}
+use Rattle.accepted_values.specs.accepted_modules.Shown.{lives_in, scopes_in}
+use Rattle.accepted_values.specs.accepted_modules.inner.Checked.{IsVerified}
 use Rattle.type_definitions.specs.Declarations.{Declarations, declarations_of}
 use Rattle.value_availability.specs.Accesses.{accesses_of}
 

@@ -9,7 +9,7 @@ use Rattle.type_definitions.specs.Declarations.{declarations_of}
 use Rattle.accepted_memory.specs.ownership_kinds.Facts.{facts_in}
 use Rattle.accepted_memory.specs.memory_accesses.Sources.{sources_of}
 use Rattle.accepted_memory.specs.memory_rules.Broken.{IsBroken}
-use Rattle.accepted_memory.specs.sil_verifier.inner.Checked.{IsVerified}
+use Rattle.accepted_memory.specs.accepted_modules.inner.Checked.{IsVerified}
 use Rattle.lent_functions.specs.copy_removal.Copies.{IsCopy}
 use Rattle.lent_functions.specs.copy_removal.Optimised.{facts_of}
 use Rattle.lent_functions.specs.copy_removal.Removable.{IsBorrowable}

@@ -8,8 +8,8 @@ use Rattle.type_definitions.specs.Declarations.{Declarations, declarations_of}
 use Rattle.path_checks.specs.First.{IsFirst}
 use Rattle.value_availability.specs.Accesses.{accesses_of}
 use Rattle.copy_removal.specs.ownership_kinds.Statics.{HasKinds}
-use Rattle.sil_verifier.specs.Shown.{lives_in, scopes_in}
-use Rattle.sil_verifier.specs.inner.Checked.{IsVerified}
+use Rattle.accepted_modules.specs.Shown.{lives_in, scopes_in}
+use Rattle.accepted_modules.specs.inner.Checked.{IsVerified}
 use Rattle.copy_removal.specs.Copies.{IsCopy}
 use Rattle.copy_removal.specs.Optimised.{facts_of}
 use Rattle.copy_removal.specs.Removable.{IsMovable}

@@ -4,8 +4,8 @@ use Rattle.copy_removal.specs.Copies.{IsCopy}
 use Rattle.copy_removal.specs.Optimised.{facts_of}
 use Rattle.copy_removal.specs.Removable.{IsMovable}
 use Rattle.copy_removal.specs.Rewritten.{moved}
-use Rattle.sil_verifier.specs.memory_accesses.Sources.{sources_of}
-use Rattle.sil_verifier.specs.memory_rules.Broken.{IsBroken}
+use Rattle.accepted_modules.specs.memory_accesses.Sources.{sources_of}
+use Rattle.accepted_modules.specs.memory_rules.Broken.{IsBroken}
 use Rattle.copy_removal.specs.ownership_kinds.Facts.{facts_in}
 use Rattle.rule_faults.specs.declared.fault.RuleFault.{RuleFault}
 use Rattle.sil_ast.specs.declared.function.Function.{Function}
@@ -13,7 +13,7 @@ use Rattle.sil_ast.specs.declared.module.Module.{Module}
 use Rattle.sil_ast.specs.declared.place.PointId.{PointId}
 use Rattle.sil_ast.specs.declared.place.ValueId.{ValueId}
 use Rattle.type_definitions.specs.Declarations.{Declarations, declarations_of}
-use Rattle.sil_verifier.specs.inner.Checked.{IsVerified}
+use Rattle.accepted_modules.specs.inner.Checked.{IsVerified}
 
 -- no rule on memory is broken in the function
 abbrev pub IsMemoryClean : Declarations → Function → Type 0

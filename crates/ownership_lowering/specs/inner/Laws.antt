@@ -3,7 +3,7 @@ use Rattle.std.specs.Prelude.{◌≡◌}
 use Rattle.sil_ast.specs.declared.module.Module.{Module}
 use Rattle.lowering_laws.specs.lowering_model.LoweredModules.{lowered}
 use Rattle.lowering_laws.specs.run_typing.Runnable.{IsRunnable}
-use Rattle.sil_verifier.specs.inner.Checked.{IsVerified}
+use Rattle.sil_verifier.specs.accepted_modules.inner.Checked.{IsVerified}
 use Rattle.type_definitions.specs.Declarations.{declarations_of}
 
 -- it can be run, and declares what the module does

@@ -3,7 +3,7 @@ use Rattle.std.specs.Prelude.{◌≡◌, ℕ}
 use Rattle.rewritten_typing_laws.specs.copy_removal.Optimised.{IsOptimised, Rewrites}
 use Rattle.sil_ast.specs.declared.module.Module.{Module}
 use Rattle.sil_ast.specs.declared.place.PointId.{PointId}
-use Rattle.rewritten_typing_laws.specs.sil_verifier.inner.Checked.{IsVerified, IsVerifiedWith}
+use Rattle.rewritten_typing_laws.specs.accepted_modules.inner.Checked.{IsVerified, IsVerifiedWith}
 use Rattle.type_definitions.specs.Declarations.{Declarations, declarations_of}
 
 -- the other module is verified too, and declares the same

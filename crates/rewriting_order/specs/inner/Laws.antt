@@ -12,7 +12,7 @@ use Rattle.moved_functions.specs.copy_removal.Copies.{IsCopy}
 use Rattle.moved_functions.specs.copy_removal.Removable.{IsBorrowable, IsMovable}
 use Rattle.moved_functions.specs.copy_removal.Rewritten.{lent, moved}
 use Rattle.moved_functions.specs.copy_removal.Optimised.{Rewrites, RewritesFirst, facts_of, text_key}
-use Rattle.moved_functions.specs.sil_verifier.inner.Checked.{IsVerified}
+use Rattle.moved_functions.specs.accepted_modules.inner.Checked.{IsVerified}
 
 -- behind the rewriting of the first copy that can go, each copy that can go comes later in the text
 abbrev pub LaterOnesAreLeft : Type 0

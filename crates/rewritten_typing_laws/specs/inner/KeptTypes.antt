@@ -4,7 +4,7 @@ use Rattle.copy_removal.specs.Optimised.{Rewrites}
 use Rattle.numbered_form.specs.inner.NumberedForm.{IsNumbered}
 use Rattle.sil_ast.specs.declared.module.Module.{Module}
 use Rattle.sil_ast.specs.declared.place.PointId.{PointId}
-use Rattle.sil_verifier.specs.Refusals.{HasTypes}
+use Rattle.accepted_modules.specs.Refusals.{HasTypes}
 use Rattle.type_definitions.specs.Declarations.{declarations_of}
 
 -- the other module is typed and in numbered form too, and declares the same

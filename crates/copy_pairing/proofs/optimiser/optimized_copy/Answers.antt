@@ -2,7 +2,7 @@ use Rattle.std.proofs.Common.{sym, ap, ◌∙◌, subst}
 use Rattle.sil_ast.specs.declared.module.Module.{Module}
 use Rattle.type_definitions.specs.Declarations.{declarations_of}
 use Rattle.copy_removal.specs.Optimised.{IsOptimised}
-use Rattle.sil_verifier.specs.inner.Checked.{IsVerified}
+use Rattle.sil_verifier.specs.accepted_modules.inner.Checked.{IsVerified}
 use Rattle.copy_pairing.proofs.Passed.{optimised_by}
 use Rattle.copy_pairing.proofs.optimiser.optimized_copy.Goals as goal
 

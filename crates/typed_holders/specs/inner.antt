@@ -1,0 +1,2 @@
+pub mod TypedStates
+pub mod Laws

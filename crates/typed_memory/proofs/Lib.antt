@@ -1,0 +1,14 @@
+pub mod Zips
+pub mod CellShapes
+pub mod CellsTyped
+pub mod Trivials
+pub mod Naming
+pub mod Growth
+pub mod Homes
+pub mod Parts
+pub mod Makes
+pub mod Grouped
+pub mod Computed
+pub mod StoredValues
+pub mod Upcasts
+pub mod Referring
