@@ -82,7 +82,8 @@ module _ (m : Module) (told : ModuleFacts) (bound : ℕ) where
   abbrev pub lent_at : Function → Item → List Datum → List LentPlace
   lent_at f i args = lent_places (drop 1 (item_taken f i)) args
 
-  pub data Performs (s : HolderState) (rest : List (Task Frame)) (frame : Frame) (f : Function) (i : Item) : effects.Effect HolderFault → HolderNext → Type 0 where
+  pub data Performs (s : HolderState) (rest : List (Task Frame)) (frame : Frame) (f : Function)
+      (i : Item) : effects.Effect HolderFault → HolderNext → Type 0 where
     makes : (c : Change) (next : HolderNext) → GoesBehind s rest frame f i c next → Performs s rest frame f i (effects.Makes c) next
     calls : (g : FuncId) (args : List Datum) (callee : Function) (next : HolderNext) → slice_get m.functions g.0 ≡ Some callee → has_any callee.blocks ≡ true
         → are_as_before s.memory (lent_at f i args) ≡ true
@@ -118,7 +119,8 @@ module _ (m : Module) (told : ModuleFacts) (bound : ℕ) where
         → Reaches s x (Finishes deinits o ∷ rest) (Goes (record s { tasks = Finishes deinits o ∷ rest }))
     -- and these are faults
     no_value : as_value x ≡ None → Reaches s x [] (fault s WrongShape)
-    no_function : (frame : Frame) (rest : List (Task Frame)) → slice_get m.functions frame.function.0 ≡ None → Reaches s x (Runs frame ∷ rest) (fault s WrongShape)
+    no_function : (frame : Frame) (rest : List (Task Frame)) → slice_get m.functions frame.function.0 ≡ None
+        → Reaches s x (Runs frame ∷ rest) (fault s WrongShape)
     on_drops : (os : List ObjectId) (rest : List (Task Frame)) → Reaches s x (Drops os ∷ rest) (fault s WrongShape)
 
   -- the frame has lost the operands that ended

@@ -1,5 +1,5 @@
 -- States of a run by holders that are typed: entries, memory and tasks have the shapes that the types of the module say.
-use Rattle.std.specs.Prelude.{◌≡◌, ◌×◌, ◌⊎◌, ℕ, List, [], ◌∷◌, true, length, Some, Ok, slice_get}
+use Rattle.std.specs.Prelude.{◌≡◌, ◌⊎◌, List, [], ◌∷◌, true, length, Some, Ok, slice_get}
 use Rattle.sil_ast.specs.declared.function.Function.{Function}
 use Rattle.sil_ast.specs.declared.inst.Inst.{Inst}
 use Rattle.sil_ast.specs.declared.module.Module.{Module}
@@ -14,15 +14,15 @@ use Rattle.type_definitions.specs.Lookups.{deinit_of}
 use Rattle.type_definitions.specs.declared.kind.Kind.{Kind}
 use Rattle.type_definitions.specs.declared.kind.Kind.TheVariants as kind
 use Rattle.run_values.specs.Trivial.{is_trivial}
-use Rattle.holder_model.specs.Calling.{value_count}
-use Rattle.holder_model.specs.Data.{Datum}
-use Rattle.holder_model.specs.Frames.{Entry, Frame, Gone, entry_at, has_any, made_entry}
-use Rattle.holder_model.specs.HolderStates.{HolderState}
-use Rattle.holder_model.specs.Standing.{stands_at}
-use Rattle.holder_model.specs.States.{Task}
-use Rattle.run_typing.specs.CallForms.{IsOf}
-use Rattle.run_typing.specs.Forms.{Form, OfValue, form_of, given_shape}
-use Rattle.run_trails.specs.inner.RunTrails.{GoesOn, IsRunTrail}
+use Rattle.held_entries.specs.holder_model.Calling.{value_count}
+use Rattle.held_entries.specs.holder_model.Data.{Datum}
+use Rattle.held_entries.specs.holder_model.Frames.{Entry, Frame, Gone, entry_at, has_any, made_entry}
+use Rattle.held_entries.specs.holder_model.HolderStates.{HolderState}
+use Rattle.held_entries.specs.holder_model.Standing.{stands_at}
+use Rattle.held_entries.specs.holder_model.States.{Task}
+use Rattle.accepted_values.specs.run_typing.CallForms.{IsOf}
+use Rattle.accepted_values.specs.run_typing.Forms.{Form, OfValue, form_of, given_shape}
+use Rattle.held_entries.specs.accepted_trails.run_trails.inner.RunTrails.{GoesOn, IsRunTrail}
 use Rattle.accepted_values.specs.inner.Known.{kind_at}
 use Rattle.holder_steps.specs.inner.Stacks.{Going}
 use Rattle.typed_memory.specs.inner.Worlds.{DatumIs, IsWorldOf, MemoryIs, World, names}

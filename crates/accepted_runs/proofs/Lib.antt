@@ -1,0 +1,3 @@
+pub mod KeptOnRuns
+pub mod RightRuns
+pub mod Faultless

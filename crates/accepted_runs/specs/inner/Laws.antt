@@ -1,0 +1,35 @@
+-- Laws of runs by holders of accepted modules.
+use Rattle.std.specs.Prelude.{◌≡◌, ℕ, true, false, Some, slice_get}
+use Rattle.sil_ast.specs.declared.function.Function.{Function}
+use Rattle.sil_ast.specs.declared.module.Module.{Module}
+use Rattle.sil_ast.specs.declared.place.FuncId.{FuncId}
+use Rattle.accepted_values.specs.accepted_modules.inner.Checked.{IsVerified}
+use Rattle.held_entries.specs.holder_model.Faults.{HolderFault}
+use Rattle.held_entries.specs.holder_model.HolderStates.{HolderState}
+use Rattle.held_entries.specs.holder_model.ModuleFacts.{facts_of}
+use Rattle.held_entries.specs.holder_model.Outcomes.{EndsSo, Outcome, begins, may_start, run}
+use Rattle.held_entries.specs.holder_model.States.{Ends, Faulted, Goes}
+use Rattle.held_entries.specs.holder_model.Steps.{step}
+use Rattle.accepted_runs.specs.inner.RightStates.{IsRightState, is_excluded}
+
+-- so it is of each run of an accepted module from an entry at which one may start
+abbrev pub OnRuns : (Module → FuncId → Function → ℕ → Type 0) → Type 0
+OnRuns P = (m : Module) (e : FuncId) (f : Function) (bound : ℕ) → IsVerified m → slice_get m.functions e.0 ≡ Some f → may_start f ≡ true → P m e f bound
+
+-- each state that it comes to is right
+abbrev pub AreStatesRight : Type 0
+AreStatesRight = OnRuns (λ m e f bound. (steps : ℕ) (s : HolderState) → run (step m (facts_of m) bound) steps (begins e f) ≡ Goes s → IsRightState m s)
+
+-- a step from a right state leads to a right one
+abbrev pub AreStepsRight : Type 0
+AreStepsRight = (m : Module) (bound : ℕ) (s next : HolderState) → IsVerified m → IsRightState m s → step m (facts_of m) bound s ≡ Goes next → IsRightState m next
+
+-- it ends in no fault that is excluded
+abbrev pub NoRunFaults : Type 0
+NoRunFaults = OnRuns (λ m e f bound. (steps : ℕ) (s : HolderState) (x : HolderFault)
+    → run (step m (facts_of m) bound) steps (begins e f) ≡ Ends (Faulted x) s → is_excluded x ≡ false)
+
+-- and no outcome tells of one
+abbrev pub NoOutcomeFaults : Type 0
+NoOutcomeFaults = OnRuns (λ m e f bound. (outcome : Outcome HolderFault) (x : HolderFault) → EndsSo m e bound outcome → outcome.ending ≡ Faulted x
+    → is_excluded x ≡ false)

@@ -1,0 +1,5 @@
+use Rattle.tracked_frames.proofs.Begun.{begin_tracked}
+use Rattle.tracked_frames.proofs.laws.runs_begin_tracked.Goals as goal
+
+pub returns : goal.returns
+returns c = begin_tracked
