@@ -19,7 +19,7 @@ one_of true e = refl
 one_of false e = e
 
 -- of one value
-one_free : (facts : ValueId → Option Facts) (f : Function) (sort : MarkSort) (values : List ValueId) (c : ValueId) → AreFreeAt facts f sort values (c ∷ []) ↔ IsFreeAt facts f sort values c
+pub one_free : (facts : ValueId → Option Facts) (f : Function) (sort : MarkSort) (values : List ValueId) (c : ValueId) → AreFreeAt facts f sort values (c ∷ []) ↔ IsFreeAt facts f sort values c
 one_free facts f sort values c = (
   λ all. all c (ap (λ b. b || false) (eq-eqb c.0 c.0 refl)),
   λ free h among. subst (IsFreeAt facts f sort values) (same_value c h (eqb-true c.0 h.0 (one_of (c.0 == h.0) among))) free,

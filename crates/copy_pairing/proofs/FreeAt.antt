@@ -38,7 +38,7 @@ module _ (sort : MarkSort) (values held : List ValueId) (facts : ValueId → Opt
   abbrev table : Item → List Entry
   table = watched_of sort values held facts f
 
-  free_kept : (h : ValueId) → has held h.0 ≡ true → IsFreeAt facts f sort values h ↔ IsKept (flow_of f) (marks_for h.0 table) IsInPlace
+  pub free_kept : (h : ValueId) → has held h.0 ≡ true → IsFreeAt facts f sort values h ↔ IsKept (flow_of f) (marks_for h.0 table) IsInPlace
   free_kept h among = (
     λ free w trail is. subst (AreLawful IsInPlace) (sym (table_along sort values held h among facts f trail))
         ((lawful_spared sort values held h among (flat_map (marks_of facts f) trail)).1 (free w trail is)),

@@ -13,4 +13,6 @@ pub mod Keys
 pub mod Shapes
 pub mod Passed
 pub mod TurnsThere
-pub mod KeptSurveys
+pub mod KeptNotes
+pub mod Answering
+pub mod FoundTogether

@@ -1,8 +1,8 @@
 -- When a copy can become a move.
 use Rattle.std.proofs.Common.{◌≡◌, ◌≢◌, ◌⊎◌, inl, inr, ℕ, ◌+◌, ◌<◌, ◌≤◌, get_or, List, [], ◌∷◌, ◌++◌, length, refl, sym, ap, ap₂, ◌∙◌, subst, Bool, true, false, Option, Some, None, arith}
-use Rattle.std.specs.Prelude.{◌&&◌, ◌||◌, ◌==◌, ◌↔◌, IsTrue, nat_lt, unwrap_or}
+use Rattle.std.specs.Prelude.{◌&&◌, ◌||◌, ◌==◌, ◌↔◌, IfNone, IfSome, IsTrue, nat_lt, unwrap_or}
 use Rattle.std.specs.List.{list_any, slice_get}
-use Rattle.std.proofs.lemmas.Bool.{cases_eq, cases_lt}
+use Rattle.std.proofs.lemmas.Bool.{cases_eq, cases_lt, eqb-true}
 use Rattle.std.proofs.lemmas.Bool.Decides.{nat_tests}
 use Rattle.std.proofs.lemmas.List.Folds.{list_any-append}
 use Rattle.std.proofs.lemmas.Option.{slice_get_cases, slice_get_within}
@@ -11,7 +11,6 @@ use Rattle.sil_ast.specs.declared.function.Function.{Function}
 use Rattle.sil_ast.specs.declared.place.PointId.{PointId}
 use Rattle.sil_ast.specs.declared.place.ValueId.{ValueId}
 use Rattle.sil_cfg.specs.Items.{point_at}
-use Rattle.sil_cfg.specs.Layout.{Layout}
 use Rattle.sil_cfg.specs.declared.item.Item.TheVariants.{Inst}
 use Rattle.item_operands.specs.Parts.{inst_in}
 use Rattle.value_tables.specs.Borrows.{borrow_in, borrows_of, lends}
@@ -20,10 +19,9 @@ use Rattle.value_tables.specs.declared.borrows.Borrow.TheVariants.{NoBorrow}
 use Rattle.ownership_chains.specs.Facts.{has, is_owned, known_or, told_at}
 use Rattle.ownership_chains.specs.declared.facts.Facts.{Facts}
 use Rattle.ownership_marks.proofs.MarkTables.{same_marks}
-use Rattle.ownership_marks.specs.Known.{AreKindsBy, Known, facts_of}
+use Rattle.ownership_marks.specs.Known.{Known, facts_of}
 use Rattle.ownership_marks.specs.Marks.{marks_of}
 use Rattle.ownership_marks.specs.declared.mark.MarkSort.TheVariants.{Begin}
-use Rattle.type_definitions.specs.declared.kind.Kind.{Kind}
 use Rattle.copy_removal.proofs.borrow_scopes.Agreeing.{same_bases}
 use Rattle.copy_removal.specs.borrow_scopes.Scopes.{bases_in, lent_bases}
 use Rattle.copy_removal.specs.borrow_scopes.inner.Tables.{lent_bases_in}
@@ -31,7 +29,7 @@ use Rattle.copy_removal.proofs.DestroyShown.{destroy_shown}
 use Rattle.copy_removal.specs.Copies.{IsDestroy}
 use Rattle.copy_removal.specs.Removable.{IsDestroyedNext, IsMovable, IsUnlent, concerns}
 use Rattle.copy_pairing.specs.inner.Asked.{AreFreeAt}
-use Rattle.copy_pairing.specs.inner.Turns.{IsMovableTo}
+use Rattle.copy_pairing.specs.inner.Turns.{IsMovableTo, IsOwnedUpTo}
 
 -- the scopes that borrow from a value
 
@@ -44,6 +42,10 @@ borrower_below borrows facts n v e = at (slice_get_cases borrows n).1
     at : ((x : Borrow) × (n < length borrows) × (slice_get borrows n ≡ Some x) × (get_or borrows n x ≡ x)) ⊎ ((length borrows ≤ n) × (slice_get borrows n ≡ None)) → n < length borrows
     at (inl h) = h.1
     at (inr h) = absurd (lent_of facts v (slice_get borrows n) e h.1)
+
+pub empty_is : {A : Type 0} (xs : List A) → (length xs == 0) ≡ true → xs ≡ []
+empty_is [] e = refl
+empty_is (x ∷ xs) e = let wrong : length (x ∷ xs) ≡ 0 = eqb-true (length (x ∷ xs)) 0 e in absurd (omega arith)
 
 or_false : (a : Bool) → (a || false) ≡ a
 or_false true = refl
@@ -108,11 +110,11 @@ scopes_more P old m n e = at (cases_eq m n) (cases_lt m n)
         let within : nat_lt m (n + 1) ≡ false = grind (arith, nat_tests) in
         ap₂ (λ a b. a || (P n && b)) (e ∙ ap (λ b. b && P m) under) here ∙ and_false (P n) ∙ sym (ap (λ b. b && P m) within)
 
-module _ (f : Function) (g : Layout) (k : Known) (borrows : List Borrow) (same : borrows ≡ borrows_of f) (size : length borrows ≡ length k.table)
-    (count : ℕ) (facts : ValueId → Option Facts) (by : AreKindsBy count facts f g k) where
+module _ (f : Function) (k : Known) (borrows : List Borrow) (same : borrows ≡ borrows_of f) (size : length borrows ≡ length k.table) (facts : ValueId → Option Facts)
+    (told : (v : ValueId) → facts_of k v ≡ known_or facts v) where
   lent_same : (n : ℕ) (v : ValueId) → has (lent_bases_in (facts_of k) borrows n) v.0 ≡ has (lent_bases f (known_or facts) n) v.0
   lent_same n v =
-      ap (λ bases. has bases v.0) (same_bases (facts_of k) (known_or facts) by.facts_are (lends (borrow_in borrows n)))
+      ap (λ bases. has bases v.0) (same_bases (facts_of k) (known_or facts) told (lends (borrow_in borrows n)))
       ∙ ap (λ table. has (bases_in (known_or facts) (lends (borrow_in table n))) v.0) same
 
   pub unlent : (c v : ValueId) (scopes : List ValueId) →
@@ -129,6 +131,14 @@ module _ (f : Function) (g : Layout) (k : Known) (borrows : List Borrow) (same :
   pub unlent_by : (c v : ValueId) (scopes : List ValueId) → ((n : ℕ) → has scopes n ≡ (nat_lt n (length k.table) && has (lent_bases_in (facts_of k) borrows n) v.0))
       → (r : Bool) → IsTrue r ↔ AreFreeAt facts f Begin (c ∷ []) scopes → IsTrue r ↔ IsUnlent facts f c v
   unlent_by c v scopes are r free = let both = unlent c v scopes are in (λ t. both.0 (free.0 t), λ h. free.1 (both.1 h))
+
+  -- where there is no such scope
+  pub unlent_without : (c v : ValueId) (scopes : List ValueId) → ((n : ℕ) → has scopes n ≡ (nat_lt n (length k.table) && has (lent_bases_in (facts_of k) borrows n) v.0))
+      → scopes ≡ [] → IsTrue true ↔ IsUnlent facts f c v
+  unlent_without c v scopes are none = (
+    λ t. (unlent c v scopes are).0 (λ h among. absurd (let wrong : false ≡ true = sym (ap (λ vs. has vs h.0) none) ∙ among in cc)),
+    λ h. refl,
+  )
 
 -- the next destroy
 
@@ -181,24 +191,33 @@ next_same a b same f p c v last h = record {
 }
 
 -- whether the copy can become a move
-module _ (f : Function) (g : Layout) (k : Known) (count : ℕ) (facts : ValueId → Option Facts) (by : AreKindsBy count facts f g k) (p : PointId) (c v : ValueId) where
-  kind_same : (kind : Kind) → kind ≡ (facts_of k v).kind → is_owned kind ≡ is_owned (known_or facts v).kind
-  kind_same kind e = ap is_owned e ∙ ap (λ (x : Facts). is_owned x.kind) (by.facts_are v)
+module _ (f : Function) (k : Known) (facts : ValueId → Option Facts) (told : (v : ValueId) → facts_of k v ≡ known_or facts v) (p : PointId) (c v : ValueId) where
+  pub not_movable : ((last : ℕ) → IsOwnedUpTo k f p c v last → ⊥) → IsMovable facts f p c v → ⊥
+  not_movable none h =
+      none h.last
+      (record {
+        owned = ap (λ (x : Facts). is_owned x.kind) (told v) ∙ h.owned;
+        next = next_same facts (told_at k.table) (λ w. sym (told w)) f p c v h.last h.next;
+      })
 
-  pub not_owned : (r : Bool) (kind : Kind) → kind ≡ (facts_of k v).kind → r ≡ is_owned kind → r ≡ false → IsMovable facts f p c v → ⊥
-  not_owned r kind e is not_so h = absurd (let wrong : true ≡ false = sym h.owned ∙ sym (kind_same kind e) ∙ sym is ∙ not_so in cc)
-
-  pub not_movable : ((last : ℕ) → IsDestroyedNext (told_at k.table) f p c v last → ⊥) → IsMovable facts f p c v → ⊥
-  not_movable none h = none h.last (next_same facts (told_at k.table) (λ w. sym (by.facts_are w)) f p c v h.last h.next)
-
-  pub moves_by : (owns : Bool) (kind : Kind) → kind ≡ (facts_of k v).kind → owns ≡ is_owned kind → owns ≡ true → (last : ℕ) → IsDestroyedNext (told_at k.table) f p c v last
-      → IsUnlent facts f c v → IsMovableTo facts f p c v last
-  moves_by owns kind e is so last next unlent = record {
+  pub moves_by : (last : ℕ) → IsOwnedUpTo k f p c v last → IsUnlent facts f c v → IsMovableTo facts f p c v last
+  moves_by last h unlent = record {
     movable = record {
-      owned = sym (kind_same kind e) ∙ sym is ∙ so;
+      owned = sym (ap (λ (x : Facts). is_owned x.kind) (told v)) ∙ h.owned;
       unlent = unlent;
       last = last;
-      next = next_same (told_at k.table) facts by.facts_are f p c v last next;
+      next = next_same (told_at k.table) facts told f p c v last h.next;
     };
     there = refl;
   }
+
+-- by what is known, of the next destroy
+
+module _ (k : Known) (f : Function) (p : PointId) (c v : ValueId) where
+  pub owned_some : is_owned (facts_of k v).kind ≡ true → (o : Option ℕ) → IfSome o (IsDestroyedNext (told_at k.table) f p c v) → IfSome o (IsOwnedUpTo k f p c v)
+  owned_some owned None h = tt
+  owned_some owned (Some last) h = record { owned = owned; next = h }
+
+  pub owned_none : (o : Option ℕ) → IfNone o ((last : ℕ) → IsDestroyedNext (told_at k.table) f p c v last → ⊥) → IfNone o ((last : ℕ) → IsOwnedUpTo k f p c v last → ⊥)
+  owned_none None h = λ last up. h last up.next
+  owned_none (Some last) h = tt

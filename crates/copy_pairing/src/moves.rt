@@ -4,24 +4,28 @@ ghost use Rattle.std.specs.Prelude.{◌≡◌, ◌∷◌, [], ◌↔◌, ◌&&�
 ghost use Rattle.std.specs.List.{list_any};
 ghost use Rattle.sil_ast.specs.declared.place.ValueId.{ValueId};
 ghost use Rattle.sil_cfg.specs.declared.item.Item.TheVariants as item;
-ghost use Rattle.sil_cfg.specs.inner.Build.{HasGraph, IsGraphOf};
-ghost use Rattle.value_tables.specs.Borrows as borrowing;
+ghost use Rattle.sil_cfg.specs.inner.Build.{HasGraph};
 ghost use Rattle.ownership_chains.specs.Facts as chains;
 ghost use Rattle.ownership_chains.specs.Facts.{has, told_at};
 ghost use Rattle.ownership_chains.specs.declared.facts.Facts.{Facts};
-ghost use Rattle.ownership_marks.specs.Known.{AreKindsBy, facts_of};
+ghost use Rattle.ownership_marks.specs.Known.{facts_of};
 ghost use Rattle.ownership_marks.specs.Marks.{marks_of};
 ghost use Rattle.copy_removal.specs.borrow_scopes.inner.Tables.{lent_bases_in};
 ghost use Rattle.copy_removal.specs.Removable as removal;
 ghost use Rattle.copy_removal.specs.Removable.{IsDestroyedNext, IsMovable, IsUnlent};
-ghost use Rattle.copy_pairing.specs.inner.Turns.{IsMovableTo};
+ghost use Rattle.point_checks.specs.inner.Numbered.{IsOfNumberedModule};
+ghost use Rattle.ownership_kinds.specs.Facts.{facts_in};
+ghost use Rattle.copy_pairing.specs.inner.Surveys.{AreNotesOf, AreValuesOf};
+ghost use Rattle.copy_pairing.specs.inner.Turns.{IsMovableTo, IsOwnedUpTo};
 
 use crate::copies::{Copied, is_destroyed_at};
 use crate::held::are_free_at;
+use crate::notes::{Notes, surveyed, with_values};
 use crate::watched::{is_among, is_mark};
 use ownership_marks::{Kinds, Mark, MarkSort};
 use sil_ast::{Block, Exhausted, Function, PointId, ValueId};
-use sil_cfg::{Graph, Item};
+use sil_cfg::Item;
+use sil_types::TypeTable;
 use std::alloc::Global;
 use type_definitions::Kind;
 use value_tables::{Borrow, lent_by};
@@ -68,25 +72,6 @@ fn scopes_over(
         push_if(&mut scopes, scope, borrows_from(k, borrows, scope, base))?;
     }
     Ok(scopes)
-}
-
-/// Whether no scope that borrows from what is copied is open where the copy begins.
-fn is_unlent(
-    alloc: Global,
-    f: &Function,
-    g: &Graph,
-    k: &Kinds,
-    borrows: &[Borrow],
-    copied: Copied,
-) -> Result<bool, Exhausted>
-    requires graph { IsGraphOf g.now f.now }
-    requires borrows { borrows.now ≡ borrowing.borrows_of f.now }
-    requires size { length borrows.now ≡ length k.now.table }
-    ensures { IfOk result (λ r. (count : ℕ) (facts : ValueId → Option Facts) → AreKindsBy count facts f.now g.now k.now
-        → IsTrue r ↔ IsUnlent facts f.now copied.value copied.operand) }
-{
-    let scopes = scopes_over(alloc, k, borrows, copied.operand)?;
-    are_free_at(alloc, f, g, k, MarkSort::Begin, &[copied.value], &scopes)
 }
 
 /// Whether the mark is one of what is copied, or ends the copy.
@@ -166,35 +151,87 @@ fn destroyed_next(
     }
 }
 
-/// The index of the destroy that goes where the copy at the point becomes a move, if it can become one.
-pub(crate) fn moves_to(
+/// The same where what is copied is Owned, and else none.
+fn destroyed_if_owned(
     alloc: Global,
     f: &Function,
-    g: &Graph,
     k: &Kinds,
-    borrows: &[Borrow],
     p: PointId,
     copied: Copied,
 ) -> Result<Option<usize>, Exhausted>
-    requires has_graph { HasGraph f.now }
-    requires graph { IsGraphOf g.now f.now }
-    requires borrows { borrows.now ≡ borrowing.borrows_of f.now }
-    requires size { length borrows.now ≡ length k.now.table }
-    ensures some { IfOk result (λ o. IfSome o (λ last. (count : ℕ) (facts : ValueId → Option Facts) → AreKindsBy count facts f.now g.now k.now
-        → IsMovableTo facts f.now p copied.value copied.operand last)) }
-    ensures none { IfOk result (λ o. IfNone o ((count : ℕ) (facts : ValueId → Option Facts) → AreKindsBy count facts f.now g.now k.now
-        → ¬ IsMovable facts f.now p copied.value copied.operand)) }
+    requires graph { HasGraph f.now }
+    ensures some { IfOk result (λ o. IfSome o (IsOwnedUpTo k.now f.now p copied.value copied.operand)) }
+    ensures none { IfOk result (λ o. IfNone o ((last : ℕ) → ¬ IsOwnedUpTo k.now f.now p copied.value copied.operand last)) }
 {
     if !is_owned(k.kind(copied.operand)) {
         return Ok(None);
     }
-    let next = destroyed_next(alloc, f, k, p, copied)?;
-    let Some(last) = next else {
-        return Ok(None);
-    };
-    let unlent = is_unlent(alloc, f, g, k, borrows, copied)?;
-    if unlent {
-        return Ok(Some(last));
+    destroyed_next(alloc, f, k, p, copied)
+}
+
+/// Whether no scope that borrows from what is copied is open where the copy begins. The walks are searched only where there is such a scope.
+fn is_unlent(
+    alloc: Global,
+    types: &TypeTable,
+    f: &Function,
+    copied: Copied,
+    notes: Notes,
+) -> Result<(bool, Notes), Exhausted>
+    requires of_module { IsOfNumberedModule f.now }
+    requires graph { HasGraph f.now }
+    requires notes { AreNotesOf types.now f.now notes }
+    requires values { AreValuesOf types.now f.now notes.survey }
+    ensures unlent { IfOk result (λ r. IsTrue r.0 ↔ IsUnlent (facts_in types.now f.now) f.now copied.value copied.operand) }
+    ensures notes { IfOk result (λ r. AreNotesOf types.now f.now r.1) }
+{
+    let found = &notes.survey.found;
+    let scopes = scopes_over(
+        alloc,
+        &found.kinds,
+        found.borrows.as_slice(),
+        copied.operand,
+    )?;
+    let lenders = scopes.as_slice();
+    if lenders.is_empty() {
+        return Ok((true, notes));
     }
-    Ok(None)
+    let notes = surveyed(alloc, types, f, notes)?;
+    let free = are_free_at(
+        alloc,
+        f,
+        &notes.survey.graph,
+        &notes.survey.found.kinds,
+        MarkSort::Begin,
+        &[copied.value],
+        lenders,
+    )?;
+    Ok((free, notes))
+}
+
+/// The index of the destroy that goes where the copy at the point becomes a move, if it can become one, and the notes that tell it.
+pub(crate) fn moves_to(
+    alloc: Global,
+    types: &TypeTable,
+    f: &Function,
+    p: PointId,
+    copied: Copied,
+    notes: Notes,
+) -> Result<(Option<usize>, Notes), Exhausted>
+    requires of_module { IsOfNumberedModule f.now }
+    requires graph { HasGraph f.now }
+    requires notes { AreNotesOf types.now f.now notes }
+    ensures some { IfOk result (λ r. IfSome r.0 (IsMovableTo (facts_in types.now f.now) f.now p copied.value copied.operand)) }
+    ensures none { IfOk result (λ r. IfNone r.0 (¬ IsMovable (facts_in types.now f.now) f.now p copied.value copied.operand)) }
+    ensures notes { IfOk result (λ r. AreNotesOf types.now f.now r.1) }
+{
+    let notes = with_values(alloc, types, f, notes)?;
+    let next = destroyed_if_owned(alloc, f, &notes.survey.found.kinds, p, copied)?;
+    let Some(last) = next else {
+        return Ok((None, notes));
+    };
+    let (unlent, notes) = is_unlent(alloc, types, f, copied, notes)?;
+    if unlent {
+        return Ok((Some(last), notes));
+    }
+    Ok((None, notes))
 }

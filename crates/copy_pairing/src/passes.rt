@@ -6,30 +6,34 @@ ghost use Rattle.type_definitions.specs.Declarations.{declarations_of};
 ghost use Rattle.sil_verifier.specs.accepted_modules.inner.Checked.{IsVerified};
 ghost use Rattle.copy_pairing.specs.inner.Passes.{ArePassed, blocks_at, insts_at};
 ghost use Rattle.copy_pairing.specs.inner.Surveys.{IsKeptIn};
-ghost use Rattle.copy_pairing.specs.inner.Turns.{IsTurn, Turned};
+ghost use Rattle.copy_pairing.specs.inner.Turns.{IsTurn, IsTurnThere, Turned};
 
-use crate::surveys::Survey;
+use crate::notes::{Notes, left_by_lending, left_by_move};
 use crate::turns::{Turn, turn_in};
 use copy_rewriting::{lend, move_copy};
 use rewriting_laws::rewriting_keeps_verified;
-use rewriting_order::later_ones_are_left;
+use rewriting_order::{
+    later_ones_are_left, lending_keeps_borrowable, lending_makes_no_copy, moving_keeps_borrowable,
+    moving_keeps_values, moving_lets_none_borrow, moving_makes_no_copy,
+};
 use sil_ast::{BlockId, Exhausted, Module, PointId};
 use sil_types::TypeTable;
 use std::alloc::Global;
 
-/// What is done to the copy at the point, if one stands there, and the survey of the function, if there is one now.
+/// What is done to the copy at the point, if one stands there, and what is known of the function now.
 fn turn_at(
     alloc: Global,
     types: &TypeTable,
     m: &Module,
     function: usize,
     p: PointId,
-    kept: Option<Survey>,
-) -> Result<(Turn, Option<Survey>), Exhausted>
+    kept: Option<Notes>,
+) -> Result<(Turn, Option<Notes>), Exhausted>
     requires verified { IsVerified m.now }
     requires types { types.now ≡ declarations_of m.now }
     requires kept { IsKeptIn types.now m.now function kept }
     ensures turn { IfOk result (λ r. IsTurn m.now function p r.0) }
+    ensures there { IfOk result (λ r. IsTurnThere types.now m.now function p r.0) }
     ensures kept { IfOk result (λ r. IsKeptIn types.now m.now function r.1) }
 {
     match m.functions.get(function) {
@@ -38,31 +42,37 @@ fn turn_at(
     }
 }
 
-/// Rewrites the copy at the point, if it can go. A survey of the function stays only where it does not.
+/// Rewrites the copy at the point, if it can go.
 fn rewrite_at(
     alloc: Global,
     types: &TypeTable,
     m: &mut Module,
     function: usize,
     p: PointId,
-    kept: Option<Survey>,
-) -> Result<Option<Survey>, Exhausted>
+    kept: Option<Notes>,
+) -> Result<Option<Notes>, Exhausted>
     requires verified { IsVerified m.old }
     requires types { types.now ≡ declarations_of m.old }
     requires kept { IsKeptIn types.now m.old function kept }
     ensures turned { OnOk result (Turned m.old function p m.new) }
     ensures kept { IfOk result (IsKeptIn types.now m.new function) }
 {
-    let (turn, survey) = turn_at(alloc, types, m, function, p, kept)?;
+    lending_keeps_borrowable();
+    lending_makes_no_copy();
+    moving_keeps_borrowable();
+    moving_lets_none_borrow();
+    moving_makes_no_copy();
+    moving_keeps_values();
+    let (turn, kept) = turn_at(alloc, types, m, function, p, kept)?;
     match turn {
-        Turn::Stay => Ok(survey),
+        Turn::Stay => Ok(kept),
         Turn::Lend { value } => {
             lend(alloc, m, function, value)?;
-            Ok(None)
+            Ok(left_by_lending(kept))
         }
-        Turn::Move { last } => {
+        Turn::Move { last, operand } => {
             move_copy(alloc, m, function, p, last)?;
-            Ok(None)
+            Ok(left_by_move(kept, operand))
         }
     }
 }
@@ -90,24 +100,24 @@ fn block_count(m: &Module, function: usize) -> usize
     }
 }
 
-/// Passes the copies of a block. What was found of the function is handed on as long as none of its copies is rewritten.
+/// Passes the copies of a block, and hands on what is known of the function.
 fn pass_block(
     alloc: Global,
     types: &TypeTable,
     m: &mut Module,
     function: usize,
     block: BlockId,
-    survey: Option<Survey>,
-) -> Result<Option<Survey>, Exhausted>
+    notes: Option<Notes>,
+) -> Result<Option<Notes>, Exhausted>
     requires verified { IsVerified m.old }
     requires types { types.now ≡ declarations_of m.old }
-    requires kept { IsKeptIn types.now m.old function survey }
+    requires kept { IsKeptIn types.now m.old function notes }
     ensures passed { OnOk result (ArePassed m.old function (point_at block.0 0) m.new function (point_at (block.0 + 1) 0)) }
     ensures kept { IfOk result (IsKeptIn types.now m.new function) }
 {
     rewriting_keeps_verified();
     later_ones_are_left();
-    let mut kept = survey;
+    let mut kept = notes;
     for index in 0..inst_count(m, function, block.0 as usize) {
         let p = PointId {
             block,

@@ -11,14 +11,38 @@ ghost use Rattle.copy_removal.specs.Copies.{IsCopy};
 ghost use Rattle.copy_removal.specs.Optimised as optimised;
 ghost use Rattle.copy_removal.specs.Removable.{IsRemoval};
 
-use crate::turns::{Turn, turn_in};
+use crate::copies::{Copied, copy_at};
+use crate::notes::unanswered;
+use crate::turns::{Turn, turn_by_notes};
 use copy_removal::Removal;
 use sil_ast::{Exhausted, FuncId, Function, PointId};
 use sil_types::TypeTable;
 use sil_verifier::Checked;
 use std::alloc::Global;
 
-/// How the copy at the point of the function can go, if one stands there.
+/// How the copy at the point of the function can go.
+fn removal_of(
+    alloc: Global,
+    types: &TypeTable,
+    f: &Function,
+    p: PointId,
+    copied: Copied,
+) -> Result<Removal, Exhausted>
+    requires of_module { IsOfNumberedModule f.now }
+    requires graph { HasGraph f.now }
+    requires copy { IsCopy f.now p copied.value copied.operand }
+    ensures { IfOk result (IsRemoval (facts_in types.now f.now) f.now p copied.value copied.operand) }
+{
+    let notes = unanswered(alloc, types, f)?;
+    let (turn, _notes) = turn_by_notes(alloc, types, f, p, copied, notes)?;
+    match turn {
+        Turn::Stay => Ok(Removal::No),
+        Turn::Lend { .. } => Ok(Removal::Borrow),
+        Turn::Move { .. } => Ok(Removal::Move),
+    }
+}
+
+/// The same, if a copy stands there.
 fn removal_at(
     alloc: Global,
     types: &TypeTable,
@@ -29,11 +53,9 @@ fn removal_at(
     requires graph { HasBlocks f.now → HasGraph f.now }
     ensures { IfOk result (λ r. (v w : ValueId) → IsCopy f.now p v w → IsRemoval (facts_in types.now f.now) f.now p v w r) }
 {
-    let (turn, _survey) = turn_in(alloc, types, f, p, None)?;
-    match turn {
-        Turn::Stay => Ok(Removal::No),
-        Turn::Lend { .. } => Ok(Removal::Borrow),
-        Turn::Move { .. } => Ok(Removal::Move),
+    match copy_at(f, p) {
+        None => Ok(Removal::No),
+        Some(copied) => removal_of(alloc, types, f, p, copied),
     }
 }
 

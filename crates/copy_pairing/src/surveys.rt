@@ -3,7 +3,7 @@
 ghost use Rattle.std.specs.Prelude.{IfOk};
 ghost use Rattle.sil_cfg.specs.inner.Build.{HasGraph};
 ghost use Rattle.point_checks.specs.inner.Numbered.{IsOfNumberedModule};
-ghost use Rattle.copy_pairing.specs.inner.Surveys.{IsKeptFor, IsSurveyOf};
+ghost use Rattle.copy_pairing.specs.inner.Surveys.{IsSurveyOf};
 
 use ownership_kinds::{FunctionKinds, kinds_in};
 use sil_ast::{Exhausted, Function};
@@ -19,7 +19,11 @@ pub(crate) struct Survey {
 }
 
 /// The survey of the function.
-fn new_survey(alloc: Global, types: &TypeTable, f: &Function) -> Result<Survey, Exhausted>
+pub(crate) fn new_survey(
+    alloc: Global,
+    types: &TypeTable,
+    f: &Function,
+) -> Result<Survey, Exhausted>
     requires of_module { IsOfNumberedModule f.now }
     requires graph { HasGraph f.now }
     ensures { IfOk result (IsSurveyOf types.now f.now) }
@@ -28,23 +32,5 @@ fn new_survey(alloc: Global, types: &TypeTable, f: &Function) -> Result<Survey, 
     match kinds_in(alloc, f, &graph, types) {
         Err(_) => Err(Exhausted),
         Ok(found) => Ok(Survey { graph, found }),
-    }
-}
-
-/// The survey that was kept of the function, or else a new one.
-pub(crate) fn kept_or_new(
-    alloc: Global,
-    types: &TypeTable,
-    f: &Function,
-    kept: Option<Survey>,
-) -> Result<Survey, Exhausted>
-    requires of_module { IsOfNumberedModule f.now }
-    requires graph { HasGraph f.now }
-    requires kept { IsKeptFor types.now f.now kept }
-    ensures { IfOk result (IsSurveyOf types.now f.now) }
-{
-    match kept {
-        Some(survey) => Ok(survey),
-        None => new_survey(alloc, types, f),
     }
 }

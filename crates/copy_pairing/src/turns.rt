@@ -1,21 +1,21 @@
 //! How a copy of a function is rewritten, if it can go.
 
-ghost use Rattle.std.specs.Prelude.{◌≡◌, ℕ, length, IfOk, Option};
-ghost use Rattle.sil_ast.specs.declared.place.ValueId.{ValueId};
+ghost use Rattle.std.specs.Prelude.{◌↔◌, IfOk, IsTrue};
+ghost use Rattle.sil_ast.specs.declared.place.PointId.{PointId};
 ghost use Rattle.sil_cfg.specs.Items.{HasBlocks};
-ghost use Rattle.sil_cfg.specs.inner.Build.{HasGraph, IsGraphOf};
+ghost use Rattle.sil_cfg.specs.inner.Build.{HasGraph};
 ghost use Rattle.point_checks.specs.inner.Numbered.{IsOfNumberedModule};
-ghost use Rattle.value_tables.specs.Borrows as borrowing;
-ghost use Rattle.ownership_chains.specs.declared.facts.Facts.{Facts};
 ghost use Rattle.ownership_kinds.specs.Facts.{facts_in};
-ghost use Rattle.ownership_marks.specs.Known.{AreKindsBy};
-ghost use Rattle.copy_pairing.specs.inner.Surveys.{IsKeptFor, IsSurveyOf};
+ghost use Rattle.copy_removal.specs.Copies.{IsCopy};
+ghost use Rattle.copy_pairing.specs.inner.Answers.{IsToldOf};
+ghost use Rattle.copy_pairing.specs.inner.Surveys.{AreNotesOf, IsKeptFor};
 ghost use Rattle.copy_pairing.specs.inner.Turns.{IsTurnIn, IsTurnOf};
 
+use crate::answers::answer_to;
 use crate::copies::{Copied, copy_at};
 use crate::lending::is_borrowable;
 use crate::moves::moves_to;
-use crate::surveys::{Survey, kept_or_new};
+use crate::notes::{Notes, kept_or_new, surveyed};
 use sil_ast::{Exhausted, Function, PointId, ValueId};
 use sil_types::TypeTable;
 use std::alloc::Global;
@@ -26,67 +26,88 @@ pub(crate) enum Turn {
     Stay,
     /// The value becomes a borrow.
     Lend { value: ValueId },
-    /// The copy becomes a move, and the destroy at this index of its block goes.
-    Move { last: usize },
+    /// The copy of the operand becomes a move, and the destroy at this index of its block goes.
+    Move { last: usize, operand: ValueId },
 }
 
-/// What is done to the copy at the point.
-fn turn_of(
+/// Whether the copy can be a borrow, by a survey that holds.
+fn asked_anew(
     alloc: Global,
+    types: &TypeTable,
     f: &Function,
-    s: &Survey,
-    p: PointId,
     copied: Copied,
-) -> Result<Turn, Exhausted>
-    requires has_graph { HasGraph f.now }
-    requires graph { IsGraphOf s.now.graph f.now }
-    requires borrows { s.now.found.borrows.items ≡ borrowing.borrows_of f.now }
-    requires size { length s.now.found.borrows.items ≡ length s.now.found.kinds.table }
-    ensures { IfOk result (λ r. (count : ℕ) (facts : ValueId → Option Facts) → AreKindsBy count facts f.now s.now.graph s.now.found.kinds
-        → IsTurnOf facts f.now p copied.value copied.operand r) }
+    notes: Notes,
+) -> Result<(bool, Notes), Exhausted>
+    requires of_module { IsOfNumberedModule f.now }
+    requires graph { HasGraph f.now }
+    requires notes { AreNotesOf types.now f.now notes }
+    ensures borrowable { IfOk result (λ r. IsToldOf (facts_in types.now f.now) f.now copied.value copied.operand r.0) }
+    ensures notes { IfOk result (λ r. AreNotesOf types.now f.now r.1) }
 {
-    let borrowable = is_borrowable(alloc, f, &s.graph, &s.found.kinds, copied)?;
-    if borrowable {
-        return Ok(Turn::Lend {
-            value: copied.value,
-        });
-    }
-    let borrows = s.found.borrows.as_slice();
-    let target = moves_to(alloc, f, &s.graph, &s.found.kinds, borrows, p, copied)?;
-    match target {
-        Some(last) => Ok(Turn::Move { last }),
-        None => Ok(Turn::Stay),
+    let notes = surveyed(alloc, types, f, notes)?;
+    let survey = &notes.survey;
+    let borrowable = is_borrowable(alloc, f, &survey.graph, &survey.found.kinds, copied)?;
+    Ok((borrowable, notes))
+}
+
+/// Whether the copy can be a borrow, by what is known or else by a survey.
+fn borrowable_by(
+    alloc: Global,
+    types: &TypeTable,
+    f: &Function,
+    copied: Copied,
+    notes: Notes,
+) -> Result<(bool, Notes), Exhausted>
+    requires of_module { IsOfNumberedModule f.now }
+    requires graph { HasGraph f.now }
+    requires notes { AreNotesOf types.now f.now notes }
+    ensures borrowable { IfOk result (λ r. IsToldOf (facts_in types.now f.now) f.now copied.value copied.operand r.0) }
+    ensures notes { IfOk result (λ r. AreNotesOf types.now f.now r.1) }
+{
+    let known = answer_to(notes.answers.as_slice(), copied);
+    match known {
+        Some(borrowable) => Ok((borrowable, notes)),
+        None => asked_anew(alloc, types, f, copied, notes),
     }
 }
 
-/// What is done to the copy at the point of the function, by the kinds of its values, and the survey that tells it.
-fn turn_by_kinds(
+/// What is done to the copy at the point of the function, and the notes that tell it.
+pub(crate) fn turn_by_notes(
     alloc: Global,
     types: &TypeTable,
     f: &Function,
     p: PointId,
     copied: Copied,
-    kept: Option<Survey>,
-) -> Result<(Turn, Survey), Exhausted>
+    notes: Notes,
+) -> Result<(Turn, Notes), Exhausted>
     requires of_module { IsOfNumberedModule f.now }
     requires graph { HasGraph f.now }
-    requires kept { IsKeptFor types.now f.now kept }
+    requires notes { AreNotesOf types.now f.now notes }
+    requires copy { IsCopy f.now p copied.value copied.operand }
     ensures turn { IfOk result (λ r. IsTurnOf (facts_in types.now f.now) f.now p copied.value copied.operand r.0) }
-    ensures survey { IfOk result (λ r. IsSurveyOf types.now f.now r.1) }
+    ensures notes { IfOk result (λ r. AreNotesOf types.now f.now r.1) }
 {
-    let survey = kept_or_new(alloc, types, f, kept)?;
-    let turn = turn_of(alloc, f, &survey, p, copied)?;
-    Ok((turn, survey))
+    let (borrowable, notes) = borrowable_by(alloc, types, f, copied, notes)?;
+    if borrowable {
+        let value = copied.value;
+        return Ok((Turn::Lend { value }, notes));
+    }
+    let operand = copied.operand;
+    let (target, notes) = moves_to(alloc, types, f, p, copied, notes)?;
+    match target {
+        Some(last) => Ok((Turn::Move { last, operand }, notes)),
+        None => Ok((Turn::Stay, notes)),
+    }
 }
 
-/// What is done to the copy at the point of the function, if one stands there, and the survey of the function, if there is one now.
+/// What is done to the copy at the point of the function, if one stands there, and what is known of the function now.
 pub(crate) fn turn_in(
     alloc: Global,
     types: &TypeTable,
     f: &Function,
     p: PointId,
-    kept: Option<Survey>,
-) -> Result<(Turn, Option<Survey>), Exhausted>
+    kept: Option<Notes>,
+) -> Result<(Turn, Option<Notes>), Exhausted>
     requires of_module { IsOfNumberedModule f.now }
     requires graph { HasBlocks f.now → HasGraph f.now }
     requires kept { IsKeptFor types.now f.now kept }
@@ -96,8 +117,9 @@ pub(crate) fn turn_in(
     match copy_at(f, p) {
         None => Ok((Turn::Stay, kept)),
         Some(copied) => {
-            let (turn, survey) = turn_by_kinds(alloc, types, f, p, copied, kept)?;
-            Ok((turn, Some(survey)))
+            let notes = kept_or_new(alloc, types, f, kept)?;
+            let (turn, notes) = turn_by_notes(alloc, types, f, p, copied, notes)?;
+            Ok((turn, Some(notes)))
         }
     }
 }

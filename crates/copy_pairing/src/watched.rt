@@ -15,7 +15,7 @@ use sil_ast::{Exhausted, ValueId};
 use sil_cfg::Item;
 use sil_rules::Rule;
 
-fn is_sort(sort: MarkSort, other: MarkSort) -> bool
+pub(crate) fn is_sort(sort: MarkSort, other: MarkSort) -> bool
     ensures { result ≡ removal.is_sort sort other }
 {
     match sort {
@@ -65,7 +65,7 @@ fn turned_by(sort: MarkSort) -> Option<path_patterns::Mark>
 }
 
 /// The turn of a mark's own value.
-fn add_turn(entries: &mut Vec<Entry>, mark: Mark) -> Result<(), Exhausted>
+pub(crate) fn add_turn(entries: &mut Vec<Entry>, mark: Mark) -> Result<(), Exhausted>
     ensures { OnOk result (entries.new.items ≡ entries.old.items ++ entry_if mark.subject.0 (tables.turned_by mark.sort)) }
 {
     if let Some(turn) = turned_by(mark.sort) {

@@ -10,7 +10,8 @@ use Rattle.type_definitions.specs.Declarations.{declarations_of}
 use Rattle.lent_functions.proofs.Clean.{lent_ready}
 use Rattle.lent_functions.proofs.Facts.{bases_lent}
 use Rattle.lent_functions.proofs.Ready.{Ready}
-use Rattle.rewriting_order.specs.inner.Laws.{IsVerifiedIn, LendingKeepsBases, LendingKeepsBorrowable}
+use Rattle.rewriting_order.specs.inner.Laws.{IsVerifiedIn, LendingKeepsBases, LendingKeepsBorrowable, LendingMakesNoCopy}
+use Rattle.rewriting_order.proofs.LentBack.{copy_back}
 use Rattle.rewriting_order.proofs.LentForth.{borrowable_alike}
 
 ready : (m : Module) (f : Function) (p : PointId) (c v : ValueId) → IsVerifiedIn m f → IsCopy f p c v → IsBorrowable (facts_of m f) f c v → Ready (declarations_of m) f p c v
@@ -21,3 +22,6 @@ keeps_borrowable m f p q c v e w in_module copy b here = borrowable_alike (decla
 
 pub keeps_bases : LendingKeepsBases
 keeps_bases m f p c v w in_module copy b = bases_lent (declarations_of m) f p c v (ready m f p c v in_module copy b) w
+
+pub makes_no_copy : LendingMakesNoCopy
+makes_no_copy f q c e w here = copy_back c f q e w here

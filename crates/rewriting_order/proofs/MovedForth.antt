@@ -2,7 +2,7 @@
 use Rattle.std.proofs.Common.{◌≡◌, ◌≢◌, ◌⊎◌, inl, inr, ℕ, suc, ◌<◌, ◌≤◌, [], ◌∷◌, ◌++◌, length, refl, sym, ap, ap₂, ◌∙◌, subst, arith, Bool, true, false, Option, Some, None}
 use Rattle.std.specs.Prelude.{◌||◌, ◌==◌, slice_get}
 use Rattle.std.specs.List.{flat_map, list_any}
-use Rattle.std.proofs.lemmas.Bool.{cases_eq, cases_lt, eq-eqb, eqb-true, ne_eqb}
+use Rattle.std.proofs.lemmas.Bool.{cases_eq, cases_lt, eq-eqb, eqb-true, false_from_ne_true, ne_eqb}
 use Rattle.std.proofs.lemmas.List.{append-nil}
 use Rattle.std.proofs.lemmas.Option.{same_Some, slice_get_within}
 use Rattle.lent_functions.proofs.accepted_values.Addresses.{addresses_of_lenders}
@@ -41,9 +41,9 @@ use Rattle.moved_functions.proofs.Items.{gone}
 use Rattle.moved_functions.proofs.Lists.{stood_before, stood_behind}
 use Rattle.moved_functions.proofs.Marks.{known, same_marks, takes_one}
 use Rattle.moved_functions.proofs.Places.{after, inst_elsewhere, old_block, old_here, same_inst}
-use Rattle.moved_functions.proofs.SameFacts.{copy_apart, copy_owned, destroy_makes_none}
+use Rattle.moved_functions.proofs.SameFacts.{borrows_are, copy_apart, copy_owned, destroy_makes_none, values_are}
 use Rattle.moved_functions.proofs.Split.{IsSplit, split}
-use Rattle.rewriting_order.specs.inner.Laws.{MovingKeepsBases, MovingKeepsBorrowable, MovingLetsNoneBorrow}
+use Rattle.rewriting_order.specs.inner.Laws.{MovingKeepsBorrowable, MovingKeepsValues, MovingLetsNoneBorrow, MovingMakesNoCopy}
 use Rattle.rewriting_order.proofs.Apart.{copies_apart, unbegun_at}
 use Rattle.rewriting_order.proofs.ItemsBack.{apart_by_index, copy_first, place_of, stood}
 use Rattle.rewriting_order.proofs.MovedBack.{borrowable, moving, none_there, same_facts}
@@ -203,9 +203,23 @@ pub lets_none_borrow : MovingLetsNoneBorrow
 lets_none_borrow m f p q c v e w i copy never h here b = was_borrowable m i.number f i.verified i.there p c v copy h q e w here b
 
 pub keeps_borrowable : MovingKeepsBorrowable
-keeps_borrowable m f p q c v e w i copy never h here other none =
+keeps_borrowable m f p q c v e w i copy never h here other apart =
     (was_borrowable m i.number f i.verified i.there p c v copy h q e w here, borrowable_forth m i.number f i.verified i.there p c v copy h q e w here other none)
+  where
+    body : IsAcceptedBody m i.number f
+    body = record { verified = i.verified; body = record { there = i.there; body = in_body f p copy.inst copy.stands } }
 
-pub keeps_bases : MovingKeepsBases
-keeps_bases m f p c v w i copy never h =
-    ap (λ (fs : ValueId → Option Facts). (known_or fs w).bases) (same_facts m i.number f i.verified i.there p c v copy h)
+    none : has (known_or (facts_of m f) w).bases v.0 ≡ false
+    none = false_from_ne_true (has (known_or (facts_of m f) w).bases v.0) (λ base. apart (ap (λ (x : ValueId). x.0) (own_base m i.number f body v h.owned w base)))
+
+pub makes_no_copy : MovingMakesNoCopy
+makes_no_copy m f p q c v e w i copy h here = (old_point p h.last q, stood_here m i.number f i.verified i.there p c v copy h q e w here)
+
+pub keeps_values : MovingKeepsValues
+keeps_values m f p c v i copy h =
+    let s : IsSplit f p h.last c v = split f p h.last c v copy h.next.behind h.next.destroyed in
+    record {
+      values = values_are m i.number f i.verified i.there s;
+      facts = same_facts m i.number f i.verified i.there p c v copy h;
+      borrows = borrows_are m i.number f i.verified i.there s;
+    }

@@ -4,9 +4,11 @@ ghost use Rattle.rewriting_order.specs.inner.Laws.{
   LaterOnesAreLeft,
   LendingKeepsBases,
   LendingKeepsBorrowable,
-  MovingKeepsBases,
+  LendingMakesNoCopy,
   MovingKeepsBorrowable,
+  MovingKeepsValues,
   MovingLetsNoneBorrow,
+  MovingMakesNoCopy,
 };
 
 /// Behind the rewriting of the first copy that can go, each copy that can go comes later in the text.
@@ -24,7 +26,7 @@ pub fn lending_keeps_bases()
     ensures { LendingKeepsBases }
 {}
 
-/// A move of a copy of `v` changes that at most for `v` itself and for the copies of values that have `v` as a base.
+/// A move of a copy of `v` changes that at most for `v` itself and for the other copies of `v`.
 pub fn moving_keeps_borrowable()
     ensures { MovingKeepsBorrowable }
 {}
@@ -34,7 +36,17 @@ pub fn moving_lets_none_borrow()
     ensures { MovingLetsNoneBorrow }
 {}
 
-/// All values keep their bases where a copy is moved.
-pub fn moving_keeps_bases()
-    ensures { MovingKeepsBases }
+/// Where a copy is lent no copy is made.
+pub fn lending_makes_no_copy()
+    ensures { LendingMakesNoCopy }
+{}
+
+/// Where a copy is moved no copy is made.
+pub fn moving_makes_no_copy()
+    ensures { MovingMakesNoCopy }
+{}
+
+/// All values keep their kinds, bases and borrows where a copy is moved.
+pub fn moving_keeps_values()
+    ensures { MovingKeepsValues }
 {}

@@ -1,11 +1,13 @@
 -- What the rewriting of one copy changes for the other copies of an accepted module.
-use Rattle.std.specs.Prelude.{◌≡◌, ◌≢◌, ◌↔◌, ℕ, false, Some, slice_get}
+use Rattle.std.specs.Prelude.{◌≡◌, ◌≢◌, ◌↔◌, ℕ, Some, slice_get}
 use Rattle.sil_ast.specs.declared.function.Function.{Function}
 use Rattle.sil_ast.specs.declared.module.Module.{Module}
 use Rattle.sil_ast.specs.declared.place.PointId.{PointId}
 use Rattle.sil_ast.specs.declared.place.ValueId.{ValueId}
 use Rattle.sil_rules.specs.Order.{NotAfter}
-use Rattle.ownership_chains.specs.Facts.{has, known_or}
+use Rattle.numbered_form.specs.Numbering.{values_of}
+use Rattle.value_tables.specs.Borrows.{borrows_of}
+use Rattle.ownership_chains.specs.Facts.{known_or}
 use Rattle.moved_functions.specs.copy_removal.Copies.{IsCopy}
 use Rattle.moved_functions.specs.copy_removal.Removable.{IsBorrowable, IsMovable}
 use Rattle.moved_functions.specs.copy_removal.Rewritten.{lent, moved}
@@ -29,11 +31,11 @@ LendingKeepsBorrowable = (m : Module) (f : Function) (p q : PointId) (c v d w : 
     → IsBorrowable (facts_of m f) f c v
     → let g : Function = lent c f in IsCopy g q d w → IsBorrowable (facts_of m g) g d w ↔ IsBorrowable (facts_of m f) f d w
 
--- a move of a copy of v changes that at most for v itself, which the move ends, and for the copies of values that have v as a base
+-- a move of a copy of v changes that at most for v itself, which the move ends, and for the other copies of v
 abbrev pub MovingKeepsBorrowable : Type 0
 MovingKeepsBorrowable = (m : Module) (f : Function) (p q : PointId) (c v d w : ValueId) → IsVerifiedIn m f → IsCopy f p c v
     → ¬ IsBorrowable (facts_of m f) f c v → (h : IsMovable (facts_of m f) f p c v)
-    → let g : Function = moved p h.last f in IsCopy g q d w → d.0 ≢ v.0 → has (known_or (facts_of m f) w).bases v.0 ≡ false
+    → let g : Function = moved p h.last f in IsCopy g q d w → d.0 ≢ v.0 → w.0 ≢ v.0
     → IsBorrowable (facts_of m g) g d w ↔ IsBorrowable (facts_of m f) f d w
 
 -- and no copy can be a borrow behind it that couldn't before
@@ -42,11 +44,27 @@ MovingLetsNoneBorrow = (m : Module) (f : Function) (p q : PointId) (c v d w : Va
     → ¬ IsBorrowable (facts_of m f) f c v → (h : IsMovable (facts_of m f) f p c v)
     → let g : Function = moved p h.last f in IsCopy g q d w → IsBorrowable (facts_of m g) g d w → IsBorrowable (facts_of m f) f d w
 
+-- what is a copy where one is lent was one before
+abbrev pub LendingMakesNoCopy : Type 0
+LendingMakesNoCopy = (f : Function) (q : PointId) (c d w : ValueId) → IsCopy (lent c f) q d w → IsCopy f q d w
+
+-- and where one is moved
+abbrev pub MovingMakesNoCopy : Type 0
+MovingMakesNoCopy = (m : Module) (f : Function) (p q : PointId) (c v d w : ValueId) → IsVerifiedIn m f → IsCopy f p c v
+    → (h : IsMovable (facts_of m f) f p c v) → IsCopy (moved p h.last f) q d w → (o : PointId) × IsCopy f o d w
+
 -- all values keep their bases
 abbrev pub LendingKeepsBases : Type 0
 LendingKeepsBases = (m : Module) (f : Function) (p : PointId) (c v w : ValueId) → IsVerifiedIn m f → IsCopy f p c v → IsBorrowable (facts_of m f) f c v
     → (known_or (facts_of m (lent c f)) w).bases ≡ (known_or (facts_of m f) w).bases
 
-abbrev pub MovingKeepsBases : Type 0
-MovingKeepsBases = (m : Module) (f : Function) (p : PointId) (c v w : ValueId) → IsVerifiedIn m f → IsCopy f p c v → ¬ IsBorrowable (facts_of m f) f c v
-    → (h : IsMovable (facts_of m f) f p c v) → (known_or (facts_of m (moved p h.last f)) w).bases ≡ (known_or (facts_of m f) w).bases
+-- the second function has the values of the first one, with the same kinds, bases and borrows
+pub record HasValuesOf (m : Module) (f g : Function) : Type 0 where
+  pub values : values_of g.blocks ≡ values_of f.blocks
+  pub facts : facts_of m g ≡ facts_of m f
+  pub borrows : borrows_of g ≡ borrows_of f
+
+-- all values stay as they are
+abbrev pub MovingKeepsValues : Type 0
+MovingKeepsValues = (m : Module) (f : Function) (p : PointId) (c v : ValueId) → IsVerifiedIn m f → IsCopy f p c v → (h : IsMovable (facts_of m f) f p c v)
+    → HasValuesOf m f (moved p h.last f)

@@ -1,11 +1,21 @@
-use Rattle.std.proofs.Common.{ap, ◌∙◌}
-use Rattle.std.proofs.lemmas.Result.{IfOk-weaker}
+use Rattle.std.proofs.Common.{length, sym, ap, ◌∙◌}
+use Rattle.numbered_form.specs.Numbering.{values_of}
 use Rattle.ownership_chains.specs.Facts.{has}
-use Rattle.copy_pairing.proofs.MovedCopies.{unlent_by}
+use Rattle.ownership_kinds.specs.Facts.{facts_in}
+use Rattle.copy_pairing.proofs.MovedCopies.{empty_is, unlent_by, unlent_without}
+use Rattle.copy_pairing.proofs.Sizes.{borrows_count}
 use Rattle.copy_pairing.proofs.moves.is_unlent.Goals as goal
 
-pub returns : goal.returns
-returns c = IfOk-weaker c.are_free_at.result _ _
-    (λ r h count facts by. unlent_by c.args.f.now c.args.g.now c.args.k.now c.args.borrows.now c.requires.borrows c.requires.size count facts by c.args.copied.value c.args.copied.operand
-    c.deref.result.now (λ n. ap (λ v. has v n) c.deref.ensures.value ∙ c.in_ok-scopes.ensures n) r (h count facts by))
-    c.are_free_at.ensures
+pub returns-then-is_empty-clause-unlent : goal.returns-then-is_empty-clause-unlent
+returns-then-is_empty-clause-unlent c =
+    unlent_without c.args.f.now c.args.notes.survey.found.kinds c.as_slice.result.now (c.as_slice.ensures.value ∙ c.requires.values.borrows)
+    (ap length (c.as_slice.ensures.value ∙ c.requires.values.borrows) ∙ borrows_count c.args.f.now ∙ sym c.requires.values.size) (facts_in c.args.types.now c.args.f.now) c.requires.values.facts
+    c.args.copied.value c.args.copied.operand c.as_slice-lenders.result.now (λ n. ap (λ v. has v n) c.as_slice-lenders.ensures.value ∙ c.in_ok-scopes.ensures n)
+    (empty_is c.as_slice-lenders.result.now (sym c.is_empty.ensures ∙ c.if-is_empty.true))
+
+pub returns-clause-unlent : goal.returns-clause-unlent
+returns-clause-unlent c =
+    unlent_by c.args.f.now c.args.notes.survey.found.kinds c.as_slice.result.now (c.as_slice.ensures.value ∙ c.requires.values.borrows)
+    (ap length (c.as_slice.ensures.value ∙ c.requires.values.borrows) ∙ borrows_count c.args.f.now ∙ sym c.requires.values.size) (facts_in c.args.types.now c.args.f.now) c.requires.values.facts
+    c.args.copied.value c.args.copied.operand c.as_slice-lenders.result.now (λ n. ap (λ v. has v n) c.as_slice-lenders.ensures.value ∙ c.in_ok-scopes.ensures n) c.in_ok-free.free
+    (c.in_ok-free.ensures (length (values_of c.args.f.now.blocks)) (facts_in c.args.types.now c.args.f.now) c.in_ok-notes.ensures.survey.kinds.kinds)

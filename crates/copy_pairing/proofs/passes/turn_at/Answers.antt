@@ -2,12 +2,15 @@ use Rattle.std.proofs.Common.{sym}
 use Rattle.std.proofs.lemmas.Result.{IfOk-weaker}
 use Rattle.sil_verifier.proofs.accepted_modules.typed_graph_laws.Functions.{graphs_by_blocks}
 use Rattle.copy_pairing.proofs.Answered.{contains_at}
-use Rattle.copy_pairing.proofs.KeptSurveys.{kept_in}
-use Rattle.copy_pairing.proofs.TurnsThere.{no_turn, turn_there}
+use Rattle.copy_pairing.proofs.KeptNotes.{kept_in}
+use Rattle.copy_pairing.proofs.TurnsThere.{no_turn, no_turn_there, turn_there, turns_there}
 use Rattle.copy_pairing.proofs.passes.turn_at.Goals as goal
 
 pub returns-in-None-clause-turn : goal.returns-in-None-clause-turn
 returns-in-None-clause-turn c = no_turn c.args.m.now c.args.function c.args.p (sym c.in-None.ensures.value)
+
+pub returns-in-None-clause-there : goal.returns-in-None-clause-there
+returns-in-None-clause-there c = no_turn_there c.args.m.now c.args.types.now c.args.function c.args.p (sym c.in-None.ensures.value)
 
 pub turn_in-requires-clause-of_module : goal.turn_in-requires-clause-of_module
 turn_in-requires-clause-of_module c =
@@ -29,3 +32,8 @@ pub returns-in-Some-clause-kept : goal.returns-in-Some-clause-kept
 returns-in-Some-clause-kept c = IfOk-weaker c.turn_in.result _ _
     (λ r h. kept_in c.args.types.now c.args.m.now c.args.function c.in-Some.f.now r.1 (sym c.in-Some.ensures.value) h)
     c.turn_in.ensures.kept
+
+pub returns-in-Some-clause-there : goal.returns-in-Some-clause-there
+returns-in-Some-clause-there c = IfOk-weaker c.turn_in.result _ _
+    (λ r h. turns_there c.args.m.now c.args.types.now c.args.function c.in-Some.f.now c.args.p r.0 (sym c.in-Some.ensures.value) h)
+    c.turn_in.ensures.turn

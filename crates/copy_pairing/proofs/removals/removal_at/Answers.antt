@@ -1,17 +1,16 @@
-use Rattle.std.proofs.Common.{subst}
+use Rattle.std.proofs.lemmas.Result.{IfOk-weaker}
 use Rattle.ownership_kinds.specs.Facts.{facts_in}
-use Rattle.copy_pairing.specs.inner.Turns.{IsTurnIn}
-use Rattle.copy_pairing.proofs.TurnsThere.{lend_removal, move_removal, stay_removal}
+use Rattle.copy_pairing.proofs.Answered.{body_of_copy, removal_same}
 use Rattle.copy_pairing.proofs.removals.removal_at.Goals as goal
 
-pub returns-in-Stay : goal.returns-in-Stay
-returns-in-Stay c = stay_removal (facts_in c.args.types.now c.args.f.now) c.args.f.now c.args.p
-    (subst (IsTurnIn (facts_in c.args.types.now c.args.f.now) c.args.f.now c.args.p) c.in-Stay.is c.in_ok-turn.ensures.turn)
+pub returns-in-None : goal.returns-in-None
+returns-in-None c = λ v w copy. absurd (c.in-None.ensures.none v w copy)
 
-pub returns-in-Lend : goal.returns-in-Lend
-returns-in-Lend c = lend_removal (facts_in c.args.types.now c.args.f.now) c.args.f.now c.args.p _
-    (subst (IsTurnIn (facts_in c.args.types.now c.args.f.now) c.args.f.now c.args.p) c.in-Lend.is c.in_ok-turn.ensures.turn)
+pub removal_of-requires-clause-graph : goal.removal_of-requires-clause-graph
+removal_of-requires-clause-graph c = c.requires.graph (body_of_copy c.args.f.now c.args.p c.in-Some.copied.value c.in-Some.copied.operand c.in-Some.ensures.some)
 
-pub returns : goal.returns
-returns c = move_removal (facts_in c.args.types.now c.args.f.now) c.args.f.now c.args.p _
-    (subst (IsTurnIn (facts_in c.args.types.now c.args.f.now) c.args.f.now c.args.p) c.in-Move.is c.in_ok-turn.ensures.turn)
+pub returns-in-Some : goal.returns-in-Some
+returns-in-Some c = IfOk-weaker c.removal_of.result _ _
+    (λ r h v w other.
+    removal_same (facts_in c.args.types.now c.args.f.now) c.args.f.now c.args.p c.in-Some.copied.value c.in-Some.copied.operand v w r c.in-Some.ensures.some other h)
+    c.removal_of.ensures
