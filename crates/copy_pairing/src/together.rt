@@ -200,7 +200,8 @@ pub(crate) fn held_at_ends(
     requires graph { IsGraphOf g.now f.now }
     requires size { length copied.now ≡ length k.now.table }
     ensures size { IfOk result (λ v. length v.items ≡ length copied.now) }
-    ensures found { IfOk result (λ v. (count : ℕ) (facts : ValueId → Option Facts) → AreKindsBy count facts f.now g.now k.now → AreFound facts f.now copied.now v.items) }
+    ensures found { IfOk result (λ v. (count : ℕ) (facts : ValueId → Option Facts) → AreKindsBy count facts f.now g.now k.now →
+        AreFound facts f.now copied.now v.items) }
 {
     let _values = k.values();
     let _blocks = g.blocks();

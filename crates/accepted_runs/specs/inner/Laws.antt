@@ -22,7 +22,8 @@ AreStatesRight = OnRuns (λ m e f bound. (steps : ℕ) (s : HolderState) → run
 
 -- a step from a right state leads to a right one
 abbrev pub AreStepsRight : Type 0
-AreStepsRight = (m : Module) (bound : ℕ) (s next : HolderState) → IsVerified m → IsRightState m s → step m (facts_of m) bound s ≡ Goes next → IsRightState m next
+AreStepsRight = (m : Module) (bound : ℕ) (s next : HolderState) → IsVerified m → IsRightState m s → step m (facts_of m) bound s ≡ Goes next
+    → IsRightState m next
 
 -- it ends in no fault that is excluded
 abbrev pub NoRunFaults : Type 0
