@@ -1,0 +1,6 @@
+pub mod Points
+pub mod Names
+pub mod Memories
+pub mod Frames
+pub mod Numbers
+pub mod States
