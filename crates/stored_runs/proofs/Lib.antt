@@ -1,0 +1,2 @@
+pub mod CellsFor
+pub mod MemoriesFor
