@@ -1,2 +1,3 @@
 pub mod CellsFor
 pub mod MemoriesFor
+pub mod ValuesFor
