@@ -1,3 +1,4 @@
 pub mod CellsFor
 pub mod MemoriesFor
 pub mod ValuesFor
+pub mod StoredCounts

@@ -1,3 +1,4 @@
+use Rattle.stored_runs.proofs.StoredCounts.{new_at}
 use Rattle.stored_runs.proofs.MemoriesFor.{place_taken}
 use Rattle.stored_runs.proofs.ValuesFor.{behind_put}
 use Rattle.stored_runs.proofs.laws.operands_are_current.Goals as goal
