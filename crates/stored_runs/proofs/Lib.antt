@@ -2,3 +2,4 @@ pub mod CellsFor
 pub mod MemoriesFor
 pub mod ValuesFor
 pub mod StoredCounts
+pub mod SameRows

@@ -4,3 +4,4 @@ pub mod Memories
 pub mod Frames
 pub mod Numbers
 pub mod States
+pub mod EffectsFor
