@@ -3,3 +3,4 @@ pub mod MemoriesFor
 pub mod ValuesFor
 pub mod StoredCounts
 pub mod SameRows
+pub mod LoweredCode
