@@ -4,3 +4,4 @@ pub mod ValuesFor
 pub mod StoredCounts
 pub mod SameRows
 pub mod LoweredCode
+pub mod Reading

@@ -143,72 +143,71 @@ module _ (d : Declarations) (shapes low_shapes : ModuleShapes) (values low_value
   calls_for [] = tt
   calls_for (f ∷ args) = some_for (λ g. effects.Calls g args) (λ g. effects.Calls g args) (as_function f) (as_function f) refl (λ g. refl)
 
-  module _ (at : RowEffect → List Datum → Effect HolderFault) (low_at : RowEffect → List Datum → Effect LowFault)
-      (places_for : (r : RowEffect) (xs : List Datum) → IsEffectFor (at r xs) (low_at r xs)) where
-    -- what the row does beside memory, by its operands
-    pub row_for : (r : RowEffect) (xs : List Datum) → IsEffectFor (effect_by d shapes values m i at r xs) (effect_by d low_shapes low_values low (renumbered_inst number i) low_at r xs)
-    row_for row.NoEffect xs = gives_for []
-    row_for row.GivesLiteral xs = some_for (λ n. gives_value m (value.Int n)) (λ n. gives_value low (value.Int n)) i.number i.number refl (λ n. gives_for (ValueOf (value.Int n) ∷ []))
-    row_for row.GivesFunction xs = some_for (λ g. gives m (FunctionOf g ∷ [])) (λ g. gives low (FunctionOf g ∷ [])) i.function i.function refl (λ g. gives_for (FunctionOf g ∷ []))
-    row_for row.Computes xs =
+  module _ (at : RowEffect → List Datum → Effect HolderFault) (low_at : RowEffect → List Datum → Effect LowFault) where
+    -- what the row does beside memory, by its operands. At places it does what is said
+    pub row_for : (r : RowEffect) (xs : List Datum) → IsEffectFor (at r xs) (low_at r xs) → IsEffectFor (effect_by d shapes values m i at r xs) (effect_by d low_shapes low_values low (renumbered_inst number i) low_at r xs)
+    row_for row.NoEffect xs place = gives_for []
+    row_for row.GivesLiteral xs place = some_for (λ n. gives_value m (value.Int n)) (λ n. gives_value low (value.Int n)) i.number i.number refl (λ n. gives_for (ValueOf (value.Int n) ∷ []))
+    row_for row.GivesFunction xs place = some_for (λ g. gives m (FunctionOf g ∷ [])) (λ g. gives low (FunctionOf g ∷ [])) i.function i.function refl (λ g. gives_for (FunctionOf g ∷ []))
+    row_for row.Computes xs place =
         let o = option_and_then (builtin_value i.text) (option_and_then (all_of integer_of) (values_of xs)) in
         some_for (gives_value m) (gives_value low) o o refl (λ x. gives_for (ValueOf x ∷ []))
-    row_for row.TrapsWhereSet xs =
+    row_for row.TrapsWhereSet xs place =
         let o = option_and_then as_value (only xs) in
         some_for (λ x. with_some (effects.traps_where d shapes values m i) (integer_of x))
         (λ x. with_some (effects.traps_where d low_shapes low_values low (renumbered_inst number i)) (integer_of x)) o o refl
         (λ x. some_for (effects.traps_where d shapes values m i) (effects.traps_where d low_shapes low_values low (renumbered_inst number i)) (integer_of x) (integer_of x) refl
         (λ n. either_for (is_set n) _ (gives m []) _ (gives low []) refl (gives_for [])))
-    row_for row.MakesObject xs =
+    row_for row.MakesObject xs place =
         some_for (effects.makes_object d shapes values m i) (effects.makes_object d low_shapes low_values low (renumbered_inst number i))
         (class_in (effects.result_shape d shapes values m i)) (class_in (effects.result_shape d low_shapes low_values low (renumbered_inst number i))) (ap class_in shape) object_for
-    row_for row.MakesSlot xs = slot_for
-    row_for row.RemovesSlot xs = places_for row.RemovesSlot xs
-    row_for row.GivesOperand xs = some_for (λ x. gives m (x ∷ [])) (λ x. gives low (x ∷ [])) (only xs) (only xs) refl (λ x. gives_for (x ∷ []))
-    row_for row.CopiesOperand xs =
+    row_for row.MakesSlot xs place = slot_for
+    row_for row.RemovesSlot xs place = place
+    row_for row.GivesOperand xs place = some_for (λ x. gives m (x ∷ [])) (λ x. gives low (x ∷ [])) (only xs) (only xs) refl (λ x. gives_for (x ∷ []))
+    row_for row.CopiesOperand xs place =
         some_for (effects.copies d shapes values m i) (effects.copies d low_shapes low_values low (renumbered_inst number i)) (only xs) (only xs) refl copies_for
-    row_for row.RetainsOperand xs =
+    row_for row.RetainsOperand xs place =
         some_for (effects.retains d shapes values m i) (effects.retains d low_shapes low_values low (renumbered_inst number i)) (only xs) (only xs) refl retains_for
-    row_for row.DropsOperand xs =
+    row_for row.DropsOperand xs place =
         some_for (effects.drops d shapes values m i) (effects.drops d low_shapes low_values low (renumbered_inst number i)) (only xs) (only xs) refl drops_for
-    row_for row.LoadsValue xs = places_for row.LoadsValue xs
-    row_for row.StoresValue xs = places_for row.StoresValue xs
-    row_for row.DestroysPlace xs = places_for row.DestroysPlace xs
-    row_for row.LoadsName xs = places_for row.LoadsName xs
-    row_for row.Groups xs =
+    row_for row.LoadsValue xs place = place
+    row_for row.StoresValue xs place = place
+    row_for row.DestroysPlace xs place = place
+    row_for row.LoadsName xs place = place
+    row_for row.Groups xs place =
         some_for (λ vs. gives_value m (grouped vs)) (λ vs. gives_value low (grouped vs)) (values_of xs) (values_of xs) refl (λ vs. gives_for (ValueOf (grouped vs) ∷ []))
-    row_for row.ChoosesCase xs =
+    row_for row.ChoosesCase xs place =
         some_for (λ k. with_some (effects.chooses d shapes values m i k) (values_of xs))
         (λ k. with_some (effects.chooses d low_shapes low_values low (renumbered_inst number i) k) (values_of xs))
         (case_place (effects.result_shape d shapes values m i) i.member) (case_place (effects.result_shape d low_shapes low_values low (renumbered_inst number i)) i.member)
         (ap (λ s. case_place s i.member) shape)
         (λ k. some_for (effects.chooses d shapes values m i k) (effects.chooses d low_shapes low_values low (renumbered_inst number i) k) (values_of xs) (values_of xs) refl (chooses_for k))
-    row_for row.GivesMember xs =
+    row_for row.GivesMember xs place =
         let o = option_and_then as_value (only xs) in
         some_for (effects.gives_member d shapes values m i (part_number d i))
         (effects.gives_member d low_shapes low_values low (renumbered_inst number i) (part_number d (renumbered_inst number i))) o o refl
         (λ x. some_for (gives_value m) (gives_value low) (option_and_then (λ k. effects.member_of d shapes values m i k x) (part_number d i))
         (option_and_then (λ k. effects.member_of d shapes values m i k x) (part_number d (renumbered_inst number i)))
         (ap (option_and_then (λ k. effects.member_of d shapes values m i k x)) part_same) (λ y. gives_for (ValueOf y ∷ [])))
-    row_for row.GivesMembers xs =
+    row_for row.GivesMembers xs place =
         let o = option_and_then as_value (only xs) in
         some_for (effects.gives_members d shapes values m i) (effects.gives_members d low_shapes low_values low (renumbered_inst number i)) o o refl
         (λ x. some_for (λ members. gives m (map ValueOf members)) (λ members. gives low (map ValueOf members)) (members_of x) (members_of x) refl (λ ys. gives_for (map ValueOf ys)))
-    row_for row.AddressesMember xs =
+    row_for row.AddressesMember xs place =
         let o = option_and_then as_place (only xs) in
         some_for (effects.names_member d shapes values m i (part_number d i))
         (effects.names_member d low_shapes low_values low (renumbered_inst number i) (part_number d (renumbered_inst number i))) o o refl
         (λ p. some_for (λ q. gives m (AddressOf q ∷ [])) (λ q. gives low (AddressOf q ∷ [])) (option_and_then (places.member_place p) (part_number d i))
         (option_and_then (places.member_place p) (part_number d (renumbered_inst number i))) (ap (option_and_then (places.member_place p)) part_same)
         (λ q. gives_for (AddressOf q ∷ [])))
-    row_for row.AddressesField xs =
+    row_for row.AddressesField xs place =
         let o = option_and_then as_value (only xs) in
         some_for (effects.names_field d shapes values m i) (effects.names_field d low_shapes low_values low (renumbered_inst number i)) o o refl
         (λ x. some_for (effects.names_field_of d shapes values m i i.member (part_number d i))
         (effects.names_field_of d low_shapes low_values low (renumbered_inst number i) i.member (part_number d (renumbered_inst number i))) (object_of x) (object_of x) refl
         (λ q. subst (λ k. IsEffectFor (effects.names_field_of d shapes values m i i.member (part_number d i) q)
         (effects.names_field_of d low_shapes low_values low (renumbered_inst number i) i.member k q)) (sym part_same) (field_for i.member (part_number d i) q)))
-    row_for row.CallsFunction xs = calls_for xs
+    row_for row.CallsFunction xs place = calls_for xs
 
   -- ---- at places
 

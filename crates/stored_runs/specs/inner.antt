@@ -5,3 +5,4 @@ pub mod Frames
 pub mod Numbers
 pub mod States
 pub mod EffectsFor
+pub mod Lowering

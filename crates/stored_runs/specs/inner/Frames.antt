@@ -18,13 +18,13 @@ use Rattle.lowered_run.specs.holder_model.Standing.{stands_at}
 use Rattle.lowered_run.specs.holder_model.States.{Drops, Finishes, Runs, Task}
 use Rattle.lowered_run.specs.LowFrames as low_frames
 use Rattle.lowered_run.specs.LowFrames.{LowFrame}
-use Rattle.stored_runs.specs.inner.Names.{IsCurrent, lowered_count, lowered_number}
+use Rattle.stored_runs.specs.inner.Names.{IsCurrent, IsOld, lowered_count, lowered_number}
 use Rattle.stored_runs.specs.inner.Points.{lowered_point}
 
 -- each current value whose entry is there has the same datum under its lowered number
 abbrev pub AreValuesFor : Declarations → Function → List Item → List Entry → List (Option Datum) → Type 0
 AreValuesFor d f t entries values =
-    (v : ValueId) (x : Datum) → datum_in (entry_at entries v) ≡ Some x → IsCurrent f t v → low_frames.value_at values (lowered_number d f v) ≡ Some x
+    (v : ValueId) (x : Datum) → datum_in (entry_at entries v) ≡ Some x → IsOld f v × IsCurrent f t v → low_frames.value_at values (lowered_number d f v) ≡ Some x
 
 -- a part that the function was given by its address is full in the lowered run, even where it was taken
 abbrev pub AreGivenPartsFull : Function → List Entry → Memory → Type 0
