@@ -5,3 +5,4 @@ pub mod StoredCounts
 pub mod SameRows
 pub mod LoweredCode
 pub mod Reading
+pub mod StayingSteps

@@ -31,7 +31,7 @@ use Rattle.stored_runs.specs.inner.Points.{insts_before, insts_of, lowered_lengt
 
 -- ---- lists
 
-mapped_at : {A B : Type 0} (f : A → B) (xs : List A) (k : ℕ) (x : A) → slice_get xs k ≡ Some x → slice_get (map f xs) k ≡ Some (f x)
+pub mapped_at : {A B : Type 0} (f : A → B) (xs : List A) (k : ℕ) (x : A) → slice_get xs k ≡ Some x → slice_get (map f xs) k ≡ Some (f x)
 mapped_at f [] k x e = absurd (none-some x e)
 mapped_at f (y ∷ xs) zero x e = ap (λ z. Some (f z)) (same_Some y x e)
 mapped_at f (y ∷ xs) (suc k) x e = mapped_at f xs k x e

@@ -27,14 +27,14 @@ use Rattle.lowered_run.specs.LowFrames.{and_others, put_all, read_all, there}
 
 -- ---- results of the run by holders
 
-ok-ok : {A : Type 0} (x y : A) → ◌≡◌ {A = Result A HolderFault} (Ok x) (Ok y) → x ≡ y
+pub ok-ok : {A : Type 0} (x y : A) → ◌≡◌ {A = Result A HolderFault} (Ok x) (Ok y) → x ≡ y
 ok-ok x y e = ap (by x) e
   where
     by : {A : Type 0} → A → Result A HolderFault → A
     by d (Ok x) = x
     by d (Err x) = d
 
-err-ok : {A : Type 0} (x : HolderFault) (y : A) → ◌≡◌ {A = Result A HolderFault} (Err x) (Ok y) → ⊥
+pub err-ok : {A : Type 0} (x : HolderFault) (y : A) → ◌≡◌ {A = Result A HolderFault} (Err x) (Ok y) → ⊥
 err-ok x y e = subst by e tt
   where
     by : {A : Type 0} → Result A HolderFault → Type 0

@@ -32,17 +32,19 @@ AreGivenPartsFull f entries low =
     (v : ValueId) (p : Place) → makes f v item.Entry ≡ true → datum_in (entry_at entries v) ≡ Some (AddressOf p) → p.is_part ≡ true
     → is_some (value_at low p) ≡ true
 
-module _ (m : Module) (memory : Memory) where
-  -- both stand at the same place, and have the same slots. The memory is that of the lowered run
+-- both stand at the same place of the function, and have the same slots
+pub record IsFrameAt (d : Declarations) (f : Function) (frame : Frame) (low : LowFrame) : Type 0 where
+  pub function : low.function ≡ frame.function
+  pub at : low.at ≡ lowered_point d f (stands_at f frame.trail)
+  pub slots : low.slots ≡ frame.slots
+  pub size : length low.values ≡ lowered_count d f
+  pub values : AreValuesFor d f frame.trail frame.entries low.values
+
+module _ (m : Module) where
   pub record IsFrameFor (frame : Frame) (low : LowFrame) : Type 0 where
     pub f : Function
     pub there : slice_get m.functions frame.function.0 ≡ Some f
-    pub function : low.function ≡ frame.function
-    pub at : low.at ≡ lowered_point (declarations_of m) f (stands_at f frame.trail)
-    pub slots : low.slots ≡ frame.slots
-    pub size : length low.values ≡ lowered_count (declarations_of m) f
-    pub values : AreValuesFor (declarations_of m) f frame.trail frame.entries low.values
-    pub parts : AreGivenPartsFull f frame.entries memory
+    pub frames : IsFrameAt (declarations_of m) f frame low
 
   pub data IsTaskFor : Task Frame → Task LowFrame → Type 0 where
     runs : (frame : Frame) (low : LowFrame) → IsFrameFor frame low → IsTaskFor (Runs frame) (Runs low)
@@ -51,3 +53,9 @@ module _ (m : Module) (memory : Memory) where
 
   abbrev pub AreTasksFor : List (Task Frame) → List (Task LowFrame) → Type 0
   AreTasksFor tasks low = AllZip IsTaskFor tasks low
+
+  -- the parts that each frame was given. The memory is that of the lowered run
+  abbrev pub HasFullParts : Memory → Task Frame → Type 0
+  HasFullParts low (Runs frame) = (f : Function) → slice_get m.functions frame.function.0 ≡ Some f → AreGivenPartsFull f frame.entries low
+  HasFullParts low (Drops references) = Unit {0}
+  HasFullParts low (Finishes deinits o) = Unit {0}
