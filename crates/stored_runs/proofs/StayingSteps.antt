@@ -65,7 +65,7 @@ use Rattle.stored_runs.specs.inner.Points.{lowered_point}
 use Rattle.stored_runs.proofs.LoweredCode.{IsLoweredTo, lowered_inst, mapped_at}
 use Rattle.stored_runs.proofs.Reading.{behind_current, defines_there, taken_read, taken_renumbered, takes_there}
 use Rattle.stored_runs.proofs.SameRows.{none_dead, row_for}
-use Rattle.stored_runs.proofs.ValuesFor.{AreTakenSo, IsGivenAlive, err-ok, ok-ok, operands_given, results_shown}
+use Rattle.stored_runs.proofs.ValuesFor.{ArePut, AreTakenSo, IsGivenAlive, err-ok, ok-ok, operands_given, results_shown}
 
 -- ---- parts of steps
 
@@ -127,6 +127,52 @@ low_top m frame rest tasks l h is = at l.tasks refl (subst (λ ts. AreTasksFor m
     at (x ∷ ts) e k =
         let top = low_frame m frame x k.0 in
         record { low = top.0; others = ts; is_top = e ∙ ap (λ y. y ∷ ts) top.1; of = top.2; rest_for = k.1 }
+
+module _ (d : Declarations) (told : ModuleShapes) (values : List Shape) (low : Memory) (i : Inst) (xs : List Datum) where
+  operated_none : (r : RowEffect) → find (is_dead low) (flat_map references_in xs) ≡ None → find (is_dead low) (low_effects.operated_on d told values low i r xs) ≡ None
+  operated_none row.NoEffect e = refl
+  operated_none row.GivesLiteral e = refl
+  operated_none row.GivesFunction e = refl
+  operated_none row.Computes e = refl
+  operated_none row.TrapsWhereSet e = refl
+  operated_none row.MakesObject e = refl
+  operated_none row.MakesSlot e = refl
+  operated_none row.RemovesSlot e = refl
+  operated_none row.GivesOperand e = refl
+  operated_none row.CopiesOperand e = refl
+  operated_none row.RetainsOperand e = refl
+  operated_none row.DropsOperand e = refl
+  operated_none row.LoadsValue e = refl
+  operated_none row.StoresValue e = refl
+  operated_none row.DestroysPlace e = refl
+  operated_none row.LoadsName e = refl
+  operated_none row.Groups e = refl
+  operated_none row.ChoosesCase e = refl
+  operated_none row.GivesMember e = refl
+  operated_none row.GivesMembers e = refl
+  operated_none row.AddressesMember e = refl
+  operated_none row.AddressesField e = e
+  operated_none row.CallsFunction e = refl
+
+each_weaker : {A : Type 0} (P Q : A → Type 0) → ((x : A) → P x → Q x) → (xs : List A) → Each P xs → Each Q xs
+each_weaker P Q h [] e = tt
+each_weaker P Q h (x ∷ xs) e = (h x e.0, each_weaker P Q h xs e.1)
+
+pub dropping_for : (m : Module) (os : List ObjectId) (ts : List (Task Frame)) (us : List (Task LowFrame)) → AreTasksFor m ts us → AreTasksFor m (dropping os ts) (dropping os us)
+dropping_for m [] ts us h = h
+dropping_for m (o ∷ os) ts us h = (IsTaskFor.drops (o ∷ os), h)
+
+-- what the lowered step leads to, but for its numbers: those are told
+pub record GoesSo (m : Module) (bound : ℕ) (l : LowState) (tasks : List (Task Frame)) (memory : Memory) (retained : List ObjectId) (stored : List Numbers) : Type 0 where
+  pub l' : LowState
+  pub step : steps.low_step (lowered m) (shapes_of (lowered m)) bound l ≡ Goes l'
+  pub tasks_for : AreTasksFor m tasks l'.tasks
+  pub memory_for : IsMemoryFor memory l'.memory
+  pub numbers : l'.numbers ≡ numbers_for l'.memory (each_changed one_more retained stored)
+  pub events : l'.events ≡ l.events
+  pub turns : l'.turns ≡ l.turns
+  pub retains : l'.retains ≡ l.retains + length retained
+  pub releases : l'.releases ≡ l.releases
 
 -- ---- the step
 
@@ -201,3 +247,98 @@ module _ (m : Module) (bound : ℕ) where
           ap (read_all top.low.values) (takes_there lf top.low.at j low_here ∙ taken_renumbered number i ∙ ap (map number) (sym (takes_there f p i here)))
           ∙ taken_read d f lowers.named frame.trail s.memory facts frame.entries top.low.values (item_taken f (item.Inst p)) ops.given frames.values
           (lowers.taken (item.Inst p) is_item) (lowers.current frame.trail (item.Inst p) turned) taken_so.given
+
+      low_change : IsEffectFor (Makes c) (effect_by d low_told (shapes_in low_told top.low.function) l.memory j
+          (low_effects.at_places d low_told (shapes_in low_told top.low.function) l.memory j) (effect_of i.op) ops.given)
+      low_change =
+          subst (λ e. IsEffectFor e (effect_by d low_told (shapes_in low_told top.low.function) l.memory j
+          (low_effects.at_places d low_told (shapes_in low_told top.low.function) l.memory j) (effect_of i.op) ops.given)) makes
+          (row_for d (shapes_of m) low_told (shapes_in (shapes_of m) frame.function) (shapes_in low_told top.low.function) s.memory l.memory number i memory refl shape
+          (holder.at_places d (shapes_of m) (shapes_in (shapes_of m) frame.function) s.memory i)
+          (low_effects.at_places d low_told (shapes_in low_told top.low.function) l.memory j) (effect_of i.op) ops.given place)
+
+      abbrev c' : Change
+      c' = low_change.0
+
+      so : IsChangeFor c c'
+      so = low_change.2
+
+      low_makes : effect_in (lowered m) low_told bound l top.low j ops.given ≡ Makes c'
+      low_makes =
+          ap (low_effects.dead_or d low_told (shapes_in low_told top.low.function) l.memory j (effect_by d low_told (shapes_in low_told top.low.function) l.memory j
+          (low_effects.at_places d low_told (shapes_in low_told top.low.function) l.memory j) (effect_of i.op) ops.given))
+          (operated_none d low_told (shapes_in low_told top.low.function) l.memory j ops.given (effect_of i.op)
+          (operated_alive s.memory l.memory memory facts frame.entries (item_taken f (item.Inst p)) ops.given taken_so.given))
+          ∙ low_change.1
+
+      own : Each (IsOwnName f) i.results
+      own = lowers.results p i here keeps
+
+      putting : ArePut number facts i.results c.results entries top.low.values (λ v. IsOld f v × IsCurrent f frame.trail v)
+      putting =
+          results_shown number facts i.results c.results ops.left entries top.low.values (λ v. IsOld f v × IsCurrent f frame.trail v)
+          (each_weaker (IsOwnName f) (λ r. (number r).0 < length top.low.values)
+          (λ r o. subst (λ n. (number r).0 < n) (sym frames.size) (lowers.named.few r o.0)) i.results own)
+          (ap (λ rs. results_put facts rs c.results ops.left) (sym (defines_there f p i here)) ∙ put)
+          (λ v x e ok. frames.values v x (taken_so.stays v x e) ok)
+
+      abbrev named : LowState
+      named = steps.with_names (lowered m) low_told bound l top.low j ops.given
+
+      abbrev next : LowState
+      next = moved (lowered m) low_told bound (retained c'.retained named) top.others top.low lf (item.Inst top.low.at) c' slots putting.values'
+
+      goes : GoesBehind (lowered m) low_told bound named top.others top.low lf (item.Inst top.low.at) c' (Goes next)
+      goes =
+          GoesBehind.goes slots putting.values'
+          (ap (slots_behind c'.slots) frames.slots ∙ ap (λ x. slots_behind x frame.slots) so.slots ∙ slots_for c.slots frame.slots slots slots_left)
+          (ap (λ rs. put_all rs c'.results top.low.values) (defines_there lf top.low.at j low_here)
+          ∙ ap (λ xs. put_all (map number i.results) xs top.low.values) so.results ∙ putting.is)
+          (ap (find (is_dead l.memory)) so.retained ∙ none_dead s.memory l.memory memory c.retained alive)
+
+      way : StepsBy (lowered m) low_told bound l (Goes next)
+      way =
+          StepsBy.runs top.low top.others lf (Goes next) top.is_top
+          (ap (λ g. slice_get (lowered m).functions g.0) frames.function ∙ function_there frame.function.0 f there lowers.form)
+          (Acts.does j ops.given (Goes next) low_here low_read
+          (subst (λ e. Performs (lowered m) low_told bound named top.others top.low lf (item.Inst top.low.at) e (Goes next)) (sym low_makes)
+          (Performs.makes c' (Goes next) goes)))
+
+      frame_for : IsFrameFor m (record frame { trail = item.Inst p ∷ frame.trail; entries = entries; slots = slots; lent = [] })
+          (record top.low { at = point_behind top.low.at; values = putting.values'; slots = slots })
+      frame_for = record {
+        f = f;
+        there = there;
+        frames = record {
+          function = frames.function;
+          at = behind_at;
+          slots = refl;
+          size = putting.size ∙ frames.size;
+          values = behind_current d f lowers.named frame.trail (item.Inst p) i.results (defines_there f p i here) own entries putting.values' putting.shown;
+        };
+      }
+
+      tasks_so : AreTasksFor m (dropping c.dropped (Runs (record frame { trail = item.Inst p ∷ frame.trail; entries = entries; slots = slots; lent = [] }) ∷ rest)) next.tasks
+      tasks_so =
+          subst (λ os. AreTasksFor m (dropping c.dropped (Runs (record frame { trail = item.Inst p ∷ frame.trail; entries = entries; slots = slots; lent = [] }) ∷ rest))
+          (dropping os (Runs (record top.low { at = point_behind top.low.at; values = putting.values'; slots = slots }) ∷ top.others))) (sym so.dropped)
+          (dropping_for m c.dropped (Runs (record frame { trail = item.Inst p ∷ frame.trail; entries = entries; slots = slots; lent = [] }) ∷ rest)
+          (Runs (record top.low { at = point_behind top.low.at; values = putting.values'; slots = slots }) ∷ top.others) (IsTaskFor.runs _ _ frame_for, top.rest_for))
+
+      same_state : retained c'.retained named ≡ record named { numbers = each_changed one_more c'.retained named.numbers; retains = named.retains + length c'.retained }
+      same_state = retained_so c'.retained named
+
+      -- the lowered step
+      pub staying_step : GoesSo m bound l (dropping c.dropped (Runs (record frame { trail = item.Inst p ∷ frame.trail; entries = entries; slots = slots; lent = [] }) ∷ rest))
+          c.memory c.retained (stored_behind d low_told (shapes_in low_told top.low.function) l.memory j ops.given l.numbers)
+      staying_step = record {
+        l' = next;
+        step = told_taken (lowered m) low_told bound l (Goes next) way;
+        tasks_for = tasks_so;
+        memory_for = so.memory;
+        numbers = ap (numbers_for c'.memory) (ap (λ (x : LowState). x.numbers) same_state ∙ ap (λ os. each_changed one_more os named.numbers) so.retained);
+        events = ap (λ (x : LowState). x.events) same_state;
+        turns = ap (λ (x : LowState). x.turns) same_state;
+        retains = ap (λ (x : LowState). x.retains) same_state ∙ ap (λ os. l.retains + length os) so.retained;
+        releases = ap (λ (x : LowState). x.releases) same_state;
+      }
