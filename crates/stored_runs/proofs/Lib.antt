@@ -6,3 +6,4 @@ pub mod SameRows
 pub mod LoweredCode
 pub mod Reading
 pub mod StayingSteps
+pub mod NamedSteps

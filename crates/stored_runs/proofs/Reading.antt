@@ -2,8 +2,9 @@
 use Rattle.std.proofs.Common.{◌≡◌, ◌⊎◌, inl, inr, ⊎_elim, ℕ, zero, suc, List, [], ◌∷◌, ◌++◌, map, length, arith, refl, sym, ap, ◌∙◌, subst, Bool, true, false, not, ◌&&◌, ◌||◌, Option, Some, None, Ok, eq-eqb}
 use Rattle.std.specs.Prelude.{◌==◌}
 use Rattle.std.specs.List.{AllZip}
-use Rattle.std.proofs.lemmas.Bool.{and_parts, eqb-true, false≢true, or_cases, true≢false}
+use Rattle.std.proofs.lemmas.Bool.{and_parts, cases_Bool, eqb-false, eqb-true, false≢true, or_cases, true≢false}
 use Rattle.std.proofs.lemmas.List.{append-nil}
+use Rattle.std.proofs.lemmas.Option.{same_Some}
 use Rattle.instruction_table.specs.Forms.{roles_of}
 use Rattle.numbered_form.specs.Lists.{Each}
 use Rattle.sil_ast.specs.declared.function.Function.{Function}
@@ -25,7 +26,7 @@ use Rattle.run_values.specs.Memory.{Memory}
 use Rattle.accepted_trails.specs.inner.Defined.{makes}
 use Rattle.accepted_trails.specs.run_trails.inner.Since.{is_none_since}
 use Rattle.lowered_run.specs.holder_model.Data.{Datum}
-use Rattle.lowered_run.specs.holder_model.Frames.{Entry, datum_in, entry_at}
+use Rattle.lowered_run.specs.holder_model.Frames.{Entry, datum_in, entry_at, results_put}
 use Rattle.lowered_run.specs.LowFrames as low_frames
 use Rattle.lowered_run.specs.LowFrames.{read_all}
 use Rattle.lowered_run.specs.LowStepParts.{taken_value, values_taken}
@@ -35,7 +36,7 @@ use Rattle.lowering_laws.specs.lowering_model.Numbers.{renumbered_inst, renumber
 use Rattle.stored_runs.specs.inner.Frames.{AreValuesFor}
 use Rattle.stored_runs.specs.inner.Lowering.{IsOwnName, IsTakenOld}
 use Rattle.stored_runs.specs.inner.Names.{AreNamed, IsCurrent, IsOld, IsTakenCurrent, lowered_number}
-use Rattle.stored_runs.proofs.ValuesFor.{IsGivenAlive, Shown, Behind, behind_put, read_so}
+use Rattle.stored_runs.proofs.ValuesFor.{IsGivenAlive, OneChanged, Shown, Behind, behind_put, one_put, read_so}
 
 -- ---- under other numbers an instruction takes the same values
 
@@ -132,3 +133,36 @@ module _ (d : Declarations) (f : Function) (named : AreNamed d f) where
         λ e. of_kept r (same_as r own.0 e) (within r (has_here vs r r refl)) cases,
         apart_from vs own.1 (λ q h. within q (or_right (r.0 == q.0) (has vs q.0) h)),
       )
+
+  -- behind an item that gives another name to what stands under it
+  pub behind_renamed : (facts : ValueId → Option Facts) (t : List Item) (i : Item) (r : ValueId) (x : Datum) → item_defined f i ≡ r ∷ []
+      → (left entries : List Entry) (values : List (Option Datum)) → results_put facts (r ∷ []) (x ∷ []) left ≡ Ok entries
+      → low_frames.value_at values (number r) ≡ Some x → AreValuesFor d f t left values → AreValuesFor d f (i ∷ t) entries values
+  behind_renamed facts t i r x defined left entries values put under shown v y there ok = at (cases_Bool (v.0 == r.0))
+    where
+      one : OneChanged facts left entries r x
+      one = one_put facts left entries r x put
+
+      at : ((v.0 == r.0) ≡ true) ⊎ ((v.0 == r.0) ≡ false) → low_frames.value_at values (number v) ≡ Some y
+      at (inl same) =
+          let is : v ≡ r = same_id v r (eqb-true v.0 r.0 same) in
+          let worth : x ≡ y = same_Some x y (sym (one.here y (subst (λ u. datum_in (entry_at entries u) ≡ Some y) is there))) in
+          ap (λ u. low_frames.value_at values (number u)) is ∙ under ∙ ap Some worth
+      at (inr other) =
+          shown v y (ap datum_in (sym (one.others v other)) ∙ there)
+          (ok.0, ⊎_elim
+          (λ made. absurd (eqb-false v.0 r.0 other (sym (eqb-true r.0 v.0 (only_one (sym (ap (λ vs. has vs v.0) defined) ∙ made))))))
+          (λ kept. (and_parts (not (makes f (stands_for (renamings_of f) v) i)) (is_none_since (makes f (stands_for (renamings_of f) v)) (makes f v) t) kept).1)
+          (or_cases (makes f v i) (not (makes f (stands_for (renamings_of f) v) i) && is_none_since (makes f (stands_for (renamings_of f) v)) (makes f v) t) ok.1))
+        where
+          only_one : has (r ∷ []) v.0 ≡ true → (r.0 == v.0) ≡ true
+          only_one h = ⊎_elim (λ here. here) (λ later. absurd (false≢true later)) (or_cases (r.0 == v.0) false h)
+
+  -- behind an item that defines nothing
+  pub behind_nothing : (t : List Item) (i : Item) → item_defined f i ≡ [] → (entries : List Entry) (values : List (Option Datum))
+      → AreValuesFor d f t entries values → AreValuesFor d f (i ∷ t) entries values
+  behind_nothing t i defined entries values shown v y there ok =
+      shown v y there (ok.0, ⊎_elim
+      (λ made. absurd (false≢true (sym (ap (λ vs. has vs v.0) defined) ∙ made)))
+      (λ kept. (and_parts (not (makes f (stands_for (renamings_of f) v) i)) (is_none_since (makes f (stands_for (renamings_of f) v)) (makes f v) t) kept).1)
+      (or_cases (makes f v i) (not (makes f (stands_for (renamings_of f) v) i) && is_none_since (makes f (stands_for (renamings_of f) v)) (makes f v) t) ok.1))

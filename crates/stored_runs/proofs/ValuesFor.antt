@@ -176,6 +176,50 @@ value_other values v w x other =
     unwrap_or-slice_get (set values v.0 (Some x)) w.0 None ∙ get_or-set_other values v.0 w.0 (Some x) None (eqb-false w.0 v.0 other)
     ∙ sym (unwrap_or-slice_get values w.0 None)
 
+-- ---- entries that are made
+
+module _ (facts : ValueId → Option Facts) where
+  plain_datum : (x : Datum) (e : Entry) → plain_entry x ≡ Ok e → datum_in e ≡ Some x
+  plain_datum (ValueOf x) e is = at (has_any (references_of x)) is
+    where
+      at : (b : Bool) → cond b (Err WrongShape) (Ok (Plain (ValueOf x))) ≡ Ok e → datum_in e ≡ Some (ValueOf x)
+      at true q = absurd (err-ok WrongShape e q)
+      at false q = sym (ap datum_in (ok-ok (Plain (ValueOf x)) e q))
+  plain_datum (AddressOf p) e is = sym (ap datum_in (ok-ok _ e is)) ∙ at p.home
+    where
+      at : (h : Home) → datum_in (plain_address h (AddressOf p)) ≡ Some (AddressOf p)
+      at OnStack = refl
+      at (Inside o) = refl
+  plain_datum (FunctionOf g) e is = sym (ap datum_in (ok-ok (Plain (FunctionOf g)) e is))
+
+  made_datum : (k : Kind) (x : Datum) (e : Entry) → made_entry k x ≡ Ok e → datum_in e ≡ Some x
+  made_datum kind.Owned x e is = sym (ap datum_in (ok-ok (Held x) e is))
+  made_datum kind.Guaranteed x e is = sym (ap datum_in (ok-ok (Lent x) e is))
+  made_datum kind.Plain x e is = plain_datum x e is
+
+  put_set : (entries left : List Entry) (v : ValueId) (e : Entry) → put_entry entries v e ≡ Ok left → set entries v.0 e ≡ left
+  put_set entries left v e is = at (is_held (entry_at entries v)) is
+    where
+      at : (b : Bool) → cond b (Err OverwritesHeld) (Ok (set entries v.0 e)) ≡ Ok left → set entries v.0 e ≡ left
+      at true q = absurd (err-ok OverwritesHeld left q)
+      at false q = ok-ok (set entries v.0 e) left q
+
+  -- one entry is changed, and the others stay
+  pub record OneChanged (entries behind : List Entry) (r : ValueId) (x : Datum) : Type 0 where
+    pub here : (y : Datum) → datum_in (entry_at behind r) ≡ Some y → Some y ≡ Some x
+    pub others : (v : ValueId) → (v.0 == r.0) ≡ false → entry_at behind v ≡ entry_at entries v
+
+  pub one_put : (entries behind : List Entry) (r : ValueId) (x : Datum) → results_put facts (r ∷ []) (x ∷ []) entries ≡ Ok behind → OneChanged entries behind r x
+  one_put entries behind r x is =
+      let first = with_parts (results_put facts [] []) (with_ok (put_entry entries r) (made_entry (known_or facts r).kind x)) behind is in
+      let parts = with_parts (put_entry entries r) (made_entry (known_or facts r).kind x) first.0 first.1 in
+      let same : set entries r.0 parts.0 ≡ behind = put_set entries first.0 r parts.0 parts.2 ∙ ok-ok first.0 behind first.2 in
+      subst (λ es. OneChanged entries es r x) same (record {
+        here = λ y e. sym (entry_same entries r.0 parts.0 y e) ∙ made_datum (known_or facts r).kind x parts.0 parts.1;
+        others = λ v other. entry_other entries r v parts.0 other;
+      })
+
+
 module _ (number : ValueId → ValueId) where
   -- each of these values whose entry is there has its datum under its number
   abbrev pub Shown : (ValueId → Type 0) → List Entry → List (Option Datum) → Type 0
@@ -190,31 +234,6 @@ module _ (number : ValueId → ValueId) where
   Behind (r ∷ rs) ok = Behind rs (OrWritten r ok)
 
   module _ (facts : ValueId → Option Facts) where
-    plain_datum : (x : Datum) (e : Entry) → plain_entry x ≡ Ok e → datum_in e ≡ Some x
-    plain_datum (ValueOf x) e is = at (has_any (references_of x)) is
-      where
-        at : (b : Bool) → cond b (Err WrongShape) (Ok (Plain (ValueOf x))) ≡ Ok e → datum_in e ≡ Some (ValueOf x)
-        at true q = absurd (err-ok WrongShape e q)
-        at false q = sym (ap datum_in (ok-ok (Plain (ValueOf x)) e q))
-    plain_datum (AddressOf p) e is = sym (ap datum_in (ok-ok _ e is)) ∙ at p.home
-      where
-        at : (h : Home) → datum_in (plain_address h (AddressOf p)) ≡ Some (AddressOf p)
-        at OnStack = refl
-        at (Inside o) = refl
-    plain_datum (FunctionOf g) e is = sym (ap datum_in (ok-ok (Plain (FunctionOf g)) e is))
-
-    made_datum : (k : Kind) (x : Datum) (e : Entry) → made_entry k x ≡ Ok e → datum_in e ≡ Some x
-    made_datum kind.Owned x e is = sym (ap datum_in (ok-ok (Held x) e is))
-    made_datum kind.Guaranteed x e is = sym (ap datum_in (ok-ok (Lent x) e is))
-    made_datum kind.Plain x e is = plain_datum x e is
-
-    put_set : (entries left : List Entry) (v : ValueId) (e : Entry) → put_entry entries v e ≡ Ok left → set entries v.0 e ≡ left
-    put_set entries left v e is = at (is_held (entry_at entries v)) is
-      where
-        at : (b : Bool) → cond b (Err OverwritesHeld) (Ok (set entries v.0 e)) ≡ Ok left → set entries v.0 e ≡ left
-        at true q = absurd (err-ok OverwritesHeld left q)
-        at false q = ok-ok (set entries v.0 e) left q
-
     -- one result is put under its number
     one_shown : (r : ValueId) (x : Datum) (entries behind : List Entry) (values : List (Option Datum)) (ok : ValueId → Type 0) → (number r).0 < length values
         → with_ok (put_entry entries r) (made_entry (known_or facts r).kind x) ≡ Ok behind → Shown ok entries values
@@ -225,13 +244,13 @@ module _ (number : ValueId → ValueId) where
         parts = with_parts (put_entry entries r) (made_entry (known_or facts r).kind x) behind is
 
         there' : datum_in (entry_at (set entries r.0 parts.0) v) ≡ Some y
-        there' = ap (λ es. datum_in (entry_at es v)) (put_set entries behind r parts.0 parts.2) ∙ there
+        there' = ap (λ es. datum_in (entry_at es v)) (put_set facts entries behind r parts.0 parts.2) ∙ there
 
         at : ((v.0 == r.0) ≡ true) ⊎ ((v.0 == r.0) ≡ false) → OrWritten r ok v → low_frames.value_at (set values (number r).0 (Some x)) (number v) ≡ Some y
         at (inl same) so =
             let one : v.0 ≡ r.0 = eqb-true v.0 r.0 same in
             let here : datum_in parts.0 ≡ Some y = entry_same entries r.0 parts.0 y (subst (λ n. datum_in (unwrap_or (slice_get (set entries r.0 parts.0) n) Gone) ≡ Some y) one there') in
-            let worth : Some x ≡ Some y = sym (made_datum (known_or facts r).kind x parts.0 parts.1) ∙ here in
+            let worth : Some x ≡ Some y = sym (made_datum facts (known_or facts r).kind x parts.0 parts.1) ∙ here in
             subst (λ u. low_frames.value_at (set values (number r).0 (Some x)) (number u) ≡ Some y) (same_number r v (sym one)) (value_set values (number r) x small ∙ worth)
         at (inr other) (inl one) = absurd (eqb-false v.0 r.0 other one)
         at (inr other) (inr (differ, k)) =

@@ -1,0 +1,128 @@
+-- Instructions that give another name to their operand, retain or release it: none or one step of the lowered run.
+use Rattle.std.proofs.Common.{◌≡◌, ℕ, zero, suc, ◌+◌, List, [], ◌∷◌, ◌++◌, map, length, arith, refl, sym, ap, ◌∙◌, subst, Bool, true, false, cond, Option, Some, None, Ok}
+use Rattle.std.specs.Prelude.{find, slice_get}
+use Rattle.std.specs.List.{AllZip, list_any}
+use Rattle.std.proofs.lemmas.Option.{same_Some}
+use Rattle.instruction_table.specs.declared.op.Op.{Op}
+use Rattle.instruction_table.specs.declared.op.Op.TheVariants as op
+use Rattle.numbered_form.specs.Lists.{Each}
+use Rattle.sil_ast.specs.declared.function.Function.{Function}
+use Rattle.sil_ast.specs.declared.inst.Inst.{Inst}
+use Rattle.sil_ast.specs.declared.module.Module.{Module}
+use Rattle.sil_ast.specs.declared.operands.Operand.{Operand}
+use Rattle.sil_ast.specs.declared.place.ObjectId.{ObjectId}
+use Rattle.sil_ast.specs.declared.place.PointId.{PointId}
+use Rattle.sil_ast.specs.declared.place.ValueId.{ValueId}
+use Rattle.sil_cfg.specs.declared.item.Item.TheVariants as item
+use Rattle.item_operands.specs.Items.{item_defined, item_taken}
+use Rattle.item_operands.specs.Parts.{inst_at}
+use Rattle.item_operands.specs.Roles.{taken_by}
+use Rattle.ownership_chains.specs.declared.facts.Facts.{Facts}
+use Rattle.type_definitions.specs.Declarations.{Declarations, declarations_of}
+use Rattle.type_definitions.specs.Rules.{is_class_type}
+use Rattle.run_values.specs.Memory.{Memory, is_dead}
+use Rattle.run_values.specs.Places.{Place}
+use Rattle.run_values.specs.Shapes.{Shape}
+use Rattle.lowered_run.specs.holder_model.Data.{Datum, references_in}
+use Rattle.lowered_run.specs.holder_model.Effects as effects
+use Rattle.lowered_run.specs.holder_model.Effects.{Change, Effect, Makes, effect_of, unchanged}
+use Rattle.lowered_run.specs.holder_model.Frames.{Entry, Frame, Operands, results_put}
+use Rattle.lowered_run.specs.holder_model.HolderStates.{HolderState}
+use Rattle.lowered_run.specs.holder_model.ModuleFacts.{facts_of, facts_told}
+use Rattle.lowered_run.specs.holder_model.ModuleShapes.{ModuleShapes, shapes_in, shapes_of}
+use Rattle.lowered_run.specs.holder_model.Outcomes.{Numbers}
+use Rattle.lowered_run.specs.holder_model.Standing.{point_behind, stands_at}
+use Rattle.lowered_run.specs.holder_model.States.{Goes, Runs, Task, dropping}
+use Rattle.lowered_run.specs.holder_model.declared.row_effect.RowEffect.{RowEffect}
+use Rattle.lowered_run.specs.holder_model.declared.row_effect.RowEffect.TheVariants as row
+use Rattle.lowered_run.specs.declared.low_fault.LowFault.{LowFault}
+use Rattle.lowered_run.specs.LowEffects as low_effects
+use Rattle.lowered_run.specs.LowEffects.{low_effect, stored_behind, stored_by}
+use Rattle.lowered_run.specs.LowFrames as low_frames
+use Rattle.lowered_run.specs.LowFrames.{LowFrame, put_all, read_all}
+use Rattle.lowered_run.specs.LowStepParts.{LowNext, LowState, numbers_for, slots_behind, taken_value, values_taken}
+use Rattle.lowered_run.specs.LowSteps as steps
+use Rattle.lowering_laws.specs.lowering_model.LoweredBlocks.{value_with}
+use Rattle.lowering_laws.specs.lowering_model.LoweredInsts.{becomes, becomes_by, lowering_of}
+use Rattle.lowering_laws.specs.lowering_model.LoweredModules.{lowered, lowered_body}
+use Rattle.lowering_laws.specs.lowering_model.NewInsts.{by_class, release, retain}
+use Rattle.lowering_laws.specs.lowering_model.Numbers.{renumbered_inst}
+use Rattle.lowering_laws.specs.lowering_model.declared.lowering.Lowering.TheVariants as lowering
+use Rattle.lowering_laws.specs.sil_types.Typing.RowTypes.{passes}
+use Rattle.lowered_steps.specs.inner.LowWays.{Acts, GoesBehind, Performs, StepsBy, effect_in, moved, retained}
+use Rattle.lowered_steps.proofs.LowTaken.{told_taken}
+use Rattle.stored_runs.specs.inner.Frames.{AreTasksFor, AreValuesFor, IsFrameAt, IsFrameFor, IsTaskFor}
+use Rattle.stored_runs.specs.inner.Lowering.{LowersSo}
+use Rattle.stored_runs.specs.inner.Memories.{IsMemoryFor}
+use Rattle.stored_runs.specs.inner.Names.{lowered_number}
+use Rattle.stored_runs.specs.inner.Points.{lowered_point}
+use Rattle.stored_runs.proofs.LoweredCode.{IsLoweredTo, lowered_inst}
+use Rattle.stored_runs.proofs.Reading.{behind_nothing, behind_renamed, defines_there, taken_renumbered, takes_there}
+use Rattle.stored_runs.proofs.SameRows.{none_dead}
+use Rattle.stored_runs.proofs.StayingSteps.{GoesSo, LowTop, dropping_for, function_there, retained_so}
+
+-- ---- one instruction of the lowered code
+
+module _ (m : Module) (bound : ℕ) (l : LowState) (low : LowFrame) (others : List (Task LowFrame)) (is_top : l.tasks ≡ Runs low ∷ others) (lf : Function)
+    (there : slice_get (lowered m).functions low.function.0 ≡ Some lf) where
+  abbrev low_told : ModuleShapes
+  low_told = shapes_of (lowered m)
+
+  -- it reads its operands, and makes a change
+  pub inst_goes : (j : Inst) (xs : List Datum) (c : Change) (slots : List Place) (values : List (Option Datum)) → inst_at lf low.at ≡ Some j
+      → read_all low.values (values_taken lf (item.Inst low.at)) ≡ Ok xs
+      → effect_in (lowered m) low_told bound l low j xs ≡ Makes c → slots_behind c.slots low.slots ≡ Ok slots → put_all j.results c.results low.values ≡ Some values
+      → find (is_dead l.memory) c.retained ≡ None
+      → steps.low_step (lowered m) low_told bound l
+        ≡ Goes (moved (lowered m) low_told bound (retained c.retained (steps.with_names (lowered m) low_told bound l low j xs)) others low lf (item.Inst low.at) c slots values)
+  inst_goes j xs c slots values here read eff is put alive =
+      let next = moved (lowered m) low_told bound (retained c.retained (steps.with_names (lowered m) low_told bound l low j xs)) others low lf (item.Inst low.at) c slots values in
+      told_taken (lowered m) low_told bound l (Goes next)
+      (StepsBy.runs low others lf (Goes next) is_top there
+      (Acts.does j xs (Goes next) here read
+      (subst (λ e. Performs (lowered m) low_told bound (steps.with_names (lowered m) low_told bound l low j xs) others low lf (item.Inst low.at) e (Goes next)) (sym eff)
+      (Performs.makes c (Goes next) (GoesBehind.goes slots values is (ap (λ rs. put_all rs c.results low.values) (defines_there lf low.at j here) ∙ put) alive)))))
+
+-- ---- retains and releases
+
+module _ (d : Declarations) (o : Operand) where
+  retain_op : (b : Bool) → effect_of (cond b op.StrongRetain op.RetainValue) ≡ row.RetainsOperand
+  retain_op true = refl
+  retain_op false = refl
+
+  release_op : (b : Bool) → effect_of (cond b op.StrongRelease op.ReleaseValue) ≡ row.DropsOperand
+  release_op true = refl
+  release_op false = refl
+
+  pub retain_takes : map taken_value (taken_by (retain d o)) ≡ o.value ∷ []
+  retain_takes = by (passes (is_class_type d) o.ty)
+    where
+      by : (b : Bool) → map taken_value (taken_by (record (retain d o) { op = cond b op.StrongRetain op.RetainValue })) ≡ o.value ∷ []
+      by true = refl
+      by false = refl
+
+  pub release_takes : map taken_value (taken_by (release d o)) ≡ o.value ∷ []
+  release_takes = by (passes (is_class_type d) o.ty)
+    where
+      by : (b : Bool) → map taken_value (taken_by (record (release d o) { op = cond b op.StrongRelease op.ReleaseValue })) ≡ o.value ∷ []
+      by true = refl
+      by false = refl
+
+  module _ (number : ValueId → ValueId) (told : ModuleShapes) (values : List Shape) (memory : Memory) (x : Datum) where
+    pub retain_effect : low_effect d told values memory (renumbered_inst number (retain d o)) (x ∷ []) ≡ Makes (record (unchanged memory) { retained = references_in x })
+    retain_effect =
+        ap (λ r. low_effects.unless_dead d told values memory (renumbered_inst number (retain d o)) (low_effects.operated_on d told values memory (renumbered_inst number (retain d o)) r (x ∷ []))
+        (effects.effect_by d told values memory (renumbered_inst number (retain d o)) (low_effects.at_places d told values memory (renumbered_inst number (retain d o))) r (x ∷ [])))
+        (retain_op (passes (is_class_type d) o.ty))
+
+    pub release_effect : low_effect d told values memory (renumbered_inst number (release d o)) (x ∷ []) ≡ Makes (record (unchanged memory) { dropped = references_in x })
+    release_effect =
+        ap (λ r. low_effects.unless_dead d told values memory (renumbered_inst number (release d o)) (low_effects.operated_on d told values memory (renumbered_inst number (release d o)) r (x ∷ []))
+        (effects.effect_by d told values memory (renumbered_inst number (release d o)) (low_effects.at_places d told values memory (renumbered_inst number (release d o))) r (x ∷ [])))
+        (release_op (passes (is_class_type d) o.ty))
+
+    pub retain_stored : (stored : List Numbers) → stored_behind d told values memory (renumbered_inst number (retain d o)) (x ∷ []) stored ≡ stored
+    retain_stored stored = ap (λ r. stored_by d told values memory (renumbered_inst number (retain d o)) r (x ∷ []) stored) (retain_op (passes (is_class_type d) o.ty))
+
+    pub release_stored : (stored : List Numbers) → stored_behind d told values memory (renumbered_inst number (release d o)) (x ∷ []) stored ≡ stored
+    release_stored stored = ap (λ r. stored_by d told values memory (renumbered_inst number (release d o)) r (x ∷ []) stored) (release_op (passes (is_class_type d) o.ty))
