@@ -1,4 +1,4 @@
-use Rattle.stored_runs.proofs.NamedSteps.{inst_goes}
+use Rattle.stored_runs.proofs.NamedSteps.{copying_step}
 use Rattle.stored_runs.proofs.StayingSteps.{staying_step}
 use Rattle.stored_runs.proofs.Reading.{behind_current}
 use Rattle.stored_runs.proofs.LoweredCode.{lowered_end}
