@@ -7,3 +7,4 @@ pub mod LoweredCode
 pub mod Reading
 pub mod StayingSteps
 pub mod NamedSteps
+pub mod TaskSteps

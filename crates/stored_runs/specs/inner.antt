@@ -6,3 +6,4 @@ pub mod Numbers
 pub mod States
 pub mod EffectsFor
 pub mod Lowering
+pub mod Runs

@@ -1,3 +1,4 @@
+use Rattle.stored_runs.proofs.TaskSteps.{dropping_step}
 use Rattle.stored_runs.proofs.NamedSteps.{copying_step}
 use Rattle.stored_runs.proofs.StayingSteps.{staying_step}
 use Rattle.stored_runs.proofs.Reading.{behind_current}
