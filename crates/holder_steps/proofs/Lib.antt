@@ -1,1 +1,3 @@
 pub mod StepsTold
+pub mod TaskStacks
+pub mod WhichFaults

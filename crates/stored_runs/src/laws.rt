@@ -1,9 +1,8 @@
 //! Laws of lowered runs beside runs by holders, on calls that do nothing. The lemmas behind them are in `proofs/`.
 
-ghost use Rattle.stored_runs.specs.inner.States.{IsStateFor};
-ghost use Rattle.stored_runs.specs.inner.Names.{AreAcceptedCurrent};
+ghost use Rattle.stored_runs.specs.inner.Memories.{AreFullRead};
 
-/// What an item of an accepted function takes has its datum under its lowered number.
-pub fn operands_are_current()
-    ensures { AreAcceptedCurrent }
+/// What a full place holds is read in the lowered run too.
+pub fn full_places_are_read()
+    ensures { AreFullRead }
 {}

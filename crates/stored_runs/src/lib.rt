@@ -3,4 +3,4 @@
 
 mod laws;
 
-pub use laws::operands_are_current;
+pub use laws::full_places_are_read;

@@ -1,5 +1,5 @@
 -- The tasks of a run by holders, from the one that goes on down: what holds of each frame, and of what waits below it.
-use Rattle.std.specs.Prelude.{List, [], ◌∷◌, ◌×◌}
+use Rattle.std.specs.Prelude.{List, [], ◌∷◌}
 use Rattle.sil_ast.specs.declared.place.FuncId.{FuncId}
 use Rattle.sil_ast.specs.declared.place.ObjectId.{ObjectId}
 use Rattle.holder_model.specs.Frames.{Frame}

@@ -10,7 +10,6 @@ use Rattle.sil_ast.specs.declared.operands.Operand.{Operand}
 use Rattle.sil_ast.specs.declared.place.EdgeId.{EdgeId}
 use Rattle.sil_ast.specs.declared.place.FuncId.{FuncId}
 use Rattle.sil_ast.specs.declared.place.ObjectId.{ObjectId}
-use Rattle.sil_ast.specs.declared.place.PointId.{PointId}
 use Rattle.sil_cfg.specs.declared.item.Item.{Item}
 use Rattle.sil_cfg.specs.declared.item.Item.TheVariants as item
 use Rattle.item_operands.specs.Items.{item_defined, item_taken}
@@ -83,7 +82,8 @@ module _ (m : Module) (told : ModuleFacts) (bound : ℕ) where
   abbrev pub lent_at : Function → Item → List Datum → List LentPlace
   lent_at f i args = lent_places (drop 1 (item_taken f i)) args
 
-  pub data Performs (s : HolderState) (rest : List (Task Frame)) (frame : Frame) (f : Function) (i : Item) : effects.Effect HolderFault → HolderNext → Type 0 where
+  pub data Performs (s : HolderState) (rest : List (Task Frame)) (frame : Frame) (f : Function)
+      (i : Item) : effects.Effect HolderFault → HolderNext → Type 0 where
     makes : (c : Change) (next : HolderNext) → GoesBehind s rest frame f i c next → Performs s rest frame f i (effects.Makes c) next
     calls : (g : FuncId) (args : List Datum) (callee : Function) (next : HolderNext) → slice_get m.functions g.0 ≡ Some callee → has_any callee.blocks ≡ true
         → are_as_before s.memory (lent_at f i args) ≡ true
@@ -92,7 +92,7 @@ module _ (m : Module) (told : ModuleFacts) (bound : ℕ) where
     calls_out : (g : FuncId) (args : List Datum) (callee : Function) (numbers : List ℤ) (next : HolderNext) → slice_get m.functions g.0 ≡ Some callee
         → has_any callee.blocks ≡ false → steps.numbers_of m told bound args ≡ Some numbers → nat_lt s.turns bound ≡ true
         → GoesBehind (record (turned s) { events = s.events ++ event.Call g numbers ∷ [] }) rest frame f i
-          (record (unchanged s.memory) { results = ValueOf (value.Group value.NoValue) ∷ [] }) next
+        (record (unchanged s.memory) { results = ValueOf (value.Group value.NoValue) ∷ [] }) next
         → Performs s rest frame f i (effects.Calls g args) next
     no_turn : (g : FuncId) (args : List Datum) (callee : Function) (numbers : List ℤ) → slice_get m.functions g.0 ≡ Some callee
         → has_any callee.blocks ≡ false → steps.numbers_of m told bound args ≡ Some numbers → nat_lt s.turns bound ≡ false
@@ -119,7 +119,8 @@ module _ (m : Module) (told : ModuleFacts) (bound : ℕ) where
         → Reaches s x (Finishes deinits o ∷ rest) (Goes (record s { tasks = Finishes deinits o ∷ rest }))
     -- and these are faults
     no_value : as_value x ≡ None → Reaches s x [] (fault s WrongShape)
-    no_function : (frame : Frame) (rest : List (Task Frame)) → slice_get m.functions frame.function.0 ≡ None → Reaches s x (Runs frame ∷ rest) (fault s WrongShape)
+    no_function : (frame : Frame) (rest : List (Task Frame)) → slice_get m.functions frame.function.0 ≡ None
+        → Reaches s x (Runs frame ∷ rest) (fault s WrongShape)
     on_drops : (os : List ObjectId) (rest : List (Task Frame)) → Reaches s x (Drops os ∷ rest) (fault s WrongShape)
 
   -- the frame has lost the operands that ended
