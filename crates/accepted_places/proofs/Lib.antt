@@ -1,1 +1,9 @@
 pub mod OperationsRight
+pub mod PartsThere
+pub mod Followed
+pub mod PairsFollowed
+pub mod Stacked
+pub mod StackTops
+pub mod Items
+pub mod Made
+pub mod ItemStacks

@@ -27,7 +27,7 @@ use Rattle.type_definitions.specs.Declarations.{Declarations}
 -- all but this one
 abbrev pub without : ValueId → List ValueId → List ValueId
 without v [] = []
-without v (w ∷ slots) = cond (is_same v w) (without v slots) (w ∷ without v slots)
+without v (w ∷ slots) = cond (is_same w v) (without v slots) (w ∷ without v slots)
 
 -- the slots behind an access
 abbrev pub slots_by : List Source → Access → List ValueId → List ValueId
