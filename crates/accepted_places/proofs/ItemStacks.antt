@@ -38,7 +38,7 @@ use Rattle.numbered_form.specs.Lists.{Each}
 use Rattle.ownership_chains.specs.Facts.{has}
 use Rattle.ownership_marks.specs.Marks.{marks_of}
 use Rattle.path_patterns.specs.Marks.{needs_off}
-use Rattle.point_checks.proofs.Among.{among_contained, contained_among}
+use Rattle.point_checks.proofs.Among.{contained_among}
 use Rattle.sil_ast.specs.declared.function.Block.{Block}
 use Rattle.sil_ast.specs.declared.function.Function.{Function}
 use Rattle.sil_ast.specs.declared.inst.Inst.{Inst}
@@ -54,7 +54,7 @@ use Rattle.value_tables.specs.FirstValue.{first_value}
 use Rattle.accepted_places.specs.inner.Stacks.{AreNoneLeft, AreSlotsClosed, AreSlotsKept, AreSlotsOpened, IsNewest, keeps_slots, keeps_slots_by}
 use Rattle.accepted_places.specs.inner.Stacks.{slots_behind, slots_by, slots_on, without}
 use Rattle.accepted_places.proofs.Followed.{accesses_leave}
-use Rattle.accepted_places.proofs.Items.{IsOfMemory, all_append, all_of, ends_quiet, item_comes, mentions_quiet}
+use Rattle.accepted_places.proofs.Items.{IsOfMemory, all_append, all_of, each_contained, ends_quiet, item_comes, mentions_quiet}
 use Rattle.accepted_places.proofs.Made.{IsMadeBy, argument, made_so, result}
 use Rattle.accepted_places.proofs.OperationsRight.{of_slots}
 use Rattle.accepted_places.proofs.PartsThere.{allocation_there}
@@ -145,11 +145,6 @@ closes_opens _ e = absurd (false≢true e)
 abbrev pub opens_none : Option Inst → Bool
 opens_none None = true
 opens_none (Some i) = opens_no_slot (access_kind_of i.op)
-
-each_contained : {A : Type 0} (P : A → Type 0) (xs : List A) → ((x : A) → Contains xs x → P x) → Each P xs
-each_contained P [] h = tt
-each_contained P (x ∷ xs) h =
-    (h x (contained_among x (x ∷ xs) (inl refl)), each_contained P xs (λ y c. h y (contained_among y (x ∷ xs) (inr (among_contained y xs c)))))
 
 module _ (m : Module) (n : ℕ) (f : Function) (a : IsAcceptedBody m n f) where
   abbrev d : Declarations

@@ -1,25 +1,30 @@
 -- What the accesses of an item come to, one after another, where values that end, begin or are mentioned change nothing.
-use Rattle.std.proofs.Common.{◌≡◌, List, [], ◌∷◌, ◌++◌, map, refl, sym, ap, ◌∙◌, Bool, true, false, Option, Some, None}
-use Rattle.std.specs.Prelude.{cond, flat_map, unwrap_or}
+use Rattle.std.proofs.Common.{◌≡◌, List, [], ◌∷◌, ◌++◌, map, refl, sym, ap, ◌∙◌, Bool, true, false, inl, inr, Option, Some, None}
+use Rattle.std.specs.Prelude.{Contains, cond, flat_map, unwrap_or}
 use Rattle.accepted_memory.specs.memory_accesses.Accesses.{accesses_of, allowance_of, begins_by, begun, deallocations_of, does_of, ended, ends_by, made, mentioned, mentions_of}
-use Rattle.accepted_memory.specs.memory_accesses.Operations.{deallocates}
+use Rattle.accepted_memory.specs.memory_accesses.Operations.{addresses_of, deallocates, operations_of}
 use Rattle.accepted_memory.specs.memory_accesses.declared.access.Access.{Access}
-use Rattle.accepted_memory.specs.memory_accesses.declared.access.Access.TheVariants.{Begins, Ends, Mentions}
+use Rattle.accepted_memory.specs.memory_accesses.declared.access.Access.TheVariants.{Begins, Deallocates, Does, Ends, Mentions}
+use Rattle.accepted_memory.specs.memory_accesses.declared.access.Operated.{Operated}
 use Rattle.accepted_memory.specs.memory_accesses.declared.columns.Allowance.{Allowance}
 use Rattle.accepted_memory.specs.memory_accesses.declared.source.Source.{Source}
 use Rattle.accepted_memory.proofs.Turning.{turned_each}
+use Rattle.accepted_memory.proofs.accepted_trails.Tests.{each_of_both}
 use Rattle.item_operands.specs.Items.{item_defined, item_taken}
 use Rattle.item_operands.specs.Parts.{item_inst}
 use Rattle.item_operands.specs.declared.taken.Taken.{Taken}
+use Rattle.numbered_form.specs.Lists.{Each}
 use Rattle.ownership_chains.specs.declared.facts.Facts.{Facts}
 use Rattle.ownership_marks.specs.Marks.{marks_of}
 use Rattle.ownership_marks.specs.declared.mark.Mark.{Mark}
 use Rattle.ownership_marks.specs.declared.mark.MarkSort.{MarkSort}
 use Rattle.ownership_marks.specs.declared.mark.MarkSort.TheVariants.{Begin, End, Use}
+use Rattle.point_checks.proofs.Among.{among_contained, contained_among}
 use Rattle.sil_ast.specs.declared.function.Function.{Function}
 use Rattle.sil_ast.specs.declared.inst.Inst.{Inst}
 use Rattle.sil_ast.specs.declared.place.ValueId.{ValueId}
 use Rattle.sil_cfg.specs.declared.item.Item.{Item}
+use Rattle.accepted_places.proofs.PartsThere.{each_flat}
 
 module _ {X : Type 0} (step : Access → X → X) where
   abbrev pub all_of : List Access → X → X
@@ -98,3 +103,72 @@ turn_step turn a on = unwrap_or (turn a) on
 pub turned_all : (turn : Access → Option Bool) (accesses : List Access) (on : Bool) → turned_each turn accesses on ≡ all_of (turn_step turn) accesses on
 turned_all turn [] on = refl
 turned_all turn (a ∷ accesses) on = turned_all turn accesses (unwrap_or (turn a) on)
+
+-- ---- what holds of each access of an item
+
+pub each_contained : {A : Type 0} (P : A → Type 0) (xs : List A) → ((x : A) → Contains xs x → P x) → Each P xs
+each_contained P [] h = tt
+each_contained P (x ∷ xs) h =
+    (h x (contained_among x (x ∷ xs) (inl refl)), each_contained P xs (λ y c. h y (contained_among y (x ∷ xs) (inr (among_contained y xs c)))))
+
+pub each_mapped : {A B : Type 0} (P : B → Type 0) (g : A → B) (xs : List A) → Each (λ x. P (g x)) xs → Each P (map g xs)
+each_mapped P g [] h = tt
+each_mapped P g (x ∷ xs) h = (h.0, each_mapped P g xs h.1)
+
+module _ (P : Access → Type 0) (sources : List Source) (facts : ValueId → Option Facts) (f : Function) (i : Item)
+    (ends : (v : ValueId) → P (Ends v)) (begins : (v : ValueId) → P (Begins v)) (mentions : (v : ValueId) (a : Allowance) → P (Mentions v a))
+    (does : (x : Inst) → item_inst f i ≡ Some x → (o : Operated) → Contains (operations_of x) o → P (Does o))
+    (deallocates_one : (x : Inst) → item_inst f i ≡ Some x → deallocates x ≡ true → (v : ValueId) → Contains (addresses_of x) v → P (Deallocates v))
+    (makes_one : (v : ValueId) → Contains (item_defined f i) v → Each P (made sources v)) where
+  each_end : (v : ValueId) (sort : MarkSort) → Each P (ends_by v sort)
+  each_end v End = (ends v, tt)
+  each_end v Use = tt
+  each_end v Begin = tt
+
+  each_begin : (v : ValueId) (sort : MarkSort) → Each P (begins_by v sort)
+  each_begin v End = tt
+  each_begin v Use = tt
+  each_begin v Begin = (begins v, tt)
+
+  all_ends : (marks : List Mark) → Each (λ m. Each P (ended m)) marks
+  all_ends [] = tt
+  all_ends (m ∷ marks) = (each_end m.subject m.sort, all_ends marks)
+
+  all_begins : (marks : List Mark) → Each (λ m. Each P (begun m)) marks
+  all_begins [] = tt
+  all_begins (m ∷ marks) = (each_begin m.subject m.sort, all_begins marks)
+
+  all_mentions : (o : Option Inst) (ts : List Taken) → Each P (mentions_of o ts)
+  all_mentions None ts = tt
+  all_mentions (Some x) ts = at (deallocates x)
+    where
+      each : (ts : List Taken) → Each (λ t. P (mentioned (allowance_of x.op) t)) ts
+      each [] = tt
+      each (t ∷ ts) = (mentions t.value (allowance_of x.op), each ts)
+
+      at : (b : Bool) → Each P (cond b [] (map (mentioned (allowance_of x.op)) ts))
+      at true = tt
+      at false = each_mapped P (mentioned (allowance_of x.op)) ts (each ts)
+
+  all_does : (o : Option Inst) → item_inst f i ≡ o → Each P (does_of o)
+  all_does None is = tt
+  all_does (Some x) is = each_mapped P Does (operations_of x) (each_contained (λ o. P (Does o)) (operations_of x) (does x is))
+
+  all_deallocations : (o : Option Inst) → item_inst f i ≡ o → Each P (deallocations_of o)
+  all_deallocations None is = tt
+  all_deallocations (Some x) is = at (deallocates x) refl
+    where
+      at : (b : Bool) → deallocates x ≡ b → Each P (cond b (map Deallocates (addresses_of x)) [])
+      at true e = each_mapped P Deallocates (addresses_of x) (each_contained (λ v. P (Deallocates v)) (addresses_of x) (deallocates_one x is e))
+      at false e = tt
+
+  pub accesses_each : Each P (accesses_of sources facts f i)
+  accesses_each =
+      let marks : List Mark = marks_of facts f i in
+      each_of_both P (flat_map ended marks) _ (each_flat P ended marks (all_ends marks))
+      (each_of_both P (mentions_of (item_inst f i) (item_taken f i)) _ (all_mentions (item_inst f i) (item_taken f i))
+      (each_of_both P (does_of (item_inst f i)) _ (all_does (item_inst f i) refl)
+      (each_of_both P (deallocations_of (item_inst f i)) _ (all_deallocations (item_inst f i) refl)
+      (each_of_both P (flat_map (made sources) (item_defined f i)) _
+      (each_flat P (made sources) (item_defined f i) (each_contained (λ v. Each P (made sources v)) (item_defined f i) makes_one))
+      (each_flat P begun marks (all_begins marks))))))
