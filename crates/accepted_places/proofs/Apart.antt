@@ -47,10 +47,7 @@ apart (inside e one) here no_b no_a = absurd (true≢false no_b)
 apart (inside {s = s} {t = t} {u = p} {k = k} {path = a} e one) (inside {t = u} {u = q} {k = l} {path = b} g other) no_b no_a =
     by (cases_eq k l) (λ more no yes. apart one more no yes)
   where
-    abbrev Apart : Type 0
-    Apart = IsBefore s (k ∷ a) p (l ∷ b) ⊎ IsBefore s (l ∷ b) q (k ∷ a)
-
-    deeper : IsPart t b q → k ≡ l → IsBefore t a p b ⊎ IsBefore t b q a → Apart
+    deeper : IsPart t b q → k ≡ l → IsBefore t a p b ⊎ IsBefore t b q a → IsBefore s (k ∷ a) p (l ∷ b) ⊎ IsBefore s (l ∷ b) q (k ∷ a)
     deeper more same (inl before) =
         let first = inner s t k a e in
         let second = inner s u l b g in
@@ -66,7 +63,8 @@ apart (inside {s = s} {t = t} {u = p} {k = k} {path = a} e one) (inside {t = u} 
         let start = ap (offset (member_shapes s)) same in
         inr (omega (arith, first, second, cells, start, before))
 
-    by : (k ≡ l) ⊎ (k ≢ l) → (IsPart t b q → starts_with same_step a b ≡ false → starts_with same_step b a ≡ false → IsBefore t a p b ⊎ IsBefore t b q a) → Apart
+    by : (k ≡ l) ⊎ (k ≢ l) → (IsPart t b q → starts_with same_step a b ≡ false → starts_with same_step b a ≡ false → IsBefore t a p b ⊎ IsBefore t b q a)
+        → IsBefore s (k ∷ a) p (l ∷ b) ⊎ IsBefore s (l ∷ b) q (k ∷ a)
     by (inl same) further =
         let one_shape : u ≡ t = same_Some u t (sym g ∙ ap (slice_get (member_shapes s)) (sym same) ∙ e) in
         let more = subst (λ x. IsPart x b q) one_shape other in
@@ -74,7 +72,7 @@ apart (inside {s = s} {t = t} {u = p} {k = k} {path = a} e one) (inside {t = u} 
         (sym (ap (λ x. x && starts_with same_step b a) (eq-eqb k l same)) ∙ no_a))
     by (inr differ) further = at (cases_lt k l)
       where
-        at : (k < l) ⊎ (l ≤ k) → Apart
+        at : (k < l) ⊎ (l ≤ k) → IsBefore s (k ∷ a) p (l ∷ b) ⊎ IsBefore s (l ∷ b) q (k ∷ a)
         at (inl lt) = inl (ends_before s t u p q k l a b e g one other lt)
         at (inr le) = inr (ends_before s u t q p l k b a g e other one (omega (arith, differ)))
 

@@ -412,7 +412,7 @@ module _ (m : Module) (n : ℕ) (f : Function) (a : IsAcceptedBody m n f) (objec
     pub allowed : (t : List Item) (i : Item) → IsRunTrail f (i ∷ t) → is_on d f (Building object k) t ≡ Some true → (x : Inst) → item_inst f i ≡ Some x
         → deallocates x ≡ false → (y : Taken) → Contains (item_taken f i) y
         → is_forbidden sources (known_or (facts_in d f)) object y.value (allowance_of x.op) ≡ false
-    allowed t i h on x is open y c = at (is_forbidden sources (known_or (facts_in d f)) object y.value (allowance_of x.op)) refl
+    allowed t i h on x is unclosed y c = at (is_forbidden sources (known_or (facts_in d f)) object y.value (allowance_of x.op)) refl
       where
         split : (front rest : List Taken) × (item_taken f i ≡ front ++ y ∷ rest)
         split = split_at (item_taken f i) y (among_contained y (item_taken f i) c)
@@ -429,7 +429,7 @@ module _ (m : Module) (n : ℕ) (f : Function) (a : IsAcceptedBody m n f) (objec
         mentions : mentions_of (item_inst f i) (item_taken f i)
             ≡ map (mentioned (allowance_of x.op)) split.0 ++ (Mentions y.value (allowance_of x.op) ∷ map (mentioned (allowance_of x.op)) split.1)
         mentions =
-            ap (λ o. mentions_of o (item_taken f i)) is ∙ ap (λ b. cond b [] (map (mentioned (allowance_of x.op)) (item_taken f i))) open
+            ap (λ o. mentions_of o (item_taken f i)) is ∙ ap (λ b. cond b [] (map (mentioned (allowance_of x.op)) (item_taken f i))) unclosed
             ∙ ap (map (mentioned (allowance_of x.op))) split.2 ∙ mapped_append (mentioned (allowance_of x.op)) split.0 (y ∷ split.1)
 
         parts : accesses_in d f i ≡ before ++ Mentions y.value (allowance_of x.op) ∷ (map (mentioned (allowance_of x.op)) split.1 ++ others)
@@ -464,4 +464,4 @@ pub written_once : AreWrittenOnce
 written_once m n f a object k there t i h made is = unwritten_before m n f a object k there t i h made is
 
 pub unfinished_allowed : AreUnfinishedAllowed
-unfinished_allowed m n f a object k there t i h on x is open y c = allowed m n f a object k there t i h on x is open y c
+unfinished_allowed m n f a object k there t i h on x is unclosed y c = allowed m n f a object k there t i h on x is unclosed y c

@@ -37,6 +37,7 @@ use Rattle.item_operands.specs.Parts.{item_inst, terminator_in}
 use Rattle.numbered_form.specs.Lists.{Each}
 use Rattle.ownership_chains.specs.Facts.{has}
 use Rattle.ownership_marks.specs.Marks.{marks_of}
+use Rattle.ownership_marks.specs.declared.mark.Mark.{Mark}
 use Rattle.path_patterns.specs.Marks.{needs_off}
 use Rattle.point_checks.proofs.Among.{contained_among}
 use Rattle.sil_ast.specs.declared.function.Block.{Block}
@@ -138,7 +139,7 @@ keeps_opens access.Stores e = (refl, refl)
 keeps_opens access.Destroys e = (refl, refl)
 keeps_opens access.Passes e = (refl, refl)
 
-closes_opens : (k : AccessKind) → deallocates_by k ≡ true → opens_no_slot k ≡ true
+pub closes_opens : (k : AccessKind) → deallocates_by k ≡ true → opens_no_slot k ≡ true
 closes_opens access.DeallocatesSlot e = refl
 closes_opens _ e = absurd (false≢true e)
 
@@ -250,11 +251,11 @@ module _ (m : Module) (n : ℕ) (f : Function) (a : IsAcceptedBody m n f) where
 
   without_absent : (v : ValueId) (slots : List ValueId) → has slots v.0 ≡ false → without v slots ≡ slots
   without_absent v [] e = refl
-  without_absent v (w ∷ slots) e = by (w.0 == v.0) refl
+  without_absent v (w ∷ slots) e = by (λ none. without_absent v slots none) (w.0 == v.0) refl
     where
-      by : (b : Bool) → (w.0 == v.0) ≡ b → cond b (without v slots) (w ∷ without v slots) ≡ w ∷ slots
-      by true is = absurd (true≢false (sym (ap (λ b. b || has slots v.0) is) ∙ e))
-      by false is = ap (λ s. w ∷ s) (without_absent v slots (sym (ap (λ b. b || has slots v.0) is) ∙ e))
+      by : (has slots v.0 ≡ false → without v slots ≡ slots) → (b : Bool) → (w.0 == v.0) ≡ b → cond b (without v slots) (w ∷ without v slots) ≡ w ∷ slots
+      by more true is = absurd (true≢false (sym (ap (λ b. b || has slots v.0) is) ∙ e))
+      by more false is = ap (λ s. w ∷ s) (more (sym (ap (λ b. b || has slots v.0) is) ∙ e))
 
   pub closed : (t : List Item) (i : Item) (x : Inst) (slot : ValueId) → IsRunTrail f (i ∷ t) → item_inst f i ≡ Some x
       → deallocates x ≡ true → addresses_of x ≡ slot ∷ []
@@ -262,7 +263,7 @@ module _ (m : Module) (n : ℕ) (f : Function) (a : IsAcceptedBody m n f) where
   closed t i x slot h is closes at =
       (now.parts ∙ ap (λ s. slot ∷ s) (sym left), ap (λ s. has s slot.0) left ∙ now.once)
     where
-      marks : List _
+      marks : List Mark
       marks = marks_of (facts_in d f) f i
 
       front : List Access

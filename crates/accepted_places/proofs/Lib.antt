@@ -7,3 +7,9 @@ pub mod StackTops
 pub mod Items
 pub mod Made
 pub mod ItemStacks
+pub mod Fields
+pub mod Apart
+pub mod Done
+pub mod CellTurns
+pub mod CellsRight
+pub mod CellsKept

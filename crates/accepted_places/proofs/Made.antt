@@ -10,16 +10,19 @@ use Rattle.accepted_values.proofs.Counted.{nothing_in, stands}
 use Rattle.accepted_values.proofs.TableRows.{argument_rows, result_rows}
 use Rattle.item_operands.specs.Items.{arg_value, item_defined}
 use Rattle.item_operands.specs.Parts.{args_behind, edge_at, inst_at, item_inst, results_in}
+use Rattle.numbered_form.specs.Lists.{Each}
 use Rattle.sil_ast.specs.Blocks.{args_of}
 use Rattle.sil_ast.specs.declared.function.BlockArg.{BlockArg}
 use Rattle.sil_ast.specs.declared.function.Function.{Function}
 use Rattle.sil_ast.specs.declared.inst.Edge.{Edge}
 use Rattle.sil_ast.specs.declared.inst.Inst.{Inst}
 use Rattle.sil_ast.specs.declared.module.Module.{Module}
+use Rattle.sil_ast.specs.declared.place.PointId.{PointId}
 use Rattle.sil_ast.specs.declared.place.ValueId.{ValueId}
 use Rattle.sil_cfg.specs.declared.item.Item.{Item}
 use Rattle.sil_cfg.specs.declared.item.Item.TheVariants as item
 use Rattle.type_definitions.specs.Declarations.{Declarations, declarations_of}
+use Rattle.accepted_places.proofs.Items.{each_contained}
 use Rattle.accepted_places.proofs.OperationsRight.{stands_somewhere}
 
 argument_there : (xs : List BlockArg) (k : ℕ) (w : ValueId) → slice_get (map arg_value xs) k ≡ Some w → (x : BlockArg) × (slice_get xs k ≡ Some x) × (x.value ≡ w)
@@ -65,3 +68,19 @@ module _ (m : Module) (n : ℕ) (f : Function) (a : IsAcceptedBody m n f) where
       (Contains-append_cases (results_in (inst_at f p)) [] v c)
   made_so (item.Edge e) v c = of_edge (item.Edge e) (edge_at f e) v c
   made_so (item.Exit p) v c = absurd (nothing_in v c)
+
+  -- each result of an instruction has the source of its row
+  pub results_so : (p : PointId) (x : Inst) → inst_at f p ≡ Some x → Each (λ v. source_at (sources_of d f) v ≡ result_source d x) (item_defined f (item.Inst p))
+  results_so p x is =
+      each_contained (λ v. source_at (sources_of d f) v ≡ result_source d x) (item_defined f (item.Inst p))
+      (λ v c. by v (Contains-append_cases (results_in (inst_at f p)) [] v c))
+    where
+      one : (v : ValueId) → Contains (results_in (inst_at f p)) v → source_at (sources_of d f) v ≡ result_source d x
+      one v c =
+          let at = stands_somewhere f (item.Inst p) x is in
+          let s = stands x.results v (subst (λ o. Contains (results_in o) v) is c) in
+          (result_rows m n f a at.0 at.1 s.0 x v at.2 s.1).source
+
+      by : (v : ValueId) → Contains (results_in (inst_at f p)) v ⊎ Contains [] v → source_at (sources_of d f) v ≡ result_source d x
+      by v (inl c) = one v c
+      by v (inr c) = absurd (nothing_in v c)

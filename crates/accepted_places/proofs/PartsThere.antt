@@ -28,11 +28,11 @@ use Rattle.type_definitions.specs.Declarations.{Declarations}
 
 pub in_range : (a n b : ℕ) → a ≤ b → b < a + n → Among b (range_with_len a n)
 in_range a zero b le lt = absurd (omega arith)
-in_range a (suc n) b le lt = at (cases_lt a b)
+in_range a (suc n) b le lt = at (λ more less. in_range (a + 1) n b more less) (cases_lt a b)
   where
-    at : (a < b) ⊎ (b ≤ a) → Among b (range_with_len a (suc n))
-    at (inl less) = inr (in_range (a + 1) n b (omega arith) (omega arith))
-    at (inr not_less) = let same : b ≡ a = omega arith in inl same
+    at : (a + 1 ≤ b → b < (a + 1) + n → Among b (range_with_len (a + 1) n)) → (a < b) ⊎ (b ≤ a) → Among b (range_with_len a (suc n))
+    at further (inl less) = inr (further (omega arith) (omega arith))
+    at further (inr not_less) = let same : b ≡ a = omega arith in inl same
 
 -- a value that is something to memory has a row in the table
 pub has_row : (sources : List Source) (v : ValueId) → (source_at sources v ≡ source.Other → ⊥) → v.0 < length sources

@@ -238,7 +238,8 @@ module _ (d : Declarations) (f : Function) (accepted : IsAcceptedIn d f) where
           (ap (λ b. cond b (has older slot.0) (cond (w.0 == slot.0) false (is_later slot w older))) at_w ∙ in_older) in
           bad (filter_map (pair_mark slot w) rest) went.0
           (ap (λ s. run order_step (Go s) (FirstOut ∷ filter_map (pair_mark slot w) rest)) (sym (ap (state_in sources slot w (not_equal slot w other) is slot_w) stack ∙ is_three))
-          ∙ ap (λ o. run order_step (Go _) (cons_option o (filter_map (pair_mark slot w) rest))) (sym first) ∙ went.1)
+          ∙ ap (λ o. run order_step (Go (state_in sources slot w (not_equal slot w other) is slot_w (slots_behind sources front (slots_on d f t)))) (cons_option o (filter_map (pair_mark slot w) rest)))
+          (sym first) ∙ went.1)
         where
           three : (x y l : Bool) → x ≡ true → y ≡ true → l ≡ true → state_of x y l ≡ 3
           three x y l hx hy hl = ap (λ b. state_of b y l) hx ∙ ap (λ b. state_of true b l) hy ∙ ap (λ b. state_of true true b) hl

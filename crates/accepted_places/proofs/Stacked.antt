@@ -47,7 +47,11 @@ nothing_both false = refl
 
 pub has_without : (v a : ValueId) (slots : List ValueId) → has (without v slots) a.0 ≡ (not (v.0 == a.0) && has slots a.0)
 has_without v a [] = sym (nothing_both (v.0 == a.0))
-has_without v a (w ∷ slots) = by (w.0 == v.0) refl (v.0 == a.0) refl
+has_without v a (w ∷ slots) =
+    pushed (w.0 == v.0)
+    ∙ ap (λ h. cond (w.0 == v.0) h ((w.0 == a.0) || h)) (has_without v a slots)
+    ∙ bits (w.0 == v.0) (v.0 == a.0) (w.0 == a.0) (has slots a.0)
+    (λ e. ap (λ n. n == a.0) (eqb-true w.0 v.0 e)) (λ e. ap (λ n. w.0 == n) (sym (eqb-true v.0 a.0 e)))
   where
     bits : (x p y h : Bool) → (x ≡ true → y ≡ p) → (p ≡ true → y ≡ x) → cond x (not p && h) (y || (not p && h)) ≡ (not p && (y || h))
     bits true true y h one other = refl
@@ -62,27 +66,21 @@ has_without v a (w ∷ slots) = by (w.0 == v.0) refl (v.0 == a.0) refl
     pushed true = refl
     pushed false = refl
 
-    by : (x : Bool) → (w.0 == v.0) ≡ x → (p : Bool) → (v.0 == a.0) ≡ p → has (without v (w ∷ slots)) a.0 ≡ (not (v.0 == a.0) && has (w ∷ slots) a.0)
-    by x is_x p is_p =
-        pushed (w.0 == v.0)
-        ∙ ap (λ h. cond (w.0 == v.0) h ((w.0 == a.0) || h)) (has_without v a slots)
-        ∙ bits (w.0 == v.0) (v.0 == a.0) (w.0 == a.0) (has slots a.0)
-        (λ e. ap (λ n. n == a.0) (eqb-true w.0 v.0 e)) (λ e. ap (λ n. w.0 == n) (sym (eqb-true v.0 a.0 e)))
-
 later_without : (v a b : ValueId) → (v.0 == a.0) ≡ false → (v.0 == b.0) ≡ false → (slots : List ValueId) → is_later a b (without v slots) ≡ is_later a b slots
 later_without v a b not_a not_b [] = refl
-later_without v a b not_a not_b (w ∷ slots) = by (w.0 == v.0) refl
+later_without v a b not_a not_b (w ∷ slots) = by (later_without v a b not_a not_b slots) (w.0 == v.0) refl
   where
-    by : (x : Bool) → (w.0 == v.0) ≡ x → is_later a b (cond x (without v slots) (w ∷ without v slots)) ≡ is_later a b (w ∷ slots)
-    by true is =
+    by : is_later a b (without v slots) ≡ is_later a b slots → (x : Bool) → (w.0 == v.0) ≡ x
+        → is_later a b (cond x (without v slots) (w ∷ without v slots)) ≡ is_later a b (w ∷ slots)
+    by same_later true is =
         let same : w.0 ≡ v.0 = eqb-true w.0 v.0 is in
-        later_without v a b not_a not_b slots
+        same_later
         ∙ sym (ap (λ x. cond x (has slots a.0) (cond (w.0 == a.0) false (is_later a b slots))) (ap (λ n. n == b.0) same ∙ not_b)
         ∙ ap (λ x. cond x false (is_later a b slots)) (ap (λ n. n == a.0) same ∙ not_a))
-    by false is =
+    by same_later false is =
         ap (λ h. cond (w.0 == b.0) h (cond (w.0 == a.0) false (is_later a b (without v slots))))
         (has_without v a slots ∙ ap (λ x. not x && has slots a.0) not_a)
-        ∙ ap (λ h. cond (w.0 == b.0) (has slots a.0) (cond (w.0 == a.0) false h)) (later_without v a b not_a not_b slots)
+        ∙ ap (λ h. cond (w.0 == b.0) (has slots a.0) (cond (w.0 == a.0) false h)) same_later
 
 -- ---- how the automaton's steps go
 

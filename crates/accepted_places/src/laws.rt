@@ -1,5 +1,17 @@
 //! The laws of places on the trails of an accepted function, each on a call that does nothing. The lemmas behind them are in `proofs/`.
 
+ghost use Rattle.accepted_places.specs.inner.Cells.{
+  AreCellsKept,
+  AreDeallocatedEmpty,
+  AreFieldsFollowed,
+  AreGivenSo,
+  AreNewEmpty,
+  AreOperationsRight,
+  AreOthersFull,
+  AreReturnedSo,
+  AreRootsFollowed,
+};
+ghost use Rattle.accepted_places.specs.inner.Loans.{AreApartByCells};
 ghost use Rattle.accepted_places.specs.inner.Operations.{
   AreApart,
   AreOfSlots,
@@ -15,6 +27,13 @@ ghost use Rattle.accepted_places.specs.inner.Stacks.{
   AreSlotsKept,
   AreSlotsOpened,
 };
+ghost use Rattle.accepted_places.specs.inner.Unfinished.{
+  AreFieldsBuilt,
+  AreMadeUnwritten,
+  AreUnfinishedAllowed,
+  AreUnwrittenEmpty,
+  AreWrittenOnce,
+};
 
 /// Each operation of an item is one that the row of its location has, and what is deallocated is a slot.
 pub fn operations_have_rows()
@@ -25,6 +44,11 @@ pub fn operations_have_rows()
 /// Of two addresses that an item hands over, and which aren't both shared, the locations don't overlap.
 pub fn handed_places_are_apart()
     ensures { AreApart }
+{}
+
+/// Two parts of a shape of which neither is within the other have no cell in common.
+pub fn parts_are_apart()
+    ensures { AreApartByCells }
 {}
 
 /// The slots that are allocated are a stack, access by access: what is deallocated is the newest, and what is allocated isn't there yet.
@@ -41,4 +65,38 @@ pub fn items_stack_slots()
     ensures opened { AreSlotsOpened }
     ensures closed { AreSlotsClosed }
     ensures none { AreNoneLeft }
+{}
+
+/// Slots, arguments that nobody shares and the fields of new objects have cells that are followed.
+pub fn cells_are_followed()
+    ensures roots { AreRootsFollowed }
+    ensures fields { AreFieldsFollowed }
+{}
+
+/// Each operation of the next item finds its cell full or empty, as its row needs it, and leaves it as its row says. Other places are full.
+pub fn operations_find_cells_right()
+    ensures operations { AreOperationsRight }
+    ensures others { AreOthersFull }
+{}
+
+/// An item leaves a cell as it was where it doesn't touch it, empty where it makes it, and it deallocates an empty one.
+pub fn items_leave_cells()
+    ensures kept { AreCellsKept }
+    ensures new { AreNewEmpty }
+    ensures deallocated { AreDeallocatedEmpty }
+{}
+
+/// An argument's place is as its convention says at the entry and at a `return`.
+pub fn arguments_have_contents()
+    ensures given { AreGivenSo }
+    ensures returned { AreReturnedSo }
+{}
+
+/// The fields of a new object that are still to be written are just the empty ones, and with the object nothing is done that 607 forbids.
+pub fn unfinished_objects_are_guarded()
+    ensures built { AreFieldsBuilt }
+    ensures unwritten { AreUnwrittenEmpty }
+    ensures made { AreMadeUnwritten }
+    ensures written { AreWrittenOnce }
+    ensures allowed { AreUnfinishedAllowed }
 {}

@@ -1,7 +1,11 @@
-//! What acceptance says of places on the trails of a function: which operations a location has, that what a call is handed is apart, how slots are stacked.
-//! It has no code that runs.
+//! What acceptance says of places on the trails of a function: how slots are stacked, where addresses lie, what cells hold at each operation,
+//! what stays lent, and which fields are still to be written. It has no code that runs.
 #![tactic(auto)]
 
 mod laws;
 
-pub use laws::{handed_places_are_apart, items_stack_slots, operations_have_rows, slots_are_stacked};
+pub use laws::{
+    arguments_have_contents, cells_are_followed, handed_places_are_apart, items_leave_cells,
+    items_stack_slots, operations_find_cells_right, operations_have_rows, parts_are_apart,
+    slots_are_stacked, unfinished_objects_are_guarded,
+};

@@ -24,11 +24,12 @@ use Rattle.accepted_memory.specs.run_trails.inner.Switched.{finds}
 use Rattle.accepted_memory.specs.inner.PartTrails.{IsPartOf, is_on}
 use Rattle.accepted_values.specs.inner.Known.{InAccepted}
 use Rattle.item_operands.specs.Items.{item_defined}
-use Rattle.item_operands.specs.Parts.{item_inst}
+use Rattle.item_operands.specs.Parts.{inst_at, item_inst}
 use Rattle.ownership_chains.specs.Facts.{has}
 use Rattle.path_patterns.specs.declared.mark.Mark.{Mark}
 use Rattle.sil_ast.specs.declared.function.Function.{Function}
 use Rattle.sil_ast.specs.declared.inst.Inst.{Inst}
+use Rattle.sil_ast.specs.declared.place.PointId.{PointId}
 use Rattle.sil_ast.specs.declared.place.ValueId.{ValueId}
 use Rattle.sil_cfg.specs.Returns.{is_return}
 use Rattle.sil_cfg.specs.declared.item.Item.{Item}
@@ -79,18 +80,18 @@ pub record IsFoundSo (d : Declarations) (f : Function) (t : List Item) (i : Item
   pub found : finds mark.needs on ≡ true
   pub left : is_on d f p (i ∷ t) ≡ Some (unwrap_or mark.turns on)
 
--- the operation is one of the item, at this location
-pub record IsDoneAt (d : Declarations) (f : Function) (i : Item) (o : Operated) (l : Location) : Type 0 where
+-- the instruction at the point does the operation, at this location
+pub record IsDoneAt (d : Declarations) (f : Function) (p : PointId) (o : Operated) (l : Location) : Type 0 where
   pub inst : Inst
-  pub is : item_inst f i ≡ Some inst
+  pub is : inst_at f p ≡ Some inst
   pub among : Contains (operations_of inst) o
   pub at : location_of (sources_of d f) o.address ≡ Some l
 
 -- each operation of the next item finds its cell so
 abbrev pub AreOperationsRight : Type 0
-AreOperationsRight = InAccepted (λ d f. (t : List Item) (i : Item) → IsRunTrail f (i ∷ t) → (o : Operated) (l : Location) → IsDoneAt d f i o l
+AreOperationsRight = InAccepted (λ d f. (t : List Item) (p : PointId) → IsRunTrail f (item.Inst p ∷ t) → (o : Operated) (l : Location) → IsDoneAt d f p o l
     → (trivial : Bool) (left : Option Content) → IsPartOf d f (Contents (cell_of (sources_of d f) l.root) trivial left)
-    → IsFoundSo d f t i (Contents (cell_of (sources_of d f) l.root) trivial left) (mark_at d f l o.operation))
+    → IsFoundSo d f t (item.Inst p) (Contents (cell_of (sources_of d f) l.root) trivial left) (mark_at d f l o.operation))
 
 -- at a root that isn't followed each operation needs the cell full, and leaves it so
 pub record NeedsFull (mark : Mark) : Type 0 where
@@ -98,7 +99,7 @@ pub record NeedsFull (mark : Mark) : Type 0 where
   pub left : unwrap_or mark.turns true ≡ true
 
 abbrev pub AreOthersFull : Type 0
-AreOthersFull = InAccepted (λ d f. (i : Item) (o : Operated) (l : Location) → IsDoneAt d f i o l → part_at d f l.root ≡ None
+AreOthersFull = InAccepted (λ d f. (p : PointId) (o : Operated) (l : Location) → IsDoneAt d f p o l → part_at d f l.root ≡ None
     → NeedsFull (mark_at d f l o.operation))
 
 -- ---- other items

@@ -16,15 +16,17 @@ use Rattle.accepted_memory.specs.ownership_kinds.Facts.{facts_in}
 use Rattle.accepted_memory.specs.run_trails.inner.RunTrails.{IsRunTrail}
 use Rattle.accepted_memory.specs.inner.PartTrails.{IsPartOf, is_on}
 use Rattle.accepted_values.specs.inner.Known.{InAccepted}
-use Rattle.accepted_values.specs.run_typing.value_parts.inner.Paths.{IsPart, cells_before}
+use Rattle.value_parts.specs.inner.Paths.{IsPart, cells_before}
 use Rattle.item_operands.specs.Items.{item_taken}
 use Rattle.item_operands.specs.Parts.{item_inst}
 use Rattle.run_values.specs.Cells.{cell_count}
 use Rattle.run_values.specs.Shapes.{Shape}
 use Rattle.sil_ast.specs.declared.function.Function.{Function}
 use Rattle.sil_ast.specs.declared.inst.Inst.{Inst}
+use Rattle.sil_ast.specs.declared.place.PointId.{PointId}
 use Rattle.sil_ast.specs.declared.place.ValueId.{ValueId}
 use Rattle.sil_cfg.specs.declared.item.Item.{Item}
+use Rattle.sil_cfg.specs.declared.item.Item.TheVariants as item
 use Rattle.type_definitions.specs.Declarations.{Declarations}
 use Rattle.accepted_places.specs.inner.Cells.{IsDoneAt}
 
@@ -36,8 +38,8 @@ pub record IsLentOn (d : Declarations) (f : Function) (t : List Item) (i : Item)
 
 -- no operation of the item that writes or empties overlaps it
 abbrev pub AreLoansUnwritten : Type 0
-AreLoansUnwritten = InAccepted (λ d f. (t : List Item) (i : Item) → IsRunTrail f (i ∷ t) → (scope address : ValueId) → IsLentOn d f t i scope address
-    → (o : Operated) (l : Location) → IsDoneAt d f i o l → writes (is_part l) o.operation ≡ true → do_overlap (sources_of d f) o.address address ≡ false)
+AreLoansUnwritten = InAccepted (λ d f. (t : List Item) (p : PointId) → IsRunTrail f (item.Inst p ∷ t) → (scope address : ValueId)
+    → IsLentOn d f t (item.Inst p) scope address → (o : Operated) (l : Location) → IsDoneAt d f p o l → writes (is_part l) o.operation ≡ true → do_overlap (sources_of d f) o.address address ≡ false)
 
 -- nor is its slot deallocated
 abbrev pub AreLoansThere : Type 0
