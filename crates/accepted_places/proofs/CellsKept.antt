@@ -131,20 +131,20 @@ module _ (m : Module) (n : ℕ) (f : Function) (a : IsAcceptedBody m n f) (cell 
   given_turns Empty = refl
   given_turns Full = refl
 
-  nothing : (b : Bool) → cond b (None {X = Bool}) None ≡ None
-  nothing true = refl
-  nothing false = refl
+  nothing : (b : Bool) (x : Option Bool) → x ≡ None → cond b x None ≡ None
+  nothing true x e = e
+  nothing false x e = refl
 
   made_turn : (v : ValueId) (s : Source) (on : Bool) → all_of step (made_by v s) on ≡ unwrap_or (cond (is_same v cell.subject) (made_so s) None) on
   made_turn v (source.Slot t) on = ap (λ o. unwrap_or o on) (turned_where (is_same v cell.subject) _ false refl)
   made_turn v (source.Argument row t) on = ap (λ o. unwrap_or o on) (turned_where (is_same v cell.subject) (given_mark row.before) (is_full row.before) (given_turns row.before))
   made_turn v (source.Object fields) on = ap (λ o. unwrap_or o on) (turned_where (is_same v cell.subject) _ false refl)
-  made_turn v (source.Borrow of) on = ap (λ o. unwrap_or o on) (sym (nothing (is_same v cell.subject)))
-  made_turn v (source.Upcast of) on = ap (λ o. unwrap_or o on) (sym (nothing (is_same v cell.subject)))
-  made_turn v (source.Loan of) on = ap (λ o. unwrap_or o on) (sym (nothing (is_same v cell.subject)))
-  made_turn v (source.Field of k t) on = ap (λ o. unwrap_or o on) (sym (nothing (is_same v cell.subject)))
-  made_turn v (source.Part of k) on = ap (λ o. unwrap_or o on) (sym (nothing (is_same v cell.subject)))
-  made_turn v source.Other on = ap (λ o. unwrap_or o on) (sym (nothing (is_same v cell.subject)))
+  made_turn v (source.Borrow of) on = ap (λ o. unwrap_or o on) (sym (nothing (is_same v cell.subject) None refl))
+  made_turn v (source.Upcast of) on = ap (λ o. unwrap_or o on) (sym (nothing (is_same v cell.subject) None refl))
+  made_turn v (source.Loan of) on = ap (λ o. unwrap_or o on) (sym (nothing (is_same v cell.subject) None refl))
+  made_turn v (source.Field of k t) on = ap (λ o. unwrap_or o on) (sym (nothing (is_same v cell.subject) None refl))
+  made_turn v (source.Part of k) on = ap (λ o. unwrap_or o on) (sym (nothing (is_same v cell.subject) None refl))
+  made_turn v source.Other on = ap (λ o. unwrap_or o on) (sym (nothing (is_same v cell.subject) None refl))
 
   -- what is made turns it where it is the cell's
   all_made : (vs : List ValueId) (on : Bool) → all_of step (flat_map (made S) vs) on
