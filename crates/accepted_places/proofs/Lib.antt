@@ -13,3 +13,5 @@ pub mod Done
 pub mod CellTurns
 pub mod CellsRight
 pub mod CellsKept
+pub mod Naming
+pub mod Locating

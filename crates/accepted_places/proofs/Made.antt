@@ -25,7 +25,7 @@ use Rattle.type_definitions.specs.Declarations.{Declarations, declarations_of}
 use Rattle.accepted_places.proofs.Items.{each_contained}
 use Rattle.accepted_places.proofs.OperationsRight.{stands_somewhere}
 
-argument_there : (xs : List BlockArg) (k : ℕ) (w : ValueId) → slice_get (map arg_value xs) k ≡ Some w → (x : BlockArg) × (slice_get xs k ≡ Some x) × (x.value ≡ w)
+pub argument_there : (xs : List BlockArg) (k : ℕ) (w : ValueId) → slice_get (map arg_value xs) k ≡ Some w → (x : BlockArg) × (slice_get xs k ≡ Some x) × (x.value ≡ w)
 argument_there [] k w e = cc
 argument_there (x ∷ xs) zero w e = (x, refl, cc)
 argument_there (x ∷ xs) (suc k) w e = argument_there xs k w e

@@ -12,6 +12,7 @@ ghost use Rattle.accepted_places.specs.inner.Cells.{
   AreRootsFollowed,
 };
 ghost use Rattle.accepted_places.specs.inner.Loans.{AreApartByCells};
+ghost use Rattle.accepted_places.specs.inner.Located.{AreAddressesNamed, AreMembersLocated, AreRootsLocated};
 ghost use Rattle.accepted_places.specs.inner.Operations.{
   AreApart,
   AreOfSlots,
@@ -65,6 +66,13 @@ pub fn items_stack_slots()
     ensures opened { AreSlotsOpened }
     ensures closed { AreSlotsClosed }
     ensures none { AreNoneLeft }
+{}
+
+/// An address that is defined on a trail is a root, or a member of what is at another one, and has a location.
+pub fn addresses_have_locations()
+    ensures named { AreAddressesNamed }
+    ensures roots { AreRootsLocated }
+    ensures members { AreMembersLocated }
 {}
 
 /// Slots, arguments that nobody shares and the fields of new objects have cells that are followed.
