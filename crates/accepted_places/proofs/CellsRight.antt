@@ -64,21 +64,9 @@ use Rattle.accepted_places.proofs.Done.{IsDoneBy, IsRow, alone, done_by, none_ha
 use Rattle.accepted_places.proofs.Followed.{access_finds, item_leaves}
 use Rattle.accepted_places.proofs.Items.{IsOfMemory, all_append, all_of, ends_quiet, item_comes, mentions_quiet, turn_step, turned_all}
 use Rattle.accepted_places.proofs.ItemStacks.{accepted_in}
+use Rattle.accepted_places.proofs.Lists.{each_so, each_split, mapped_append, split_among}
 use Rattle.accepted_places.proofs.Made.{results_so}
 use Rattle.accepted_places.proofs.OperationsRight.{are_apart, rows_right, stands_somewhere}
-
-split_among : {A : Type 0} (xs : List A) (y : A) → Among y xs → (front rest : List A) × (xs ≡ front ++ y ∷ rest)
-split_among [] y c = absurd c
-split_among (x ∷ xs) y (inl same) = ([], xs, ap (λ z. z ∷ xs) (sym same))
-split_among (x ∷ xs) y (inr more) = let s = split_among xs y more in (x ∷ s.0, s.1, ap (λ zs. x ∷ zs) s.2)
-
-each_split : {A : Type 0} (P : A → Type 0) (xs : List A) → ((front rest : List A) (x : A) → xs ≡ front ++ x ∷ rest → P x) → Each P xs
-each_split P [] h = tt
-each_split P (x ∷ xs) h = (h [] xs x refl, each_split P xs (λ front rest y e. h (x ∷ front) rest y (ap (λ zs. x ∷ zs) e)))
-
-mapped_append : {A B : Type 0} (g : A → B) (xs ys : List A) → map g (xs ++ ys) ≡ map g xs ++ map g ys
-mapped_append g [] ys = refl
-mapped_append g (x ∷ xs) ys = ap (λ zs. g x ∷ zs) (mapped_append g xs ys)
 
 left_unturned : (trivial : Bool) (left : Option Content) → option_and_then (λ (m : Mark). m.turns) (left_mark trivial left) ≡ None
 left_unturned trivial None = refl
@@ -118,10 +106,6 @@ acts_closes _ e = absurd (false≢true e)
 flat_empty : {A B : Type 0} (g : A → List B) (xs : List A) → Each (λ x. g x ≡ []) xs → flat_map g xs ≡ []
 flat_empty g [] h = refl
 flat_empty g (x ∷ xs) h = ap (λ ys. ys ++ flat_map g xs) h.0 ∙ flat_empty g xs h.1
-
-each_so : {A : Type 0} (P Q : A → Type 0) → ((x : A) → P x → Q x) → (xs : List A) → Each P xs → Each Q xs
-each_so P Q go [] h = tt
-each_so P Q go (x ∷ xs) h = (go x h.0, each_so P Q go xs h.1)
 
 module _ (m : Module) (n : ℕ) (f : Function) (a : IsAcceptedBody m n f) where
   abbrev pub d : Declarations

@@ -268,7 +268,7 @@ two_operands first second (x ∷ y ∷ z ∷ os) e = absurd (no (first x) (secon
     no true false h = false≢true h
     no false c h = false≢true h
 
-one_operand : (test : Operand → Bool) (os : List Operand) → (first_then test is_empty os || (false && is_empty os)) ≡ true → (x : Operand) × (os ≡ x ∷ [])
+pub one_operand : (test : Operand → Bool) (os : List Operand) → (first_then test is_empty os || (false && is_empty os)) ≡ true → (x : Operand) × (os ≡ x ∷ [])
 one_operand test [] e = cc
 one_operand test (x ∷ []) e = (x, refl)
 one_operand test (x ∷ y ∷ os) e = absurd (no (test x) e)

@@ -59,7 +59,7 @@ use Rattle.sil_rules.specs.declared.rule.Rule.TheVariants as rule
 use Rattle.type_definitions.specs.Declarations.{Declarations, declarations_of}
 use Rattle.accepted_places.specs.inner.Unfinished.{AreFieldsBuilt, AreMadeUnwritten, AreUnfinishedAllowed, AreUnwrittenEmpty, AreWrittenOnce}
 use Rattle.accepted_places.proofs.Followed.{access_finds, item_leaves}
-use Rattle.accepted_places.proofs.Items.{IsOfMemory, accesses_each, all_append, all_of, each_mentioned, ends_quiet, item_comes, turn_step, turned_all}
+use Rattle.accepted_places.proofs.Items.{IsOfMemory, MentionAt, accesses_each, all_append, all_of, each_mentioned, ends_quiet, item_comes, mention_at, turn_step, turned_all}
 use Rattle.accepted_places.proofs.ItemStacks.{accepted_in}
 use Rattle.accepted_places.proofs.OperationsRight.{rows_right}
 use Rattle.accepted_places.proofs.PartsThere.{built_object, field_there}
@@ -400,55 +400,27 @@ module _ (m : Module) (n : ℕ) (f : Function) (a : IsAcceptedBody m n f) (objec
 
     -- ---- what is done with the object
 
-    split_at : (ts : List Taken) (y : Taken) → Among y ts → (front rest : List Taken) × (ts ≡ front ++ y ∷ rest)
-    split_at [] y c = absurd c
-    split_at (t ∷ ts) y (inl same) = ([], ts, ap (λ x. x ∷ ts) (sym same))
-    split_at (t ∷ ts) y (inr more) = let s = split_at ts y more in (t ∷ s.0, s.1, ap (λ xs. t ∷ xs) s.2)
-
-    mapped_append : (g : Taken → Access) (xs ys : List Taken) → map g (xs ++ ys) ≡ map g xs ++ map g ys
-    mapped_append g [] ys = refl
-    mapped_append g (x ∷ xs) ys = ap (λ zs. g x ∷ zs) (mapped_append g xs ys)
-
     pub allowed : (t : List Item) (i : Item) → IsRunTrail f (i ∷ t) → is_on d f (Building object k) t ≡ Some true → (x : Inst) → item_inst f i ≡ Some x
         → deallocates x ≡ false → (y : Taken) → Contains (item_taken f i) y
         → is_forbidden sources (known_or (facts_in d f)) object y.value (allowance_of x.op) ≡ false
     allowed t i h on x is unclosed y c = at (is_forbidden sources (known_or (facts_in d f)) object y.value (allowance_of x.op)) refl
       where
-        split : (front rest : List Taken) × (item_taken f i ≡ front ++ y ∷ rest)
-        split = split_at (item_taken f i) y (among_contained y (item_taken f i) c)
+        its : MentionAt sources (facts_in d f) f i y (allowance_of x.op)
+        its = mention_at sources (facts_in d f) f i x is unclosed y c
 
-        ends : List Access
-        ends = flat_map ended (marks_of (facts_in d f) f i)
-
-        before : List Access
-        before = ends ++ map (mentioned (allowance_of x.op)) split.0
-
-        others : List Access
-        others = does_of (item_inst f i) ++ (deallocations_of (item_inst f i) ++ (flat_map (made sources) (item_defined f i) ++ flat_map begun (marks_of (facts_in d f) f i)))
-
-        mentions : mentions_of (item_inst f i) (item_taken f i)
-            ≡ map (mentioned (allowance_of x.op)) split.0 ++ (Mentions y.value (allowance_of x.op) ∷ map (mentioned (allowance_of x.op)) split.1)
-        mentions =
-            ap (λ o. mentions_of o (item_taken f i)) is ∙ ap (λ b. cond b [] (map (mentioned (allowance_of x.op)) (item_taken f i))) unclosed
-            ∙ ap (map (mentioned (allowance_of x.op))) split.2 ∙ mapped_append (mentioned (allowance_of x.op)) split.0 (y ∷ split.1)
-
-        parts : accesses_in d f i ≡ before ++ Mentions y.value (allowance_of x.op) ∷ (map (mentioned (allowance_of x.op)) split.1 ++ others)
-        parts =
-            ap (λ xs. ends ++ (xs ++ others)) mentions
-            ∙ ap (λ xs. ends ++ xs) (append_assoc (map (mentioned (allowance_of x.op)) split.0) (Mentions y.value (allowance_of x.op) ∷ map (mentioned (allowance_of x.op)) split.1) others)
-            ∙ sym (append_assoc ends (map (mentioned (allowance_of x.op)) split.0) (Mentions y.value (allowance_of x.op) ∷ (map (mentioned (allowance_of x.op)) split.1 ++ others)))
-
-        quiet : turned_each turn before true ≡ true
+        quiet : turned_each turn (flat_map ended (marks_of (facts_in d f) f i) ++ map (mentioned (allowance_of x.op)) its.front) true ≡ true
         quiet =
-            turned_all turn before true ∙ all_append (turn_step turn) ends (map (mentioned (allowance_of x.op)) split.0) true
-            ∙ ap (all_of (turn_step turn) (map (mentioned (allowance_of x.op)) split.0)) (ends_quiet (turn_step turn) by_memory (marks_of (facts_in d f) f i) true)
-            ∙ each_mentioned (turn_step turn) by_memory (allowance_of x.op) split.0 true
+            turned_all turn (flat_map ended (marks_of (facts_in d f) f i) ++ map (mentioned (allowance_of x.op)) its.front) true
+            ∙ all_append (turn_step turn) (flat_map ended (marks_of (facts_in d f) f i)) (map (mentioned (allowance_of x.op)) its.front) true
+            ∙ ap (all_of (turn_step turn) (map (mentioned (allowance_of x.op)) its.front)) (ends_quiet (turn_step turn) by_memory (marks_of (facts_in d f) f i) true)
+            ∙ each_mentioned (turn_step turn) by_memory (allowance_of x.op) its.front true
 
         at : (b : Bool) → is_forbidden sources (known_or (facts_in d f)) object y.value (allowance_of x.op) ≡ b → b ≡ false
         at false e = refl
         at true e =
-            let found = access_finds d f (accepted_in m n f a) (Building object k) there t i h before (map (mentioned (allowance_of x.op)) split.1 ++ others)
-            (Mentions y.value (allowance_of x.op)) (needs_off rule.FieldNotBuilt) parts (ap (λ b. when b (needs_off rule.FieldNotBuilt)) e) true on in
+            let found = access_finds d f (accepted_in m n f a) (Building object k) there t i h
+            (flat_map ended (marks_of (facts_in d f) f i) ++ map (mentioned (allowance_of x.op)) its.front) its.behind
+            (Mentions y.value (allowance_of x.op)) (needs_off rule.FieldNotBuilt) its.parts (ap (λ b. when b (needs_off rule.FieldNotBuilt)) e) true on in
             absurd (false≢true (ap not (sym quiet) ∙ found))
 
 pub fields_built : AreFieldsBuilt

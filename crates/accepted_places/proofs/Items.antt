@@ -1,5 +1,5 @@
 -- What the accesses of an item come to, one after another, where values that end, begin or are mentioned change nothing.
-use Rattle.std.proofs.Common.{◌≡◌, List, [], ◌∷◌, ◌++◌, map, refl, sym, ap, ◌∙◌, Bool, true, false, inl, inr, Option, Some, None}
+use Rattle.std.proofs.Common.{◌≡◌, List, [], ◌∷◌, ◌++◌, append_assoc, map, refl, sym, ap, ◌∙◌, Bool, true, false, inl, inr, Option, Some, None}
 use Rattle.std.specs.Prelude.{Contains, cond, flat_map, unwrap_or}
 use Rattle.accepted_memory.specs.memory_accesses.Accesses.{accesses_of, allowance_of, begins_by, begun, deallocations_of, does_of, ended, ends_by, made, mentioned, mentions_of}
 use Rattle.accepted_memory.specs.memory_accesses.Operations.{addresses_of, deallocates, operations_of}
@@ -24,6 +24,7 @@ use Rattle.sil_ast.specs.declared.function.Function.{Function}
 use Rattle.sil_ast.specs.declared.inst.Inst.{Inst}
 use Rattle.sil_ast.specs.declared.place.ValueId.{ValueId}
 use Rattle.sil_cfg.specs.declared.item.Item.{Item}
+use Rattle.accepted_places.proofs.Lists.{mapped_append, split_among}
 use Rattle.accepted_places.proofs.PartsThere.{each_flat}
 
 module _ {X : Type 0} (step : Access → X → X) where
@@ -172,3 +173,31 @@ module _ (P : Access → Type 0) (sources : List Source) (facts : ValueId → Op
       (each_of_both P (flat_map (made sources) (item_defined f i)) _
       (each_flat P (made sources) (item_defined f i) (each_contained (λ v. Each P (made sources v)) (item_defined f i) makes_one))
       (each_flat P begun marks (all_begins marks))))))
+
+-- ---- an operand that is mentioned
+
+pub record MentionAt (sources : List Source) (facts : ValueId → Option Facts) (f : Function) (i : Item) (y : Taken) (a : Allowance) : Type 0 where
+  pub front : List Taken
+  pub behind : List Access
+  pub parts : accesses_of sources facts f i ≡ (flat_map ended (marks_of facts f i) ++ map (mentioned a) front) ++ Mentions y.value a ∷ behind
+
+-- only values that end, and other operands, come before it
+pub mention_at : (sources : List Source) (facts : ValueId → Option Facts) (f : Function) (i : Item) (x : Inst) → item_inst f i ≡ Some x → deallocates x ≡ false
+    → (y : Taken) → Contains (item_taken f i) y → MentionAt sources facts f i y (allowance_of x.op)
+mention_at sources facts f i x is stays y c = record { front = split.0; behind = map (mentioned (allowance_of x.op)) split.1 ++ (does_of (item_inst f i) ++ (deallocations_of (item_inst f i) ++ (flat_map (made sources) (item_defined f i) ++ flat_map begun (marks_of facts f i)))); parts = parts }
+  where
+    split : (front rest : List Taken) × (item_taken f i ≡ front ++ y ∷ rest)
+    split = split_among (item_taken f i) y (among_contained y (item_taken f i) c)
+
+    mentions : mentions_of (item_inst f i) (item_taken f i)
+        ≡ map (mentioned (allowance_of x.op)) split.0 ++ (Mentions y.value (allowance_of x.op) ∷ map (mentioned (allowance_of x.op)) split.1)
+    mentions =
+        ap (λ o. mentions_of o (item_taken f i)) is ∙ ap (λ b. cond b [] (map (mentioned (allowance_of x.op)) (item_taken f i))) stays
+        ∙ ap (map (mentioned (allowance_of x.op))) split.2 ∙ mapped_append (mentioned (allowance_of x.op)) split.0 (y ∷ split.1)
+
+    parts : accesses_of sources facts f i
+        ≡ (flat_map ended (marks_of facts f i) ++ map (mentioned (allowance_of x.op)) split.0) ++ Mentions y.value (allowance_of x.op) ∷ (map (mentioned (allowance_of x.op)) split.1 ++ (does_of (item_inst f i) ++ (deallocations_of (item_inst f i) ++ (flat_map (made sources) (item_defined f i) ++ flat_map begun (marks_of facts f i)))))
+    parts =
+        ap (λ xs. flat_map ended (marks_of facts f i) ++ (xs ++ (does_of (item_inst f i) ++ (deallocations_of (item_inst f i) ++ (flat_map (made sources) (item_defined f i) ++ flat_map begun (marks_of facts f i)))))) mentions
+        ∙ ap (λ xs. flat_map ended (marks_of facts f i) ++ xs) (append_assoc (map (mentioned (allowance_of x.op)) split.0) (Mentions y.value (allowance_of x.op) ∷ map (mentioned (allowance_of x.op)) split.1) (does_of (item_inst f i) ++ (deallocations_of (item_inst f i) ++ (flat_map (made sources) (item_defined f i) ++ flat_map begun (marks_of facts f i)))))
+        ∙ sym (append_assoc (flat_map ended (marks_of facts f i)) (map (mentioned (allowance_of x.op)) split.0) (Mentions y.value (allowance_of x.op) ∷ (map (mentioned (allowance_of x.op)) split.1 ++ (does_of (item_inst f i) ++ (deallocations_of (item_inst f i) ++ (flat_map (made sources) (item_defined f i) ++ flat_map begun (marks_of facts f i)))))))

@@ -4,6 +4,7 @@ pub mod Followed
 pub mod PairsFollowed
 pub mod Stacked
 pub mod StackTops
+pub mod Lists
 pub mod Items
 pub mod Made
 pub mod ItemStacks
@@ -15,3 +16,5 @@ pub mod CellsRight
 pub mod CellsKept
 pub mod Naming
 pub mod Locating
+pub mod Mentioned
+pub mod RootsMade

@@ -146,7 +146,7 @@ module _ (m : Module) (n : ℕ) (f : Function) (a : IsAcceptedBody m n f) where
   still t i k e = or_right (makes f (value_of k) i) (defined_on t k) e
 
   -- what an item takes is defined before
-  taken_before : (t : List Item) (i : Item) → IsTurnedTrail f (i ∷ t) → (of : ValueId) → list_any (λ (y : Taken). y.value.0 == of.0) (item_taken f i) ≡ true → IsDefinedOn f t of
+  pub taken_before : (t : List Item) (i : Item) → IsTurnedTrail f (i ∷ t) → (of : ValueId) → list_any (λ (y : Taken). y.value.0 == of.0) (item_taken f i) ≡ true → IsDefinedOn f t of
   taken_before t i h of among =
       let y = picked (λ (y : Taken). y.value.0 == of.0) (IsTakenFrom f t) (item_taken f i) (operands_defined d f (accepted_in m n f a) t i h) among in
       subst (IsDefinedOn f t) (same_value y.0.value of (eqb-true y.0.value.0 of.0 y.1)) y.2
@@ -228,6 +228,33 @@ module _ (m : Module) (n : ℕ) (f : Function) (a : IsAcceptedBody m n f) where
       by zero le e = absurd (none-some lv e)
       by (suc j) le e = inner j (locate sources j of) refl (sym (member_found sources j v of k part) ∙ e)
 
+  pub root_location : (v : ValueId) → IsRoot (source_at sources v) → location_of sources v ≡ Some (whole v)
+  root_location v is = by (length sources) (root_in_table sources v is)
+    where
+      by : (j : ℕ) → v.0 < j → locate sources j v ≡ Some (whole v)
+      by zero lt = absurd (omega arith)
+      by (suc j) lt = root_found sources j v is
+
+  -- an address's root begins a location
+  pub root_begins : (t : List Item) → IsTurnedTrail f t → (v : ValueId) → IsDefinedOn f t v → IsAddress d f v → (l : Location) → location_of sources v ≡ Some l
+      → IsRoot (source_at sources l.root)
+  root_begins [] h v made address l is = absurd (false≢true made)
+  root_begins (i ∷ t) h v made address l is = at (makes f v i) refl (root_begins t (turned_older f i t h))
+    where
+      at : (b : Bool) → makes f v i ≡ b
+          → ((w : ValueId) → IsDefinedOn f t w → IsAddress d f w → (k : Location) → location_of sources w ≡ Some k → IsRoot (source_at sources k.root))
+          → IsRoot (source_at sources l.root)
+      at true now before = by (made_by_item i v now address)
+        where
+          by : MakesAddress d f i v → IsRoot (source_at sources l.root)
+          by (makes_root r) =
+              let same : l ≡ whole v = same_Some l (whole v) (sym is ∙ root_location v r) in subst (λ (k : Location). IsRoot (source_at sources k.root)) (sym same) r
+          by (makes_member of k part among address_of) =
+              let inner = member_location v of k part l is in
+              subst (λ (x : Location). IsRoot (source_at sources x.root)) (sym inner.2)
+              (before of (taken_before t i h of among) address_of inner.0 inner.1)
+      at false now before = before v (sym (ap (λ b. b || list_any (makes f v) t) now) ∙ made) address l is
+
 pub addresses_named : AreAddressesNamed
 addresses_named m n f a t h v made address = by (how_named m n f a t (are_trails f (accepted_in m n f a).once t h) v made address)
   where
@@ -238,11 +265,7 @@ addresses_named m n f a t h v made address = by (how_named m n f a t (are_trails
     by (inr (of, k, part, defined, address_of)) = member of k part
 
 pub roots_located : AreRootsLocated
-roots_located m n f a t h v made is = by (length (sources_of (declarations_of m) f)) (root_in_table (sources_of (declarations_of m) f) v is)
-  where
-    by : (j : ℕ) → v.0 < j → locate (sources_of (declarations_of m) f) j v ≡ Some (whole v)
-    by zero lt = absurd (omega arith)
-    by (suc j) lt = root_found (sources_of (declarations_of m) f) j v is
+roots_located m n f a t h v made is = root_location m n f a v is
 
 pub members_located : AreMembersLocated
 members_located m n f a t h v made address of k part = by (how_named m n f a t turned v made address)

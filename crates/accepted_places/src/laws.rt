@@ -12,7 +12,14 @@ ghost use Rattle.accepted_places.specs.inner.Cells.{
   AreRootsFollowed,
 };
 ghost use Rattle.accepted_places.specs.inner.Loans.{AreApartByCells};
-ghost use Rattle.accepted_places.specs.inner.Located.{AreAddressesNamed, AreMembersLocated, AreRootsLocated};
+ghost use Rattle.accepted_places.specs.inner.Located.{
+  AreAddressesNamed,
+  AreInAllocated,
+  AreInOpenScopes,
+  AreMembersLocated,
+  AreOperandsLocated,
+  AreRootsLocated,
+};
 ghost use Rattle.accepted_places.specs.inner.Operations.{
   AreApart,
   AreOfSlots,
@@ -73,6 +80,13 @@ pub fn addresses_have_locations()
     ensures named { AreAddressesNamed }
     ensures roots { AreRootsLocated }
     ensures members { AreMembersLocated }
+{}
+
+/// An address that the next item takes has a root that wasn't made anew since it was named. Its slot is allocated, and its scopes are open.
+pub fn operands_are_located()
+    ensures located { AreOperandsLocated }
+    ensures allocated { AreInAllocated }
+    ensures scopes { AreInOpenScopes }
 {}
 
 /// Slots, arguments that nobody shares and the fields of new objects have cells that are followed.
