@@ -18,3 +18,4 @@ pub mod Naming
 pub mod Locating
 pub mod Mentioned
 pub mod RootsMade
+pub mod MadeOnce

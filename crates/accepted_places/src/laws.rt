@@ -1,6 +1,7 @@
 //! The laws of places on the trails of an accepted function, each on a call that does nothing. The lemmas behind them are in `proofs/`.
 
 ghost use Rattle.accepted_places.specs.inner.Cells.{
+  AreArgumentsMadeOnce,
   AreCellsKept,
   AreDeallocatedEmpty,
   AreFieldsFollowed,
@@ -33,6 +34,7 @@ ghost use Rattle.accepted_places.specs.inner.Stacks.{
   AreSlotsAllocated,
   AreSlotsClosed,
   AreSlotsKept,
+  AreSlotsMadeOnce,
   AreSlotsOpened,
 };
 ghost use Rattle.accepted_places.specs.inner.Unfinished.{
@@ -87,6 +89,12 @@ pub fn operands_are_located()
     ensures located { AreOperandsLocated }
     ensures allocated { AreInAllocated }
     ensures scopes { AreInOpenScopes }
+{}
+
+/// No item makes a slot anew that is allocated, or an argument of the entry.
+pub fn roots_are_made_once()
+    ensures slots { AreSlotsMadeOnce }
+    ensures arguments { AreArgumentsMadeOnce }
 {}
 
 /// Slots, arguments that nobody shares and the fields of new objects have cells that are followed.

@@ -19,7 +19,7 @@ use Rattle.accepted_memory.specs.memory_parts.Parts.{whole_cell}
 use Rattle.accepted_memory.specs.memory_parts.Switches.{is_same}
 use Rattle.accepted_memory.specs.memory_parts.declared.part.Part.{Part}
 use Rattle.accepted_memory.specs.memory_parts.declared.part.Part.TheVariants.{Contents}
-use Rattle.accepted_memory.specs.run_trails.inner.RunTrails.{IsRunTrail}
+use Rattle.accepted_memory.specs.run_trails.inner.RunTrails.{GoesOn, IsRunTrail}
 use Rattle.accepted_memory.specs.run_trails.inner.Switched.{finds}
 use Rattle.accepted_memory.specs.inner.PartTrails.{IsPartOf, is_on}
 use Rattle.accepted_values.specs.inner.Known.{InAccepted}
@@ -147,6 +147,11 @@ abbrev pub AreGivenSo : Type 0
 AreGivenSo = InAccepted (λ d f. (v : ValueId) (row : AddressRow) (trivial : Bool) → source_at (sources_of d f) v ≡ source.Argument row trivial
     → row.shared ≡ false → has (item_defined f item.Entry) v.0 ≡ true
     → is_on d f (Contents (whole_cell v) trivial (Some row.after)) (item.Entry ∷ []) ≡ Some (is_full row.before))
+
+-- no other item makes an argument of the entry
+abbrev pub AreArgumentsMadeOnce : Type 0
+AreArgumentsMadeOnce = InAccepted (λ d f. (t : List Item) (i : Item) → IsRunTrail f (i ∷ t) → GoesOn t → (v : ValueId) (row : AddressRow) (trivial : Bool)
+    → source_at (sources_of d f) v ≡ source.Argument row trivial → has (item_defined f i) v.0 ≡ false)
 
 -- where the next item returns, each cell is as its convention asks
 abbrev pub AreReturnedSo : Type 0

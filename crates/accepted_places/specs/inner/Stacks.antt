@@ -116,6 +116,11 @@ AreSlotsClosed = InAccepted (λ d f. (t : List Item) (i : Item) (x : Inst) (slot
     → deallocates x ≡ true → addresses_of x ≡ slot ∷ []
     → (slots_on d f t ≡ slot ∷ slots_on d f (i ∷ t)) × (has (slots_on d f (i ∷ t)) slot.0 ≡ false))
 
+-- no item makes a slot that is allocated
+abbrev pub AreSlotsMadeOnce : Type 0
+AreSlotsMadeOnce = InAccepted (λ d f. (t : List Item) (i : Item) → IsRunTrail f (i ∷ t) → (slot : ValueId) → has (slots_on d f t) slot.0 ≡ true
+    → has (item_defined f i) slot.0 ≡ false)
+
 -- where the next item returns there are none
 abbrev pub AreNoneLeft : Type 0
 AreNoneLeft = InAccepted (λ d f. (t : List Item) (i : Item) → IsRunTrail f (i ∷ t) → is_return f i ≡ true → slots_on d f t ≡ [])
