@@ -19,3 +19,4 @@ pub mod Locating
 pub mod Mentioned
 pub mod RootsMade
 pub mod MadeOnce
+pub mod LoansKept

@@ -12,7 +12,7 @@ ghost use Rattle.accepted_places.specs.inner.Cells.{
   AreReturnedSo,
   AreRootsFollowed,
 };
-ghost use Rattle.accepted_places.specs.inner.Loans.{AreApartByCells};
+ghost use Rattle.accepted_places.specs.inner.Loans.{AreApartByCells, AreLoansThere, AreLoansUnwritten};
 ghost use Rattle.accepted_places.specs.inner.Located.{
   AreAddressesNamed,
   AreInAllocated,
@@ -95,6 +95,12 @@ pub fn operands_are_located()
 pub fn roots_are_made_once()
     ensures slots { AreSlotsMadeOnce }
     ensures arguments { AreArgumentsMadeOnce }
+{}
+
+/// No item writes, empties or deallocates what overlaps what is lent, before it ends the loan.
+pub fn loans_are_left_alone()
+    ensures unwritten { AreLoansUnwritten }
+    ensures there { AreLoansThere }
 {}
 
 /// Slots, arguments that nobody shares and the fields of new objects have cells that are followed.
