@@ -351,7 +351,7 @@ module _ (m : Module) (n : ℕ) (f : Function) (a : IsAcceptedBody m n f) where
                 ∙ does_turn was.0);
             }
 
-itself : (c : Cell) → same_cell c c ≡ true
+pub itself : (c : Cell) → same_cell c c ≡ true
 itself c = ap (λ b. b && same_field c.field c.field) (eq-eqb c.subject.0 c.subject.0 refl) ∙ field c.field
   where
     field : (x : Option ℕ) → same_field x x ≡ true

@@ -281,7 +281,7 @@ module _ (i : Inst) where
   abbrev Alone : Type 0
   Alone = (o : Operated) × (operations_of i ≡ o ∷ [])
 
-  abbrev done_with : Op → List Operand → List Operated
+  abbrev pub done_with : Op → List Operand → List Operated
   done_with o os = flat_map (operated_at (access_kind_of o) i.qualifier) (taken_each os (roles_for (roles_of o) (conventions_in i) (length os)))
 
   with_one : (o : Op) → i.op ≡ o → (x : Operand) → i.operands ≡ x ∷ [] → (y : Operated) → done_with o (x ∷ []) ≡ y ∷ [] → Alone

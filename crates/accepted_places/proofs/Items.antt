@@ -116,29 +116,10 @@ pub each_mapped : {A B : Type 0} (P : B → Type 0) (g : A → B) (xs : List A) 
 each_mapped P g [] h = tt
 each_mapped P g (x ∷ xs) h = (h.0, each_mapped P g xs h.1)
 
-module _ (P : Access → Type 0) (sources : List Source) (facts : ValueId → Option Facts) (f : Function) (i : Item)
-    (ends : (v : ValueId) → P (Ends v)) (begins : (v : ValueId) → P (Begins v)) (mentions : (v : ValueId) (a : Allowance) → P (Mentions v a))
+module _ (P : Access → Type 0) (sources : List Source) (facts : ValueId → Option Facts) (f : Function) (i : Item) (mentions : (v : ValueId) (a : Allowance) → P (Mentions v a))
     (does : (x : Inst) → item_inst f i ≡ Some x → (o : Operated) → Contains (operations_of x) o → P (Does o))
     (deallocates_one : (x : Inst) → item_inst f i ≡ Some x → deallocates x ≡ true → (v : ValueId) → Contains (addresses_of x) v → P (Deallocates v))
     (makes_one : (v : ValueId) → Contains (item_defined f i) v → Each P (made sources v)) where
-  each_end : (v : ValueId) (sort : MarkSort) → Each P (ends_by v sort)
-  each_end v End = (ends v, tt)
-  each_end v Use = tt
-  each_end v Begin = tt
-
-  each_begin : (v : ValueId) (sort : MarkSort) → Each P (begins_by v sort)
-  each_begin v End = tt
-  each_begin v Use = tt
-  each_begin v Begin = (begins v, tt)
-
-  all_ends : (marks : List Mark) → Each (λ m. Each P (ended m)) marks
-  all_ends [] = tt
-  all_ends (m ∷ marks) = (each_end m.subject m.sort, all_ends marks)
-
-  all_begins : (marks : List Mark) → Each (λ m. Each P (begun m)) marks
-  all_begins [] = tt
-  all_begins (m ∷ marks) = (each_begin m.subject m.sort, all_begins marks)
-
   all_mentions : (o : Option Inst) (ts : List Taken) → Each P (mentions_of o ts)
   all_mentions None ts = tt
   all_mentions (Some x) ts = at (deallocates x)
@@ -163,16 +144,42 @@ module _ (P : Access → Type 0) (sources : List Source) (facts : ValueId → Op
       at true e = each_mapped P Deallocates (addresses_of x) (each_contained (λ v. P (Deallocates v)) (addresses_of x) (deallocates_one x is e))
       at false e = tt
 
-  pub accesses_each : Each P (accesses_of sources facts f i)
-  accesses_each =
-      let marks : List Mark = marks_of facts f i in
-      each_of_both P (flat_map ended marks) _ (each_flat P ended marks (all_ends marks))
+  pub accesses_join : Each P (flat_map ended (marks_of facts f i)) → Each P (flat_map begun (marks_of facts f i)) → Each P (accesses_of sources facts f i)
+  accesses_join ends begins =
+      each_of_both P (flat_map ended (marks_of facts f i)) _ ends
       (each_of_both P (mentions_of (item_inst f i) (item_taken f i)) _ (all_mentions (item_inst f i) (item_taken f i))
       (each_of_both P (does_of (item_inst f i)) _ (all_does (item_inst f i) refl)
       (each_of_both P (deallocations_of (item_inst f i)) _ (all_deallocations (item_inst f i) refl)
       (each_of_both P (flat_map (made sources) (item_defined f i)) _
-      (each_flat P (made sources) (item_defined f i) (each_contained (λ v. Each P (made sources v)) (item_defined f i) makes_one))
-      (each_flat P begun marks (all_begins marks))))))
+      (each_flat P (made sources) (item_defined f i) (each_contained (λ v. Each P (made sources v)) (item_defined f i) makes_one)) begins))))
+
+module _ (P : Access → Type 0) (sources : List Source) (facts : ValueId → Option Facts) (f : Function) (i : Item)
+    (ends : (v : ValueId) → P (Ends v)) (begins : (v : ValueId) → P (Begins v)) (mentions : (v : ValueId) (a : Allowance) → P (Mentions v a))
+    (does : (x : Inst) → item_inst f i ≡ Some x → (o : Operated) → Contains (operations_of x) o → P (Does o))
+    (deallocates_one : (x : Inst) → item_inst f i ≡ Some x → deallocates x ≡ true → (v : ValueId) → Contains (addresses_of x) v → P (Deallocates v))
+    (makes_one : (v : ValueId) → Contains (item_defined f i) v → Each P (made sources v)) where
+  each_end : (v : ValueId) (sort : MarkSort) → Each P (ends_by v sort)
+  each_end v End = (ends v, tt)
+  each_end v Use = tt
+  each_end v Begin = tt
+
+  each_begin : (v : ValueId) (sort : MarkSort) → Each P (begins_by v sort)
+  each_begin v End = tt
+  each_begin v Use = tt
+  each_begin v Begin = (begins v, tt)
+
+  all_ends : (marks : List Mark) → Each (λ m. Each P (ended m)) marks
+  all_ends [] = tt
+  all_ends (m ∷ marks) = (each_end m.subject m.sort, all_ends marks)
+
+  all_begins : (marks : List Mark) → Each (λ m. Each P (begun m)) marks
+  all_begins [] = tt
+  all_begins (m ∷ marks) = (each_begin m.subject m.sort, all_begins marks)
+
+  pub accesses_each : Each P (accesses_of sources facts f i)
+  accesses_each =
+      accesses_join P sources facts f i mentions does deallocates_one makes_one
+      (each_flat P ended (marks_of facts f i) (all_ends (marks_of facts f i))) (each_flat P begun (marks_of facts f i) (all_begins (marks_of facts f i)))
 
 -- ---- an operand that is mentioned
 

@@ -20,3 +20,4 @@ pub mod Mentioned
 pub mod RootsMade
 pub mod MadeOnce
 pub mod LoansKept
+pub mod LoansFull

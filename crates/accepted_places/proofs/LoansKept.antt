@@ -103,7 +103,7 @@ ends_other facts v [] e = tt
 ends_other facts v (t ∷ ts) e =
     (end_other facts v t (or_first (is_end facts v t) (list_any (is_end facts v) ts) e), ends_other facts v ts (or_second (is_end facts v t) (list_any (is_end facts v) ts) e))
 
-of_sort : (sort : MarkSort) → (sort ≡ End → ⊥) → (v : ValueId) (ms : List sorted.Mark) → Each (IsOfSort sort) ms → Each (EndsOther v) ms
+pub of_sort : (sort : MarkSort) → (sort ≡ End → ⊥) → (v : ValueId) (ms : List sorted.Mark) → Each (IsOfSort sort) ms → Each (EndsOther v) ms
 of_sort sort other v [] h = tt
 of_sort sort other v (m ∷ ms) h = ((λ e. absurd (other (sym h.0 ∙ e))), of_sort sort other v ms h.1)
 

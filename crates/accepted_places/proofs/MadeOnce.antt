@@ -144,7 +144,7 @@ module _ (m : Module) (n : ℕ) (f : Function) (a : IsAcceptedBody m n f) where
 
   -- ---- arguments
 
-  abbrev is_argument : Source → Bool
+  abbrev pub is_argument : Source → Bool
   is_argument (source.Argument row trivial) = true
   is_argument _ = false
 

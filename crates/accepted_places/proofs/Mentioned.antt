@@ -76,10 +76,10 @@ use Rattle.accepted_places.proofs.StackTops.{slots_allocated}
 
 -- ---- what only turns off was on before
 
-abbrev TurnsOff : Option Bool → Type 0
+abbrev pub TurnsOff : Option Bool → Type 0
 TurnsOff t = (t ≡ None) ⊎ (t ≡ Some false)
 
-on_before : (turn : Access → Option Bool) (xs : List Access) → Each (λ x. TurnsOff (turn x)) xs → (on : Bool) → turned_each turn xs on ≡ true → on ≡ true
+pub on_before : (turn : Access → Option Bool) (xs : List Access) → Each (λ x. TurnsOff (turn x)) xs → (on : Bool) → turned_each turn xs on ≡ true → on ≡ true
 on_before turn [] h on e = e
 on_before turn (x ∷ xs) h on e = by h.0 (on_before turn xs h.1 (unwrap_or (turn x) on) e)
   where
@@ -142,7 +142,7 @@ deallocates_one x closes has =
     ∙ ap (λ os. taken_each os (roles_for (roles_of op.DeallocStack) (conventions_in x) (length os))) one.1 in
     (one.0, ap (flat_map address_of) taken, taken)
 
-slot_root : (s : Source) → is_slot_source s ≡ true → IsRoot s
+pub slot_root : (s : Source) → is_slot_source s ≡ true → IsRoot s
 slot_root (source.Slot trivial) e = slot
 slot_root _ e = absurd (false≢true e)
 

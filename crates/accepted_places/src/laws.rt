@@ -12,7 +12,7 @@ ghost use Rattle.accepted_places.specs.inner.Cells.{
   AreReturnedSo,
   AreRootsFollowed,
 };
-ghost use Rattle.accepted_places.specs.inner.Loans.{AreApartByCells, AreLoansThere, AreLoansUnwritten};
+ghost use Rattle.accepted_places.specs.inner.Loans.{AreApartByCells, AreLoansFull, AreLoansThere, AreLoansUnwritten};
 ghost use Rattle.accepted_places.specs.inner.Located.{
   AreAddressesNamed,
   AreInAllocated,
@@ -101,6 +101,11 @@ pub fn roots_are_made_once()
 pub fn loans_are_left_alone()
     ensures unwritten { AreLoansUnwritten }
     ensures there { AreLoansThere }
+{}
+
+/// What is lent is full as long.
+pub fn loans_are_full()
+    ensures { AreLoansFull }
 {}
 
 /// Slots, arguments that nobody shares and the fields of new objects have cells that are followed.
