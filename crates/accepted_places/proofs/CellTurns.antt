@@ -1,7 +1,7 @@
 -- How an operation turns a cell, and that two at one cell leave it as it is.
-use Rattle.std.proofs.Common.{◌≡◌, ◌⊎◌, inl, inr, ℕ, List, [], ◌∷◌, ◌++◌, map, refl, sym, ap, ◌∙◌, subst, Bool, true, false, not, ◌&&◌, ◌||◌, Option, Some, None, eq-eqb}
-use Rattle.std.specs.Prelude.{◌==◌, Contains, cond, is_some, option_and_then, unwrap_or}
-use Rattle.std.specs.List.{list_any, starts_with}
+use Rattle.std.proofs.Common.{◌≡◌, ℕ, List, [], ◌∷◌, refl, sym, ap, ◌∙◌, subst, Bool, true, false, not, ◌&&◌, ◌||◌, Option, Some, None, eq-eqb}
+use Rattle.std.specs.Prelude.{◌==◌, cond, is_some, unwrap_or}
+use Rattle.std.specs.List.{starts_with}
 use Rattle.std.proofs.lemmas.Bool.{and_parts, eqb-true, false≢true, true≢false}
 use Rattle.argument_conventions.specs.Rows.{keeps_full, keeps_full_by, only_reads, row_of}
 use Rattle.argument_conventions.specs.declared.convention.AddressConvention.{AddressConvention}
@@ -9,9 +9,9 @@ use Rattle.argument_conventions.specs.declared.convention.AddressConvention.TheV
 use Rattle.argument_conventions.specs.declared.row.AddressRow.{AddressRow}
 use Rattle.argument_conventions.specs.declared.row.Content.{Content}
 use Rattle.argument_conventions.specs.declared.row.Content.TheVariants.{Empty, Full}
-use Rattle.accepted_memory.specs.memory_accesses.Locations.{cell_by, cell_of, field_cell, object_built, overlap, same_step}
+use Rattle.accepted_memory.specs.memory_accesses.Locations.{cell_by, cell_of, object_built, overlap, same_step}
 use Rattle.accepted_memory.specs.memory_accesses.Rows.{field_has, has_by, has_operation, has_steps, is_part, shared_has, slot_has}
-use Rattle.accepted_memory.specs.memory_accesses.Sources.{is_trivial_at, source_at}
+use Rattle.accepted_memory.specs.memory_accesses.Sources.{source_at}
 use Rattle.accepted_memory.specs.memory_accesses.declared.access.Operation.{Operation}
 use Rattle.accepted_memory.specs.memory_accesses.declared.access.Operation.TheVariants.{FirstWrite, Handed, Lend, Read, Take, TrivialStore, Write}
 use Rattle.accepted_memory.specs.memory_accesses.declared.location.Cell.{Cell}
@@ -20,7 +20,7 @@ use Rattle.accepted_memory.specs.memory_accesses.declared.source.Source.{Source}
 use Rattle.accepted_memory.specs.memory_accesses.declared.source.Source.TheVariants as source
 use Rattle.accepted_memory.specs.memory_parts.Contents.{handed_mark, operation_mark, same_cell}
 use Rattle.accepted_memory.specs.memory_parts.Parts.{whole_cell}
-use Rattle.accepted_memory.specs.memory_parts.Switches.{is_same, when}
+use Rattle.accepted_memory.specs.memory_parts.Switches.{is_same}
 use Rattle.accepted_memory.specs.memory_parts.declared.part.Part.TheVariants.{Contents}
 use Rattle.accepted_memory.specs.run_trails.inner.Switched.{finds}
 use Rattle.path_patterns.specs.declared.mark.Mark.{Mark}

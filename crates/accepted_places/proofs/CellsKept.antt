@@ -1,10 +1,9 @@
 -- How items leave cells on which they don't operate: as they were, empty where they are made, and as the entry is given them.
-use Rattle.std.proofs.Common.{◌≡◌, ◌⊎◌, inl, inr, ℕ, zero, suc, ◌<◌, List, [], ◌∷◌, ◌++◌, append_assoc, map, refl, sym, ap, ◌∙◌, subst, Bool, true, false, not, ◌&&◌, ◌||◌, Option, Some, None, eq-eqb}
-use Rattle.std.specs.Prelude.{◌==◌, Contains, cond, flat_map, option_and_then, slice_get, unwrap_or}
+use Rattle.std.proofs.Common.{◌≡◌, ◌⊎◌, inl, inr, ℕ, List, [], ◌∷◌, ◌++◌, append_assoc, map, refl, sym, ap, ◌∙◌, subst, Bool, true, false, ◌&&◌, ◌||◌, Option, Some, None, eq-eqb}
+use Rattle.std.specs.Prelude.{◌==◌, cond, flat_map, option_and_then, slice_get, unwrap_or}
 use Rattle.std.specs.List.{list_any}
 use Rattle.std.proofs.lemmas.Bool.{eqb-true, false≢true, true≢false}
 use Rattle.std.proofs.lemmas.Option.{none-some, same_Some}
-use Rattle.argument_conventions.specs.declared.row.AddressRow.{AddressRow}
 use Rattle.argument_conventions.specs.declared.row.Content.{Content}
 use Rattle.argument_conventions.specs.declared.row.Content.TheVariants.{Empty, Full}
 use Rattle.instruction_table.specs.Forms.{ending_of}
@@ -14,14 +13,14 @@ use Rattle.accepted_memory.specs.memory_accesses.Accesses.{begun, deallocations_
 use Rattle.accepted_memory.specs.memory_accesses.Operations.{access_kind_of, addresses_of, deallocates, deallocates_by, operations_of}
 use Rattle.accepted_memory.specs.memory_accesses.Sources.{is_slot, is_slot_source, source_at, sources_of}
 use Rattle.accepted_memory.specs.memory_accesses.declared.access.Access.{Access}
-use Rattle.accepted_memory.specs.memory_accesses.declared.access.Access.TheVariants.{Allocates, Deallocates, Does, Given}
+use Rattle.accepted_memory.specs.memory_accesses.declared.access.Access.TheVariants.{Deallocates, Does}
 use Rattle.accepted_memory.specs.memory_accesses.declared.access.Operated.{Operated}
 use Rattle.accepted_memory.specs.memory_accesses.declared.columns.AccessKind.{AccessKind}
 use Rattle.accepted_memory.specs.memory_accesses.declared.columns.AccessKind.TheVariants as access
 use Rattle.accepted_memory.specs.memory_accesses.declared.location.Cell.{Cell}
 use Rattle.accepted_memory.specs.memory_accesses.declared.source.Source.{Source}
 use Rattle.accepted_memory.specs.memory_accesses.declared.source.Source.TheVariants as source
-use Rattle.accepted_memory.specs.memory_parts.Contents.{deallocation_mark, given_mark, left_mark}
+use Rattle.accepted_memory.specs.memory_parts.Contents.{deallocation_mark, given_mark}
 use Rattle.accepted_memory.specs.memory_parts.Parts.{whole_cell}
 use Rattle.accepted_memory.specs.memory_parts.Switches.{is_same, when}
 use Rattle.accepted_memory.specs.memory_parts.declared.part.Part.{Part}
@@ -31,13 +30,12 @@ use Rattle.accepted_memory.specs.run_trails.inner.RunTrails.{IsRunTrail}
 use Rattle.accepted_memory.specs.run_trails.inner.Switched.{finds}
 use Rattle.accepted_memory.specs.inner.PartTrails.{IsPartOf, accesses_in, is_on, meant}
 use Rattle.accepted_memory.proofs.AccessesRight.{returns_right}
-use Rattle.accepted_memory.proofs.InSlots.{when_quiet}
 use Rattle.accepted_memory.proofs.PartsFollowed.{parts_followed}
-use Rattle.accepted_memory.proofs.accepted_trails.Tests.{neither, or_first, or_second}
+use Rattle.accepted_memory.proofs.accepted_trails.Tests.{or_first, or_second}
 use Rattle.accepted_memory.proofs.Turning.{turned_each}
 use Rattle.accepted_values.specs.inner.Known.{IsAcceptedBody}
 use Rattle.item_operands.specs.Items.{item_defined, item_taken}
-use Rattle.item_operands.specs.Parts.{inst_at, item_inst, terminator_in}
+use Rattle.item_operands.specs.Parts.{item_inst, terminator_in}
 use Rattle.numbered_form.specs.Lists.{Each}
 use Rattle.ownership_chains.specs.Facts.{has, value_of}
 use Rattle.ownership_marks.specs.Marks.{marks_of}
@@ -53,7 +51,7 @@ use Rattle.sil_cfg.specs.declared.item.Item.{Item}
 use Rattle.sil_cfg.specs.declared.item.Item.TheVariants as item
 use Rattle.type_definitions.specs.Declarations.{Declarations, declarations_of}
 use Rattle.accepted_places.specs.inner.Cells.{AreCellsKept, AreDeallocatedEmpty, AreFieldsFollowed, AreGivenSo, AreNewEmpty, AreReturnedSo, AreRootsFollowed, IsFoundSo}
-use Rattle.accepted_places.specs.inner.Cells.{is_full, operates_on, part_at, part_by, touches}
+use Rattle.accepted_places.specs.inner.Cells.{is_full, operates_on, part_by, touches}
 use Rattle.accepted_places.proofs.CellsRight.{acts, away, by_memory, d, held, sources, turn, unturned}
 use Rattle.accepted_places.proofs.Done.{none_done, operates, passes}
 use Rattle.accepted_places.proofs.Fields.{turned_where}

@@ -1,23 +1,17 @@
 -- Each operation of the next item finds its cell as its row needs it, and leaves it so.
-use Rattle.std.proofs.Common.{◌≡◌, ◌⊎◌, inl, inr, ℕ, zero, suc, List, [], ◌∷◌, ◌++◌, append_assoc, map, refl, sym, ap, ◌∙◌, subst, Bool, true, false, not, ◌&&◌, ◌||◌, Option, Some, None, eq-eqb}
-use Rattle.std.specs.Prelude.{◌==◌, Contains, cond, flat_map, option_and_then, slice_get, unwrap_or}
-use Rattle.std.specs.List.{list_any}
-use Rattle.std.proofs.lemmas.Bool.{and_parts, eqb-true, false≢true, or_cases, true≢false}
-use Rattle.std.proofs.lemmas.Option.{none-some, same_Some}
+use Rattle.std.proofs.Common.{◌≡◌, inl, inr, ℕ, List, [], ◌∷◌, ◌++◌, append_assoc, map, refl, sym, ap, ◌∙◌, subst, Bool, true, false, ◌&&◌, ◌||◌, Option, Some, None, eq-eqb}
+use Rattle.std.specs.Prelude.{Contains, cond, flat_map, option_and_then, unwrap_or}
+use Rattle.std.proofs.lemmas.Bool.{and_parts, false≢true}
 use Rattle.argument_conventions.specs.declared.row.AddressRow.{AddressRow}
 use Rattle.argument_conventions.specs.declared.row.Content.{Content}
 use Rattle.argument_conventions.specs.declared.row.Content.TheVariants.{Empty, Full}
-use Rattle.instruction_table.specs.Forms.{ending_of, roles_of}
-use Rattle.instruction_table.specs.declared.op.Op.{Op}
-use Rattle.instruction_table.specs.declared.op.Op.TheVariants as op
-use Rattle.accepted_memory.specs.accepted_trails.inner.Accepted.{IsAcceptedIn}
 use Rattle.accepted_memory.specs.memory_accesses.Accesses.{begun, deallocations_of, does_of, ended, made, made_by, mentions_of}
-use Rattle.accepted_memory.specs.memory_accesses.Locations.{cell_of, do_overlap, location_of, meet, overlap}
-use Rattle.accepted_memory.specs.memory_accesses.Operations.{access_kind_of, addresses_of, deallocates, deallocates_by, operations_of}
+use Rattle.accepted_memory.specs.memory_accesses.Locations.{cell_of, location_of, meet, overlap}
+use Rattle.accepted_memory.specs.memory_accesses.Operations.{access_kind_of, addresses_of, deallocates_by, operations_of}
 use Rattle.accepted_memory.specs.memory_accesses.Rows.{has_operation, is_part}
-use Rattle.accepted_memory.specs.memory_accesses.Sources.{is_slot, is_slot_source, is_trivial_at, loan_source, result_source, source_at, source_by, sources_of}
+use Rattle.accepted_memory.specs.memory_accesses.Sources.{is_trivial_at, loan_source, result_source, source_at, source_by, sources_of}
 use Rattle.accepted_memory.specs.memory_accesses.declared.access.Access.{Access}
-use Rattle.accepted_memory.specs.memory_accesses.declared.access.Access.TheVariants.{Allocates, Deallocates, Does, Given}
+use Rattle.accepted_memory.specs.memory_accesses.declared.access.Access.TheVariants.{Deallocates, Does}
 use Rattle.accepted_memory.specs.memory_accesses.declared.access.Operated.{Operated}
 use Rattle.accepted_memory.specs.memory_accesses.declared.access.Operation.{Operation}
 use Rattle.accepted_memory.specs.memory_accesses.declared.access.Operation.TheVariants.{Handed}
@@ -26,15 +20,14 @@ use Rattle.accepted_memory.specs.memory_accesses.declared.columns.AccessKind.The
 use Rattle.accepted_memory.specs.memory_accesses.declared.location.Cell.{Cell}
 use Rattle.accepted_memory.specs.memory_accesses.declared.location.Location.{Location}
 use Rattle.accepted_memory.specs.memory_accesses.declared.source.Source.{Source}
-use Rattle.accepted_memory.specs.memory_accesses.declared.source.Source.TheVariants as source
 use Rattle.accepted_memory.specs.memory_parts.Contents.{at_location, counts_at_part, left_mark, operation_mark, same_cell, same_field}
-use Rattle.accepted_memory.specs.memory_parts.Switches.{is_same, when}
+use Rattle.accepted_memory.specs.memory_parts.Switches.{when}
 use Rattle.accepted_memory.specs.memory_parts.declared.part.Part.{Part}
 use Rattle.accepted_memory.specs.memory_parts.declared.part.Part.TheVariants.{Contents}
 use Rattle.accepted_memory.specs.ownership_kinds.Facts.{facts_in}
 use Rattle.accepted_memory.specs.run_trails.inner.RunTrails.{IsRunTrail}
 use Rattle.accepted_memory.specs.run_trails.inner.Switched.{finds}
-use Rattle.accepted_memory.specs.inner.PartTrails.{IsPartOf, accesses_in, is_on, meant}
+use Rattle.accepted_memory.specs.inner.PartTrails.{IsPartOf, accesses_in, meant}
 use Rattle.accepted_memory.proofs.InSlots.{when_quiet}
 use Rattle.accepted_memory.proofs.PartsFollowed.{parts_followed}
 use Rattle.accepted_memory.proofs.PartsTurned.{IsUnturned, turn_by}
@@ -58,7 +51,7 @@ use Rattle.sil_cfg.specs.declared.item.Item.{Item}
 use Rattle.sil_cfg.specs.declared.item.Item.TheVariants as item
 use Rattle.type_definitions.specs.Declarations.{Declarations, declarations_of}
 use Rattle.value_tables.specs.FirstValue.{first_value}
-use Rattle.accepted_places.specs.inner.Cells.{AreOperationsRight, AreOthersFull, IsDoneAt, IsFoundSo, NeedsFull, is_at_cell, mark_at, operates_on, part_at}
+use Rattle.accepted_places.specs.inner.Cells.{AreOperationsRight, AreOthersFull, IsFoundSo, is_at_cell, mark_at, operates_on}
 use Rattle.accepted_places.proofs.CellTurns.{StaysFull, full_quiet, part_stays, parts_where_apart, same_root, shared_stay, unfollowed_needs}
 use Rattle.accepted_places.proofs.Done.{IsDoneBy, IsRow, alone, done_by, none_handed_by_row, of_call, of_row, operates, passes}
 use Rattle.accepted_places.proofs.Followed.{access_finds, item_leaves}

@@ -1,8 +1,8 @@
 -- Which operations an instruction does: one alone, or those at the addresses that a call is handed.
-use Rattle.std.proofs.Common.{◌≡◌, ◌⊎◌, inl, inr, ℕ, zero, suc, List, [], ◌∷◌, ◌++◌, length, map, refl, sym, ap, ◌∙◌, subst, Bool, true, false, not, ◌&&◌, ◌||◌, Option, Some, None}
-use Rattle.std.specs.Prelude.{◌==◌, Contains, cond, flat_map, option_map, replicate}
+use Rattle.std.proofs.Common.{◌≡◌, inl, inr, ℕ, zero, suc, List, [], ◌∷◌, length, map, refl, sym, ap, ◌∙◌, Bool, true, false, ◌&&◌, ◌||◌, Option, Some, None}
+use Rattle.std.specs.Prelude.{Contains, cond, flat_map, option_map, replicate}
 use Rattle.std.specs.Option.{option_or, option_to_list}
-use Rattle.std.proofs.lemmas.Bool.{and_parts, false≢true, true≢false}
+use Rattle.std.proofs.lemmas.Bool.{false≢true, true≢false}
 use Rattle.std.proofs.lemmas.Option.{none-some, same_Some}
 use Rattle.argument_conventions.specs.Rows.{address_row, row_of}
 use Rattle.argument_conventions.specs.declared.convention.AddressConvention.{AddressConvention}
@@ -14,12 +14,11 @@ use Rattle.instruction_table.specs.declared.entries.Role.{Role}
 use Rattle.instruction_table.specs.declared.entries.Role.TheVariants as role
 use Rattle.instruction_table.specs.declared.op.Op.{Op}
 use Rattle.instruction_table.specs.declared.op.Op.TheVariants as op
-use Rattle.accepted_memory.specs.memory_accesses.Operations.{access_kind_of, addresses_of, deallocates_by, is_address_role, load_operation, operated, operated_at}
+use Rattle.accepted_memory.specs.memory_accesses.Operations.{access_kind_of, is_address_role, load_operation, operated, operated_at}
 use Rattle.accepted_memory.specs.memory_accesses.Operations.{operation_at, operation_by, operations_of, store_operation}
-use Rattle.accepted_memory.specs.memory_accesses.Sources.{loan_source, source_by}
 use Rattle.accepted_memory.specs.memory_accesses.declared.access.Operated.{Operated}
 use Rattle.accepted_memory.specs.memory_accesses.declared.access.Operation.{Operation}
-use Rattle.accepted_memory.specs.memory_accesses.declared.access.Operation.TheVariants.{Handed, Lend, Take}
+use Rattle.accepted_memory.specs.memory_accesses.declared.access.Operation.TheVariants.{Handed}
 use Rattle.accepted_memory.specs.memory_accesses.declared.columns.AccessKind.{AccessKind}
 use Rattle.accepted_memory.specs.memory_accesses.declared.columns.AccessKind.TheVariants as access
 use Rattle.item_operands.specs.Roles.{by_convention, by_row, conventions_in, last_roles, roles_for, taken_as, taken_by, taken_each}

@@ -1,15 +1,12 @@
 -- The fields of new objects: what is to be written is empty, and what is written is full.
-use Rattle.std.proofs.Common.{◌≡◌, ◌⊎◌, inl, inr, ℕ, List, [], ◌∷◌, ◌++◌, append_assoc, map, refl, sym, ap, ◌∙◌, subst, Bool, true, false, not, ◌&&◌, ◌||◌, Option, Some, None, eq-eqb}
-use Rattle.std.specs.Prelude.{◌==◌, Contains, cond, flat_map, is_some, option_and_then, option_to_list, slice_get, unwrap_or}
+use Rattle.std.proofs.Common.{◌≡◌, inl, inr, ℕ, List, [], ◌∷◌, ◌++◌, map, refl, sym, ap, ◌∙◌, Bool, true, false, not, ◌&&◌, ◌||◌, Option, Some, None, eq-eqb}
+use Rattle.std.specs.Prelude.{◌==◌, Contains, cond, flat_map, is_some, option_and_then, unwrap_or}
 use Rattle.std.specs.List.{list_any}
 use Rattle.std.proofs.lemmas.Bool.{eqb-true, false≢true, or_cases, true≢false}
 use Rattle.std.proofs.lemmas.Option.{same_Some}
 use Rattle.argument_conventions.specs.declared.row.AddressRow.{AddressRow}
-use Rattle.argument_conventions.specs.declared.row.Content.{Content}
-use Rattle.argument_conventions.specs.declared.row.Content.TheVariants.{Empty, Full}
-use Rattle.accepted_memory.specs.accepted_trails.inner.Accepted.{IsAcceptedIn}
 use Rattle.accepted_memory.specs.accepted_trails.inner.Defined.{IsDefinedOn, makes}
-use Rattle.accepted_memory.specs.memory_accesses.Accesses.{allowance_of, begun, deallocations_of, does_of, ended, made, made_by, mentioned, mentions_of}
+use Rattle.accepted_memory.specs.memory_accesses.Accesses.{allowance_of, deallocations_of, does_of, ended, made, made_by, mentioned, mentions_of}
 use Rattle.accepted_memory.specs.memory_accesses.Locations.{cell_by, cell_of, field_cell, location_of, object_built}
 use Rattle.accepted_memory.specs.memory_accesses.Locations as locations
 use Rattle.accepted_memory.specs.memory_accesses.Operations.{addresses_of, deallocates, operations_of}
@@ -20,20 +17,18 @@ use Rattle.accepted_memory.specs.memory_accesses.declared.access.Access.TheVaria
 use Rattle.accepted_memory.specs.memory_accesses.declared.access.Operated.{Operated}
 use Rattle.accepted_memory.specs.memory_accesses.declared.access.Operation.{Operation}
 use Rattle.accepted_memory.specs.memory_accesses.declared.access.Operation.TheVariants.{FirstWrite, Handed, Lend, Read, Take, TrivialStore, Write}
-use Rattle.accepted_memory.specs.memory_accesses.declared.columns.Allowance.{Allowance}
 use Rattle.accepted_memory.specs.memory_accesses.declared.location.Cell.{Cell}
 use Rattle.accepted_memory.specs.memory_accesses.declared.location.Location.{Location}
 use Rattle.accepted_memory.specs.memory_accesses.declared.source.Source.{Source}
 use Rattle.accepted_memory.specs.memory_accesses.declared.source.Source.TheVariants as source
 use Rattle.accepted_memory.specs.memory_parts.Building.{fills, is_forbidden}
-use Rattle.accepted_memory.specs.memory_parts.Contents.{at_location, counts_at_part, deallocation_mark, given_mark, operation_mark, same_cell, same_field}
+use Rattle.accepted_memory.specs.memory_parts.Contents.{at_location, counts_at_part, deallocation_mark, given_mark, operation_mark, same_cell}
 use Rattle.accepted_memory.specs.memory_parts.Switches.{is_same, is_turned_on, when}
 use Rattle.accepted_memory.specs.memory_parts.declared.part.Part.{Part}
 use Rattle.accepted_memory.specs.memory_parts.declared.part.Part.TheVariants.{Building, Contents}
 use Rattle.accepted_memory.specs.ownership_kinds.Facts.{facts_in}
 use Rattle.accepted_memory.specs.run_trails.inner.RunTrails.{IsRunTrail}
-use Rattle.accepted_memory.specs.run_trails.inner.Switched.{finds}
-use Rattle.accepted_memory.specs.inner.PartTrails.{IsPartOf, accesses_in, is_on, meant}
+use Rattle.accepted_memory.specs.inner.PartTrails.{IsPartOf, accesses_in, is_on}
 use Rattle.accepted_memory.proofs.PartsFollowed.{parts_followed}
 use Rattle.accepted_memory.proofs.PartsTurned.{turn_by}
 use Rattle.accepted_memory.proofs.InSlots.{when_quiet}
@@ -46,9 +41,9 @@ use Rattle.item_operands.specs.declared.taken.Taken.{Taken}
 use Rattle.numbered_form.specs.Lists.{Each}
 use Rattle.ownership_chains.specs.Facts.{has, known_or, value_of}
 use Rattle.ownership_marks.specs.Marks.{marks_of}
-use Rattle.path_patterns.specs.Marks.{needs_off, needs_off_turns_on, needs_on, needs_on_turns_off, turns_off, turns_on}
+use Rattle.path_patterns.specs.Marks.{needs_off, turns_off, turns_on}
 use Rattle.path_patterns.specs.declared.mark.Mark.{Mark}
-use Rattle.point_checks.proofs.Among.{Among, among_contained, among_flat, among_left, among_right, place_among}
+use Rattle.point_checks.proofs.Among.{Among, among_flat, among_left, among_right}
 use Rattle.sil_ast.specs.declared.function.Function.{Function}
 use Rattle.sil_ast.specs.declared.inst.Inst.{Inst}
 use Rattle.sil_ast.specs.declared.module.Module.{Module}
@@ -114,7 +109,8 @@ module _ (sources : List Source) (object : ValueId) (k : ℕ) where
   not_emptied_by root (source.Upcast of) part o trivial counts h e = not_there root _ (operation_mark trivial counts o) refl e
   not_emptied_by root (source.Loan of) part o trivial counts h e = not_there root _ (operation_mark trivial counts o) refl e
   not_emptied_by root (source.Field of j t) part o trivial counts h e =
-      field_operation (is_some (object_built sources of)) part o trivial counts h (when_turned (same_cell (cell_by sources root (source.Field of j t)) cell) (operation_mark trivial counts o) false e).1
+      field_operation (is_some (object_built sources of)) part o trivial counts h
+      (when_turned (same_cell (cell_by sources root (source.Field of j t)) cell) (operation_mark trivial counts o) false e).1
   not_emptied_by root (source.Part of j) part o trivial counts h e = not_there root _ (operation_mark trivial counts o) refl e
   not_emptied_by root source.Other part o trivial counts h e = not_there root _ (operation_mark trivial counts o) refl e
 
@@ -424,7 +420,7 @@ module _ (m : Module) (n : ℕ) (f : Function) (a : IsAcceptedBody m n f) (objec
             absurd (false≢true (ap not (sym quiet) ∙ found))
 
 pub fields_built : AreFieldsBuilt
-fields_built m n f a object k there = held_there m n f a object k there
+fields_built m n f a object k fields is lt = field_there (declarations_of m) f object k fields is lt (Building object k) (inr (inl refl))
 
 pub unwritten_empty : AreUnwrittenEmpty
 unwritten_empty m n f a object k there t h made = both_on m n f a object k there t h made

@@ -1,5 +1,5 @@
 -- How the items of a trail, and the accesses of the next one, leave a part of memory: as they turn it.
-use Rattle.std.proofs.Common.{◌≡◌, List, [], ◌∷◌, ◌++◌, refl, sym, ap, ◌∙◌, subst, Bool, true, Option, Some, None}
+use Rattle.std.proofs.Common.{◌≡◌, List, ◌∷◌, ◌++◌, refl, sym, ap, ◌∙◌, subst, Bool, true, Option, Some, None}
 use Rattle.std.specs.Prelude.{flat_map, option_and_then, option_to_list, unwrap_or}
 use Rattle.std.proofs.lemmas.Option.{same_Some}
 use Rattle.accepted_memory.specs.memory_accesses.Sources.{sources_of}
@@ -14,7 +14,7 @@ use Rattle.accepted_memory.specs.inner.PartTrails.{IsPartOf, accesses_in, is_on,
 use Rattle.accepted_memory.proofs.AccessesRight.{accesses_right}
 use Rattle.accepted_memory.proofs.PartsFollowed.{parts_followed}
 use Rattle.accepted_memory.proofs.PartsTurned.{IsUnturned, turn_by, turned_by_accesses}
-use Rattle.accepted_memory.proofs.Switching.{and_then_some, left_as_turned, turned_over}
+use Rattle.accepted_memory.proofs.Switching.{and_then_some, left_as_turned}
 use Rattle.accepted_memory.proofs.Turning.{each_flat, over_as_each, turned_each}
 use Rattle.path_patterns.specs.declared.mark.Mark.{Mark}
 use Rattle.sil_ast.specs.declared.function.Function.{Function}

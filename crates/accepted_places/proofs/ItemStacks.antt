@@ -1,5 +1,5 @@
 -- How each item leaves the slots: by its row it opens one, closes the newest, or leaves all.
-use Rattle.std.proofs.Common.{◌≡◌, ℕ, zero, suc, List, [], ◌∷◌, ◌++◌, append_assoc, map, refl, sym, ap, ◌∙◌, subst, Bool, true, false, not, Option, Some, None, ◌||◌, ◌⊎◌, inl, inr, eq-eqb}
+use Rattle.std.proofs.Common.{◌≡◌, ℕ, zero, suc, List, [], ◌∷◌, ◌++◌, append_assoc, map, refl, sym, ap, ◌∙◌, subst, Bool, true, false, not, Option, Some, None, ◌||◌, inl, eq-eqb}
 use Rattle.std.specs.Prelude.{◌==◌, Contains, cond, flat_map, slice_get}
 use Rattle.std.proofs.lemmas.Bool.{false≢true, true≢false}
 use Rattle.std.proofs.lemmas.Option.{same_Some}
@@ -13,15 +13,14 @@ use Rattle.accepted_memory.specs.accepted_trails.inner.Accepted.{IsAcceptedIn}
 use Rattle.accepted_memory.specs.memory_accesses.Accesses.{begun, deallocations_of, does_of, ended, made, made_by, mentions_of}
 use Rattle.accepted_memory.specs.memory_accesses.Operations.{access_kind_of, addresses_of, deallocates, deallocates_by, operations_of}
 use Rattle.accepted_memory.specs.memory_accesses.Sources.{argument_source_or, borrow_source, element_place, field_source, handed_source, is_slot, is_slot_source, is_trivial_member}
-use Rattle.accepted_memory.specs.memory_accesses.Sources.{loan_source, member_place, object_source, part_source, result_source, source_at, source_by, sources_of, upcast_source}
+use Rattle.accepted_memory.specs.memory_accesses.Sources.{loan_source, member_place, object_source, part_source, source_at, source_by, sources_of, upcast_source}
 use Rattle.accepted_memory.specs.memory_accesses.declared.access.Access.{Access}
-use Rattle.accepted_memory.specs.memory_accesses.declared.access.Access.TheVariants.{Allocates, Deallocates, Does}
+use Rattle.accepted_memory.specs.memory_accesses.declared.access.Access.TheVariants.{Deallocates, Does}
 use Rattle.accepted_memory.specs.memory_accesses.declared.access.Operated.{Operated}
 use Rattle.accepted_memory.specs.memory_accesses.declared.columns.AccessKind.{AccessKind}
 use Rattle.accepted_memory.specs.memory_accesses.declared.columns.AccessKind.TheVariants as access
 use Rattle.accepted_memory.specs.memory_accesses.declared.source.Source.{Source}
 use Rattle.accepted_memory.specs.memory_accesses.declared.source.Source.TheVariants as source
-use Rattle.accepted_memory.specs.memory_parts.Allocations.{left_allocated_mark}
 use Rattle.accepted_memory.specs.memory_parts.declared.part.Part.TheVariants.{Allocation}
 use Rattle.accepted_memory.specs.ownership_kinds.Facts.{facts_in}
 use Rattle.accepted_memory.specs.run_trails.inner.RunTrails.{IsRunTrail}
@@ -60,7 +59,7 @@ use Rattle.accepted_places.proofs.Made.{IsMadeBy, argument, made_so, result}
 use Rattle.accepted_places.proofs.OperationsRight.{of_slots}
 use Rattle.accepted_places.proofs.PartsThere.{allocation_there}
 use Rattle.accepted_places.proofs.Stacked.{has_behind}
-use Rattle.accepted_places.proofs.StackTops.{AreOnce, are_slots, behind_append, newest_deallocated, once_on, slots_allocated}
+use Rattle.accepted_places.proofs.StackTops.{AreOnce, are_slots, newest_deallocated, once_on, slots_allocated}
 
 -- ---- what an item makes is a slot by one row alone
 

@@ -188,10 +188,26 @@ pub record MentionAt (sources : List Source) (facts : ValueId → Option Facts) 
   pub behind : List Access
   pub parts : accesses_of sources facts f i ≡ (flat_map ended (marks_of facts f i) ++ map (mentioned a) front) ++ Mentions y.value a ∷ behind
 
+-- what an item does behind its mentions
+abbrev done_behind : List Source → (ValueId → Option Facts) → Function → Item → List Access
+done_behind sources facts f i =
+    does_of (item_inst f i) ++ (deallocations_of (item_inst f i) ++ (flat_map (made sources) (item_defined f i) ++ flat_map begun (marks_of facts f i)))
+
+-- accesses in two halves, of which one is in two halves
+halves : {A : Type 0} (xs ys zs ws : List A) (y : A) → xs ++ ((ys ++ y ∷ zs) ++ ws) ≡ (xs ++ ys) ++ y ∷ (zs ++ ws)
+halves xs ys zs ws y = ap (λ us. xs ++ us) (append_assoc ys (y ∷ zs) ws) ∙ sym (append_assoc xs ys (y ∷ (zs ++ ws)))
+
 -- only values that end, and other operands, come before it
 pub mention_at : (sources : List Source) (facts : ValueId → Option Facts) (f : Function) (i : Item) (x : Inst) → item_inst f i ≡ Some x → deallocates x ≡ false
     → (y : Taken) → Contains (item_taken f i) y → MentionAt sources facts f i y (allowance_of x.op)
-mention_at sources facts f i x is stays y c = record { front = split.0; behind = map (mentioned (allowance_of x.op)) split.1 ++ (does_of (item_inst f i) ++ (deallocations_of (item_inst f i) ++ (flat_map (made sources) (item_defined f i) ++ flat_map begun (marks_of facts f i)))); parts = parts }
+mention_at sources facts f i x is stays y c = record {
+  front = split.0;
+  behind = map (mentioned (allowance_of x.op)) split.1 ++ done_behind sources facts f i;
+  parts = ap (λ xs. flat_map ended (marks_of facts f i) ++ (xs ++ done_behind sources facts f i)) mentions
+    ∙ halves (flat_map ended (marks_of facts f i)) (map (mentioned (allowance_of x.op)) split.0) (map (mentioned (allowance_of x.op)) split.1)
+      (done_behind sources facts f i)
+      (Mentions y.value (allowance_of x.op));
+}
   where
     split : (front rest : List Taken) × (item_taken f i ≡ front ++ y ∷ rest)
     split = split_among (item_taken f i) y (among_contained y (item_taken f i) c)
@@ -201,10 +217,3 @@ mention_at sources facts f i x is stays y c = record { front = split.0; behind =
     mentions =
         ap (λ o. mentions_of o (item_taken f i)) is ∙ ap (λ b. cond b [] (map (mentioned (allowance_of x.op)) (item_taken f i))) stays
         ∙ ap (map (mentioned (allowance_of x.op))) split.2 ∙ mapped_append (mentioned (allowance_of x.op)) split.0 (y ∷ split.1)
-
-    parts : accesses_of sources facts f i
-        ≡ (flat_map ended (marks_of facts f i) ++ map (mentioned (allowance_of x.op)) split.0) ++ Mentions y.value (allowance_of x.op) ∷ (map (mentioned (allowance_of x.op)) split.1 ++ (does_of (item_inst f i) ++ (deallocations_of (item_inst f i) ++ (flat_map (made sources) (item_defined f i) ++ flat_map begun (marks_of facts f i)))))
-    parts =
-        ap (λ xs. flat_map ended (marks_of facts f i) ++ (xs ++ (does_of (item_inst f i) ++ (deallocations_of (item_inst f i) ++ (flat_map (made sources) (item_defined f i) ++ flat_map begun (marks_of facts f i)))))) mentions
-        ∙ ap (λ xs. flat_map ended (marks_of facts f i) ++ xs) (append_assoc (map (mentioned (allowance_of x.op)) split.0) (Mentions y.value (allowance_of x.op) ∷ map (mentioned (allowance_of x.op)) split.1) (does_of (item_inst f i) ++ (deallocations_of (item_inst f i) ++ (flat_map (made sources) (item_defined f i) ++ flat_map begun (marks_of facts f i)))))
-        ∙ sym (append_assoc (flat_map ended (marks_of facts f i)) (map (mentioned (allowance_of x.op)) split.0) (Mentions y.value (allowance_of x.op) ∷ (map (mentioned (allowance_of x.op)) split.1 ++ (does_of (item_inst f i) ++ (deallocations_of (item_inst f i) ++ (flat_map (made sources) (item_defined f i) ++ flat_map begun (marks_of facts f i)))))))

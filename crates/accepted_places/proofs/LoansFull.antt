@@ -1,6 +1,6 @@
 -- What an open loan lends is full: it was when it was lent, and nothing empties it since.
-use Rattle.std.proofs.Common.{◌≡◌, ◌⊎◌, inl, inr, ℕ, zero, suc, List, [], ◌∷◌, ◌++◌, length, map, refl, sym, ap, ◌∙◌, subst, Bool, true, false, not, ◌&&◌, ◌||◌, Option, Some, None, eq-eqb}
-use Rattle.std.specs.Prelude.{◌==◌, Contains, cond, flat_map, option_and_then, option_map, slice_get, unwrap_or}
+use Rattle.std.proofs.Common.{◌≡◌, inl, inr, ℕ, zero, suc, List, [], ◌∷◌, ◌++◌, length, refl, sym, ap, ◌∙◌, subst, Bool, true, false, not, ◌&&◌, ◌||◌, Option, Some, None, eq-eqb}
+use Rattle.std.specs.Prelude.{◌==◌, Contains, cond, flat_map, option_and_then, option_map, slice_get}
 use Rattle.std.specs.List.{starts_with}
 use Rattle.std.proofs.lemmas.Bool.{and_parts, eqb-true, false≢true, true≢false}
 use Rattle.std.proofs.lemmas.Option.{none-some, same_Some}
@@ -13,16 +13,15 @@ use Rattle.instruction_table.specs.Forms.{is_terminator, roles_of}
 use Rattle.instruction_table.specs.declared.entries.Role.TheVariants as role
 use Rattle.instruction_table.specs.declared.op.Op.{Op}
 use Rattle.instruction_table.specs.declared.op.Op.TheVariants as op
-use Rattle.accepted_memory.specs.memory_accesses.Accesses as accesses
 use Rattle.accepted_memory.specs.memory_accesses.Accesses.{begins_by, begun, ended, ends_by, made_by}
-use Rattle.accepted_memory.specs.memory_accesses.Locations.{cell_by, cell_of, do_overlap, location_of, meet, overlap, same_step, whole}
+use Rattle.accepted_memory.specs.memory_accesses.Locations.{cell_by, cell_of, location_of, meet, overlap, same_step, whole}
 use Rattle.accepted_memory.specs.memory_accesses.Operations.{access_kind_of, operated, operations_of}
 use Rattle.accepted_memory.specs.memory_accesses.Rows.{has_by, has_operation, has_steps, is_part, shared_has, slot_has}
 use Rattle.accepted_memory.specs.memory_accesses.Sources.{argument_source_or, borrow_source, element_place, field_source, handed_source, is_slot, is_slot_source, is_trivial_at}
 use Rattle.accepted_memory.specs.memory_accesses.Sources.{is_trivial_member, loan_source, member_place, object_source, part_source, result_source, slot_source}
 use Rattle.accepted_memory.specs.memory_accesses.Sources.{source_at, source_by, sources_of, upcast_source}
 use Rattle.accepted_memory.specs.memory_accesses.declared.access.Access.{Access}
-use Rattle.accepted_memory.specs.memory_accesses.declared.access.Access.TheVariants.{Allocates, Begins, Deallocates, Does, Ends, Given, Mentions}
+use Rattle.accepted_memory.specs.memory_accesses.declared.access.Access.TheVariants.{Deallocates, Does}
 use Rattle.accepted_memory.specs.memory_accesses.declared.access.Operated.{Operated}
 use Rattle.accepted_memory.specs.memory_accesses.declared.access.Operation.{Operation}
 use Rattle.accepted_memory.specs.memory_accesses.declared.access.Operation.TheVariants.{FirstWrite, Handed, Lend, Read, Take, TrivialStore, Write}
@@ -32,7 +31,7 @@ use Rattle.accepted_memory.specs.memory_accesses.declared.location.Cell.{Cell}
 use Rattle.accepted_memory.specs.memory_accesses.declared.location.Location.{Location}
 use Rattle.accepted_memory.specs.memory_accesses.declared.source.Source.{Source}
 use Rattle.accepted_memory.specs.memory_accesses.declared.source.Source.TheVariants as source
-use Rattle.accepted_memory.specs.memory_parts.Contents.{at_location, counts_at_part, deallocation_mark, given_mark, handed_mark, operation_mark, same_cell}
+use Rattle.accepted_memory.specs.memory_parts.Contents.{at_location, counts_at_part, deallocation_mark, handed_mark, operation_mark, same_cell}
 use Rattle.accepted_memory.specs.memory_parts.Loans.{disturbs, writes, writes_at}
 use Rattle.accepted_memory.specs.memory_parts.Parts.{whole_cell}
 use Rattle.accepted_memory.specs.memory_parts.Switches.{is_same, when}
@@ -50,7 +49,6 @@ use Rattle.accepted_memory.proofs.accepted_trails.Tests.{each_of_both, or_first,
 use Rattle.accepted_values.specs.inner.Known.{IsAcceptedBody}
 use Rattle.accepted_values.specs.inner.Rows.{source_of_argument}
 use Rattle.accepted_values.proofs.Accepted.{typed}
-use Rattle.accepted_values.proofs.Counted.{nothing_in}
 use Rattle.item_operands.specs.Items.{item_defined, item_taken, taken_in}
 use Rattle.item_operands.specs.Parts.{inst_at, item_inst, results_in, terminator_of}
 use Rattle.item_operands.specs.Roles.{by_row, conventions_in, roles_for, taken_as, taken_by, taken_each}

@@ -1,67 +1,49 @@
 -- What an open loan lends isn't written, emptied or deallocated, and stays full.
-use Rattle.std.proofs.Common.{◌≡◌, ◌⊎◌, inl, inr, ℕ, zero, suc, List, [], ◌∷◌, ◌++◌, append_assoc, length, map, refl, sym, ap, ◌∙◌, subst, Bool, true, false, not, ◌&&◌, ◌||◌, Option, Some, None, eq-eqb}
-use Rattle.std.specs.Prelude.{◌==◌, Contains, cond, flat_map, option_and_then, slice_get, unwrap_or}
-use Rattle.std.specs.List.{list_any, starts_with}
-use Rattle.std.proofs.lemmas.Bool.{and_parts, eqb-true, false≢true, true≢false}
-use Rattle.std.proofs.lemmas.Option.{none-some, same_Some}
-use Rattle.argument_conventions.specs.Rows.{keeps_full, only_reads, row_of}
-use Rattle.argument_conventions.specs.declared.convention.AddressConvention.{AddressConvention}
-use Rattle.argument_conventions.specs.declared.convention.AddressConvention.TheVariants.{In, InGuaranteed, Inout, Out}
-use Rattle.argument_conventions.specs.declared.row.AddressRow.{AddressRow}
-use Rattle.argument_conventions.specs.declared.row.Content.{Content}
-use Rattle.argument_conventions.specs.declared.row.Content.TheVariants.{Empty, Full}
-use Rattle.instruction_table.specs.Forms.{is_terminator}
-use Rattle.instruction_table.specs.declared.op.Op.{Op}
-use Rattle.instruction_table.specs.declared.op.Op.TheVariants as op
+use Rattle.std.proofs.Common.{◌≡◌, inl, ℕ, List, [], ◌∷◌, ◌++◌, append_assoc, map, refl, sym, ap, ◌∙◌, Bool, true, false, not, ◌&&◌, Option, Some, None}
+use Rattle.std.specs.Prelude.{◌==◌, Contains, cond, flat_map, option_and_then, unwrap_or}
+use Rattle.std.specs.List.{list_any}
+use Rattle.std.proofs.lemmas.Bool.{false≢true}
 use Rattle.accepted_memory.specs.accepted_trails.inner.Passing.{is_end}
 use Rattle.accepted_memory.specs.holder_model.Frames.{has_any}
 use Rattle.accepted_memory.specs.memory_accesses.Accesses as accesses
 use Rattle.accepted_memory.specs.memory_accesses.Accesses.{begun, deallocations_of, does_of, ended, ends_by, made, made_by, mentions_of}
-use Rattle.accepted_memory.specs.memory_accesses.Locations.{cell_by, cell_of, do_overlap, location_of, meet, overlap, same_step, whole}
-use Rattle.accepted_memory.specs.memory_accesses.Operations.{access_kind_of, addresses_of, deallocates, operation_by, operations_of}
-use Rattle.accepted_memory.specs.memory_accesses.Rows.{has_by, has_operation, has_steps, is_part, slot_has}
-use Rattle.accepted_memory.specs.memory_accesses.Sources.{is_slot, is_slot_source, is_trivial_at, loan_source, result_source, source_at, source_by, sources_of}
+use Rattle.accepted_memory.specs.memory_accesses.Locations.{do_overlap, location_of}
+use Rattle.accepted_memory.specs.memory_accesses.Operations.{addresses_of, deallocates, operations_of}
+use Rattle.accepted_memory.specs.memory_accesses.Sources.{sources_of}
 use Rattle.accepted_memory.specs.memory_accesses.declared.access.Access.{Access}
 use Rattle.accepted_memory.specs.memory_accesses.declared.access.Access.TheVariants.{Allocates, Begins, Deallocates, Does, Ends, Given, Mentions}
 use Rattle.accepted_memory.specs.memory_accesses.declared.access.Operated.{Operated}
-use Rattle.accepted_memory.specs.memory_accesses.declared.access.Operation.{Operation}
-use Rattle.accepted_memory.specs.memory_accesses.declared.access.Operation.TheVariants.{FirstWrite, Handed, Lend, Read, Take, TrivialStore, Write}
-use Rattle.accepted_memory.specs.memory_accesses.declared.columns.AccessKind.{AccessKind}
-use Rattle.accepted_memory.specs.memory_accesses.declared.columns.AccessKind.TheVariants as access
-use Rattle.accepted_memory.specs.memory_accesses.declared.location.Location.{Location}
 use Rattle.accepted_memory.specs.memory_accesses.declared.source.Source.{Source}
-use Rattle.accepted_memory.specs.memory_accesses.declared.source.Source.TheVariants as source
-use Rattle.accepted_memory.specs.memory_parts.Loans.{disturbs, writes, writes_at}
-use Rattle.accepted_memory.specs.memory_parts.Switches.{is_same, when}
+use Rattle.accepted_memory.specs.memory_parts.Loans.{disturbs, writes_at}
+use Rattle.accepted_memory.specs.memory_parts.Switches.{when}
 use Rattle.accepted_memory.specs.memory_parts.declared.part.Part.{Part}
-use Rattle.accepted_memory.specs.memory_parts.declared.part.Part.TheVariants.{Contents, Lent}
+use Rattle.accepted_memory.specs.memory_accesses.declared.source.Source.TheVariants as source
+use Rattle.accepted_memory.specs.memory_parts.declared.part.Part.TheVariants.{Lent}
 use Rattle.accepted_memory.specs.ownership_kinds.Facts.{facts_in}
 use Rattle.accepted_memory.specs.run_trails.inner.RunTrails.{IsRunTrail}
 use Rattle.accepted_memory.specs.inner.PartTrails.{IsPartOf, accesses_in, is_on, meant}
 use Rattle.accepted_memory.proofs.InSlots.{when_quiet}
 use Rattle.accepted_memory.proofs.MarkSorts.{IsOfSort, begins_are, uses_are}
 use Rattle.accepted_memory.proofs.PartsTurned.{turn_by}
-use Rattle.accepted_memory.proofs.Turning.{each_append, turned_each}
+use Rattle.accepted_memory.proofs.Turning.{turned_each}
 use Rattle.accepted_memory.proofs.accepted_trails.Tests.{each_of_both, or_first, or_second}
 use Rattle.accepted_values.specs.inner.Known.{IsAcceptedBody}
 use Rattle.item_operands.specs.Items.{item_defined, item_taken}
-use Rattle.item_operands.specs.Parts.{inst_at, item_inst}
+use Rattle.item_operands.specs.Parts.{item_inst}
 use Rattle.item_operands.specs.declared.taken.Taken.{Taken}
 use Rattle.numbered_form.specs.Lists.{Each}
-use Rattle.ownership_chains.specs.Facts.{value_of}
 use Rattle.ownership_chains.specs.declared.facts.Facts.{Facts}
 use Rattle.ownership_marks.specs.Marks as marks
 use Rattle.ownership_marks.specs.Marks.{end_of, marks_of}
 use Rattle.ownership_marks.specs.declared.mark.Mark as sorted
 use Rattle.ownership_marks.specs.declared.mark.MarkSort.{MarkSort}
 use Rattle.ownership_marks.specs.declared.mark.MarkSort.TheVariants.{Begin, End, Use}
-use Rattle.path_patterns.specs.Marks.{needs_off, turns_off, turns_on}
+use Rattle.path_patterns.specs.Marks.{needs_off, turns_off}
 use Rattle.path_patterns.specs.declared.mark.Mark.{Mark}
-use Rattle.point_checks.proofs.Among.{Among, among_contained, contained_among}
+use Rattle.point_checks.proofs.Among.{among_contained}
 use Rattle.sil_ast.specs.declared.function.Function.{Function}
 use Rattle.sil_ast.specs.declared.inst.Inst.{Inst}
 use Rattle.sil_ast.specs.declared.module.Module.{Module}
-use Rattle.sil_ast.specs.declared.place.PointId.{PointId}
 use Rattle.sil_ast.specs.declared.place.ValueId.{ValueId}
 use Rattle.sil_cfg.specs.declared.item.Item.{Item}
 use Rattle.sil_cfg.specs.declared.item.Item.TheVariants as item
@@ -69,12 +51,11 @@ use Rattle.sil_rules.specs.declared.rule.Rule.TheVariants as rule
 use Rattle.type_definitions.specs.Declarations.{Declarations, declarations_of}
 use Rattle.type_definitions.specs.declared.kind.Kind.{Kind}
 use Rattle.type_definitions.specs.declared.kind.Kind.TheVariants as kind
-use Rattle.accepted_places.specs.inner.Cells.{IsDoneAt}
-use Rattle.accepted_places.specs.inner.Loans.{AreLoansThere, AreLoansUnwritten, IsLentOn}
+use Rattle.accepted_places.specs.inner.Loans.{AreLoansFollowed, AreLoansThere, AreLoansUnwritten, IsLentOn}
 use Rattle.accepted_places.proofs.Followed.{access_finds}
 use Rattle.accepted_places.proofs.ItemStacks.{accepted_in}
 use Rattle.accepted_places.proofs.Lists.{mapped_append, split_among}
-use Rattle.accepted_places.proofs.PartsThere.{each_flat}
+use Rattle.accepted_places.proofs.PartsThere.{each_flat, part_there}
 
 -- ---- an item that doesn't end the scope
 
@@ -247,6 +228,9 @@ module _ (m : Module) (n : ℕ) (f : Function) (a : IsAcceptedBody m n f) (scope
         does_all : (o : Option Inst) → Each Quiet (does_of o)
         does_all None = tt
         does_all (Some y) = each_quiet Does does_one (operations_of y)
+
+pub loans_followed : AreLoansFollowed
+loans_followed m n f a scope address is = part_there (declarations_of m) f scope (source.Loan address) is (λ x. cc) (Lent scope address) (inl refl)
 
 pub loans_unwritten : AreLoansUnwritten
 loans_unwritten m n f a t p h scope address on o l done writing =

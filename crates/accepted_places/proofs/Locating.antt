@@ -1,17 +1,16 @@
 -- Each address that is defined on a trail has a location: one step more leads to its root for each value that is defined.
-use Rattle.std.proofs.Common.{◌≡◌, ◌⊎◌, inl, inr, ℕ, zero, suc, ◌+◌, ◌-◌, ◌<◌, ◌≤◌, List, [], ◌∷◌, ◌++◌, length, refl, sym, ap, ◌∙◌, subst, arith, Bool, true, false, ◌||◌, Option, Some, None}
-use Rattle.std.specs.Prelude.{◌==◌, Contains, option_map}
-use Rattle.std.specs.List.{list_any, range_with_len}
-use Rattle.std.proofs.lemmas.Bool.{cases_lt, eqb-true, false≢true, or_cases, true≢false}
+use Rattle.std.proofs.Common.{◌≡◌, ◌⊎◌, inl, inr, ℕ, zero, suc, ◌+◌, ◌-◌, ◌<◌, ◌≤◌, List, [], ◌∷◌, length, refl, sym, ap, ◌∙◌, subst, arith, Bool, true, false, ◌||◌, Option, Some, None}
+use Rattle.std.specs.Prelude.{◌==◌, option_map}
+use Rattle.std.specs.List.{list_any}
+use Rattle.std.proofs.lemmas.Bool.{cases_lt, eqb-true, false≢true, true≢false}
 use Rattle.std.proofs.lemmas.Option.{none-some, same_Some}
-use Rattle.accepted_memory.specs.accepted_trails.inner.Accepted.{IsAcceptedIn}
 use Rattle.accepted_memory.specs.accepted_trails.inner.Defined.{IsDefinedOn, IsTakenFrom, makes}
 use Rattle.accepted_memory.specs.memory_accesses.Locations.{extended, locate, located_by, location_of, whole}
 use Rattle.accepted_memory.specs.memory_accesses.Sources.{source_at, sources_of}
 use Rattle.accepted_memory.specs.memory_accesses.declared.location.Location.{Location}
 use Rattle.accepted_memory.specs.memory_accesses.declared.source.Source.{Source}
 use Rattle.accepted_memory.specs.memory_accesses.declared.source.Source.TheVariants as source
-use Rattle.accepted_memory.specs.run_trails.inner.RunTrails.{IsRunTrail, IsTurnedTrail}
+use Rattle.accepted_memory.specs.run_trails.inner.RunTrails.{IsTurnedTrail}
 use Rattle.accepted_memory.proofs.accepted_trails.OperandsDefined.{operands_defined}
 use Rattle.accepted_memory.proofs.accepted_trails.Tests.{or_right, picked, same_value}
 use Rattle.accepted_memory.proofs.run_trails.RunPaths.{are_trails}
@@ -19,7 +18,7 @@ use Rattle.accepted_memory.proofs.run_trails.TurnedTrails.{turned_older}
 use Rattle.accepted_values.specs.inner.Known.{IsAcceptedBody}
 use Rattle.item_operands.specs.Items.{item_defined, item_taken}
 use Rattle.item_operands.specs.declared.taken.Taken.{Taken}
-use Rattle.ownership_chains.specs.Facts.{has, value_of}
+use Rattle.ownership_chains.specs.Facts.{value_of}
 use Rattle.point_checks.proofs.Among.{contained_among}
 use Rattle.sil_ast.specs.declared.function.Function.{Function}
 use Rattle.sil_ast.specs.declared.module.Module.{Module}

@@ -1,11 +1,10 @@
 -- No item makes a root anew that is there: a slot that is allocated, or an argument of the entry.
 use Rattle.std.proofs.Common.{◌≡◌, ◌⊎◌, inl, inr, ℕ, zero, suc, List, [], ◌∷◌, ◌++◌, map, refl, sym, ap, ◌∙◌, subst, Bool, true, false, Option, Some, None}
-use Rattle.std.specs.Prelude.{Contains, cond, flat_map, option_and_then, slice_get, unwrap_or}
+use Rattle.std.specs.Prelude.{Contains, flat_map, option_and_then, unwrap_or}
 use Rattle.std.proofs.lemmas.Bool.{false≢true, true≢false}
 use Rattle.std.proofs.lemmas.List.Elements.{Contains-append_cases}
-use Rattle.argument_conventions.specs.declared.row.AddressRow.{AddressRow}
-use Rattle.accepted_memory.specs.memory_accesses.Accesses.{begun, deallocations_of, does_of, ended, made, made_by, mentions_of}
-use Rattle.accepted_memory.specs.memory_accesses.Operations.{access_kind_of, deallocates}
+use Rattle.accepted_memory.specs.memory_accesses.Accesses.{deallocations_of, does_of, ended, made, made_by, mentions_of}
+use Rattle.accepted_memory.specs.memory_accesses.Operations.{access_kind_of}
 use Rattle.accepted_memory.specs.memory_accesses.Sources.{borrow_source, element_place, field_source, is_slot, is_slot_source, is_trivial_member, loan_source, member_place}
 use Rattle.accepted_memory.specs.memory_accesses.Sources.{object_source, part_source, result_source, slot_source, source_at, source_by, sources_of, upcast_source}
 use Rattle.accepted_memory.specs.memory_accesses.declared.access.Access.{Access}
@@ -209,7 +208,8 @@ module _ (m : Module) (n : ℕ) (f : Function) (a : IsAcceptedBody m n f) where
     not_at_inst : (p : PointId) (o : Option Inst) → inst_at f p ≡ o → Contains (results_in o) v → Contains (item_defined f (item.Inst p)) v → ⊥
     not_at_inst p None at c made_here = nothing_in v c
     not_at_inst p (Some x) at c made_here =
-        let from = each_where_among (λ w. source_at sources w ≡ result_source d x) (item_defined f (item.Inst p)) v (results_so m n f a p x at) (among_contained v (item_defined f (item.Inst p)) made_here) in
+        let from = each_where_among (λ w. source_at sources w ≡ result_source d x) (item_defined f (item.Inst p)) v
+        (results_so m n f a p x at) (among_contained v (item_defined f (item.Inst p)) made_here) in
         false≢true (sym (ap is_argument from ∙ result_none (access_kind_of x.op) x) ∙ is)
 
     entry_first : (t : List Item) → GoesOn t → IsRunTrail f (item.Entry ∷ t) → ⊥

@@ -1,7 +1,7 @@
 -- An address that an item takes finds its slot allocated, and its scopes open.
 use Rattle.std.proofs.Common.{◌≡◌, ◌⊎◌, inl, inr, ℕ, zero, suc, List, [], ◌∷◌, ◌++◌, length, map, refl, sym, ap, ◌∙◌, subst, Bool, true, false, ◌||◌, Option, Some, None, eq-eqb}
-use Rattle.std.specs.Prelude.{◌==◌, Contains, cond, flat_map, option_and_then, slice_get, unwrap_or}
-use Rattle.std.proofs.lemmas.Bool.{eqb-true, false≢true, true≢false}
+use Rattle.std.specs.Prelude.{Contains, cond, flat_map, option_and_then, unwrap_or}
+use Rattle.std.proofs.lemmas.Bool.{false≢true, true≢false}
 use Rattle.std.proofs.lemmas.List.Elements.{Contains-append_cases}
 use Rattle.std.proofs.lemmas.Option.{none-some, same_Some}
 use Rattle.argument_conventions.specs.declared.row.AddressRow.{AddressRow}
@@ -15,12 +15,12 @@ use Rattle.accepted_memory.specs.memory_accesses.Locations.{locate, located_by, 
 use Rattle.accepted_memory.specs.memory_accesses.Operations.{access_kind_of, address_of, addresses_of, deallocates, deallocates_by}
 use Rattle.accepted_memory.specs.memory_accesses.Sources.{is_slot, is_slot_source, source_at, sources_of}
 use Rattle.accepted_memory.specs.memory_accesses.declared.access.Access.{Access}
-use Rattle.accepted_memory.specs.memory_accesses.declared.access.Access.TheVariants.{Deallocates, Ends, Mentions}
+use Rattle.accepted_memory.specs.memory_accesses.declared.access.Access.TheVariants.{Ends, Mentions}
 use Rattle.accepted_memory.specs.memory_accesses.declared.columns.Allowance.{Allowance}
 use Rattle.accepted_memory.specs.memory_accesses.declared.location.Location.{Location}
 use Rattle.accepted_memory.specs.memory_accesses.declared.source.Source.{Source}
 use Rattle.accepted_memory.specs.memory_accesses.declared.source.Source.TheVariants as source
-use Rattle.accepted_memory.specs.memory_parts.Parts.{address_parts, is_scope, parts_by, scope_part, scope_parts, slot_part, slot_part_at}
+use Rattle.accepted_memory.specs.memory_parts.Parts.{is_scope, scope_part, scope_parts, slot_part, slot_part_at}
 use Rattle.accepted_memory.specs.memory_parts.Switches.{is_same, when}
 use Rattle.accepted_memory.specs.memory_parts.declared.part.Part.{Part}
 use Rattle.accepted_memory.specs.memory_parts.declared.part.Part.TheVariants.{Allocation, InScope, InSlot}
@@ -41,8 +41,7 @@ use Rattle.item_operands.specs.Roles.{by_row, conventions_in, roles_for, taken_a
 use Rattle.item_operands.specs.declared.taken.Taken.{Taken}
 use Rattle.numbered_form.specs.Lists.{Each}
 use Rattle.numbered_form.specs.inner.Parts.{has_operands, is_typed}
-use Rattle.ownership_chains.specs.Facts.{has, known_or, value_of}
-use Rattle.ownership_chains.specs.declared.facts.Facts.{Facts}
+use Rattle.ownership_chains.specs.Facts.{has, known_or}
 use Rattle.ownership_marks.specs.Marks.{marks_of}
 use Rattle.ownership_marks.specs.declared.mark.Mark as sorted
 use Rattle.ownership_marks.specs.declared.mark.MarkSort.{MarkSort}
@@ -67,11 +66,10 @@ use Rattle.accepted_places.proofs.Fields.{has_among}
 use Rattle.accepted_places.proofs.Followed.{access_finds}
 use Rattle.accepted_places.specs.inner.Stacks.{slots_on}
 use Rattle.accepted_places.proofs.Locating.{root_found}
-use Rattle.accepted_places.proofs.Items.{MentionAt, mention_at}
+use Rattle.accepted_places.proofs.Items.{mention_at}
 use Rattle.accepted_places.proofs.ItemStacks.{accepted_in, closed}
 use Rattle.accepted_places.proofs.OperationsRight.{of_slots, stands_somewhere}
 use Rattle.accepted_places.proofs.PartsThere.{allocation_there, each_flat, part_there}
-use Rattle.accepted_places.proofs.Stacked.{has_behind}
 use Rattle.accepted_places.proofs.StackTops.{slots_allocated}
 
 -- ---- what only turns off was on before

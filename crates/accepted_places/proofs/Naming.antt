@@ -1,31 +1,27 @@
 -- What makes an address: it is a root, or a member of what is at an address that the same item takes.
-use Rattle.std.proofs.Common.{◌≡◌, ◌⊎◌, inl, inr, ℕ, zero, suc, List, [], ◌∷◌, ◌++◌, length, map, refl, sym, ap, ◌∙◌, subst, arith, Bool, true, false, not, ◌||◌, Option, Some, None, eq-eqb}
+use Rattle.std.proofs.Common.{◌≡◌, ◌⊎◌, inl, inr, ℕ, zero, suc, List, [], ◌∷◌, map, refl, sym, ap, ◌∙◌, subst, arith, Bool, true, false, not, ◌||◌, Option, Some, None, eq-eqb}
 use Rattle.std.specs.Prelude.{◌==◌, Contains, is_some, option_map, slice_get}
 use Rattle.std.specs.List.{list_any}
 use Rattle.std.proofs.lemmas.Bool.{and_parts, false≢true, ne_eqb}
-use Rattle.std.proofs.lemmas.List.Elements.{Contains-append_cases, Contains-append_left}
-use Rattle.std.proofs.lemmas.Option.{none-some, same_Some, slice_get-map}
-use Rattle.argument_conventions.specs.Arguments.{Told, argument_type, arguments_of}
+use Rattle.std.proofs.lemmas.List.Elements.{Contains-append_cases}
+use Rattle.std.proofs.lemmas.Option.{slice_get-map}
+use Rattle.argument_conventions.specs.Arguments.{argument_type, arguments_of}
 use Rattle.argument_conventions.specs.Rows.{address_row}
 use Rattle.argument_conventions.specs.declared.convention.ArgumentConvention.{ArgumentConvention}
 use Rattle.argument_conventions.specs.declared.convention.ArgumentConvention.TheVariants as convention
 use Rattle.instruction_table.specs.Forms.{detail_of}
-use Rattle.instruction_table.specs.declared.entries.Detail.{Detail}
 use Rattle.instruction_table.specs.declared.entries.Detail.TheVariants as detail
 use Rattle.instruction_table.specs.declared.op.Op.{Op}
 use Rattle.instruction_table.specs.declared.op.Op.TheVariants as op
 use Rattle.accepted_memory.specs.memory_accesses.Operations.{access_kind_of}
 use Rattle.accepted_memory.specs.memory_accesses.Sources.{argument_source_or, element_place, field_source, handed_source, is_trivial_member, member_place, part_source, result_source}
 use Rattle.accepted_memory.specs.memory_accesses.Sources.{slot_source, source_at, source_by, sources_of}
-use Rattle.accepted_memory.specs.memory_accesses.declared.columns.AccessKind.{AccessKind}
 use Rattle.accepted_memory.specs.memory_accesses.declared.columns.AccessKind.TheVariants as access
-use Rattle.accepted_memory.specs.memory_accesses.declared.source.Source.{Source}
 use Rattle.accepted_memory.specs.memory_accesses.declared.source.Source.TheVariants as source
 use Rattle.accepted_memory.specs.holder_model.Effects.{effect_of, part_number, part_number_by}
 use Rattle.accepted_memory.specs.holder_model.declared.row_effect.RowEffect.{RowEffect}
 use Rattle.accepted_memory.specs.holder_model.declared.row_effect.RowEffect.TheVariants as effect
-use Rattle.accepted_values.specs.inner.Known.{IsAcceptedBody, type_in}
-use Rattle.accepted_values.specs.inner.Rows.{source_of_argument}
+use Rattle.accepted_values.specs.inner.Known.{IsAcceptedBody}
 use Rattle.accepted_values.specs.run_typing.EndForms.{value_in}
 use Rattle.accepted_values.specs.run_typing.Forms.{Form, OfPlace, OfValue, form_by, form_of, form_with, forms_of}
 use Rattle.accepted_values.specs.run_typing.RowForms as rows
@@ -39,12 +35,10 @@ use Rattle.accepted_values.proofs.run_typing_laws.Rows.Layers.{object_target}
 use Rattle.accepted_values.proofs.run_typing_laws.ValueForms.{row_kept}
 use Rattle.item_operands.specs.Items.{arg_value, item_defined, item_taken}
 use Rattle.item_operands.specs.Parts.{args_behind, edge_at, inst_at, results_in}
-use Rattle.item_operands.specs.Roles.{taken_by}
 use Rattle.item_operands.specs.declared.taken.Taken.{Taken}
 use Rattle.owned_run_typing.proofs.OwnedInsts.{owned_inst}
 use Rattle.owned_run_typing.specs.inner.OwnedRows as owned
 use Rattle.owned_run_typing.specs.inner.OwnedRows.{OwnedRowForms}
-use Rattle.owned_run_typing.specs.inner.OwnedTyped.{OwnedInst}
 use Rattle.run_values.specs.Shapes.{Shape, shape_of}
 use Rattle.sil_ast.specs.Blocks.{args_of}
 use Rattle.sil_ast.specs.declared.function.BlockArg.{BlockArg}
@@ -64,11 +58,11 @@ use Rattle.accepted_values.specs.sil_verifier.sil_types.Typing.EdgeRules.{lets_a
 use Rattle.accepted_values.specs.sil_verifier.sil_types.Typing.RowTypes.{address_of, given_by, gives}
 use Rattle.accepted_values.specs.sil_verifier.sil_types.Typing.Shapes.{is_object, is_trivial_object, target}
 use Rattle.accepted_values.specs.sil_verifier.sil_types.Typing.SignatureRules.{fits_by, is_argument_for}
-use Rattle.accepted_values.specs.sil_verifier.sil_types.Typing.Values.{function_at, type_at, value_functions, value_types}
+use Rattle.accepted_values.specs.sil_verifier.sil_types.Typing.Values.{function_at, value_functions}
 use Rattle.type_definitions.specs.Declarations.{Declarations, declarations_of}
 use Rattle.type_definitions.specs.Measures.{is_trivial}
 use Rattle.value_tables.specs.FirstValue.{first_value}
-use Rattle.accepted_places.specs.inner.Located.{IsAddress, IsNamed, IsRoot, argument, field, member, root, slot}
+use Rattle.accepted_places.specs.inner.Located.{IsAddress, IsRoot, argument, field, slot}
 use Rattle.accepted_places.proofs.Made.{argument_there}
 use Rattle.accepted_places.proofs.OperationsRight.{stands_somewhere}
 

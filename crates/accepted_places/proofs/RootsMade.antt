@@ -1,18 +1,17 @@
 -- The root of an address that the next item takes is as it was when the address was named: by the law of splicing.
 use Rattle.std.proofs.Common.{◌≡◌, ◌⊎◌, inl, inr, ℕ, List, [], ◌∷◌, ◌++◌, reverse, refl, sym, ap, ap₂, ◌∙◌, subst, Bool, true, false, not, ◌&&◌, ◌||◌, Some, eq-eqb}
-use Rattle.std.specs.Prelude.{◌==◌, Contains}
+use Rattle.std.specs.Prelude.{◌==◌}
 use Rattle.std.specs.List.{list_any}
 use Rattle.std.proofs.lemmas.Bool.{eqb-true, false≢true, true≢false}
 use Rattle.std.proofs.lemmas.List.{reverse-reverse}
 use Rattle.std.proofs.lemmas.Option.{same_Some}
-use Rattle.accepted_memory.specs.accepted_trails.inner.Bases.{IsAsMade, MakesAtStops}
+use Rattle.accepted_memory.specs.accepted_trails.inner.Bases.{IsAsMade}
 use Rattle.accepted_memory.specs.accepted_trails.inner.Defined.{IsDefinedOn, makes}
 use Rattle.accepted_memory.specs.memory_accesses.Locations.{location_of, whole}
-use Rattle.accepted_memory.specs.memory_accesses.Sources.{source_at, sources_of}
+use Rattle.accepted_memory.specs.memory_accesses.Sources.{sources_of}
 use Rattle.accepted_memory.specs.memory_accesses.declared.location.Location.{Location}
 use Rattle.accepted_memory.specs.memory_accesses.declared.source.Source.{Source}
-use Rattle.accepted_memory.specs.memory_accesses.declared.source.Source.TheVariants as source
-use Rattle.accepted_memory.specs.run_trails.inner.RunTrails.{IsRunTrail, IsTurnedTrail}
+use Rattle.accepted_memory.specs.run_trails.inner.RunTrails.{IsTurnedTrail}
 use Rattle.accepted_memory.specs.run_trails.inner.Since.{is_none_since}
 use Rattle.accepted_memory.proofs.accepted_trails.Tests.{any_alike, any_reversed, each_weaker, or_right, picked}
 use Rattle.accepted_memory.proofs.run_trails.RunPaths.{are_trails}
@@ -36,7 +35,7 @@ use Rattle.sil_cfg.specs.declared.item.Item.TheVariants as items
 use Rattle.sil_cfg.specs.inner.Splice.{Precedes, Stop, is_at, item, same_item}
 use Rattle.sil_cfg.proofs.Places.{same_item-true}
 use Rattle.type_definitions.specs.Declarations.{Declarations, declarations_of}
-use Rattle.accepted_places.specs.inner.Located.{AreOperandsLocated, IsAddress, IsLocated, IsRoot}
+use Rattle.accepted_places.specs.inner.Located.{AreOperandsLocated, IsAddress}
 use Rattle.accepted_places.proofs.ItemStacks.{accepted_in}
 use Rattle.accepted_places.proofs.Locating.{location_there, made_by_item, member_location, root_begins, root_location, taken_before}
 use Rattle.accepted_places.proofs.Naming.{MakesAddress, makes_member, makes_root}

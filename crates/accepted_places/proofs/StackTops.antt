@@ -16,13 +16,13 @@ use Rattle.accepted_memory.specs.memory_slots.declared.mark.SlotMark.{SlotMark}
 use Rattle.accepted_memory.specs.memory_slots.declared.mark.SlotMark.TheVariants.{FirstOut, SecondOut}
 use Rattle.accepted_memory.specs.memory_slots.inner.Automaton.{order_step}
 use Rattle.accepted_memory.specs.run_trails.inner.RunTrails.{IsRunTrail}
-use Rattle.accepted_memory.specs.inner.PartTrails.{accesses_in, is_on}
+use Rattle.accepted_memory.specs.inner.PartTrails.{accesses_in}
 use Rattle.accepted_memory.proofs.PartsTurned.{turn_by}
 use Rattle.accepted_memory.proofs.Turning.{turned_each}
 use Rattle.numbered_form.specs.Lists.{Each}
 use Rattle.ownership_chains.specs.Facts.{has, value_of}
 use Rattle.path_patterns.specs.Marks.{needs_off_turns_on, needs_on_turns_off}
-use Rattle.reach_engine.specs.declared.scan.Step.TheVariants.{Bad, Go}
+use Rattle.reach_engine.specs.declared.scan.Step.TheVariants.{Go}
 use Rattle.reach_engine.specs.inner.Run.{run}
 use Rattle.reach_engine.proofs.Runs.{go-bad, run_split, same_Go}
 use Rattle.sil_ast.specs.declared.function.Function.{Function}
@@ -196,19 +196,25 @@ module _ (d : Declarations) (f : Function) (accepted : IsAcceptedIn d f) where
         (ap (λ s. run order_step (Go s) own) (sym was) ∙ split.2) in
         went.1 ∙ ap Go is
 
-    -- it goes on behind some accesses of the next item
-    pub front_led : (t : List Item) (i : Item) → IsRunTrail f (i ∷ t) → (front rest : List Access) → accesses_in d f i ≡ front ++ rest
-        → (r : ℕ) × (run order_step (Go (state (slots_behind sources front (slots_on d f t)))) (filter_map (pair_mark a b) rest) ≡ Go r)
-    front_led t i h front rest parts =
+    -- it goes on from there by the marks of the next item
+    item_led : (t : List Item) (i : Item) → IsRunTrail f (i ∷ t)
+        → (r : ℕ) × (run order_step (Go (state (slots_on d f t))) (filter_map (pair_mark a b) (accesses_in d f i)) ≡ Go r)
+    item_led t i h =
         let went = pair_followed d f accepted a slot_a b slot_b (i ∷ t) h in
         let own = marks d f accepted a slot_a b slot_b i in
         let split = run_split order_step (Go 0) (along d f accepted a slot_a b slot_b t) own went.0
         (ap (run order_step (Go 0)) (sym (along_next d f accepted a slot_a b slot_b i t)) ∙ went.1) in
         let was : split.0 ≡ state (slots_on d f t) = same_Go split.0 (state (slots_on d f t)) (sym split.1 ∙ pair_state t h.1) in
-        let both : own ≡ filter_map (pair_mark a b) front ++ filter_map (pair_mark a b) rest =
-        ap (filter_map (pair_mark a b)) parts ∙ filter_map-append (pair_mark a b) front rest in
+        (went.0, ap (λ s. run order_step (Go s) own) (sym was) ∙ split.2)
+
+    -- and so behind some of its accesses
+    pub front_led : (t : List Item) (i : Item) → IsRunTrail f (i ∷ t) → (front rest : List Access) → accesses_in d f i ≡ front ++ rest
+        → (r : ℕ) × (run order_step (Go (state (slots_behind sources front (slots_on d f t)))) (filter_map (pair_mark a b) rest) ≡ Go r)
+    front_led t i h front rest parts =
+        let went = item_led t i h in
+        let both = ap (filter_map (pair_mark a b)) parts ∙ filter_map-append (pair_mark a b) front rest in
         let inner = run_split order_step (Go (state (slots_on d f t))) (filter_map (pair_mark a b) front) (filter_map (pair_mark a b) rest) went.0
-        (ap (run order_step (Go (state (slots_on d f t)))) (sym both) ∙ ap (λ s. run order_step (Go s) own) (sym was) ∙ split.2) in
+        (ap (run order_step (Go (state (slots_on d f t)))) (sym both) ∙ went.1) in
         let new = front_new sources front rest (slots_on d f t) (subst (λ xs. AreNew sources xs (slots_on d f t)) parts (item_new t i h)) in
         let is = accesses_led sources a b apart slot_a slot_b front (slots_on d f t) new inner.0 inner.1 in
         (went.0, ap (λ s. run order_step (Go s) (filter_map (pair_mark a b) rest)) (sym is) ∙ inner.2)
@@ -238,7 +244,8 @@ module _ (d : Declarations) (f : Function) (accepted : IsAcceptedIn d f) where
           (ap (λ b. cond b (has older slot.0) (cond (w.0 == slot.0) false (is_later slot w older))) at_w ∙ in_older) in
           bad (filter_map (pair_mark slot w) rest) went.0
           (ap (λ s. run order_step (Go s) (FirstOut ∷ filter_map (pair_mark slot w) rest)) (sym (ap (state_in sources slot w (not_equal slot w other) is slot_w) stack ∙ is_three))
-          ∙ ap (λ o. run order_step (Go (state_in sources slot w (not_equal slot w other) is slot_w (slots_behind sources front (slots_on d f t)))) (cons_option o (filter_map (pair_mark slot w) rest)))
+          ∙ ap (λ o. run order_step (Go (state_in sources slot w (not_equal slot w other) is slot_w (slots_behind sources front (slots_on d f t))))
+              (cons_option o (filter_map (pair_mark slot w) rest)))
           (sym first) ∙ went.1)
         where
           three : (x y l : Bool) → x ≡ true → y ≡ true → l ≡ true → state_of x y l ≡ 3

@@ -1,8 +1,8 @@
 -- The automaton of two slots knows which of them are allocated, and which of them is the newer one.
-use Rattle.std.proofs.Common.{◌≡◌, ◌≢◌, ℕ, List, [], ◌∷◌, ◌++◌, refl, sym, ap, ◌∙◌, subst, Bool, true, false, not, ◌&&◌, ◌||◌, Option, Some, None, eq-eqb}
+use Rattle.std.proofs.Common.{◌≡◌, ◌≢◌, ℕ, List, [], ◌∷◌, refl, sym, ap, ◌∙◌, Bool, true, false, not, ◌&&◌, ◌||◌, Option, Some, None}
 use Rattle.std.specs.Prelude.{◌==◌, cond, filter_map, option_and_then, unwrap_or}
-use Rattle.std.specs.List.{cons_option, list_any}
-use Rattle.std.proofs.lemmas.Bool.{eqb-true, false≢true, true≢false}
+use Rattle.std.specs.List.{cons_option}
+use Rattle.std.proofs.lemmas.Bool.{eqb-true, true≢false}
 use Rattle.accepted_memory.specs.memory_accesses.Sources.{is_slot, sources_of}
 use Rattle.accepted_memory.specs.memory_accesses.declared.access.Access.{Access}
 use Rattle.accepted_memory.specs.memory_accesses.declared.access.Access.TheVariants.{Allocates, Begins, Deallocates, Does, Ends, Given, Mentions}
@@ -15,11 +15,10 @@ use Rattle.accepted_memory.specs.memory_parts.Switches.{when}
 use Rattle.accepted_memory.specs.memory_parts.declared.part.Part.TheVariants.{Allocation}
 use Rattle.accepted_memory.proofs.PartsTurned.{turn_by}
 use Rattle.accepted_memory.proofs.Turning.{turned_each}
-use Rattle.numbered_form.specs.Lists.{Each}
 use Rattle.ownership_chains.specs.Facts.{has, value_of}
 use Rattle.path_patterns.specs.declared.mark.Mark.{Mark}
 use Rattle.reach_engine.specs.declared.scan.Step.{Step}
-use Rattle.reach_engine.specs.declared.scan.Step.TheVariants.{Bad, Go}
+use Rattle.reach_engine.specs.declared.scan.Step.TheVariants.{Go}
 use Rattle.reach_engine.specs.inner.Run.{run}
 use Rattle.reach_engine.proofs.Runs.{go-bad, run_split, same_Go}
 use Rattle.sil_ast.specs.declared.function.Function.{Function}

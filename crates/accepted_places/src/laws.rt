@@ -12,7 +12,13 @@ ghost use Rattle.accepted_places.specs.inner.Cells.{
   AreReturnedSo,
   AreRootsFollowed,
 };
-ghost use Rattle.accepted_places.specs.inner.Loans.{AreApartByCells, AreLoansFull, AreLoansThere, AreLoansUnwritten};
+ghost use Rattle.accepted_places.specs.inner.Loans.{
+  AreApartByCells,
+  AreLoansFollowed,
+  AreLoansFull,
+  AreLoansThere,
+  AreLoansUnwritten,
+};
 ghost use Rattle.accepted_places.specs.inner.Located.{
   AreAddressesNamed,
   AreInAllocated,
@@ -99,6 +105,7 @@ pub fn roots_are_made_once()
 
 /// No item writes, empties or deallocates what overlaps what is lent, before it ends the loan.
 pub fn loans_are_left_alone()
+    ensures followed { AreLoansFollowed }
     ensures unwritten { AreLoansUnwritten }
     ensures there { AreLoansThere }
 {}

@@ -2,14 +2,14 @@
 use Rattle.std.specs.Prelude.{◌≡◌, ℕ, ◌+◌, ◌≤◌, ◌⊎◌, List, ◌∷◌, Bool, true, false, Contains, Option, Some}
 use Rattle.std.specs.List.{list_any, starts_with}
 use Rattle.argument_conventions.specs.declared.row.Content.{Content}
-use Rattle.accepted_memory.specs.accepted_trails.inner.Accepted.{IsAcceptedIn}
 use Rattle.accepted_memory.specs.accepted_trails.inner.Passing.{is_end}
 use Rattle.accepted_memory.specs.memory_accesses.Locations.{cell_of, do_overlap, location_of, same_step}
 use Rattle.accepted_memory.specs.memory_accesses.Operations.{addresses_of, deallocates}
 use Rattle.accepted_memory.specs.memory_accesses.Rows.{is_part}
-use Rattle.accepted_memory.specs.memory_accesses.Sources.{sources_of}
+use Rattle.accepted_memory.specs.memory_accesses.Sources.{source_at, sources_of}
 use Rattle.accepted_memory.specs.memory_accesses.declared.access.Operated.{Operated}
 use Rattle.accepted_memory.specs.memory_accesses.declared.location.Location.{Location}
+use Rattle.accepted_memory.specs.memory_accesses.declared.source.Source.TheVariants.{Loan}
 use Rattle.accepted_memory.specs.memory_parts.Loans.{writes}
 use Rattle.accepted_memory.specs.memory_parts.declared.part.Part.TheVariants.{Contents, Lent}
 use Rattle.accepted_memory.specs.ownership_kinds.Facts.{facts_in}
@@ -30,6 +30,10 @@ use Rattle.sil_cfg.specs.declared.item.Item.TheVariants as item
 use Rattle.type_definitions.specs.Declarations.{Declarations}
 use Rattle.accepted_places.specs.inner.Cells.{IsDoneAt}
 
+-- what a scope borrows of a location is followed
+abbrev pub AreLoansFollowed : Type 0
+AreLoansFollowed = InAccepted (λ d f. (scope address : ValueId) → source_at (sources_of d f) scope ≡ Loan address → IsPartOf d f (Lent scope address))
+
 -- what is lent where the trail has come to, and isn't given back by the next item
 pub record IsLentOn (d : Declarations) (f : Function) (t : List Item) (i : Item) (scope address : ValueId) : Type 0 where
   pub there : IsPartOf d f (Lent scope address)
@@ -39,7 +43,8 @@ pub record IsLentOn (d : Declarations) (f : Function) (t : List Item) (i : Item)
 -- no operation of the item that writes or empties overlaps it
 abbrev pub AreLoansUnwritten : Type 0
 AreLoansUnwritten = InAccepted (λ d f. (t : List Item) (p : PointId) → IsRunTrail f (item.Inst p ∷ t) → (scope address : ValueId)
-    → IsLentOn d f t (item.Inst p) scope address → (o : Operated) (l : Location) → IsDoneAt d f p o l → writes (is_part l) o.operation ≡ true → do_overlap (sources_of d f) o.address address ≡ false)
+    → IsLentOn d f t (item.Inst p) scope address → (o : Operated) (l : Location) → IsDoneAt d f p o l
+    → writes (is_part l) o.operation ≡ true → do_overlap (sources_of d f) o.address address ≡ false)
 
 -- nor is its slot deallocated
 abbrev pub AreLoansThere : Type 0

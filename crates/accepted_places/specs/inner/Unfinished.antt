@@ -1,10 +1,10 @@
 -- New objects on the trails of an accepted function: which of their fields are unwritten, and what is done with an object that has such a field.
-use Rattle.std.specs.Prelude.{◌≡◌, ℕ, List, ◌∷◌, Bool, true, false, not, Contains, None, Some}
-use Rattle.accepted_memory.specs.accepted_trails.inner.Accepted.{IsAcceptedIn}
+use Rattle.std.specs.Prelude.{◌≡◌, ◌<◌, ℕ, List, ◌∷◌, Bool, true, false, not, Contains, None, Some}
 use Rattle.accepted_memory.specs.accepted_trails.inner.Defined.{IsDefinedOn, makes}
 use Rattle.accepted_memory.specs.memory_accesses.Accesses.{allowance_of}
 use Rattle.accepted_memory.specs.memory_accesses.Operations.{deallocates}
-use Rattle.accepted_memory.specs.memory_accesses.Sources.{sources_of}
+use Rattle.accepted_memory.specs.memory_accesses.Sources.{source_at, sources_of}
+use Rattle.accepted_memory.specs.memory_accesses.declared.source.Source.TheVariants.{Object}
 use Rattle.accepted_memory.specs.memory_parts.Building.{is_forbidden}
 use Rattle.accepted_memory.specs.memory_parts.declared.part.Part.TheVariants.{Building, Contents}
 use Rattle.accepted_memory.specs.ownership_kinds.Facts.{facts_in}
@@ -25,10 +25,10 @@ use Rattle.type_definitions.specs.Declarations.{Declarations}
 abbrev pub IsUnwritten : Declarations → Function → List Item → ValueId → ℕ → Type 0
 IsUnwritten d f t object k = is_on d f (Building object k) t ≡ Some true
 
--- where a field is followed, it is known whether it is to be written
+-- of each field of a new object it is followed whether it is to be written
 abbrev pub AreFieldsBuilt : Type 0
-AreFieldsBuilt = InAccepted (λ d f. (object : ValueId) (k : ℕ) → IsPartOf d f (Building object k)
-    → IsPartOf d f (Contents (record { subject = object; field = Some k }) false None))
+AreFieldsBuilt = InAccepted (λ d f. (object : ValueId) (k fields : ℕ) → source_at (sources_of d f) object ≡ Object fields → k < fields
+    → IsPartOf d f (Building object k))
 
 -- once the object is made, a field is to be written just while it is empty
 abbrev pub AreUnwrittenEmpty : Type 0
