@@ -61,7 +61,7 @@ use Rattle.accepted_places.proofs.Lists.{each_so, each_split, mapped_append, spl
 use Rattle.accepted_places.proofs.Made.{results_so}
 use Rattle.accepted_places.proofs.OperationsRight.{are_apart, rows_right, stands_somewhere}
 
-left_unturned : (trivial : Bool) (left : Option Content) → option_and_then (λ (m : Mark). m.turns) (left_mark trivial left) ≡ None
+pub left_unturned : (trivial : Bool) (left : Option Content) → option_and_then (λ (m : Mark). m.turns) (left_mark trivial left) ≡ None
 left_unturned trivial None = refl
 left_unturned trivial (Some Full) = refl
 left_unturned true (Some Empty) = refl

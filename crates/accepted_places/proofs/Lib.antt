@@ -21,3 +21,4 @@ pub mod RootsMade
 pub mod MadeOnce
 pub mod LoansKept
 pub mod LoansFull
+pub mod TrivialKept

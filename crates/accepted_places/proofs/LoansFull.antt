@@ -217,10 +217,10 @@ reads_nothing row of empty true is = let full = (reads_stay row of is).1 in let 
 reads_nothing row of empty false is = refl
 
 -- the operation empties a whole root, which is a slot or an argument
-record Empties (sources : List Source) (l : Location) (o : Operation) : Type 0 where
-  is_whole : has_steps l.path ≡ false
-  writing : writes (is_part l) o ≡ true
-  own_cell : cell_of sources l.root ≡ whole_cell l.root
+pub record Empties (sources : List Source) (l : Location) (o : Operation) : Type 0 where
+  pub is_whole : has_steps l.path ≡ false
+  pub writing : writes (is_part l) o ≡ true
+  pub own_cell : cell_of sources l.root ≡ whole_cell l.root
 
 not_so : (b : Bool) → not b ≡ true → b ≡ false
 not_so true e = absurd (false≢true e)
@@ -268,7 +268,7 @@ module _ (sources : List Source) where
   hand_whole root (source.Part v k) part row of empty h = absurd (false≢true h)
   hand_whole root source.Other part row of empty h = absurd (false≢true h)
 
-  empties : (l : Location) (o : Operation) (trivial counts : Bool) → ((row : AddressRow) → o ≡ Handed row → IsRow row) → has_operation sources l o ≡ true
+  pub empties : (l : Location) (o : Operation) (trivial counts : Bool) → ((row : AddressRow) → o ≡ Handed row → IsRow row) → has_operation sources l o ≡ true
       → (operation_mark trivial counts o).turns ≡ Some false → Empties sources l o
   empties l FirstWrite trivial counts of h e = cc
   empties l Read trivial counts of h e = cc
@@ -355,12 +355,12 @@ each_both P Q R go (x ∷ xs) h k = (go x h.0 k.0, each_both P Q R go xs h.1 k.1
 
 -- ---- along a trail
 
-has_contained : (vs : List ValueId) (v : ValueId) → Among v vs → has vs v.0 ≡ true
+pub has_contained : (vs : List ValueId) (v : ValueId) → Among v vs → has vs v.0 ≡ true
 has_contained [] v h = absurd h
 has_contained (w ∷ vs) v (inl same) = ap (λ b. b || has vs v.0) (eq-eqb w.0 v.0 (ap (λ (x : ValueId). x.0) (sym same)))
 has_contained (w ∷ vs) v (inr more) = or_right (w.0 == v.0) (has vs v.0) (has_contained vs v more)
 
-goes_on : (f : Function) (t : List Item) (i : Item) → IsRunTrail f (i ∷ t) → (t ≡ [] → ⊥) → GoesOn t
+pub goes_on : (f : Function) (t : List Item) (i : Item) → IsRunTrail f (i ∷ t) → (t ≡ [] → ⊥) → GoesOn t
 goes_on f [] i h some = absurd (some refl)
 goes_on f (item.Entry ∷ t) i h some = tt
 goes_on f (item.Inst p ∷ t) i h some = tt

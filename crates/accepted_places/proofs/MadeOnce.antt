@@ -87,7 +87,7 @@ module _ (m : Module) (n : ℕ) (f : Function) (a : IsAcceptedBody m n f) where
   abbrev d : Declarations
   d = declarations_of m
 
-  abbrev sources : List Source
+  abbrev pub sources : List Source
   sources = sources_of d f
 
   -- what an item makes that is a slot is allocated
@@ -177,7 +177,7 @@ module _ (m : Module) (n : ℕ) (f : Function) (a : IsAcceptedBody m n f) where
   loan_none None = refl
   loan_none (Some v) = refl
 
-  result_none : (k : AccessKind) (i : Inst) → is_argument (source_by k d i) ≡ false
+  pub result_none : (k : AccessKind) (i : Inst) → is_argument (source_by k d i) ≡ false
   result_none access.NoAccess i = refl
   result_none access.AllocatesSlot i = slot_none i.ty
   result_none access.AllocatesObject i = object_none i.ty

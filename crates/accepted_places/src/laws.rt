@@ -11,6 +11,7 @@ ghost use Rattle.accepted_places.specs.inner.Cells.{
   AreOthersFull,
   AreReturnedSo,
   AreRootsFollowed,
+  AreTrivialKept,
 };
 ghost use Rattle.accepted_places.specs.inner.Loans.{
   AreApartByCells,
@@ -138,6 +139,11 @@ pub fn items_leave_cells()
 pub fn arguments_have_contents()
     ensures given { AreGivenSo }
     ensures returned { AreReturnedSo }
+{}
+
+/// An argument's place of a trivial type that was given full stays so.
+pub fn trivial_places_stay_full()
+    ensures { AreTrivialKept }
 {}
 
 /// The fields of a new object that are still to be written are just the empty ones, and with the object nothing is done that 607 forbids.

@@ -7,5 +7,5 @@ mod laws;
 pub use laws::{
     addresses_have_locations, arguments_have_contents, cells_are_followed, handed_places_are_apart, items_leave_cells,
     items_stack_slots, loans_are_full, loans_are_left_alone, operands_are_located, operations_find_cells_right, operations_have_rows, parts_are_apart, roots_are_made_once,
-    slots_are_stacked, unfinished_objects_are_guarded,
+    slots_are_stacked, trivial_places_stay_full, unfinished_objects_are_guarded,
 };

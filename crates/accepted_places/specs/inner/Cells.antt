@@ -158,3 +158,9 @@ abbrev pub AreReturnedSo : Type 0
 AreReturnedSo = InAccepted (λ d f. (t : List Item) (i : Item) → IsRunTrail f (i ∷ t) → is_return f i ≡ true
     → (cell : Cell) (trivial : Bool) (left : Option Content) (mark : Mark) → IsPartOf d f (Contents cell trivial left) → left_mark trivial left ≡ Some mark
     → (on : Bool) × (is_on d f (Contents cell trivial left) t ≡ Some on) × (finds mark.needs on ≡ true))
+
+-- what is of a trivial type is never emptied: an argument that was given full stays so
+abbrev pub AreTrivialKept : Type 0
+AreTrivialKept = InAccepted (λ d f. (t : List Item) → IsRunTrail f t → GoesOn t → (v : ValueId) (row : AddressRow)
+    → source_at (sources_of d f) v ≡ source.Argument row true → row.before ≡ Full → row.shared ≡ false
+    → is_on d f (Contents (whole_cell v) true (Some row.after)) t ≡ Some true)
