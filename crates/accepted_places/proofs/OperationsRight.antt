@@ -7,17 +7,17 @@ use Rattle.std.proofs.lemmas.Bool.Decides.{nat_tests}
 use Rattle.std.proofs.lemmas.Option.{none-some, same_Some}
 use Rattle.argument_conventions.specs.declared.row.AddressRow.{AddressRow}
 use Rattle.item_operands.specs.Parts.{inst_in, item_inst, terminator_in}
-use Rattle.run_typing_laws.specs.memory_accesses.Locations.{do_overlap}
-use Rattle.run_typing_laws.specs.memory_accesses.Operations.{addresses_of, deallocates, operations_of}
-use Rattle.run_typing_laws.specs.memory_accesses.Rows.{has_operation}
-use Rattle.run_typing_laws.specs.memory_accesses.Sources.{is_slot, sources_of}
-use Rattle.run_typing_laws.specs.memory_accesses.declared.access.Operated.{Operated}
-use Rattle.run_typing_laws.specs.memory_accesses.declared.access.Operation.{Operation}
-use Rattle.run_typing_laws.specs.memory_accesses.declared.access.Operation.TheVariants.{FirstWrite, Handed, Lend, Read, Take, TrivialStore, Write}
-use Rattle.accepted_trails.specs.memory_rules.Broken.{static}
-use Rattle.accepted_trails.specs.memory_rules.Statics.{AddressPair, IsBrokenAt, address_in, crosses, do_clash, handed, handed_by, handed_of, is_no_slot}
-use Rattle.accepted_trails.specs.memory_rules.Statics.{lacking_at, lacks, pair, pairs_of, second_of}
-use Rattle.accepted_trails.specs.memory_rules.Statics.IsBrokenAt.{lacking, overlapping}
+use Rattle.accepted_memory.specs.memory_accesses.Locations.{do_overlap}
+use Rattle.accepted_memory.specs.memory_accesses.Operations.{addresses_of, deallocates, operations_of}
+use Rattle.accepted_memory.specs.memory_accesses.Rows.{has_operation}
+use Rattle.accepted_memory.specs.memory_accesses.Sources.{is_slot, sources_of}
+use Rattle.accepted_memory.specs.memory_accesses.declared.access.Operated.{Operated}
+use Rattle.accepted_memory.specs.memory_accesses.declared.access.Operation.{Operation}
+use Rattle.accepted_memory.specs.memory_accesses.declared.access.Operation.TheVariants.{FirstWrite, Handed, Lend, Read, Take, TrivialStore, Write}
+use Rattle.accepted_memory.specs.memory_rules.Broken.{static}
+use Rattle.accepted_memory.specs.memory_rules.Statics.{AddressPair, IsBrokenAt, address_in, crosses, do_clash, handed, handed_by, handed_of, is_no_slot}
+use Rattle.accepted_memory.specs.memory_rules.Statics.{lacking_at, lacks, pair, pairs_of, second_of}
+use Rattle.accepted_memory.specs.memory_rules.Statics.IsBrokenAt.{lacking, overlapping}
 use Rattle.point_checks.specs.Points.{IsAt}
 use Rattle.point_checks.proofs.Among.{Among, among_contained, among_left, among_map, among_right, contained_among}
 use Rattle.sil_ast.specs.declared.function.Block.{Block}
@@ -29,10 +29,10 @@ use Rattle.sil_cfg.specs.declared.item.Item.{Item}
 use Rattle.sil_cfg.specs.declared.item.Item.TheVariants as item
 use Rattle.sil_rules.specs.declared.rule.Rule.{Rule}
 use Rattle.sil_rules.specs.declared.rule.Rule.TheVariants as rule
-use Rattle.accepted_trails.specs.accepted_modules.Shown.{memory}
+use Rattle.accepted_memory.specs.accepted_modules.Shown.{memory}
 use Rattle.type_definitions.specs.Declarations.{Declarations}
-use Rattle.run_typing_laws.proofs.Rows.Points.{in_front}
-use Rattle.accepted_trails.specs.inner.Accepted.{IsAcceptedIn}
+use Rattle.accepted_values.proofs.run_typing_laws.Rows.Points.{in_front}
+use Rattle.accepted_memory.specs.accepted_trails.inner.Accepted.{IsAcceptedIn}
 use Rattle.accepted_places.specs.inner.Operations.{AreApart, AreOfSlots, AreRowsRight}
 
 -- ---- the instruction of an item stands at a point

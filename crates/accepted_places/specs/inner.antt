@@ -1,1 +1,7 @@
 pub mod Operations
+pub mod Stacks
+pub mod Located
+pub mod Cells
+pub mod Loans
+pub mod Unfinished
+pub mod Arguments

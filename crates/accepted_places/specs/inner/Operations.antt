@@ -2,19 +2,19 @@
 use Rattle.std.specs.Prelude.{◌≡◌, List, ◌∷◌, ◌++◌, true, false, ◌&&◌, Contains, Some}
 use Rattle.argument_conventions.specs.declared.row.AddressRow.{AddressRow}
 use Rattle.item_operands.specs.Parts.{item_inst}
-use Rattle.run_typing_laws.specs.memory_accesses.Locations.{do_overlap, location_of}
-use Rattle.run_typing_laws.specs.memory_accesses.Operations.{addresses_of, deallocates, operations_of}
-use Rattle.run_typing_laws.specs.memory_accesses.Rows.{has_operation}
-use Rattle.run_typing_laws.specs.memory_accesses.Sources.{is_slot, sources_of}
-use Rattle.run_typing_laws.specs.memory_accesses.declared.access.Operated.{Operated}
-use Rattle.run_typing_laws.specs.memory_accesses.declared.access.Operation.TheVariants.{Handed}
-use Rattle.run_typing_laws.specs.memory_accesses.declared.location.Location.{Location}
+use Rattle.accepted_memory.specs.memory_accesses.Locations.{do_overlap, location_of}
+use Rattle.accepted_memory.specs.memory_accesses.Operations.{addresses_of, deallocates, operations_of}
+use Rattle.accepted_memory.specs.memory_accesses.Rows.{has_operation}
+use Rattle.accepted_memory.specs.memory_accesses.Sources.{is_slot, sources_of}
+use Rattle.accepted_memory.specs.memory_accesses.declared.access.Operated.{Operated}
+use Rattle.accepted_memory.specs.memory_accesses.declared.access.Operation.TheVariants.{Handed}
+use Rattle.accepted_memory.specs.memory_accesses.declared.location.Location.{Location}
 use Rattle.sil_ast.specs.declared.function.Function.{Function}
 use Rattle.sil_ast.specs.declared.inst.Inst.{Inst}
 use Rattle.sil_ast.specs.declared.place.ValueId.{ValueId}
 use Rattle.sil_cfg.specs.declared.item.Item.{Item}
 use Rattle.type_definitions.specs.Declarations.{Declarations}
-use Rattle.accepted_trails.specs.inner.Accepted.{IsAcceptedIn}
+use Rattle.accepted_memory.specs.accepted_trails.inner.Accepted.{IsAcceptedIn}
 
 -- the location's row has the operation
 abbrev pub AreRowsRight : Type 0
