@@ -253,7 +253,7 @@ module _ (m : Module) (n : ℕ) (f : Function) (a : IsAcceptedBody m n f) where
     -- so no address of a trivial object is taken from
     pub none_taken : (o : Operated) → Contains (operations_of x) o → o.operation ≡ Take → (ty t : TypeName) → type_in d f o.address ≡ Some ty → target ty ≡ Some t
         → is_trivial_object d t ≡ true → ⊥
-    none_taken o c take ty t has_type points trivial = by (done_by m f x known o c)
+    none_taken o c take ty t has_type points trivial = by (done_by x o c)
       where
         of_type : TakesBy x.op x.qualifier → ⊥
         of_type row =
@@ -269,7 +269,7 @@ module _ (m : Module) (n : ℕ) (f : Function) (a : IsAcceptedBody m n f) where
             let target_same : t ≡ given.at = same_Some t given.at (sym points ∙ ap target same ∙ wrote.2) in
             true≢false (sym trivial ∙ ap (is_trivial_object d) target_same ∙ given.kept)
 
-        by : IsDoneBy m f x known o → ⊥
+        by : IsDoneBy x o → ⊥
         by (of_row e row) = of_type (takes_by x.op x.qualifier (row ∙ ap (λ y. Some y) take))
         by (of_call row is so e) = let two : Handed row ≡ Take = sym is ∙ take in cc
 
