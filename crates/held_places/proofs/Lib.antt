@@ -32,3 +32,4 @@ pub mod Resuming
 pub mod CallsAt
 pub mod Leaving
 pub mod MadeOnce
+pub mod TrailsSo

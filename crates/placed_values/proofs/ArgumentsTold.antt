@@ -39,10 +39,9 @@ use Rattle.value_tables.proofs.Rows.{rows_count}
 use Rattle.placed_values.specs.inner.Arguments.{AreArgumentsTold, AreArgumentsWhole, AreToldArguments, IsTold}
 use Rattle.accepted_places.proofs.Fields.{has_among}
 use Rattle.accepted_places.proofs.Made.{argument_there}
-use Rattle.accepted_places.proofs.MadeOnce.{result_none}
-use Rattle.accepted_places.proofs.MadeOnce as once
 use Rattle.accepted_places.proofs.OperationsRight.{stands_somewhere}
 use Rattle.accepted_places.proofs.PartsThere.{has_row}
+use Rattle.placed_values.proofs.Sourcing.{is_argument, result_none}
 
 -- what a signature tells of makes such an argument
 handed_row : (trivial t : Bool) (o : Option AddressRow) (row : AddressRow) → handed_source trivial o ≡ source.Argument row t → (o ≡ Some row) × (t ≡ trivial)
@@ -96,8 +95,8 @@ module _ (m : Module) (n : ℕ) (f : Function) (a : IsAcceptedBody m n f) where
       let here = stands_somewhere f (item.Inst p) i at in
       let s = stands i.results v c in
       let from : source_at sources v ≡ result_source d i = (result_rows m n f a here.0 here.1 s.0 i v here.2 s.1).source in
-      absurd (false≢true (sym (result_none m n f a (access_kind_of i.op) i)
-      ∙ ap (once.is_argument m n f a) (sym from ∙ is)))
+      absurd (false≢true (sym (result_none (access_kind_of i.op) d i)
+      ∙ ap is_argument (sym from ∙ is)))
   made_told v row trivial is _ (IsMadeAt.parameter c) = let s = stands (map arg_value (args_of f 0)) v c in entry_told v row trivial is s.0 s.1
   made_told v row trivial is _ (IsMadeAt.argument zero within c) = absurd (omega arith)
   made_told v row trivial is _ (IsMadeAt.argument (suc b) within c) =

@@ -43,10 +43,11 @@ use Rattle.type_definitions.specs.Declarations.{Declarations, declarations_of}
 use Rattle.placed_values.specs.inner.Arguments.{AreBegunTold, AreResultsTold, AreRootsTrivial, IsStackRoot, argument, slot}
 use Rattle.placed_values.proofs.ArgumentsTold.{arguments_told, is_value}
 use Rattle.accepted_places.proofs.Fields.{has_among}
-use Rattle.accepted_places.proofs.ItemStacks.{argument_no_slot, opens_no_slot, result_no_slot}
+use Rattle.accepted_places.proofs.ItemStacks.{opens_no_slot}
 use Rattle.accepted_places.proofs.Made.{argument_there, results_so}
 use Rattle.accepted_places.proofs.OperationsRight.{stands_somewhere}
 use Rattle.accepted_places.proofs.PartsThere.{each_where_among}
+use Rattle.placed_values.proofs.Sourcing.{argument_no_slot, result_no_slot}
 
 pub results_told : AreResultsTold
 results_told m n f a p x at v there =

@@ -85,11 +85,11 @@ use Rattle.accepted_places.proofs.Done.{IsDoneBy, done_by, done_with, of_call, o
 use Rattle.accepted_places.proofs.Followed.{item_leaves}
 use Rattle.accepted_places.proofs.ItemStacks.{accepted_in}
 use Rattle.accepted_places.proofs.Items.{accesses_each}
-use Rattle.accepted_places.proofs.LoansFull.{has_contained}
 use Rattle.accepted_places.proofs.Made.{argument_there}
 use Rattle.accepted_places.proofs.MadeOnce.{StaysOn, stays_on}
 use Rattle.accepted_places.proofs.OperationsRight.{rows_right, stands_somewhere}
 use Rattle.accepted_places.proofs.PartsThere.{part_there}
+use Rattle.placed_values.proofs.Sourcing.{has_contained}
 
 -- ---- which rows take from a place
 

@@ -1,8 +1,6 @@
 -- The laws of trails by which a run's places are right: those of slots and of cells, and that no root that is there is made anew.
-use Rattle.std.specs.Prelude.{◌≡◌, List, [], ◌∷◌, true, false, Some}
+use Rattle.std.specs.Prelude.{◌≡◌, List, ◌∷◌, false}
 use Rattle.accepted_memory.specs.accepted_trails.inner.Accepted.{IsAcceptedIn}
-use Rattle.accepted_memory.specs.memory_accesses.Operations.{access_kind_of}
-use Rattle.accepted_memory.specs.memory_accesses.declared.columns.AccessKind.TheVariants as access
 use Rattle.accepted_memory.specs.run_trails.inner.RunTrails.{GoesOn, IsRunTrail}
 use Rattle.placed_values.specs.inner.Arguments.{AreArgumentsTold, AreArgumentsWhole, AreBegunTold, AreResultsTold, AreRootsTrivial, AreToldArguments, AreTrivialFull}
 use Rattle.accepted_places.specs.inner.Cells.{AreCellsKept, AreDeallocatedEmpty, AreGivenSo, AreNewEmpty, AreOperationsRight, AreOthersFull, AreReturnedSo, AreRootsFollowed}
@@ -12,24 +10,15 @@ use Rattle.accepted_places.specs.inner.Operations.{AreApart, AreRowsRight}
 use Rattle.accepted_places.specs.inner.Stacks.{AreNoneLeft, AreSlots, AreSlotsAllocated, AreSlotsClosed, AreSlotsKept, AreSlotsOpened}
 use Rattle.accepted_values.specs.inner.Known.{InAccepted}
 use Rattle.item_operands.specs.Items.{item_defined}
-use Rattle.item_operands.specs.Parts.{inst_at}
 use Rattle.ownership_chains.specs.Facts.{has}
-use Rattle.sil_ast.specs.declared.inst.Inst.{Inst}
-use Rattle.sil_ast.specs.declared.place.PointId.{PointId}
 use Rattle.sil_ast.specs.declared.place.ValueId.{ValueId}
 use Rattle.sil_cfg.specs.declared.item.Item.{Item}
-use Rattle.sil_cfg.specs.declared.item.Item.TheVariants as item
 use Rattle.held_places.specs.inner.Roots.{IsThere}
 
 -- a root that is there isn't made anew by the next item
 abbrev pub AreRootsMadeOnce : Type 0
 AreRootsMadeOnce = InAccepted (λ d f. (t : List Item) (i : Item) → IsRunTrail f (i ∷ t) → GoesOn t → (v : ValueId) → IsThere d f t v
     → has (item_defined f i) v.0 ≡ false)
-
--- what allocates a slot has no other result
-abbrev pub AreSlotsAlone : Type 0
-AreSlotsAlone = InAccepted (λ d f. (p : PointId) (x : Inst) (v : ValueId) → inst_at f p ≡ Some x → access_kind_of x.op ≡ access.AllocatesSlot
-    → has (item_defined f (item.Inst p)) v.0 ≡ true → item_defined f (item.Inst p) ≡ v ∷ [])
 
 abbrev pub AreBodiesAccepted : Type 0
 AreBodiesAccepted = InAccepted IsAcceptedIn
