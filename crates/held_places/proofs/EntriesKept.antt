@@ -24,7 +24,7 @@ okay x = Ok x
 abbrev wrong : {A : Type 0} → HolderFault → Result A HolderFault
 wrong x = Err x
 
-ok_once : {A : Type 0} (x y : A) → okay x ≡ okay y → x ≡ y
+pub ok_once : {A : Type 0} (x y : A) → okay x ≡ okay y → x ≡ y
 ok_once x y e = cc
 
 never_ok : {A : Type 0} (x : HolderFault) (y : A) → wrong x ≡ okay y → ⊥

@@ -17,6 +17,7 @@ use Rattle.accepted_values.specs.accepted_modules.sil_types.Typing.Shapes.{is_tr
 use Rattle.accepted_values.specs.accepted_modules.sil_types.Typing.SignatureRules.{is_argument_for}
 use Rattle.accepted_values.specs.inner.Known.{IsAcceptedBody, IsValue, type_in}
 use Rattle.accepted_values.specs.inner.Making.{IsMadeAt}
+use Rattle.owned_run_typing.proofs.run_typing_laws.Rows.Layers.{target-Address}
 use Rattle.accepted_values.proofs.Counted.{nothing_in, stands}
 use Rattle.accepted_values.proofs.Made.{made_somewhere, parameters_of_entry}
 use Rattle.accepted_values.proofs.Parameters.{entry_pairs, pair_at, told_of}
@@ -82,14 +83,14 @@ slot_of d None trivial e = absurd (cc)
 slot_of d (Some t) trivial e = let same : is_trivial_object d t ≡ trivial = cc in (t, refl, sym same)
 
 only_address : (t ty : TypeName) (k : ℕ) → slice_get (address_of t ∷ []) k ≡ Some ty → target ty ≡ Some t
-only_address t ty zero e = ap target (sym (same_Some (address_of t) ty e))
+only_address t ty zero e = ap target (sym (same_Some (address_of t) ty e)) ∙ target-Address t
 only_address t ty (suc k) e = absurd (none-some ty e)
 
 address_target : (c : ArgumentConvention) (t : TypeName) (row : AddressRow) → address_row c ≡ Some row → target (handed_type c t) ≡ Some t
 address_target convention.Plain t row e = absurd (none-some row e)
 address_target convention.Owned t row e = absurd (none-some row e)
 address_target convention.Guaranteed t row e = absurd (none-some row e)
-address_target (convention.Address c) t row e = refl
+address_target (convention.Address c) t row e = target-Address t
 
 module _ (m : Module) (n : ℕ) (f : Function) (a : IsAcceptedBody m n f) where
   abbrev d : Declarations

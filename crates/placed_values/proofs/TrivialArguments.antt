@@ -290,7 +290,7 @@ module _ (m : Module) (n : ℕ) (f : Function) (a : IsAcceptedBody m n f) where
     of_told convention.Plain t e = absurd (none-some row e)
     of_told convention.Owned t e = absurd (none-some row e)
     of_told convention.Guaranteed t e = absurd (none-some row e)
-    of_told (convention.Address c) t e = refl
+    of_told (convention.Address c) t e = target-Address t
 
     -- its type
     typed_so : (ty t : TypeName) × (type_in d f v ≡ Some ty) × (target ty ≡ Some t) × (is_trivial_object d t ≡ true)
