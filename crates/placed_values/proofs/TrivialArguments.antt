@@ -42,6 +42,7 @@ use Rattle.accepted_values.specs.accepted_modules.sil_types.Typing.OperandTypes.
 use Rattle.accepted_values.specs.accepted_modules.sil_types.Typing.Typed.{BreaksAtPoint, at_point, point}
 use Rattle.accepted_values.specs.accepted_modules.sil_types.Typing.Values.{value_types}
 use Rattle.accepted_values.specs.inner.Known.{IsAcceptedBody, type_in}
+use Rattle.owned_run_typing.proofs.run_typing_laws.Rows.Layers.{target-Address}
 use Rattle.accepted_values.proofs.Accepted.{in_ownership_form, typed, well_typed}
 use Rattle.accepted_values.proofs.TableRows.{argument_rows}
 use Rattle.accepted_values.proofs.Parameters.{entry_pairs, pair_at, told_of}
