@@ -1,7 +1,7 @@
 -- In a typed frame each entry of an address was made as that of a value without a kind.
 use Rattle.std.proofs.Common.{◌≡◌, ◌<◌, ℕ, List, Option, Some, None, Ok, refl, sym, ap, ◌∙◌, subst}
 use Rattle.std.specs.Prelude.{slice_get, unwrap_or}
-use Rattle.std.proofs.lemmas.Option.{none-some, same_Some}
+use Rattle.std.proofs.lemmas.Option.{none-some, same_Some, slice_get_within}
 use Rattle.accepted_memory.specs.holder_model.Data.{AddressOf, Datum}
 use Rattle.accepted_memory.specs.holder_model.Frames.{Entry, Gone, datum_in, entry_at, made_entry, plain_address}
 use Rattle.accepted_values.specs.accepted_modules.sil_types.Typing.Shapes.{target}
@@ -71,7 +71,7 @@ module _ (m : Module) (w : World) (number : ℕ) (f : Function) (body : IsAccept
     where
       at : (o : Option Entry) → slice_get entries v.0 ≡ o → datum_in (unwrap_or o Gone) ≡ Some (AddressOf p) → IsOf f v
       at None is h = absurd (none-some (AddressOf p) h)
-      at (Some e) is h = subst (λ n. v.0 < n) typed.size (slice_get-bound entries v.0 e is)
+      at (Some e) is h = subst (λ n. v.0 < n) typed.size (slice_get_within entries v.0 e is)
 
   -- what names a place is an address by its type
   pub named_address : (v : ValueId) (p : Place) → Names entries v p → IsAddress (declarations_of m) f v
