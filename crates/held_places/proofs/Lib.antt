@@ -33,3 +33,4 @@ pub mod CallsAt
 pub mod Leaving
 pub mod MadeOnce
 pub mod TrailsSo
+pub mod PlainAddresses
