@@ -34,3 +34,4 @@ pub mod Leaving
 pub mod MadeOnce
 pub mod TrailsSo
 pub mod PlainAddresses
+pub mod SlotsMoved
