@@ -37,13 +37,13 @@ module _ (m : Module) (w : World) (k : Kind) (form : Form) (p : Place) where
   -- the entry names it, so its form is that of a place
   pub named_form : (e : Entry) → EntryIs m w k form e → datum_in e ≡ Some (AddressOf p) → form ≡ OfPlace p.shape
   named_form _ gone names = absurd (none-some (AddressOf p) names)
-  named_form _ (made x e is so) names = address_form m w form x p so (same_Some x (AddressOf p) (sym (made_datum k x e is) ∙ names))
+  named_form _ (made x e is so) names = address_form m w form x p so (same_Some x (AddressOf p) (sym (made_datum (λ v. None) k x e is) ∙ names))
 
   -- and where it has no kind the entry was made so
   pub named_plain : (e : Entry) → EntryIs m w k form e → datum_in e ≡ Some (AddressOf p) → k ≡ kind.Plain → e ≡ plain_address p.home (AddressOf p)
   named_plain _ gone names plain = absurd (none-some (AddressOf p) names)
   named_plain _ (made x e is so) names plain =
-      let same : x ≡ AddressOf p = same_Some x (AddressOf p) (sym (made_datum k x e is) ∙ names) in
+      let same : x ≡ AddressOf p = same_Some x (AddressOf p) (sym (made_datum (λ v. None) k x e is) ∙ names) in
       sym (ok_once (plain_address p.home (AddressOf p)) e (ap (made_entry kind.Plain) (sym same) ∙ ap (λ h. made_entry h x) (sym plain) ∙ is))
 
 -- the type of an address is that of one
