@@ -11,3 +11,4 @@ pub mod RowTables
 pub mod Sources
 pub mod Rows
 pub mod EdgesLend
+pub mod Given

@@ -6,3 +6,4 @@ pub mod Changing
 pub mod Following
 pub mod Rows
 pub mod EdgesLend
+pub mod Given

@@ -13,6 +13,11 @@ ghost use Rattle.guarded_entries.specs.inner.Following.{
   AreOperandsCurrent,
   AreScopesNotRenewed,
 };
+ghost use Rattle.guarded_entries.specs.inner.Given.{
+  AreTrackedAlong,
+  AreTypedOfKinds,
+  HandTypedValues,
+};
 ghost use Rattle.guarded_entries.specs.inner.Kept.{
   AreGuardedAlive,
   AreGuardedBehind,
@@ -122,4 +127,15 @@ pub fn rows_lend_what_is_guarded()
 /// What an edge lends anew is guarded, by the bases of what is switched. The law asks that what it carries are values.
 pub fn edges_lend_what_is_guarded()
     ensures { AreEdgesGuarded }
+{}
+
+/// In a tracked frame the entries go along with the trail.
+pub fn tracked_go_along()
+    ensures { AreTrackedAlong }
+{}
+
+/// Typed entries are of their values' kinds, and what an instruction hands on or copies as a whole is a value where its operands are typed.
+pub fn typed_are_of_kinds()
+    ensures kinds { AreTypedOfKinds }
+    ensures handed { HandTypedValues }
 {}
