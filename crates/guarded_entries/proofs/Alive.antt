@@ -58,7 +58,8 @@ guarded_alive m loans s frame rest o state at g = ⊎_elim (λ dead. absurd (not
     tasks = ap (in_tasks (one_object o)) at ∙ total_cons (in_task (one_object o)) (Runs frame) rest
 
     not_dead : is_dead s.memory o ≡ true → ⊥
-    not_dead dead = ⊎_elim (λ n. omega (arith, none, tasks, n)) (λ later. ⊎_elim (λ n. omega (arith, none, tasks, n)) (λ n. omega (arith, unfinished, n)) (kept_holders m loans s.memory frame rest o below.1 later))
+    not_dead dead = ⊎_elim (λ n. omega (arith, none, tasks, n)) (λ later. ⊎_elim (λ n. omega (arith, none, tasks, n)) (λ n. omega (arith, unfinished, n))
+        (kept_holders m loans s.memory frame rest o below.1 later))
         (guarded_in m loans s.memory frame rest o below g)
       where
         none : in_tasks (one_object o) s.tasks + in_memory (one_object o) storage.Strong s.memory ≡ 0

@@ -1,5 +1,6 @@
 -- What the operands of an item, and what is made of them, name.
-use Rattle.std.proofs.Common.{◌≡◌, ℕ, zero, suc, ◌+◌, List, [], ◌∷◌, ◌++◌, drop, length, replicate, refl, sym, ap, ◌∙◌, subst, Bool, true, false, cond, ◌||◌, ◌⊎◌, ⊎_elim, Option, Some, None, Ok, Err, arith}
+use Rattle.std.proofs.Common.{◌≡◌, ℕ, zero, suc, ◌+◌, List, [], ◌∷◌, ◌++◌, drop, length, replicate, refl, sym, ap, ◌∙◌, subst, Bool, true, false, cond, ◌||◌}
+use Rattle.std.proofs.Common.{◌⊎◌, ⊎_elim, Option, Some, None, Ok, Err, arith}
 use Rattle.std.specs.Prelude.{◌==◌, option_map, option_and_then, slice_get, unwrap_or}
 use Rattle.std.specs.declared.result.Result.{Result}
 use Rattle.std.proofs.lemmas.Bool.{cases_Bool, eqb-true, false≢true, true≢false}

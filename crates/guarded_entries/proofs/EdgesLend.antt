@@ -275,10 +275,13 @@ module _ (m : Module) (n : ℕ) (f : Function) (a : IsAcceptedBody m n f) (e : E
     by_args w (b ∷ c ∷ args) h at = absurd h
 
     -- a switch lends what it switches on
-    lends_switched : i.op ≡ op.SwitchEnum → (w : ValueId) → first_value i ≡ Some w → (u : Value) → slice_get ops.given 0 ≡ Some (ValueOf u) → IsNamed o (references_of u) → Takes d f w the_arg.0 → Newly
+    lends_switched : i.op ≡ op.SwitchEnum → (w : ValueId) → first_value i ≡ Some w → (u : Value) → slice_get ops.given 0 ≡ Some (ValueOf u) → IsNamed o (references_of u) → Takes d f w the_arg.0
+        → Newly
     lends_switched switches w first u given names (handed.owns may owned) = absurd (not_owned_too (kind_at d f the_arg.0.value) owned (ap (kind_at d f) the_arg.2 ∙ guaranteed))
     lends_switched switches w first u given names (handed.trivial is plain) = absurd (not_plain_too (kind_at d f the_arg.0.value) plain (ap (kind_at d f) the_arg.2 ∙ guaranteed))
-    lends_switched switches w first u given names (handed.lends lent_kind arg_kind bases) = by_form (sources.form_of m n f a (item.Edge e) ts taken_is lending memory entries t ops ops_are kinds lent current o found.source.taken.value (ValueOf u) found.source.entry found.source.named)
+    lends_switched switches w first u given names (handed.lends lent_kind arg_kind bases) =
+        by_form (sources.form_of m n f a (item.Edge e) ts taken_is lending memory entries t ops ops_are kinds lent current o
+        found.source.taken.value (ValueOf u) found.source.entry found.source.named)
       where
         found : sources.IsFound m n f a (item.Edge e) ts taken_is lending memory entries t ops ops_are kinds lent current o 0 (ValueOf u)
         found = sources.found_at m n f a (item.Edge e) ts taken_is lending memory entries t ops ops_are kinds lent current o 0 (ValueOf u) given names

@@ -84,7 +84,8 @@ same_value : (a b : ValueId) → a.0 ≡ b.0 → a ≡ b
 same_value a b e = ap value_of e
 
 -- where one entry is set, each is as it was, or the new one
-set_either : (entries : List Entry) (n k : ℕ) (e : Entry) → (unwrap_or (slice_get (set entries n e) k) Gone ≡ unwrap_or (slice_get entries k) Gone) ⊎ ((n ≡ k) × (unwrap_or (slice_get (set entries n e) k) Gone ≡ e))
+set_either : (entries : List Entry) (n k : ℕ) (e : Entry)
+    → (unwrap_or (slice_get (set entries n e) k) Gone ≡ unwrap_or (slice_get entries k) Gone) ⊎ ((n ≡ k) × (unwrap_or (slice_get (set entries n e) k) Gone ≡ e))
 set_either [] n k e = inl refl
 set_either (x ∷ xs) zero zero e = inr (refl, refl)
 set_either (x ∷ xs) zero (suc k) e = inl refl

@@ -35,7 +35,8 @@ AreDeadUnnamed = (memory : Memory) (xs : List Datum) (o : ObjectId) → Each (Is
 
 -- where nothing dead has a holder, an instruction leaves it so, and changes no phase
 abbrev pub AreChangesAlive : Type 0
-AreChangesAlive = (d : Declarations) (shapes : ModuleShapes) (values : List Shape) (memory : Memory) (tasks : List (Task Frame)) (i : Inst) (xs : List Datum) (c : Change)
+AreChangesAlive = (d : Declarations) (shapes : ModuleShapes) (values : List Shape) (memory : Memory) (tasks : List (Task Frame)) (i : Inst)
+    (xs : List Datum) (c : Change)
     → effect d shapes values memory i xs ≡ effects.Makes c → HaveDeadNoHolders memory tasks → Each (IsAlive memory) xs → LoadsStrongly memory i xs
     → KeepsPhases memory c.memory × ((o : ObjectId) → is_dead c.memory o ≡ true → HoldsNone (one_object o) c)
 

@@ -29,7 +29,8 @@ abbrev pub CarriesValues : List Datum → Type 0
 CarriesValues carried = (k : ℕ) (x : Datum) → slice_get carried k ≡ Some x → (y : Value) × (x ≡ ValueOf y)
 
 abbrev pub AreEdgesGuarded : Type 0
-AreEdgesGuarded = (m : Module) (n : ℕ) (f : Function) → IsAcceptedBody m n f → (e : EdgeId) (i : Inst) (taken : Edge) → terminator_of f e.block.0 ≡ Some i → edge_at f e ≡ Some taken
+AreEdgesGuarded = (m : Module) (n : ℕ) (f : Function) → IsAcceptedBody m n f → (e : EdgeId) (i : Inst) (taken : Edge) → terminator_of f e.block.0 ≡ Some i
+    → edge_at f e ≡ Some taken
     → (lends lends' : Lending) (memory : Memory) (entries : List Entry) (t : List Item) (ops : Operands) (carried : List Datum)
     → operands_of (facts_in (declarations_of m) f) memory entries (item_taken f (item.Edge e)) ≡ Ok ops → carried_along f e ops.given ≡ Some carried
     → AreOfKinds (declarations_of m) f entries → AreLentGuarded (declarations_of m) f lends memory ops.left t

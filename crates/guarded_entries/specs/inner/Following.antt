@@ -41,7 +41,8 @@ TakesAddressesInScopes d f t i = (x : Taken) (s : ValueId) → Contains (item_ta
 
 -- each base of what the next item takes is there, and hasn't begun anew since
 abbrev pub AreOperandsCurrent : Type 0
-AreOperandsCurrent = (m : Module) (n : ℕ) (f : Function) → IsAcceptedBody m n f → (lends : Lending) (memory : Memory) (entries : List Entry) (t : List Item) (i : Item)
+AreOperandsCurrent = (m : Module) (n : ℕ) (f : Function) → IsAcceptedBody m n f
+    → (lends : Lending) (memory : Memory) (entries : List Entry) (t : List Item) (i : Item)
     → IsTurnedTrail f (i ∷ t) → GoAlong (declarations_of m) f t entries → TakesAddressesInScopes (declarations_of m) f t i
     → Each (λ (x : Taken). IsCurrent (declarations_of m) f lends memory entries t x.value) (item_taken f i)
 
@@ -60,4 +61,5 @@ AreScopesNotRenewed = (m : Module) (n : ℕ) (f : Function) → IsAcceptedBody m
 
 -- the entry alone makes arguments
 abbrev pub AreArgumentsOfEntry : Type 0
-AreArgumentsOfEntry = (m : Module) (n : ℕ) (f : Function) → IsAcceptedBody m n f → (i : Item) → (i ≡ item.Entry → ⊥) → (v : ValueId) → IsArgument f v → makes f v i ≡ false
+AreArgumentsOfEntry = (m : Module) (n : ℕ) (f : Function) → IsAcceptedBody m n f → (i : Item) → (i ≡ item.Entry → ⊥) → (v : ValueId) → IsArgument f v
+    → makes f v i ≡ false

@@ -70,7 +70,8 @@ module _ (m : Module) (loans : Loans) (memory : Memory) where
     pub kinds : AreOfKinds (declarations_of m) f frame.entries
     pub lent : AreLentGuarded (declarations_of m) f (loans f frame) memory frame.entries frame.trail
     -- what its arguments name is kept below
-    pub arguments : (a : ValueId) (x : Datum) (o : ObjectId) → IsArgument f a → entry_at frame.entries a ≡ Lent x → IsNamed o (references_in x) → KeepsBelow rest o
+    pub arguments : (a : ValueId) (x : Datum) (o : ObjectId) → IsArgument f a → entry_at frame.entries a ≡ Lent x → IsNamed o (references_in x)
+        → KeepsBelow rest o
 
   abbrev pub WaitsGuarded : Frame → Frame → List (Task Frame) → Type 0
   WaitsGuarded callee frame rest = IsGuardedFrame frame rest

@@ -46,7 +46,8 @@ module _ (d : Declarations) (f : Function) (lends lends' : Lending) (m m' : Memo
         → lends s k ≡ true → KeepsAt m k y → (lends' s k ≡ true) × KeepsAt m' k y
 
 abbrev pub AreGuardsKept : Type 0
-AreGuardsKept = (d : Declarations) (f : Function) (lends lends' : Lending) (m m' : Memory) (entries now : List Entry) → StayAnchored d f lends lends' m m' entries now
+AreGuardsKept = (d : Declarations) (f : Function) (lends lends' : Lending) (m m' : Memory) (entries now : List Entry)
+    → StayAnchored d f lends lends' m m' entries now
     → (o : ObjectId) (b : ValueId) → Guard d f lends m entries o b → IsThere (entry_at now b) → Guard d f lends' m' now o b
 
 -- ---- what is guarded has a strong holder, or comes from an argument
@@ -74,14 +75,16 @@ AreGuardedAlive = (m : Module) (loans : Loans) (s : HolderState) (frame : Frame)
 
 -- an operand whose bases are there, as they were when it was made, is guarded in all that it names
 abbrev pub AreOperandsGuarded : Type 0
-AreOperandsGuarded = (d : Declarations) (f : Function) (lends : Lending) (m : Memory) (entries : List Entry) (t : List Item) (v : ValueId) (x : Datum) (o : ObjectId)
+AreOperandsGuarded = (d : Declarations) (f : Function) (lends : Lending) (m : Memory) (entries : List Entry) (t : List Item) (v : ValueId) (x : Datum)
+    (o : ObjectId)
     → AreLentGuarded d f lends m entries t → IsCurrent d f lends m entries t v
     → (entry_at entries v ≡ Held x) ⊎ (entry_at entries v ≡ Lent x) → IsNamed o (references_in x)
     → (b : ValueId) × Guard d f lends m entries o b
 
 -- and names no dead object
 abbrev pub AreOperandsAlive : Type 0
-AreOperandsAlive = (m : Module) (loans : Loans) (s : HolderState) (frame : Frame) (rest : List (Task Frame)) (f : Function) (ts : List Taken) → IsGuardedState m loans s
+AreOperandsAlive = (m : Module) (loans : Loans) (s : HolderState) (frame : Frame) (rest : List (Task Frame)) (f : Function) (ts : List Taken)
+    → IsGuardedState m loans s
     → s.tasks ≡ Runs frame ∷ rest → slice_get m.functions frame.function.0 ≡ Some f
     → Each (λ (x : Taken). IsCurrent (declarations_of m) f (loans f frame) s.memory frame.entries frame.trail x.value) ts
     → operands_of (facts_in (declarations_of m) f) s.memory frame.entries ts ≡ Err NamesDead → ⊥
@@ -107,7 +110,8 @@ module _ (d : Declarations) (f : Function) (lends lends' : Lending) (m m' : Memo
 
 -- how an item's results are put where entries are guarded: no scope that is open, and no argument, begins anew; what open scopes lend is kept;
 -- and what is lent anew is guarded
-pub record ArePutRight (d : Declarations) (f : Function) (lends lends' : Lending) (m m' : Memory) (i : Item) (xs : List Datum) (left : List Entry) : Type 0 where
+pub record ArePutRight (d : Declarations) (f : Function) (lends lends' : Lending) (m m' : Memory) (i : Item) (xs : List Datum)
+    (left : List Entry) : Type 0 where
   pub anchors : (v : ValueId) (x : Datum) → IsAnchor f v → entry_at left v ≡ Lent x → makes f v i ≡ false
   pub lending : (s : ValueId) (x : Datum) (k : ℕ) (y : Value) → is_borrow f s ≡ true → entry_at left s ≡ Lent x → lends s k ≡ true
       → KeepsAt m k y → (lends' s k ≡ true) × KeepsAt m' k y
@@ -116,7 +120,8 @@ pub record ArePutRight (d : Declarations) (f : Function) (lends lends' : Lending
 
 -- behind an item, then, lent entries are guarded along the longer trail
 abbrev pub AreGuardedBehind : Type 0
-AreGuardedBehind = (d : Declarations) (f : Function) (lends lends' : Lending) (m m' : Memory) (left behind : List Entry) (t : List Item) (i : Item) (xs : List Datum)
+AreGuardedBehind = (d : Declarations) (f : Function) (lends lends' : Lending) (m m' : Memory) (left behind : List Entry) (t : List Item) (i : Item)
+    (xs : List Datum)
     → AreOfKinds d f left → AreLentGuarded d f lends m left t → results_put (facts_in d f) (item_defined f i) xs left ≡ Ok behind
     → ArePutRight d f lends lends' m m' i xs left
     → AreOfKinds d f behind × AreLentGuarded d f lends' m' behind (i ∷ t)

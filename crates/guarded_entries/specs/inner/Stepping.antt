@@ -93,7 +93,8 @@ module _ (m : Module) (loans : Loans) where
     pub none : (o : ObjectId) → is_dead memory o ≡ true → in_datum (one_object o) x ≡ 0
 
   abbrev pub AreReturnsGuarded : Type 0
-  AreReturnsGuarded = (memory : Memory) (rest : List (Task Frame)) (callee frame : Frame) (f : Function) (i : Item) (x : Datum) (slots : List Place) (entries : List Entry)
+  AreReturnsGuarded = (memory : Memory) (rest : List (Task Frame)) (callee frame : Frame) (f : Function) (i : Item) (x : Datum) (slots : List Place)
+      (entries : List Entry)
       → IsGuardedRun m loans memory (Runs callee ∷ Runs frame ∷ rest) → TakesReturned memory frame f i x slots entries
       → IsGuardedRun m loans memory (Runs (frame_behind frame i entries slots) ∷ rest)
 
@@ -126,7 +127,8 @@ module _ (m : Module) (loans : Loans) where
     pub less : (o : ObjectId) → in_memory (one_object o) storage.Strong later ≤ in_memory (one_object o) storage.Strong memory
     pub callee_is : slice_get m.functions g.0 ≡ Some callee
     pub put : results_put (facts_in (declarations_of m) callee) (item_defined callee item.Entry) args (no_entries (value_count callee)) ≡ Ok entries
-    pub none : (o : ObjectId) → is_dead memory o ≡ true → HoldsNone (one_object o) (record { results = args; dropped = []; retained = []; memory = later; slots = SameSlots })
+    pub none : (o : ObjectId) → is_dead memory o ≡ true
+        → HoldsNone (one_object o) (record { results = args; dropped = []; retained = []; memory = later; slots = SameSlots })
     pub arguments : AreArgumentsGuarded callee args (IsGuardedIn m loans later (frame_waiting frame ops lent))
 
   abbrev pub AreCallsGuarded : Type 0
@@ -140,7 +142,8 @@ module _ (m : Module) (loans : Loans) where
   AreDeinitCallsGuarded = (memory : Memory) (rest : List (Task Frame)) (g h : FuncId) (gs : List FuncId) (o : ObjectId) (callee : Function) (args : List Datum)
       (entries : List Entry) → IsGuardedRun m loans memory (Finishes (h ∷ gs) o ∷ rest) → slice_get m.functions g.0 ≡ Some callee
       → results_put (facts_in (declarations_of m) callee) (item_defined callee item.Entry) args (no_entries (value_count callee)) ≡ Ok entries
-      → ((p : ObjectId) → is_dead memory p ≡ true → HoldsNone (one_object p) (record { results = args; dropped = []; retained = []; memory = memory; slots = SameSlots }))
+      → ((p : ObjectId) → is_dead memory p ≡ true → HoldsNone (one_object p)
+          (record { results = args; dropped = []; retained = []; memory = memory; slots = SameSlots }))
       → AreArgumentsGuarded callee args (λ p. p ≡ o)
       → IsGuardedRun m loans memory (Runs (new_frame g entries) ∷ Finishes gs o ∷ rest)
 
