@@ -9,7 +9,6 @@ use Rattle.sil_ast.specs.declared.inst.Inst.{Inst}
 use Rattle.sil_ast.specs.declared.module.Module.{Module}
 use Rattle.sil_ast.specs.declared.place.ValueId.{ValueId}
 use Rattle.type_definitions.specs.Declarations.{Declarations, declarations_of}
-use Rattle.type_definitions.specs.declared.kind.Kind.{Kind}
 use Rattle.run_values.specs.Shapes.{Shape, Reference}
 use Rattle.run_values.specs.Values.{Value}
 use Rattle.accepted_values.specs.inner.Known.{kind_at}
@@ -51,21 +50,18 @@ tracked_along d f frame along = record {
 pub typed_of_kinds : AreTypedOfKinds
 typed_of_kinds m w f entries are v = at (slice_get entries v.0) refl
   where
-    abbrev k : Kind
-    k = kind_at (declarations_of m) f v
-
-    by : (e : Entry) → EntryIs m w k (form_of (declarations_of m) f v) e → (e ≡ Gone) ⊎ ((x : Datum) × (made_entry k x ≡ Ok e))
+    by : (e : Entry) → EntryIs m w (kind_at (declarations_of m) f v) (form_of (declarations_of m) f v) e → (e ≡ Gone) ⊎ ((x : Datum) × (made_entry (kind_at (declarations_of m) f v) x ≡ Ok e))
     by _ EntryIs.gone = inl refl
     by _ (EntryIs.made x e made typed) = inr (x, made)
 
-    at : (o : Option Entry) → slice_get entries v.0 ≡ o → (entry_at entries v ≡ Gone) ⊎ ((x : Datum) × (made_entry k x ≡ Ok (entry_at entries v)))
+    at : (o : Option Entry) → slice_get entries v.0 ≡ o → (entry_at entries v ≡ Gone) ⊎ ((x : Datum) × (made_entry (kind_at (declarations_of m) f v) x ≡ Ok (entry_at entries v)))
     at None is = inl (ap (λ (o : Option Entry). unwrap_or o Gone) is)
     at (Some e) is = by (entry_at entries v) (are.each v (subst (λ n. v.0 < n) are.size (slice_get_within entries v.0 e is)))
 
 -- ---- operands
 
 -- the row hands on or copies its operand as a whole
-is_handing : RowEffect → Bool
+abbrev is_handing : RowEffect → Bool
 is_handing row.GivesOperand = true
 is_handing row.CopiesOperand = true
 is_handing _ = false
