@@ -93,7 +93,7 @@ module _ (m : Module) (w : World) (i : Inst) where
   by_lowered (lowered.drops s is bare) xs typed = another xs _ is refl
   by_lowered (lowered.loads s is done bare) xs typed = another xs _ is refl
   by_lowered (lowered.stores s is done bare) xs typed = another xs _ is refl
-  by_lowered (lowered.loads_name how s o is named done read) xs typed = another xs _ is refl
+  by_lowered (lowered.loads_name how s o is named done _) xs typed = another xs _ is refl
   by_lowered (lowered.stores_name how s o is named done write) xs typed = another xs _ is refl
   by_lowered (lowered.destroys_name how s is named done) xs typed = another xs _ is refl
   by_lowered (lowered.groups s ss is group) xs typed = another xs _ is refl
@@ -109,7 +109,7 @@ module _ (m : Module) (w : World) (i : Inst) where
   by_row (owned.also_lowered ins outs forms) xs typed = by_lowered forms xs typed
   by_row (owned.gives s is bare) xs typed = a_value s xs typed
   by_row (owned.copies s is bare) xs typed = a_value s xs typed
-  by_row (owned.loads s o is done read bare) xs typed = another xs _ is refl
+  by_row (owned.loads s o is done _ bare) xs typed = another xs _ is refl
   by_row (owned.stores s o is done write bare) xs typed = another xs _ is refl
   by_row (owned.destroys s is done bare) xs typed = another xs _ is refl
   by_row (owned.members s ss is group) xs typed = another xs _ is refl
