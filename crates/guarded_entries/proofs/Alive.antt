@@ -1,6 +1,5 @@
 -- What is guarded in the frame that goes on isn't dead, and no operand names a dead object.
-use Rattle.std.proofs.Common.{◌≡◌, ℕ, ◌+◌, ◌<◌, List, [], ◌∷◌, refl, sym, ap, ◌∙◌, subst, Bool, true, false, cond, ◌⊎◌, inl, inr, ⊎_elim, Option, Some, None, Ok, Err, arith}
-use Rattle.std.specs.Prelude.{slice_get}
+use Rattle.std.proofs.Common.{◌≡◌, ◌+◌, List, [], ◌∷◌, refl, sym, ap, ◌∙◌, subst, Bool, true, false, cond, ◌⊎◌, inl, inr, ⊎_elim, Option, Some, None, Ok, Err, arith}
 use Rattle.std.specs.declared.result.Result.{Result}
 use Rattle.std.proofs.lemmas.Bool.{cases_Bool, false≢true, true≢false}
 use Rattle.std.proofs.lemmas.Option.{same_Some}
@@ -13,15 +12,14 @@ use Rattle.sil_ast.specs.declared.function.Function.{Function}
 use Rattle.sil_ast.specs.declared.module.Module.{Module}
 use Rattle.sil_ast.specs.declared.place.ObjectId.{ObjectId}
 use Rattle.sil_ast.specs.declared.place.ValueId.{ValueId}
-use Rattle.sil_cfg.specs.declared.item.Item.{Item}
 use Rattle.type_definitions.specs.Declarations.{Declarations, declarations_of}
 use Rattle.run_values.specs.declared.phase.Phase.{Phase}
 use Rattle.run_values.specs.declared.phase.Phase.TheVariants.{Dead, Deiniting, Live}
 use Rattle.run_values.specs.Memory.{Memory, is_dead, is_dead_phase, phase_of}
 use Rattle.held_entries.specs.accepted_trails.ownership_kinds.Facts.{facts_in}
 use Rattle.holder_counts.specs.holder_model.Data.{Datum, references_in}
-use Rattle.holder_counts.specs.holder_model.Faults.{HolderFault, ConsumesLent, NamesDead, NoEntry}
-use Rattle.holder_counts.specs.holder_model.Frames.{Entry, Frame, Gone, Held, Lent, Operands, Plain, and_more, any_dead, datum_in, datum_or_fault, ended_entry, ends}
+use Rattle.holder_counts.specs.holder_model.Faults.{HolderFault, ConsumesLent, NamesDead}
+use Rattle.holder_counts.specs.holder_model.Frames.{Entry, Frame, Gone, Held, Lent, Plain, and_more, any_dead, datum_in, datum_or_fault, ended_entry, ends}
 use Rattle.holder_counts.specs.holder_model.Frames.{entry_at, is_consumed, operand, operand_data, operands_of, unless_dead, used_datum, with_ok, without_ended}
 use Rattle.holder_counts.specs.holder_model.Holders.{in_memory, one_object}
 use Rattle.holder_counts.specs.holder_model.HolderStates.{HolderState, in_task}
@@ -31,8 +29,8 @@ use Rattle.holder_counts.specs.inner.Taking.{in_entries}
 use Rattle.holder_counts.proofs.Entries.{IsLeftOf, left_of, was_there}
 use Rattle.holder_counts.proofs.Moves.{with_left}
 use Rattle.holder_counts.proofs.Sums.{total_cons}
-use Rattle.guarded_entries.specs.inner.Guards.{AreLentGuarded, AreOfKinds, Guard, IsCurrent, IsNamed, Lending}
-use Rattle.guarded_entries.specs.inner.GuardedStates.{BelowIsGuarded, IsGuardedFrame, IsGuardedIn, IsGuardedState, KeepsBelow, Loans, TasksAreGuarded, finishes_of, is_deiniting_phase}
+use Rattle.guarded_entries.specs.inner.Guards.{AreLentGuarded, AreOfKinds, IsCurrent, IsNamed}
+use Rattle.guarded_entries.specs.inner.GuardedStates.{BelowIsGuarded, IsGuardedFrame, IsGuardedState, Loans, TasksAreGuarded, finishes_of, is_deiniting_phase}
 use Rattle.guarded_entries.specs.inner.Kept.{AreGuardedAlive, AreOperandsAlive}
 use Rattle.guarded_entries.proofs.Entries.{plain_bare}
 use Rattle.guarded_entries.proofs.Guards.{guarded_in, kept_holders, operands_guarded}

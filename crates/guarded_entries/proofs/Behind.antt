@@ -1,24 +1,18 @@
 -- Lent entries are guarded behind the ends of an item, and behind its results.
-use Rattle.std.proofs.Common.{◌≡◌, ℕ, List, [], ◌∷◌, refl, sym, ap, ◌∙◌, subst, Bool, true, false, not, ◌&&◌, ◌||◌, ◌⊎◌, inl, inr, ⊎_elim, Some, Ok}
+use Rattle.std.proofs.Common.{◌≡◌, ◌∷◌, refl, sym, ap, ◌∙◌, subst, Bool, true, false, not, ◌&&◌, ◌||◌, inl, inr, ⊎_elim, Some, Ok}
 use Rattle.std.proofs.lemmas.Bool.{cases_Bool, false≢true, true≢false}
-use Rattle.held_entries.specs.accepted_trails.inner.Bases.{IsBaseOf}
 use Rattle.held_entries.specs.accepted_trails.inner.Defined.{makes}
 use Rattle.held_entries.specs.accepted_trails.ownership_kinds.Facts.{facts_in}
 use Rattle.held_entries.specs.accepted_trails.run_trails.inner.Since.{is_none_since}
 use Rattle.item_operands.specs.Items.{item_defined}
-use Rattle.item_operands.specs.declared.taken.Taken.{Taken}
-use Rattle.sil_ast.specs.declared.function.Function.{Function}
 use Rattle.sil_ast.specs.declared.place.ObjectId.{ObjectId}
 use Rattle.sil_ast.specs.declared.place.ValueId.{ValueId}
-use Rattle.sil_cfg.specs.declared.item.Item.{Item}
-use Rattle.type_definitions.specs.Declarations.{Declarations}
-use Rattle.run_values.specs.Memory.{Memory}
 use Rattle.accepted_values.specs.inner.Known.{kind_at}
 use Rattle.holder_counts.specs.holder_model.Data.{Datum, references_in}
-use Rattle.holder_counts.specs.holder_model.Frames.{Entry, Gone, Held, Lent, entry_at, made_entry}
+use Rattle.holder_counts.specs.holder_model.Frames.{Entry, Held, Lent, entry_at, made_entry}
 use Rattle.holder_counts.proofs.Entries.{IsLeftOf, left_of, was_there}
-use Rattle.guarded_entries.specs.inner.Guards.{AreLentGuarded, AreOfKinds, Guard, IsArgument, IsCurrent, IsGuarded, IsNamed, IsThere, Lending, argument, loan, scope}
-use Rattle.guarded_entries.specs.inner.Kept.{AreGuardedBehind, AreGuardedLeft, ArePutRight, IsAnchor, IsNewlyGuarded, StayAnchored, borrows, by_base, by_caller, lends_cell}
+use Rattle.guarded_entries.specs.inner.Guards.{AreLentGuarded, AreOfKinds, Guard, IsGuarded, IsNamed, IsThere, argument, loan, scope}
+use Rattle.guarded_entries.specs.inner.Kept.{AreGuardedBehind, AreGuardedLeft, IsAnchor, IsNewlyGuarded, StayAnchored, borrows, by_base, by_caller, lends_cell}
 use Rattle.guarded_entries.proofs.Entries.{made_lent_same, results_either, results_held, results_made, results_others, results_there}
 use Rattle.guarded_entries.proofs.Guards.{guard_there, guards_kept}
 

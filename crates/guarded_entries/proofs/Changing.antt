@@ -1,12 +1,11 @@
 -- What the operands of an item, and what is made of them, name.
 use Rattle.std.proofs.Common.{◌≡◌, ℕ, zero, suc, ◌+◌, List, [], ◌∷◌, ◌++◌, drop, length, replicate, refl, sym, ap, ◌∙◌, subst, Bool, true, false, cond, ◌||◌}
-use Rattle.std.proofs.Common.{◌⊎◌, ⊎_elim, Option, Some, None, Ok, Err, arith}
+use Rattle.std.proofs.Common.{⊎_elim, Option, Some, None, Ok, Err, arith}
 use Rattle.std.specs.Prelude.{◌==◌, option_map, option_and_then, slice_get, unwrap_or}
 use Rattle.std.specs.declared.result.Result.{Result}
-use Rattle.std.proofs.lemmas.Bool.{cases_Bool, eqb-true, false≢true, true≢false}
+use Rattle.std.proofs.lemmas.Bool.{cases_Bool, eqb-true, true≢false}
 use Rattle.std.proofs.lemmas.Option.{same_Some}
 use Rattle.item_operands.specs.declared.taken.Taken.{Taken}
-use Rattle.item_operands.specs.Items.{item_taken}
 use Rattle.item_operands.specs.Parts.{args_behind, edge_at, item_operands, terminator_of}
 use Rattle.instruction_table.specs.Forms.{ending_of}
 use Rattle.instruction_table.specs.declared.entries.Ending.{Ending}
@@ -23,16 +22,15 @@ use Rattle.sil_cfg.specs.declared.item.Item.TheVariants as item
 use Rattle.type_definitions.specs.Declarations.{Declarations}
 use Rattle.run_values.specs.Cells as cells
 use Rattle.run_values.specs.Cells.{cell_count}
-use Rattle.run_values.specs.declared.phase.Phase.{Phase}
 use Rattle.run_values.specs.Memory as memory
 use Rattle.run_values.specs.Memory.{Memory, is_dead, is_dead_phase, no_object, phase_of}
 use Rattle.run_values.specs.Shapes.{Shape}
-use Rattle.run_values.specs.Values.{Value, Int, Object, Group, Case, Full, case_of}
+use Rattle.run_values.specs.Values.{Value, Int, Object, Group, Case, Full}
 use Rattle.holder_counts.specs.holder_model.Data.{AddressOf, Datum, FunctionOf, ValueOf, as_value, references_in}
 use Rattle.holder_counts.specs.holder_model.Edges.{carried_by, first_value_of, is_default, payload_data, switched_data}
 use Rattle.holder_counts.specs.holder_model.Effects.{Change}
 use Rattle.holder_counts.specs.holder_model.Faults.{HolderFault, NamesDead}
-use Rattle.holder_counts.specs.holder_model.Frames.{Entry, and_more, any_dead, datum_in, datum_or_fault, ends, entry_at, operand, operand_data, unless_dead, used_datum, with_ok}
+use Rattle.holder_counts.specs.holder_model.Frames.{Entry, and_more, any_dead, datum_in, datum_or_fault, ends, entry_at, operand, operand_data, unless_dead, used_datum}
 use Rattle.holder_counts.specs.holder_model.Holders.{of_references, one_object}
 use Rattle.holder_counts.specs.inner.Doing as doing
 use Rattle.holder_counts.specs.inner.Doing.{Leaves}

@@ -1,9 +1,8 @@
 -- Entries where operands end and results begin: which stay, and what the new ones are.
-use Rattle.std.proofs.Common.{◌≡◌, ℕ, zero, suc, ◌<◌, List, [], ◌∷◌, length, set, refl, sym, ap, ◌∙◌, subst, Bool, true, false, cond, ◌⊎◌, inl, inr, ⊎_elim, Option, Some, None}
-use Rattle.std.proofs.Common.{Ok, Err, eq-eqb, ◌||◌}
+use Rattle.std.proofs.Common.{◌≡◌, ℕ, zero, suc, List, [], ◌∷◌, set, refl, sym, ap, ◌∙◌, subst, Bool, true, false, ◌⊎◌, inl, inr, ⊎_elim, Option, Some}
+use Rattle.std.proofs.Common.{Ok, eq-eqb, ◌||◌}
 use Rattle.std.specs.Prelude.{◌==◌, slice_get, unwrap_or}
 use Rattle.std.proofs.lemmas.Bool.{cases_Bool, eqb-true, false≢true, or_cases, true≢false}
-use Rattle.held_entries.specs.accepted_trails.ownership_kinds.Facts.{facts_in}
 use Rattle.ownership_chains.specs.Facts.{has, known_or, value_of}
 use Rattle.ownership_chains.specs.declared.facts.Facts.{Facts}
 use Rattle.sil_ast.specs.declared.function.Function.{Function}

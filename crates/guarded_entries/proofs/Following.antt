@@ -3,7 +3,7 @@ use Rattle.std.proofs.Common.{◌≡◌, ℕ, zero, suc, ◌<◌, List, [], ◌�
 use Rattle.std.proofs.Common.{Option, Some, None, Ok, append_assoc, arith, eq-eqb}
 use Rattle.std.specs.Prelude.{◌==◌, Contains, option_map, slice_get}
 use Rattle.std.specs.List.{list_any}
-use Rattle.std.proofs.lemmas.Bool.{and_parts, cases_Bool, eqb-true, false≢true, not-true, or_cases, true≢false}
+use Rattle.std.proofs.lemmas.Bool.{and_parts, cases_Bool, eqb-true, false≢true, or_cases, true≢false}
 use Rattle.std.proofs.lemmas.Option.{same_Some, slice_get-map}
 use Rattle.item_operands.specs.Items.{arg_value, item_defined, item_taken}
 use Rattle.item_operands.specs.declared.taken.Taken.{Taken}
@@ -51,7 +51,7 @@ use Rattle.accepted_values.proofs.Made.{parameters_of_entry}
 use Rattle.accepted_values.proofs.Suited.{suited}
 use Rattle.accepted_values.proofs.lowering_laws.Lowerable.{contained}
 use Rattle.holder_counts.specs.holder_model.Data.{Datum}
-use Rattle.holder_counts.specs.holder_model.Frames.{Entry, Gone, Held, Lent, ends, entry_at, has_any, without_ended}
+use Rattle.holder_counts.specs.holder_model.Frames.{Entry, Gone, Held, Lent, entry_at, has_any, without_ended}
 use Rattle.holder_counts.proofs.Entries.{left_of, was_there}
 use Rattle.guarded_entries.specs.inner.Following.{AreArgumentsOfEntry, AreBorrowedKept, AreOperandsCurrent, AreScopesNotRenewed, GoAlong, TakesAddressesInScopes}
 use Rattle.guarded_entries.specs.inner.Guards.{IsArgument, IsCurrent, IsThere, Lending}

@@ -1,16 +1,13 @@
 -- Tracked entries go along with the trail, and typed ones are of their values' kinds. What is handed on as a whole is a value.
-use Rattle.std.proofs.Common.{◌≡◌, ◌<◌, ◌⊎◌, inl, inr, ℕ, List, [], ◌∷◌, refl, sym, ap, ◌∙◌, subst, Bool, true, false, Option, Some, None, Ok}
+use Rattle.std.proofs.Common.{◌≡◌, ◌<◌, ◌⊎◌, inl, inr, List, [], ◌∷◌, refl, sym, ap, ◌∙◌, subst, Bool, true, false, Option, Some, None, Ok}
 use Rattle.std.specs.Prelude.{slice_get, unwrap_or}
 use Rattle.std.specs.List.{AllZip}
 use Rattle.std.proofs.lemmas.Bool.{false≢true}
 use Rattle.std.proofs.lemmas.Option.{slice_get_within}
-use Rattle.sil_ast.specs.declared.function.Function.{Function}
 use Rattle.sil_ast.specs.declared.inst.Inst.{Inst}
 use Rattle.sil_ast.specs.declared.module.Module.{Module}
-use Rattle.sil_ast.specs.declared.place.ValueId.{ValueId}
-use Rattle.type_definitions.specs.Declarations.{Declarations, declarations_of}
+use Rattle.type_definitions.specs.Declarations.{declarations_of}
 use Rattle.run_values.specs.Shapes.{Shape, Reference}
-use Rattle.run_values.specs.Values.{Value}
 use Rattle.accepted_values.specs.inner.Known.{kind_at}
 use Rattle.accepted_values.specs.run_typing.Forms.{Form, OfValue, form_of}
 use Rattle.accepted_values.specs.run_typing.RowForms as lowered
@@ -18,18 +15,17 @@ use Rattle.accepted_values.specs.run_typing.RowForms.{RowForms}
 use Rattle.owned_run_typing.specs.inner.OwnedRows as owned
 use Rattle.owned_run_typing.specs.inner.OwnedRows.{OwnedRowForms}
 use Rattle.typed_memory.specs.inner.Worlds.{DatumIs, World}
-use Rattle.typed_holders.specs.inner.TypedStates.{EntriesAre, EntryIs}
+use Rattle.typed_holders.specs.inner.TypedStates.{EntryIs}
 use Rattle.typed_holders.proofs.Data.{read_value}
 use Rattle.tracked_frames.specs.inner.TrackedStates.{GoesAlong}
 use Rattle.tracked_frames.specs.inner.TrackedStates as tracked
-use Rattle.holder_counts.specs.holder_model.Data.{Datum, ValueOf}
+use Rattle.holder_counts.specs.holder_model.Data.{Datum}
 use Rattle.holder_counts.specs.holder_model.Effects.{effect_of}
-use Rattle.holder_counts.specs.holder_model.Frames.{Entry, Frame, Gone, Held, Lent, Plain, entry_at, made_entry}
+use Rattle.holder_counts.specs.holder_model.Frames.{Entry, Gone, Held, Lent, Plain, entry_at, made_entry}
 use Rattle.holder_counts.specs.holder_model.declared.row_effect.RowEffect.{RowEffect}
 use Rattle.holder_counts.specs.holder_model.declared.row_effect.RowEffect.TheVariants as row
-use Rattle.guarded_entries.specs.inner.Following.{GoAlong}
 use Rattle.guarded_entries.specs.inner.Given.{AreTrackedAlong, AreTypedOfKinds, HandTypedValues}
-use Rattle.guarded_entries.specs.inner.Guards.{AreOfKinds, IsThere}
+use Rattle.guarded_entries.specs.inner.Guards.{IsThere}
 use Rattle.guarded_entries.specs.inner.Rows.{HandsValues}
 
 -- ---- entries

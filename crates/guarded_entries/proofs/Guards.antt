@@ -1,6 +1,5 @@
 -- Guards stay where what they rest on does, and what is guarded is held.
-use Rattle.std.proofs.Common.{◌≡◌, ℕ, ◌+◌, ◌<◌, List, [], ◌∷◌, refl, sym, ap, ◌∙◌, subst, ◌⊎◌, inl, inr, ⊎_elim, Some, arith}
-use Rattle.std.specs.Prelude.{slice_get}
+use Rattle.std.proofs.Common.{◌≡◌, ◌+◌, ◌<◌, List, [], ◌∷◌, sym, ap, ◌∙◌, subst, ◌⊎◌, inl, inr, ⊎_elim, arith}
 use Rattle.std.proofs.lemmas.Option.{same_Some}
 use Rattle.sil_ast.specs.declared.decl.Storage.TheVariants as storage
 use Rattle.sil_ast.specs.declared.function.Function.{Function}
@@ -9,15 +8,15 @@ use Rattle.sil_ast.specs.declared.place.ObjectId.{ObjectId}
 use Rattle.sil_ast.specs.declared.place.ValueId.{ValueId}
 use Rattle.type_definitions.specs.Declarations.{Declarations, declarations_of}
 use Rattle.run_values.specs.Memory.{Memory}
-use Rattle.holder_counts.specs.holder_model.Data.{Datum, references_in}
-use Rattle.holder_counts.specs.holder_model.Frames.{Entry, Frame, Gone, Held, Lent, entry_at}
+use Rattle.holder_counts.specs.holder_model.Data.{references_in}
+use Rattle.holder_counts.specs.holder_model.Frames.{Entry, Frame, entry_at}
 use Rattle.holder_counts.specs.holder_model.Holders.{in_memory, of_references, one_object}
 use Rattle.holder_counts.specs.holder_model.HolderStates.{in_entry, in_task}
 use Rattle.holder_counts.specs.holder_model.States.{Drops, Finishes, Runs, Task}
 use Rattle.holder_counts.specs.inner.Moving.{in_tasks}
 use Rattle.holder_counts.specs.inner.Taking.{in_entries}
 use Rattle.holder_counts.proofs.Sums.{total_cons}
-use Rattle.guarded_entries.specs.inner.Guards.{Guard, IsArgument, IsNamed, IsThere, Lending, argument, loan, owner, scope}
+use Rattle.guarded_entries.specs.inner.Guards.{Guard, IsArgument, IsThere, Lending, argument, loan, owner, scope}
 use Rattle.guarded_entries.specs.inner.GuardedStates.{BelowIsGuarded, IsGuardedIn, KeepsBelow, Loans, finishes_of}
 use Rattle.guarded_entries.specs.inner.Kept.{AreGuardsKept, AreOperandsGuarded, HaveGuardedHolders, HaveKeptHolders, IsHeldSomehow, from_argument, here}
 use Rattle.guarded_entries.proofs.Named.{counts_itself, entry_at_most, kept_at_most}

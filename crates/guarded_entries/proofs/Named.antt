@@ -1,23 +1,20 @@
 -- Objects among references, and what entries and cells hold of them.
-use Rattle.std.proofs.Common.{◌≡◌, ℕ, zero, suc, ◌+◌, ◌<◌, ◌≤◌, List, [], ◌∷◌, ◌++◌, map, sum, refl, sym, ap, ◌∙◌, subst, Bool, true, false, cond, ◌||◌, ◌⊎◌, inl, inr, ⊎_elim}
-use Rattle.std.proofs.Common.{Option, Some, None, arith, eq-eqb}
-use Rattle.std.specs.Prelude.{◌==◌, slice_get, unwrap_or}
-use Rattle.std.specs.List.{list_any}
-use Rattle.std.proofs.lemmas.Bool.{cases_Bool, false≢true, or_cases, true≢false}
+use Rattle.std.proofs.Common.{◌≡◌, ℕ, zero, suc, ◌+◌, ◌≤◌, List, [], ◌∷◌, ◌++◌, refl, ap, true, cond, ◌⊎◌, inl, inr, ⊎_elim}
+use Rattle.std.proofs.Common.{Some, arith, eq-eqb}
+use Rattle.std.specs.Prelude.{slice_get, unwrap_or}
+use Rattle.std.proofs.lemmas.Bool.{false≢true, or_cases}
 use Rattle.sil_ast.specs.declared.decl.Storage.TheVariants as storage
 use Rattle.sil_ast.specs.declared.place.ObjectId.{ObjectId}
 use Rattle.sil_ast.specs.declared.place.ValueId.{ValueId}
 use Rattle.run_values.specs.Cells.{Cell, Empty, Keeps}
-use Rattle.run_values.specs.Memory.{Memory, Object, is_dead, is_dead_phase, no_object, object_at}
-use Rattle.run_values.specs.Places.{Home, Inside, OnStack, home_cells}
+use Rattle.run_values.specs.Memory.{Memory, is_dead}
 use Rattle.run_values.specs.Values.{Value, references_of}
 use Rattle.holder_counts.specs.holder_model.Frames.{Entry, Gone, any_dead, entry_at}
-use Rattle.holder_counts.specs.holder_model.Holders.{in_cell, in_cells, in_memory, in_object, of_references, one_object}
+use Rattle.holder_counts.specs.holder_model.Holders.{in_cell, in_cells, in_memory, of_references, one_object}
 use Rattle.holder_counts.specs.holder_model.HolderStates.{in_entry}
-use Rattle.holder_counts.specs.inner.Keeping.{IsAliveAt}
 use Rattle.holder_counts.specs.inner.Taking.{in_entries}
 use Rattle.holder_counts.proofs.Most.{at_most}
-use Rattle.holder_counts.proofs.Sums.{total, total_append, total_cons}
+use Rattle.holder_counts.proofs.Sums.{total_append, total_cons}
 use Rattle.guarded_entries.specs.inner.Guards.{IsNamed, KeepsAt}
 
 pub counts_itself : (o : ObjectId) → one_object o o ≡ 1

@@ -1,93 +1,49 @@
 -- The operands of an item in the entries of its frame: which one names an object, and what guards it behind the ends.
-use Rattle.std.proofs.Common.{◌≡◌, ℕ, zero, suc, ◌+◌, ◌<◌, ◌≤◌, List, [], ◌∷◌, ◌++◌, append-nil, map, refl, sym, ap, ◌∙◌, subst, Bool, true, false, cond, ◌&&◌, ◌||◌, ◌⊎◌, inl, inr, ⊎_elim}
-use Rattle.std.proofs.Common.{Option, Some, None, Ok, Err, arith, eq-eqb}
-use Rattle.std.specs.Prelude.{◌==◌, Contains, length, slice_get}
+use Rattle.std.proofs.Common.{◌≡◌, ℕ, zero, suc, ◌+◌, ◌<◌, List, [], ◌∷◌, ◌++◌, refl, sym, ap, ◌∙◌, subst, Bool, true, false, cond, ◌⊎◌, inl, inr, ⊎_elim}
+use Rattle.std.proofs.Common.{Option, Some, None, Ok, Err, arith}
+use Rattle.std.specs.Prelude.{◌==◌, length, slice_get}
 use Rattle.std.specs.declared.result.Result.{Result}
 use Rattle.std.specs.List.{list_any}
-use Rattle.std.proofs.lemmas.Bool.{and_parts, cases_Bool, eqb-true, false≢true, or_cases, true≢false}
-use Rattle.std.proofs.lemmas.Option.{same_Some, slice_get-map}
-use Rattle.item_operands.specs.Items.{item_defined, item_taken, taken_in}
-use Rattle.item_operands.specs.Parts.{inst_at, results_in}
-use Rattle.item_operands.specs.Roles.{by_row, conventions_in, roles_for, taken_as, taken_by, taken_each}
+use Rattle.std.proofs.lemmas.Bool.{and_parts, cases_Bool, eqb-true, false≢true}
+use Rattle.item_operands.specs.Items.{item_taken}
 use Rattle.item_operands.specs.declared.taken.Taken.{Taken}
-use Rattle.item_operands.specs.declared.taken.Treatment.{Treatment}
-use Rattle.instruction_table.specs.Forms.{result_kind_of, roles_of}
-use Rattle.instruction_table.specs.declared.entries.ResultKind.{ResultKind}
-use Rattle.instruction_table.specs.declared.entries.ResultKind.TheVariants.{AddressResult, ForwardedResult, NoneResult, OperandResult, OwnedResult, ScopeResult}
 use Rattle.instruction_table.specs.declared.entries.Role.{Role}
 use Rattle.instruction_table.specs.declared.entries.Role.TheVariants as role
 use Rattle.numbered_form.specs.Lists.{Each}
-use Rattle.ownership_chains.specs.Chains.{operands_at}
-use Rattle.ownership_chains.specs.Facts.{has, is_guaranteed, is_owned, known_or}
-use Rattle.ownership_chains.specs.declared.definition.Origin.TheVariants as origin
+use Rattle.ownership_chains.specs.Facts.{known_or}
 use Rattle.ownership_chains.specs.declared.facts.Facts.{Facts}
 use Rattle.ownership_marks.specs.Marks.{end_of, ended_by, ended_with, ends_owned, ends_scope}
 use Rattle.sil_ast.specs.declared.function.Function.{Function}
-use Rattle.sil_ast.specs.declared.inst.Inst.{Inst}
 use Rattle.sil_ast.specs.declared.module.Module.{Module}
-use Rattle.sil_ast.specs.declared.operands.Operand.{Operand}
 use Rattle.sil_ast.specs.declared.place.ObjectId.{ObjectId}
-use Rattle.sil_ast.specs.declared.place.PointId.{PointId}
 use Rattle.sil_ast.specs.declared.place.ValueId.{ValueId}
 use Rattle.sil_cfg.specs.declared.item.Item.{Item}
-use Rattle.sil_cfg.specs.declared.item.Item.TheVariants as item
 use Rattle.type_definitions.specs.Declarations.{Declarations, declarations_of}
 use Rattle.type_definitions.specs.declared.kind.Kind.{Kind}
 use Rattle.type_definitions.specs.declared.kind.Kind.TheVariants as kind
 use Rattle.run_values.specs.Memory.{Memory}
 use Rattle.run_values.specs.Places.{Home, Inside, OnStack}
-use Rattle.run_values.specs.Shapes.{Shape}
-use Rattle.run_values.specs.Memory.{new_object}
-use Rattle.run_values.specs.Values.{Case, Full, Object, Value, grouped, references_of}
-use Rattle.value_tables.specs.Borrows.{borrow_at, borrow_by, borrow_in, borrows, borrows_of, is_borrow, lends, takes_address}
-use Rattle.value_tables.specs.FirstValue.{first_value, value_of}
+use Rattle.run_values.specs.Values.{Value, references_of}
 use Rattle.held_entries.specs.accepted_trails.inner.Bases.{IsBaseOf}
-use Rattle.held_entries.specs.accepted_trails.inner.Lives.{BorrowsFrom}
 use Rattle.held_entries.specs.accepted_trails.inner.Passing.{is_end}
 use Rattle.held_entries.proofs.accepted_trails.Tests.{first_of}
-use Rattle.held_entries.specs.accepted_trails.borrow_scopes.Scopes.{bases_in}
-use Rattle.held_entries.specs.sil_types.Typing.RowTypes.{made_types}
-use Rattle.accepted_values.specs.run_typing.CallForms.{IsOf}
-use Rattle.point_checks.specs.Points.{IsAt}
 use Rattle.held_entries.specs.accepted_trails.ownership_kinds.Facts.{facts_in}
-use Rattle.held_entries.specs.ownership_origins.Origins.{chain_operands, definitions_of, is_trivial_or_untyped, result_origin}
 use Rattle.accepted_values.specs.inner.Bases.{IsLender}
-use Rattle.accepted_values.specs.inner.Known.{IsAcceptedBody, IsValue, facts_at, kind_at, type_in}
-use Rattle.accepted_values.specs.inner.Operands.{kind_by_row, kind_of_result, kind_together}
-use Rattle.accepted_values.specs.inner.Rows.{IsResult}
-use Rattle.accepted_values.proofs.Accepted.{typed}
+use Rattle.accepted_values.specs.inner.Known.{IsAcceptedBody, kind_at}
 use Rattle.accepted_values.proofs.Addresses.{addresses_of_lenders}
-use Rattle.accepted_values.proofs.Based.{bases_of_addresses, handed_on, lent_by_lenders, owned_own_bases}
-use Rattle.accepted_values.proofs.Made.{items_of}
-use Rattle.accepted_values.proofs.Suited.{results_of_kinds}
-use Rattle.accepted_values.proofs.TableRows.{result_rows}
-use Rattle.accepted_values.proofs.lowering_laws.Lowerable.{contained}
-use Rattle.accepted_values.proofs.run_typing_laws.ItemFacts.{values_counted}
-use Rattle.holder_counts.specs.holder_model.declared.row_effect.RowEffect.{RowEffect}
-use Rattle.holder_counts.specs.holder_model.declared.row_effect.RowEffect.TheVariants as row
-use Rattle.holder_counts.specs.holder_model.Data as given
-use Rattle.holder_counts.specs.holder_model.Data.{AddressOf, Datum, FunctionOf, ValueOf, home_references, references_in}
-use Rattle.holder_counts.specs.holder_model.Effects.{Change, effect_of}
+use Rattle.accepted_values.proofs.Based.{lent_by_lenders}
+use Rattle.holder_counts.specs.holder_model.Data.{AddressOf, Datum, FunctionOf, ValueOf, references_in}
 use Rattle.holder_counts.specs.holder_model.Faults.{HolderFault, NamesDead, WrongShape}
 use Rattle.holder_counts.specs.holder_model.Frames.{Entry, Gone, Held, Lent, Operands, Plain, and_more, any_dead, datum_in, datum_or_fault, ends, entry_at, has_any}
-use Rattle.holder_counts.specs.holder_model.Frames.{made_entry, operand, operand_data, operands_of, plain_address, plain_entry, unless_dead, used_datum, with_ok, without_ended}
-use Rattle.holder_counts.specs.holder_model.Holders.{of_references, one_object}
-use Rattle.holder_counts.specs.holder_model.ModuleShapes.{ModuleShapes}
-use Rattle.holder_counts.specs.inner.Doing.{Leaves}
-use Rattle.holder_counts.specs.inner.Doing as doing
+use Rattle.holder_counts.specs.holder_model.Frames.{made_entry, operand, operand_data, operands_of, plain_address, plain_entry, unless_dead, used_datum, without_ended}
+use Rattle.holder_counts.specs.holder_model.Holders.{one_object}
 use Rattle.holder_counts.specs.inner.Naming.{in_data, in_datum}
-use Rattle.holder_counts.proofs.Alive.{member_home, member_named, members_named, object_references, values_named}
-use Rattle.holder_counts.proofs.Changes.{changes_told}
 use Rattle.holder_counts.proofs.Entries.{IsLeftOf, chosen_ok, left_of, ok_through, was_there}
 use Rattle.holder_counts.proofs.Moves.{operands_are}
 use Rattle.holder_counts.proofs.Sums.{total_cons}
-use Rattle.guarded_entries.specs.inner.Guards.{AreLentGuarded, AreOfKinds, IsCurrent, IsGuarded, IsNamed, IsThere, Lending, owner}
-use Rattle.guarded_entries.specs.inner.Kept.{IsNewlyGuarded}
-use Rattle.guarded_entries.specs.inner.Kept as kept
-use Rattle.guarded_entries.specs.inner.Rows.{AreRowsGuarded, HandsValues, LendsLoaded}
+use Rattle.guarded_entries.specs.inner.Guards.{AreLentGuarded, AreOfKinds, IsCurrent, IsGuarded, IsNamed, IsThere, Lending}
 use Rattle.guarded_entries.proofs.Ended.{unended_stays}
 use Rattle.guarded_entries.proofs.Entries.{made_lent_same, plain_bare}
-use Rattle.guarded_entries.proofs.Following.{own_scope}
 use Rattle.guarded_entries.proofs.Named.{named_nowhere}
 use Rattle.guarded_entries.proofs.RowTables.{Gives, Opens}
 use Rattle.guarded_entries.proofs.RowTables as table

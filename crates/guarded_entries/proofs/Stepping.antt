@@ -40,12 +40,12 @@ use Rattle.holder_counts.proofs.Places.{deaths_counted, live_not_dead, made_obje
 use Rattle.holder_counts.proofs.Sums.{total_cons, total_none}
 use Rattle.guarded_entries.proofs.Named.{counts_itself}
 use Rattle.guarded_entries.specs.inner.Guards.{AreLentGuarded, AreOfKinds, Guard, IsArgument, IsNamed, Lending}
-use Rattle.guarded_entries.specs.inner.GuardedStates.{AreFinishesRight, BelowIsGuarded, IsGuardedFrame, IsGuardedIn, IsGuardedRun, KeepsBelow, Loans, TasksAreGuarded}
+use Rattle.guarded_entries.specs.inner.GuardedStates.{AreFinishesRight, BelowIsGuarded, IsGuardedFrame, IsGuardedRun, KeepsBelow, Loans, TasksAreGuarded}
 use Rattle.guarded_entries.specs.inner.GuardedStates.{finishes_of, holders_in, is_deiniting_phase}
 use Rattle.guarded_entries.specs.inner.Kept.{ArePutRight, by_caller}
 use Rattle.guarded_entries.specs.inner.Stepping.{AreArgumentsGuarded, AreCallsGuarded, AreDeathsGuarded, AreDeinitCallsGuarded, AreDeinitReturnsGuarded, AreDeinitsGuarded, AreDropsGuarded}
 use Rattle.guarded_entries.specs.inner.Stepping.{AreItemsGuarded, AreReturnsGuarded, KeepsBorrowed, KeepsPhases}
-use Rattle.guarded_entries.specs.inner.Stepping.{CallsGuarded, GoesOnGuarded, KeepLoans, KeepsLoans, frame_behind, frame_waiting}
+use Rattle.guarded_entries.specs.inner.Stepping.{CallsGuarded, KeepLoans, KeepsLoans, frame_behind, frame_waiting}
 use Rattle.guarded_entries.proofs.Behind.{guarded_behind, guarded_left, lent_there}
 use Rattle.guarded_entries.proofs.Entries.{made_lent_same, results_either, results_others}
 use Rattle.guarded_entries.proofs.Guards.{guard_there, guards_kept}

@@ -1,5 +1,5 @@
 -- What the operands of an item, and what is made of them, name where nothing dead has a holder.
-use Rattle.std.specs.Prelude.{◌≡◌, ℕ, List, true, Option, Ok, Some}
+use Rattle.std.specs.Prelude.{◌≡◌, List, true, Option, Ok, Some}
 use Rattle.item_operands.specs.declared.taken.Taken.{Taken}
 use Rattle.numbered_form.specs.Lists.{Each}
 use Rattle.ownership_chains.specs.declared.facts.Facts.{Facts}

@@ -1,6 +1,6 @@
 -- What an accepted function's trails say of guards: operands are current where entries go along with the trail, what open scopes borrow doesn't end,
 -- and neither an open scope nor an argument begins anew.
-use Rattle.std.specs.Prelude.{◌≡◌, ◌⊎◌, ℕ, List, ◌∷◌, true, false, Contains, Ok, Some}
+use Rattle.std.specs.Prelude.{◌≡◌, ℕ, List, ◌∷◌, true, false, Contains, Ok, Some}
 use Rattle.item_operands.specs.Items.{item_taken}
 use Rattle.item_operands.specs.declared.taken.Taken.{Taken}
 use Rattle.numbered_form.specs.Lists.{Each}
@@ -23,7 +23,6 @@ use Rattle.accepted_values.specs.inner.Known.{IsAcceptedBody, kind_at}
 use Rattle.holder_counts.specs.holder_model.Data.{Datum}
 use Rattle.holder_counts.specs.holder_model.Frames.{Entry, Lent, entry_at, without_ended}
 use Rattle.guarded_entries.specs.inner.Guards.{IsArgument, IsCurrent, IsThere, Lending}
-use Rattle.guarded_entries.specs.inner.Kept.{IsAnchor}
 
 -- a value that is neither Owned nor a scope is there once the trail has made it
 abbrev pub OthersAreThere : Declarations → Function → List Item → List Entry → Type 0

@@ -1,6 +1,6 @@
 -- States of a run by holders in which no operand names a dead object: lent entries are guarded, dead objects have no strong holder,
 -- and just the objects that are deinitialising have a finish.
-use Rattle.std.specs.Prelude.{◌≡◌, ℕ, ◌+◌, ◌==◌, List, [], ◌∷◌, true, false, Bool, cond, Some, slice_get}
+use Rattle.std.specs.Prelude.{◌≡◌, ℕ, ◌+◌, List, [], ◌∷◌, true, false, Bool, cond, Some, slice_get}
 use Rattle.sil_ast.specs.declared.decl.Storage.TheVariants as storage
 use Rattle.sil_ast.specs.declared.function.Function.{Function}
 use Rattle.sil_ast.specs.declared.module.Module.{Module}

@@ -1,12 +1,12 @@
 -- What keeps guards, and what it says: a guarded object isn't dead.
-use Rattle.std.specs.Prelude.{◌≡◌, ◌⊎◌, ◌<◌, ◌+◌, ℕ, List, [], ◌∷◌, true, false, Ok, Err, Some, slice_get}
+use Rattle.std.specs.Prelude.{◌≡◌, ◌⊎◌, ◌<◌, ◌+◌, ℕ, List, ◌∷◌, true, false, Ok, Err, Some, slice_get}
 use Rattle.sil_ast.specs.declared.decl.Storage.TheVariants as storage
 use Rattle.sil_ast.specs.declared.function.Function.{Function}
 use Rattle.sil_ast.specs.declared.module.Module.{Module}
 use Rattle.sil_ast.specs.declared.place.ObjectId.{ObjectId}
 use Rattle.sil_ast.specs.declared.place.ValueId.{ValueId}
 use Rattle.sil_cfg.specs.declared.item.Item.{Item}
-use Rattle.item_operands.specs.Items.{item_defined, item_taken}
+use Rattle.item_operands.specs.Items.{item_defined}
 use Rattle.item_operands.specs.declared.taken.Taken.{Taken}
 use Rattle.numbered_form.specs.Lists.{Each}
 use Rattle.type_definitions.specs.Declarations.{Declarations, declarations_of}
@@ -26,7 +26,7 @@ use Rattle.holder_counts.specs.holder_model.HolderStates.{HolderState}
 use Rattle.holder_counts.specs.holder_model.States.{Runs, Task}
 use Rattle.holder_counts.specs.inner.Moving.{in_tasks}
 use Rattle.holder_counts.specs.inner.Taking.{in_entries}
-use Rattle.guarded_entries.specs.inner.Guards.{AreLentGuarded, AreOfKinds, Guard, IsArgument, IsCurrent, IsGuarded, IsNamed, IsThere, KeepsAt, Lending}
+use Rattle.guarded_entries.specs.inner.Guards.{AreLentGuarded, AreOfKinds, Guard, IsArgument, IsCurrent, IsNamed, IsThere, KeepsAt, Lending}
 use Rattle.guarded_entries.specs.inner.GuardedStates.{BelowIsGuarded, IsGuardedIn, IsGuardedState, KeepsBelow, Loans, finishes_of}
 
 -- a scope, or an argument of the entry: what is lent and guards

@@ -9,7 +9,7 @@ use Rattle.sil_ast.specs.declared.place.ValueId.{ValueId}
 use Rattle.sil_cfg.specs.declared.item.Item.{Item}
 use Rattle.sil_cfg.specs.declared.item.Item.TheVariants as item
 use Rattle.item_operands.specs.Items.{item_defined, item_taken}
-use Rattle.type_definitions.specs.Declarations.{Declarations, declarations_of}
+use Rattle.type_definitions.specs.Declarations.{declarations_of}
 use Rattle.run_values.specs.declared.phase.Phase.TheVariants.{Deiniting}
 use Rattle.run_values.specs.Memory.{Memory, is_dead, is_live, object_at, phase_of, with_object}
 use Rattle.run_values.specs.Places.{Place}
