@@ -304,3 +304,116 @@ module _ (m : Module) (n : ℕ) (f : Function) (a : IsAcceptedBody m n f) where
 
 pub are_about_taken : AreAboutTaken
 are_about_taken m n f a i object v made about = about_taken m n f a object i v made about
+
+-- ---- the object is as it was
+
+-- what passes has come since itself
+since_itself : (p : Item → Bool) (t : List Item) → list_any p t ≡ true → is_none_since p p t ≡ true
+since_itself p [] h = h
+since_itself p (i ∷ t) h = at (p i) (is_none_since p p t) (since_itself p t) h
+  where
+    at : (here : Bool) (none : Bool) → (list_any p t ≡ true → none ≡ true) → (here || list_any p t) ≡ true → (here || (not here && none)) ≡ true
+    at true none more e = refl
+    at false none more e = more e
+
+since_alike : (p q r s : Item → Bool) (t : List Item) → Each (λ i. p i ≡ r i) t → Each (λ i. q i ≡ s i) t → is_none_since p q t ≡ is_none_since r s t
+since_alike p q r s [] h k = refl
+since_alike p q r s (i ∷ t) h k = ap₂ (λ a b. a || b) k.0 (ap₂ (λ a b. not a && b) h.0 (since_alike p q r s t h.1 k.1))
+
+same_one : (i : Item) → same_item i i ≡ true
+same_one items.Entry = refl
+same_one (items.Inst p) = ap₂ (λ a b. a && b) (eq-eqb p.block.0 p.block.0 refl) (eq-eqb p.index p.index refl)
+same_one (items.Edge e) = ap₂ (λ a b. a && b) (eq-eqb e.block.0 e.block.0 refl) (eq-eqb e.index e.index refl)
+same_one (items.Exit p) = ap₂ (λ a b. a && b) (eq-eqb p.block.0 p.block.0 refl) (eq-eqb p.index p.index refl)
+
+among_any : (y : Taken) (ts : List Taken) → Among y ts → list_any (λ (x : Taken). x.value.0 == y.value.0) ts ≡ true
+among_any y [] h = absurd h
+among_any y (t ∷ ts) (inl same) =
+    ap (λ b. b || list_any (λ (x : Taken). x.value.0 == y.value.0) ts) (eq-eqb t.value.0 y.value.0 (ap (λ (x : Taken). x.value.0) (sym same)))
+among_any y (t ∷ ts) (inr more) = or_right (t.value.0 == y.value.0) (list_any (λ (x : Taken). x.value.0 == y.value.0) ts) (among_any y ts more)
+
+module _ (m : Module) (n : ℕ) (f : Function) (a : IsAcceptedBody m n f) (object : ValueId) where
+  abbrev About : ValueId → Type 0
+  About v = IsAbout (sources_of (declarations_of m) f) object v
+
+  abbrev IsTakenAt : Item → ValueId → Type 0
+  IsTakenAt i w = list_any (λ (y : Taken). y.value.0 == w.0) (item_taken f i) ≡ true
+
+  before_item : (t : List Item) (i : Item) → IsTurnedTrail f (i ∷ t) → (y : Taken) → Contains (item_taken f i) y → IsDefinedOn f t y.value
+  before_item t i h y c = taken_before m n f a t i h y.value (among_any y (item_taken f i) (among_contained y (item_taken f i) c))
+
+  -- the object is defined where something about it is
+  object_defined : (t : List Item) → IsTurnedTrail f t → (v : ValueId) → IsDefinedOn f t v → About v → IsDefinedOn f t object
+  object_defined [] h v made about = absurd (false≢true made)
+  object_defined (i ∷ t) h v made about = at (makes f v i) refl (object_defined t (turned_older f i t h))
+    where
+      at : (x : Bool) → makes f v i ≡ x → ((w : ValueId) → IsDefinedOn f t w → About w → IsDefinedOn f t object) → IsDefinedOn f (i ∷ t) object
+      at true is more = by (about_taken m n f a object i v is about)
+        where
+          by : IsAboutTaken (declarations_of m) f i object v → IsDefinedOn f (i ∷ t) object
+          by (inl same) = subst (IsDefinedOn f (i ∷ t)) same made
+          by (inr (y, c, its)) = or_right (makes f object i) (list_any (makes f object) t) (more y.value (before_item t i h y c) its)
+      at false is more = or_right (makes f object i) (list_any (makes f object) t) (more v (sym (ap (λ x. x || list_any (makes f v) t) is) ∙ made) about)
+
+  turned : (w : List EdgeId) (before : List Item) (i : Item) → IsTrail (flow_of f) w (before ++ i ∷ []) → IsTurnedTrail f (i ∷ reverse before)
+  turned w before i trail = (w, subst (λ v. IsTrail (flow_of f) w (v ++ i ∷ [])) (sym (reverse-reverse before)) trail)
+
+  abbrev IsStopOf : ValueId → Stop → Type 0
+  IsStopOf v s = (i : Item) → IsItem f i → makes f v i ≡ is_at (flow_of f) s i
+
+  made_at : (v : ValueId) (s : Stop) → IsStopOf v s → (t : List Item) → IsTurnedTrail f t → Each (λ i. makes f v i ≡ is_at (flow_of f) s i) t
+  made_at v s stop t h = each_weaker (IsItem f) (λ i. makes f v i ≡ is_at (flow_of f) s i) stop t (are_of_items f t h)
+
+  stops_before : (v : ValueId) (s : Stop) → IsStopOf v s → (before : List Item) → IsTurnedTrail f (reverse before) → IsDefinedOn f (reverse before) v
+      → list_any (is_at (flow_of f) s) before ≡ true
+  stops_before v s stop before h made =
+      sym (any_reversed (is_at (flow_of f) s) before)
+      ∙ sym (any_alike (makes f v) (is_at (flow_of f) s) (reverse before) (made_at v s stop (reverse before) h)) ∙ made
+
+  object_precedes : (v : ValueId) (r s : Stop) → IsStopOf object r → IsStopOf v s → About v → (v ≡ object → ⊥) → Precedes (flow_of f) r s
+  object_precedes v r s at_object at_v about other w before i trail here =
+      let h = turned w before i trail in
+      let older = turned_older f i (reverse before) h in
+      stops_before object r at_object before older
+      (by (reverse before) h older (about_taken m n f a object i v (at_v i (turned_item f i (reverse before) h) ∙ here) about))
+    where
+      by : (t : List Item) → IsTurnedTrail f (i ∷ t) → IsTurnedTrail f t → IsAboutTaken (declarations_of m) f i object v → IsDefinedOn f t object
+      by t h older (inl same) = absurd (other same)
+      by t h older (inr (y, c, its)) = object_defined t older y.value (before_item t i h y c) its
+
+  taken_precedes : (v : ValueId) (s : Stop) → IsStopOf v s → (i : Item) → IsTakenAt i v → Precedes (flow_of f) s (item i)
+  taken_precedes v s at_v i among w before j trail here =
+      let h = turned w before j trail in
+      let older = turned_older f j (reverse before) h in
+      let same : j ≡ i = same_item-true j i here in
+      stops_before v s at_v before older
+      (taken_before m n f a (reverse before) j h v (ap (λ k. list_any (λ (y : Taken). y.value.0 == v.0) (item_taken f k)) same ∙ among))
+
+  stop_of : (v : ValueId) (t : List Item) → IsTurnedTrail f t → IsDefinedOn f t v → (s : Stop) × IsStopOf v s
+  stop_of v t h made = let i = picked (makes f v) (IsItem f) t (are_of_items f t h) made in made_at_stops m n f a v i.0 i.2 i.1
+
+  as_made : (t : List Item) (i : Item) → IsTurnedTrail f (i ∷ t) → (v : ValueId) → IsTakenAt i v → About v → IsAsMade f t object v
+  as_made t i h v among about = record { defined = defined; since = at (v.0 == object.0) refl }
+    where
+      made : IsDefinedOn f t v
+      made = taken_before m n f a t i h v among
+
+      older : IsTurnedTrail f t
+      older = turned_older f i t h
+
+      defined : IsDefinedOn f t object
+      defined = object_defined t older v made about
+
+      at : (x : Bool) → (v.0 == object.0) ≡ x → is_none_since (makes f object) (makes f v) t ≡ true
+      at true is =
+          subst (λ u. is_none_since (makes f u) (makes f v) t ≡ true) (ap value_of (eqb-true v.0 object.0 is)) (since_itself (makes f v) t made)
+      at false is =
+          let r = stop_of object t older defined in
+          let s = stop_of v t older made in
+          let differ : v ≡ object → ⊥ = λ same. true≢false (sym (eq-eqb v.0 object.0 (ap (λ (x : ValueId). x.0) same)) ∙ is) in
+          since_alike (makes f object) (makes f v) (is_at (flow_of f) r.0) (is_at (flow_of f) s.0) t (made_at object r.0 r.1 t older) (made_at v s.0 s.1 t older)
+          ∙ are_spliced f r.0 s.0 (item i) (object_precedes v r.0 s.0 r.1 s.1 about differ) (taken_precedes v s.0 s.1 i among) t i h (same_one i)
+
+pub about_as_made : AreAboutAsMade
+about_as_made m n f a t i h y c object about =
+    as_made m n f a object t i (are_trails f (accepted_in m n f a).once (i ∷ t) h) y.value (among_any y (item_taken f i) (among_contained y (item_taken f i) c)) about

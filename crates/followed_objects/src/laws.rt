@@ -1,5 +1,6 @@
 //! The laws of the new objects on the trails of an accepted function, each on a call that does nothing. The lemmas behind them are in `proofs/`.
 
+ghost use Rattle.followed_objects.specs.inner.About.{AreAboutAsMade, AreAboutTaken};
 ghost use Rattle.followed_objects.specs.inner.Laws.{
   AreAsMadeBefore,
   AreEndsOfOthers,
@@ -23,4 +24,10 @@ pub fn fields_are_followed()
 pub fn unfinished_objects_stay()
     ensures ends { AreEndsOfOthers }
     ensures loses { LoseOthers }
+{}
+
+/// What makes a value that is about a new object takes another one. So the object is, where an item takes what is about it, the one of which that was made.
+pub fn what_is_about_objects_is_made_of_them()
+    ensures taken { AreAboutTaken }
+    ensures made { AreAboutAsMade }
 {}

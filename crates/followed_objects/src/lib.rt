@@ -4,4 +4,6 @@
 
 mod laws;
 
-pub use laws::{fields_are_followed, unfinished_objects_stay};
+pub use laws::{
+    fields_are_followed, unfinished_objects_stay, what_is_about_objects_is_made_of_them,
+};
