@@ -36,7 +36,7 @@ use Rattle.item_operands.specs.Roles.{by_row, conventions_in, last_roles, roles_
 use Rattle.item_operands.specs.declared.taken.Taken.{Taken}
 use Rattle.item_operands.specs.declared.taken.Treatment.{Treatment}
 use Rattle.numbered_form.specs.Lists.{Each}
-use Rattle.ownership_chains.specs.Facts.{known_or}
+use Rattle.ownership_chains.specs.Facts.{known_or, value_of}
 use Rattle.ownership_chains.specs.declared.facts.Facts.{Facts}
 use Rattle.ownership_marks.specs.Marks.{ended_by, ended_with, end_of, ends_owned, ends_scope}
 use Rattle.point_checks.proofs.Among.{Among, among_contained, contained_among}
@@ -166,7 +166,7 @@ module _ (m : Module) (n : ℕ) (f : Function) (a : IsAcceptedBody m n f) (t : L
 
         at : (y : Taken) → Contains (item_taken f i) y → (b : Bool) → (y.value.0 == object.0) ≡ b → is_end (facts_in d f) object y ≡ false
         at y c true e =
-            ap (λ b. b && (y.value.0 == object.0)) (unended y c (ap (λ k. record { 0 = k }) (eqb-true y.value.0 object.0 e)))
+            ap (λ b. b && (y.value.0 == object.0)) (unended y c (ap value_of (eqb-true y.value.0 object.0 e)))
         at y c false e = ap (λ b. ends (facts_in d f) y && b) e ∙ never (ends (facts_in d f) y)
 
         over : (ys : List Taken) → ((y : Taken) → Contains ys y → is_end (facts_in d f) object y ≡ false) → list_any (is_end (facts_in d f) object) ys ≡ false

@@ -1,5 +1,5 @@
 -- How each item leaves what a trail says of new objects.
-use Rattle.std.proofs.Common.{◌≡◌, ◌⊎◌, inl, inr, ℕ, ◌<◌, List, [], ◌∷◌, map, refl, sym, ap, ◌∙◌, subst, Bool, true, false, not, ◌&&◌, ◌||◌, Option, Some, None, eq-eqb}
+use Rattle.std.proofs.Common.{◌≡◌, ◌⊎◌, inl, inr, ℕ, zero, suc, ◌<◌, List, [], ◌∷◌, map, refl, sym, ap, ◌∙◌, subst, Bool, true, false, not, ◌&&◌, ◌||◌, Option, Some, None, eq-eqb}
 use Rattle.std.specs.Prelude.{◌==◌, Contains, cond, nat_lt, option_and_then, slice_get, unwrap_or}
 use Rattle.std.specs.List.{list_any}
 use Rattle.std.proofs.lemmas.Bool.{and_parts, eqb-true, false≢true, true≢false}
@@ -90,7 +90,7 @@ told_no_object d None fields e = cc
 told_no_object d (Some t) fields e = handed_no_object _ (address_row t.convention) fields e
 
 argument_no_object : (d : Declarations) (f : Function) (b k fields : ℕ) → source_of_argument d f b k ≡ source.Object fields → ⊥
-argument_no_object d f 0 k fields e = told_no_object d (slice_get (arguments_of f.signature) k) fields e
+argument_no_object d f zero k fields e = told_no_object d (slice_get (arguments_of f.signature) k) fields e
 argument_no_object d f (suc b) k fields e = cc
 
 -- ---- what was made when
@@ -135,16 +135,16 @@ module _ (m : Module) (n : ℕ) (f : Function) (a : IsAcceptedBody m n f) where
     abbrev unwritten_at : List Item → Option Bool
     unwritten_at t = (said_in d f t).unwritten object k
 
-    told : (t : List Item) → has_new_field (source_at sources object) k ≡ true → unwritten_at t ≡ is_on d f Built t
+    pub told : (t : List Item) → has_new_field (source_at sources object) k ≡ true → unwritten_at t ≡ is_on d f Built t
     told t e = ap (λ b. cond b (is_on d f Built t) None) e
 
     untold : (t : List Item) → has_new_field (source_at sources object) k ≡ false → unwritten_at t ≡ None
     untold t e = ap (λ b. cond b (is_on d f Built t) None) e
 
-    there : has_new_field (source_at sources object) k ≡ true → IsPartOf d f Built
+    pub there : has_new_field (source_at sources object) k ≡ true → IsPartOf d f Built
     there e = let x = field_told (source_at sources object) k e in fields_built m n f a object k x.0 x.1 x.2
 
-    held_there : has_new_field (source_at sources object) k ≡ true → IsPartOf d f (Contents (record { subject = object; field = Some k }) false None)
+    pub held_there : has_new_field (source_at sources object) k ≡ true → IsPartOf d f (Contents (record { subject = object; field = Some k }) false None)
     held_there e = let x = field_told (source_at sources object) k e in fields_followed m n f a object k x.0 x.1 x.2
 
     abbrev turn : Access → Option Bool
