@@ -170,10 +170,8 @@ module _ (sources : List Source) (object : ValueId) where
   lent_more zero v e = ap (λ w. lends (source_at sources w)) (borrow_stays 1 v (lent_is (source_at sources v) e)) ∙ e
   lent_more (suc n) v e = by (source_at sources v) refl e
     where
-      abbrev At : ℕ → Source → Type 0
-      At k s = lends (source_at sources (below_by (below sources k) v s)) ≡ true
-
-      by : (s : Source) → source_at sources v ≡ s → At n s → At (suc n) s
+      by : (s : Source) → source_at sources v ≡ s → lends (source_at sources (below_by (below sources n) v s)) ≡ true
+          → lends (source_at sources (below_by (below sources (suc n)) v s)) ≡ true
       by (source.Upcast of) is h = lent_more n of h
       by (source.Slot trivial) is h = h
       by (source.Argument row trivial) is h = h

@@ -205,117 +205,125 @@ none_at_entry m n f a object u =
 
 -- ---- an object is made
 
+module _ (m : Module) (n : ℕ) (f : Function) (a : IsAcceptedBody m n f) (t : List Item) (p : PointId) (h : IsRunTrail f (item.Inst p ∷ t)) (object : ValueId)
+    (makes_it : MakesObject f p object) where
+  itself : makes f object (item.Inst p) ≡ true
+  itself = ap (λ vs. has vs object.0) makes_it.alone ∙ ap (λ b. b || false) (eq-eqb object.0 object.0 refl)
+
+  unmade : (w : ValueId) → (w ≡ object → ⊥) → makes f w (item.Inst p) ≡ false
+  unmade w other = ap (λ vs. has vs w.0) makes_it.alone ∙ at (object.0 == w.0) refl
+    where
+      at : (b : Bool) → (object.0 == w.0) ≡ b → (b || false) ≡ false
+      at false e = refl
+      at true e = absurd (other (sym (ap value_of (eqb-true object.0 w.0 e))))
+
+  nothing : (x : Inst) → inst_at f p ≡ Some x → (o : Operated) → Contains (operations_of x) o → Contains [] o
+  nothing x is o c =
+      subst (λ os. Contains os o) (ap operations_of (same_Some x makes_it.inst (sym is ∙ makes_it.is)) ∙ makes_it.none) c
+
+  made_now : IsMadeNow (sources_of (declarations_of m) f) (said_in (declarations_of m) f t) (said_in (declarations_of m) f (item.Inst p ∷ t)) object
+  made_now = record {
+    unwritten = λ k new.
+        let is_new = new_field_told (sources_of (declarations_of m) f) object k new in
+        told m n f a object k (item.Inst p ∷ t) is_new ∙ made_unwritten m n f a object k (there m n f a object k is_new) t (item.Inst p) h itself;
+    others = λ w other k. fields_left m n f a t (item.Inst p) h w k (unmade w other) (inl (λ x is o c. absurd (nothing_in o (nothing x is o c))));
+    as_made = λ w v other since.
+        let before = as_made_before f t (item.Inst p) w v (unmade v other) since in
+        ((λ same. true≢false (sym itself ∙ ap (λ z. makes f z (item.Inst p)) (sym same) ∙ before.0)), before.1);
+  }
+
 pub objects_made : AreObjectsMade
-objects_made m n f a t p h object makes_it = record {
-  unwritten = λ k new.
-      let is_new = new_field_told (sources_of d f) object k new in
-      told m n f a object k (item.Inst p ∷ t) is_new ∙ made_unwritten m n f a object k (there m n f a object k is_new) t (item.Inst p) h itself;
-  others = λ w other k. fields_left m n f a t (item.Inst p) h w k (unmade w other) (inl (λ x is o c. absurd (nothing_in o (nothing x is o c))));
-  as_made = λ w v other since.
-      let before = as_made_before f t (item.Inst p) w v (unmade v other) since in
-      ((λ same. true≢false (sym itself ∙ ap (λ z. makes f z (item.Inst p)) (sym same) ∙ before.0)), before.1);
-}
-  where
-    abbrev d : Declarations
-    d = declarations_of m
-
-    itself : makes f object (item.Inst p) ≡ true
-    itself = ap (λ vs. has vs object.0) makes_it.alone ∙ ap (λ b. b || false) (eq-eqb object.0 object.0 refl)
-
-    unmade : (w : ValueId) → (w ≡ object → ⊥) → makes f w (item.Inst p) ≡ false
-    unmade w other = ap (λ vs. has vs w.0) makes_it.alone ∙ at (object.0 == w.0) refl
-      where
-        at : (b : Bool) → (object.0 == w.0) ≡ b → (b || false) ≡ false
-        at false e = refl
-        at true e = absurd (other (sym (ap value_of (eqb-true object.0 w.0 e))))
-
-    nothing : (x : Inst) → inst_at f p ≡ Some x → (o : Operated) → Contains (operations_of x) o → Contains [] o
-    nothing x is o c =
-        subst (λ os. Contains os o) (ap operations_of (same_Some x makes_it.inst (sym is ∙ makes_it.is)) ∙ makes_it.none) c
+objects_made m n f a t p h object makes_it = made_now m n f a t p h object makes_it
 
 -- ---- a field is filled
 
+module _ (m : Module) (n : ℕ) (f : Function) (a : IsAcceptedBody m n f) (t : List Item) (p : PointId) (h : IsRunTrail f (item.Inst p ∷ t)) (object : ValueId) (k : ℕ)
+    (filled : FillsField (declarations_of m) f t p object k) where
+  abbrev decls : Declarations
+  decls = declarations_of m
+
+  abbrev table : List Source
+  table = sources_of decls f
+
+  abbrev cell : Cell
+  cell = record { subject = object; field = Some k }
+
+  abbrev l : Location
+  l = filled.location
+
+  is_new : has_new_field (source_at table object) k ≡ true
+  is_new = new_field_told table object k filled.field
+
+  unmade : (w : ValueId) → makes f w (item.Inst p) ≡ false
+  unmade w = ap (λ vs. has vs w.0) filled.none
+
+  at_cell : cell_of table l.root ≡ cell
+  at_cell =
+      ap (cell_by table l.root) filled.address.is
+      ∙ ap (λ o. field_cell o l.root k) (built_told object (object_built table filled.of) filled.built)
+
+  done : IsDoneAt decls f p filled.does l
+  done = record {
+    inst = filled.inst;
+    is = filled.is;
+    among = contained_among filled.does (operations_of filled.inst) (subst (Among filled.does) (sym filled.alone) (inl refl));
+    at = filled.address.at;
+  }
+
+  found : IsFoundSo decls f t (item.Inst p) (Contents (cell_of table l.root) false None) (mark_at decls f l filled.does.operation)
+  found =
+      operations_right m n f a t p h filled.does l done false None
+      (subst (λ c. IsPartOf decls f (Contents c false None)) (sym at_cell) (held_there m n f a object k is_new))
+
+  abbrev mark : Mark
+  mark = operation_mark (is_trivial_at (sources_of (declarations_of m) f) filled.location.root) (counts_at_part (sources_of (declarations_of m) f) filled.location filled.does.operation) filled.does.operation
+
+  both : (on : Bool) × (is_on decls f (Building object k) (item.Inst p ∷ t) ≡ Some on) × (is_on decls f (Contents cell false None) (item.Inst p ∷ t) ≡ Some (not on))
+  both =
+      unwritten_empty m n f a object k (there m n f a object k is_new) (item.Inst p ∷ t) h
+      (or_right (makes f object (item.Inst p)) (list_any (makes f object) t) filled.defined)
+
+  full : not both.0 ≡ true
+  full =
+      same_Some (not both.0) true
+      (sym both.1.1 ∙ ap (λ c. is_on decls f (Contents c false None) (item.Inst p ∷ t)) (sym at_cell) ∙ found.left ∙ ap (λ b. Some b) (filled.full found.on found.found))
+
+  off : (b : Bool) → not b ≡ true → b ≡ false
+  off true e = absurd (false≢true e)
+  off false e = refl
+
+  apart : (w : ValueId) (j : ℕ) → ((w ≡ object) × (j ≡ k) → ⊥) → (b : Bool) → same_cell cell (record { subject = w; field = Some j }) ≡ b → b ≡ false
+  apart w j other false e = refl
+  apart w j other true e =
+      let parts = and_parts (object.0 == w.0) (k == j) e in
+      absurd (other (sym (ap value_of (eqb-true object.0 w.0 parts.0)), sym (eqb-true k j parts.1)))
+
+  elsewhere : (w : ValueId) (j : ℕ) → ((w ≡ object) × (j ≡ k) → ⊥) → (x : Inst) → inst_at f p ≡ Some x → (o : Operated) → Contains (operations_of x) o
+      → fills table (record { subject = w; field = Some j }) o.operation (location_of table o.address) ≡ false
+  elsewhere w j other x is o c =
+      ap (λ (z : Operated). fills table (record { subject = w; field = Some j }) z.operation (location_of table z.address)) same
+      ∙ ap (fills table (record { subject = w; field = Some j }) filled.does.operation) filled.address.at
+      ∙ ap (λ z. is_turned_on (when (same_cell z (record { subject = w; field = Some j })) mark)) at_cell
+      ∙ ap (λ b. is_turned_on (when b mark)) (apart w j other (same_cell cell (record { subject = w; field = Some j })) refl)
+    where
+
+      among : Among o (filled.does ∷ [])
+      among =
+          subst (Among o) (ap operations_of (same_Some x filled.inst (sym is ∙ filled.is)) ∙ filled.alone) (among_contained o (operations_of x) c)
+
+      same : o ≡ filled.does
+      same = only among
+        where
+          only : Among o (filled.does ∷ []) → o ≡ filled.does
+          only (inl e) = e
+          only (inr e) = absurd e
+
+  filled_now : IsWrittenNow (said_in (declarations_of m) f t) (said_in (declarations_of m) f (item.Inst p ∷ t)) object k
+  filled_now = record {
+    written = told m n f a object k (item.Inst p ∷ t) is_new ∙ both.1.0 ∙ ap (λ b. Some b) (off both.0 full);
+    others = λ w j other. fields_left m n f a t (item.Inst p) h w j (unmade w) (inl (λ x is o c. elsewhere w j other x is o c));
+    as_made = λ w v since. (as_made_before f t (item.Inst p) w v (unmade v) since).1;
+  }
+
 pub fields_filled : AreFieldsFilled
-fields_filled m n f a t p h object k filled = record {
-  written = told m n f a object k (item.Inst p ∷ t) is_new ∙ both.1.0 ∙ ap (λ b. Some b) (off both.0 full);
-  others = λ w j other. fields_left m n f a t (item.Inst p) h w j (unmade w) (inl (λ x is o c. elsewhere w j other x is o c));
-  as_made = λ w v since. (as_made_before f t (item.Inst p) w v (unmade v) since).1;
-}
-  where
-    abbrev d : Declarations
-    d = declarations_of m
-
-    abbrev sources : List Source
-    sources = sources_of d f
-
-    abbrev cell : Cell
-    cell = record { subject = object; field = Some k }
-
-    abbrev l : Location
-    l = filled.location
-
-    is_new : has_new_field (source_at sources object) k ≡ true
-    is_new = new_field_told sources object k filled.field
-
-    unmade : (w : ValueId) → makes f w (item.Inst p) ≡ false
-    unmade w = ap (λ vs. has vs w.0) filled.none
-
-    at_cell : cell_of sources l.root ≡ cell
-    at_cell =
-        ap (cell_by sources l.root) filled.address.is
-        ∙ ap (λ o. field_cell o l.root k) (built_told object (object_built sources filled.of) filled.built)
-
-    done : IsDoneAt d f p filled.does l
-    done = record {
-      inst = filled.inst;
-      is = filled.is;
-      among = contained_among filled.does (operations_of filled.inst) (subst (Among filled.does) (sym filled.alone) (inl refl));
-      at = filled.address.at;
-    }
-
-    found : IsFoundSo d f t (item.Inst p) (Contents (cell_of sources l.root) false None) (mark_at d f l filled.does.operation)
-    found =
-        operations_right m n f a t p h filled.does l done false None
-        (subst (λ c. IsPartOf d f (Contents c false None)) (sym at_cell) (held_there m n f a object k is_new))
-
-    both : (on : Bool) × (is_on d f (Building object k) (item.Inst p ∷ t) ≡ Some on) × (is_on d f (Contents cell false None) (item.Inst p ∷ t) ≡ Some (not on))
-    both =
-        unwritten_empty m n f a object k (there m n f a object k is_new) (item.Inst p ∷ t) h
-        (or_right (makes f object (item.Inst p)) (list_any (makes f object) t) filled.defined)
-
-    full : not both.0 ≡ true
-    full =
-        same_Some (not both.0) true
-        (sym both.1.1 ∙ ap (λ c. is_on d f (Contents c false None) (item.Inst p ∷ t)) (sym at_cell) ∙ found.left ∙ ap (λ b. Some b) (filled.full found.on found.found))
-
-    off : (b : Bool) → not b ≡ true → b ≡ false
-    off true e = absurd (false≢true e)
-    off false e = refl
-
-    apart : (w : ValueId) (j : ℕ) → ((w ≡ object) × (j ≡ k) → ⊥) → (b : Bool) → same_cell cell (record { subject = w; field = Some j }) ≡ b → b ≡ false
-    apart w j other false e = refl
-    apart w j other true e =
-        let parts = and_parts (object.0 == w.0) (k == j) e in
-        absurd (other (sym (ap value_of (eqb-true object.0 w.0 parts.0)), sym (eqb-true k j parts.1)))
-
-    elsewhere : (w : ValueId) (j : ℕ) → ((w ≡ object) × (j ≡ k) → ⊥) → (x : Inst) → inst_at f p ≡ Some x → (o : Operated) → Contains (operations_of x) o
-        → fills sources (record { subject = w; field = Some j }) o.operation (location_of sources o.address) ≡ false
-    elsewhere w j other x is o c =
-        ap (λ (z : Operated). fills sources (record { subject = w; field = Some j }) z.operation (location_of sources z.address)) same
-        ∙ ap (fills sources (record { subject = w; field = Some j }) filled.does.operation) filled.address.at
-        ∙ ap (λ z. is_turned_on (when (same_cell z (record { subject = w; field = Some j })) mark)) at_cell
-        ∙ ap (λ b. is_turned_on (when b mark)) (apart w j other (same_cell cell (record { subject = w; field = Some j })) refl)
-      where
-        abbrev mark : Mark
-        mark = operation_mark (is_trivial_at sources l.root) (counts_at_part sources l filled.does.operation) filled.does.operation
-
-        among : Among o (filled.does ∷ [])
-        among =
-            subst (Among o) (ap operations_of (same_Some x filled.inst (sym is ∙ filled.is)) ∙ filled.alone) (among_contained o (operations_of x) c)
-
-        same : o ≡ filled.does
-        same = only among
-          where
-            only : Among o (filled.does ∷ []) → o ≡ filled.does
-            only (inl e) = e
-            only (inr e) = absurd e
+fields_filled m n f a t p h object k filled = filled_now m n f a t p h object k filled
