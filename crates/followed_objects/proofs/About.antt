@@ -168,19 +168,19 @@ module _ (sources : List Source) (object : ValueId) where
 
   lent_more : (n : ℕ) (v : ValueId) → lent n v ≡ true → lent (suc n) v ≡ true
   lent_more zero v e = ap (λ w. lends (source_at sources w)) (borrow_stays 1 v (lent_is (source_at sources v) e)) ∙ e
-  lent_more (suc n) v e = by (source_at sources v) refl e
+  lent_more (suc n) v e = by (λ of h. lent_more n of h) (source_at sources v) refl e
     where
-      by : (s : Source) → source_at sources v ≡ s → lends (source_at sources (below_by (below sources n) v s)) ≡ true
+      by : ((of : ValueId) → lent n of ≡ true → lent (suc n) of ≡ true) → (s : Source) → source_at sources v ≡ s → lends (source_at sources (below_by (below sources n) v s)) ≡ true
           → lends (source_at sources (below_by (below sources (suc n)) v s)) ≡ true
-      by (source.Upcast of) is h = lent_more n of h
-      by (source.Slot trivial) is h = h
-      by (source.Argument row trivial) is h = h
-      by (source.Object fields) is h = h
-      by (source.Borrow of) is h = h
-      by (source.Loan of) is h = h
-      by (source.Field of k trivial) is h = h
-      by (source.Part of k) is h = h
-      by source.Other is h = h
+      by more (source.Upcast of) is h = more of h
+      by more (source.Slot trivial) is h = h
+      by more (source.Argument row trivial) is h = h
+      by more (source.Object fields) is h = h
+      by more (source.Borrow of) is h = h
+      by more (source.Loan of) is h = h
+      by more (source.Field of k trivial) is h = h
+      by more (source.Part of k) is h = h
+      by more source.Other is h = h
 
   abbrev IsBuilder : ℕ → ValueId → Type 0
   IsBuilder n v = (source_at sources v ≡ source.Borrow object) ⊎ ((of : ValueId) × (source_at sources v ≡ source.Upcast of) × (lent n of ≡ true))
@@ -255,7 +255,7 @@ module _ (m : Module) (n : ℕ) (f : Function) (a : IsAcceptedBody m n f) where
   module _ (object : ValueId) where
     taken_about : (i : Item) (v w : ValueId) → makes f v i ≡ true → operand_of (source_at sources v) ≡ Some w → IsAbout sources object w → IsAboutTaken d f i object v
     taken_about i v w made e about =
-        let y = taken_for i v w made e in inr (y.0, y.1.0, subst (IsAbout sources object) (sym y.1.1) about)
+        let y = taken_for i v w made e in inr (y.0, y.1, subst (IsAbout sources object) (sym y.2) about)
 
     about_borrow : (i : Item) (v : ValueId) → makes f v i ≡ true → builds sources object v ≡ true → IsAboutTaken d f i object v
     about_borrow i v made built = by (builder sources object v built)
@@ -288,7 +288,7 @@ module _ (m : Module) (n : ℕ) (f : Function) (a : IsAcceptedBody m n f) where
             let inner = member_location m n f a v w j is l at.at in
             taken_about i v w made (ap operand_of is)
             (address inner.0 of k
-            (record { at = inner.1.0; trivial = at.trivial; is = sym (ap (λ (x : Location). source_at sources x.root) inner.1.1) ∙ at.is }) built)
+            (record { at = inner.1; trivial = at.trivial; is = sym (ap (λ (x : Location). source_at sources x.root) inner.2) ∙ at.is }) built)
         by (source.Object fields) is = absurd (none (source.Object fields) is (λ o. refl))
         by (source.Borrow w) is = absurd (none (source.Borrow w) is (λ o. refl))
         by (source.Upcast w) is = absurd (none (source.Upcast w) is (λ o. refl))

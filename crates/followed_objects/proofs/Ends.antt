@@ -100,8 +100,8 @@ taken_quiet : (facts : ValueId → Option Facts) (x : Inst) → may_take x.op �
 taken_quiet facts x e =
     let row = quiet_row x.op e in
     subst (λ ts. Each (λ y. ends facts y ≡ false) (taken_each x.operands ts))
-    (sym (ap (λ rs. roles_for rs (conventions_in x) (length x.operands)) row.1.0 ∙ row.1.1.each (conventions_in x) (length x.operands)))
-    (each_quiet facts row.0 row.1.1 x.operands (length x.operands))
+    (sym (ap (λ rs. roles_for rs (conventions_in x) (length x.operands)) row.1 ∙ row.2.each (conventions_in x) (length x.operands)))
+    (each_quiet facts row.0 row.2 x.operands (length x.operands))
 
 -- ---- the next item
 

@@ -1,5 +1,5 @@
 -- How each item leaves what a trail says of new objects.
-use Rattle.std.proofs.Common.{◌≡◌, ◌⊎◌, inl, inr, ℕ, zero, suc, ◌<◌, List, [], ◌∷◌, map, refl, sym, ap, ◌∙◌, subst, Bool, true, false, not, ◌&&◌, ◌||◌, Option, Some, None, eq-eqb}
+use Rattle.std.proofs.Common.{◌≡◌, ◌⊎◌, inl, inr, ℕ, zero, suc, ◌<◌, List, [], ◌∷◌, map, refl, sym, ap, ◌∙◌, subst, arith, Bool, true, false, not, ◌&&◌, ◌||◌, Option, Some, None, eq-eqb}
 use Rattle.std.specs.Prelude.{◌==◌, Contains, cond, nat_lt, option_and_then, slice_get, unwrap_or}
 use Rattle.std.specs.List.{list_any}
 use Rattle.std.proofs.lemmas.Bool.{and_parts, eqb-true, false≢true, true≢false}
@@ -254,8 +254,8 @@ module _ (m : Module) (n : ℕ) (f : Function) (a : IsAcceptedBody m n f) (t : L
   is_new : has_new_field (source_at table object) k ≡ true
   is_new = new_field_told table object k filled.field
 
-  unmade : (w : ValueId) → makes f w (item.Inst p) ≡ false
-  unmade w = ap (λ vs. has vs w.0) filled.none
+  makes_none : (w : ValueId) → makes f w (item.Inst p) ≡ false
+  makes_none w = ap (λ vs. has vs w.0) filled.none
 
   at_cell : cell_of table l.root ≡ cell
   at_cell =
@@ -286,7 +286,7 @@ module _ (m : Module) (n : ℕ) (f : Function) (a : IsAcceptedBody m n f) (t : L
   full : not both.0 ≡ true
   full =
       same_Some (not both.0) true
-      (sym both.1.1 ∙ ap (λ c. is_on decls f (Contents c false None) (item.Inst p ∷ t)) (sym at_cell) ∙ found.left ∙ ap (λ b. Some b) (filled.full found.on found.found))
+      (sym both.2 ∙ ap (λ c. is_on decls f (Contents c false None) (item.Inst p ∷ t)) (sym at_cell) ∙ found.left ∙ ap (λ b. Some b) (filled.full found.on found.found))
 
   off : (b : Bool) → not b ≡ true → b ≡ false
   off true e = absurd (false≢true e)
@@ -306,7 +306,6 @@ module _ (m : Module) (n : ℕ) (f : Function) (a : IsAcceptedBody m n f) (t : L
       ∙ ap (λ z. is_turned_on (when (same_cell z (record { subject = w; field = Some j })) mark)) at_cell
       ∙ ap (λ b. is_turned_on (when b mark)) (apart w j other (same_cell cell (record { subject = w; field = Some j })) refl)
     where
-
       among : Among o (filled.does ∷ [])
       among =
           subst (Among o) (ap operations_of (same_Some x filled.inst (sym is ∙ filled.is)) ∙ filled.alone) (among_contained o (operations_of x) c)
@@ -320,9 +319,9 @@ module _ (m : Module) (n : ℕ) (f : Function) (a : IsAcceptedBody m n f) (t : L
 
   filled_now : IsWrittenNow (said_in (declarations_of m) f t) (said_in (declarations_of m) f (item.Inst p ∷ t)) object k
   filled_now = record {
-    written = told m n f a object k (item.Inst p ∷ t) is_new ∙ both.1.0 ∙ ap (λ b. Some b) (off both.0 full);
-    others = λ w j other. fields_left m n f a t (item.Inst p) h w j (unmade w) (inl (λ x is o c. elsewhere w j other x is o c));
-    as_made = λ w v since. (as_made_before f t (item.Inst p) w v (unmade v) since).1;
+    written = told m n f a object k (item.Inst p ∷ t) is_new ∙ both.1 ∙ ap (λ b. Some b) (off both.0 full);
+    others = λ w j other. fields_left m n f a t (item.Inst p) h w j (makes_none w) (inl (λ x is o c. elsewhere w j other x is o c));
+    as_made = λ w v since. (as_made_before f t (item.Inst p) w v (makes_none v) since).1;
   }
 
 pub fields_filled : AreFieldsFilled
