@@ -4,6 +4,7 @@ use Rattle.std.specs.Prelude.{◌==◌, Contains, cond, nat_lt, option_and_then,
 use Rattle.std.specs.List.{list_any}
 use Rattle.std.proofs.lemmas.Bool.{and_parts, eqb-true, false≢true, true≢false}
 use Rattle.std.proofs.lemmas.Option.{none-some, same_Some}
+use Rattle.std.proofs.lemmas.Bool.Decides.{nat_tests}
 use Rattle.argument_conventions.specs.Arguments.{Told, arguments_of}
 use Rattle.argument_conventions.specs.Rows.{address_row}
 use Rattle.argument_conventions.specs.declared.row.AddressRow.{AddressRow}
