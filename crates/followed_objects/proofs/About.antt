@@ -13,7 +13,7 @@ use Rattle.instruction_table.specs.declared.op.Op.{Op}
 use Rattle.instruction_table.specs.declared.op.Op.TheVariants as op
 use Rattle.accepted_memory.specs.accepted_trails.inner.Bases.{IsAsMade}
 use Rattle.accepted_memory.specs.accepted_trails.inner.Defined.{IsDefinedOn, makes}
-use Rattle.accepted_memory.specs.memory_accesses.Locations.{below, below_by, extended, is_object, locate, located_by, location_of, object_built, object_lent, upcast_from, whole}
+use Rattle.accepted_memory.specs.memory_accesses.Locations.{below, below_by, is_object, locate, located_by, object_lent, upcast_from, whole}
 use Rattle.accepted_memory.specs.memory_accesses.Operations.{access_kind_of}
 use Rattle.accepted_memory.specs.memory_accesses.Sources.{argument_source_or, borrow_source, element_place, field_source, handed_source, is_trivial_member}
 use Rattle.accepted_memory.specs.memory_accesses.Sources.{loan_source, member_place, object_source, part_source, result_source, slot_source, source_at, source_by, sources_of, upcast_source}
@@ -23,7 +23,7 @@ use Rattle.accepted_memory.specs.memory_accesses.declared.location.Location.{Loc
 use Rattle.accepted_memory.specs.memory_accesses.declared.source.Source.{Source}
 use Rattle.accepted_memory.specs.memory_accesses.declared.source.Source.TheVariants as source
 use Rattle.accepted_memory.specs.memory_parts.Building.{builds, is_object_of}
-use Rattle.accepted_memory.specs.run_trails.inner.RunTrails.{IsRunTrail, IsTurnedTrail}
+use Rattle.accepted_memory.specs.run_trails.inner.RunTrails.{IsTurnedTrail}
 use Rattle.accepted_memory.specs.run_trails.inner.Since.{is_none_since}
 use Rattle.accepted_memory.proofs.accepted_trails.Tests.{any_alike, any_reversed, each_weaker, or_right, picked}
 use Rattle.accepted_memory.proofs.run_trails.RunPaths.{are_trails}

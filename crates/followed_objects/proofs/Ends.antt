@@ -1,10 +1,9 @@
 -- An item ends no object that has a field to be written.
-use Rattle.std.proofs.Common.{◌≡◌, ◌⊎◌, inl, inr, ℕ, zero, suc, List, [], ◌∷◌, ◌++◌, length, map, refl, sym, ap, ◌∙◌, subst, Bool, true, false, not, ◌&&◌, ◌||◌, Option, Some, None, eq-eqb}
+use Rattle.std.proofs.Common.{◌≡◌, ◌⊎◌, inl, inr, ℕ, zero, suc, List, [], ◌∷◌, length, refl, sym, ap, ◌∙◌, subst, Bool, true, false, not, ◌&&◌, ◌||◌, Option, Some, None, eq-eqb}
 use Rattle.std.specs.Prelude.{◌==◌, Contains, cond, replicate}
 use Rattle.std.specs.List.{list_any}
-use Rattle.std.proofs.lemmas.Bool.{and_parts, eqb-true, false≢true, true≢false}
+use Rattle.std.proofs.lemmas.Bool.{eqb-true, false≢true, true≢false}
 use Rattle.std.proofs.lemmas.List.Elements.{Contains-append_cases}
-use Rattle.std.proofs.lemmas.Option.{none-some, same_Some}
 use Rattle.argument_conventions.specs.declared.convention.ArgumentConvention.{ArgumentConvention}
 use Rattle.instruction_table.specs.Forms.{is_terminator, roles_of}
 use Rattle.instruction_table.specs.declared.entries.Role.{Role}
@@ -12,12 +11,11 @@ use Rattle.instruction_table.specs.declared.entries.Role.TheVariants as role
 use Rattle.instruction_table.specs.declared.op.Op.{Op}
 use Rattle.instruction_table.specs.declared.op.Op.TheVariants as op
 use Rattle.accepted_memory.specs.accepted_trails.inner.Passing.{is_end}
-use Rattle.accepted_memory.specs.holder_model.Frames.{Entry, Gone, entry_at, ends, has_any}
+use Rattle.accepted_memory.specs.holder_model.Frames.{Gone, entry_at, ends, has_any}
 use Rattle.accepted_memory.specs.memory_accesses.Accesses.{allowance_of}
 use Rattle.accepted_memory.specs.memory_accesses.Operations.{access_kind_of, deallocates, deallocates_by}
-use Rattle.accepted_memory.specs.memory_accesses.Sources.{source_at, sources_of}
-use Rattle.accepted_memory.specs.memory_accesses.declared.columns.Allowance.{Allowance}
-use Rattle.accepted_memory.specs.memory_parts.Building.{goes_by_borrow, builds, is_forbidden, takes_borrow, takes_object}
+use Rattle.accepted_memory.specs.memory_accesses.Sources.{sources_of}
+use Rattle.accepted_memory.specs.memory_parts.Building.{goes_by_borrow, builds, takes_borrow, takes_object}
 use Rattle.accepted_memory.specs.memory_parts.Switches.{is_same}
 use Rattle.accepted_memory.specs.memory_parts.declared.part.Part.TheVariants.{Building}
 use Rattle.accepted_memory.specs.ownership_kinds.Facts.{facts_in}
@@ -27,19 +25,15 @@ use Rattle.accepted_places.proofs.Fields.{unfinished_allowed}
 use Rattle.accepted_values.specs.inner.Known.{IsAcceptedBody}
 use Rattle.accepted_values.proofs.Accepted.{typed}
 use Rattle.accepted_values.proofs.Counted.{nothing_in}
-use Rattle.built_objects.specs.inner.Building.{IsUnfinished}
-use Rattle.held_entries.specs.inner.Entries.{AreEnded}
-use Rattle.held_objects.specs.inner.Items.{LosesEntries}
 use Rattle.item_operands.specs.Items.{item_taken, taken_along_in, taken_in}
-use Rattle.item_operands.specs.Parts.{edge_in, item_edge, item_inst, terminator_of}
+use Rattle.item_operands.specs.Parts.{edge_in, item_edge, item_inst}
 use Rattle.item_operands.specs.Roles.{by_row, conventions_in, last_roles, roles_for, taken_as, taken_by, taken_each}
 use Rattle.item_operands.specs.declared.taken.Taken.{Taken}
-use Rattle.item_operands.specs.declared.taken.Treatment.{Treatment}
 use Rattle.numbered_form.specs.Lists.{Each}
 use Rattle.ownership_chains.specs.Facts.{known_or, value_of}
 use Rattle.ownership_chains.specs.declared.facts.Facts.{Facts}
 use Rattle.ownership_marks.specs.Marks.{ended_by, ended_with, end_of, ends_owned, ends_scope}
-use Rattle.point_checks.proofs.Among.{Among, among_contained, contained_among}
+use Rattle.point_checks.proofs.Among.{among_contained, contained_among}
 use Rattle.accepted_places.proofs.PartsThere.{each_where_among}
 use Rattle.sil_ast.specs.declared.function.Function.{Function}
 use Rattle.sil_ast.specs.declared.inst.Inst.{Inst}
@@ -51,7 +45,7 @@ use Rattle.sil_cfg.specs.declared.item.Item.TheVariants as item
 use Rattle.type_definitions.specs.declared.kind.Kind.{Kind}
 use Rattle.type_definitions.specs.declared.kind.Kind.TheVariants as kind
 use Rattle.type_definitions.specs.Declarations.{Declarations, declarations_of}
-use Rattle.followed_objects.specs.inner.Said.{IsUnfinishedOn, said_in}
+use Rattle.followed_objects.specs.inner.Said.{IsUnfinishedOn}
 use Rattle.followed_objects.specs.inner.Laws.{AreEndsOfOthers, LoseOthers}
 use Rattle.followed_objects.proofs.Steps.{new_field_told, there, told}
 

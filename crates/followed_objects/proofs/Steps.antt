@@ -8,11 +8,10 @@ use Rattle.std.proofs.lemmas.Bool.Decides.{nat_tests}
 use Rattle.argument_conventions.specs.Arguments.{Told, arguments_of}
 use Rattle.argument_conventions.specs.Rows.{address_row}
 use Rattle.argument_conventions.specs.declared.row.AddressRow.{AddressRow}
-use Rattle.accepted_memory.specs.accepted_trails.inner.Defined.{IsDefinedOn, makes}
+use Rattle.accepted_memory.specs.accepted_trails.inner.Defined.{makes}
 use Rattle.accepted_memory.specs.memory_accesses.Accesses.{does_of}
 use Rattle.accepted_memory.specs.memory_accesses.Locations.{cell_by, cell_of, field_cell, location_of, object_built}
 use Rattle.accepted_memory.specs.memory_accesses.Operations.{operations_of}
-use Rattle.accepted_memory.specs.memory_accesses.Rows.{has_operation, is_part}
 use Rattle.accepted_memory.specs.memory_accesses.Sources.{argument_source_or, handed_source, is_trivial_at, source_at, sources_of}
 use Rattle.accepted_memory.specs.memory_accesses.declared.access.Access.{Access}
 use Rattle.accepted_memory.specs.memory_accesses.declared.access.Access.TheVariants.{Does}
@@ -21,8 +20,8 @@ use Rattle.accepted_memory.specs.memory_accesses.declared.location.Cell.{Cell}
 use Rattle.accepted_memory.specs.memory_accesses.declared.location.Location.{Location}
 use Rattle.accepted_memory.specs.memory_accesses.declared.source.Source.{Source}
 use Rattle.accepted_memory.specs.memory_accesses.declared.source.Source.TheVariants as source
-use Rattle.accepted_memory.specs.memory_parts.Building.{builds, fills, is_object_of}
-use Rattle.accepted_memory.specs.memory_parts.Contents.{at_location, counts_at_part, operation_mark, same_cell}
+use Rattle.accepted_memory.specs.memory_parts.Building.{fills, is_object_of}
+use Rattle.accepted_memory.specs.memory_parts.Contents.{counts_at_part, operation_mark, same_cell}
 use Rattle.accepted_memory.specs.memory_parts.Switches.{is_turned_on, when}
 use Rattle.accepted_memory.specs.memory_parts.declared.part.Part.{Part}
 use Rattle.accepted_memory.specs.memory_parts.declared.part.Part.TheVariants.{Building, Contents}
@@ -42,7 +41,7 @@ use Rattle.accepted_places.specs.inner.Cells.{IsDoneAt, IsFoundSo, mark_at}
 use Rattle.accepted_values.specs.inner.Known.{IsAcceptedBody}
 use Rattle.accepted_values.specs.inner.Rows.{source_of_argument}
 use Rattle.accepted_values.proofs.Counted.{nothing_in}
-use Rattle.built_objects.specs.inner.Building.{IsNewField, IsUnfinished}
+use Rattle.built_objects.specs.inner.Building.{IsNewField}
 use Rattle.built_objects.specs.inner.Laws.{IsMadeNow, IsWrittenNow}
 use Rattle.item_operands.specs.Items.{item_defined}
 use Rattle.item_operands.specs.Parts.{inst_at, item_inst}
@@ -60,7 +59,7 @@ use Rattle.sil_cfg.specs.declared.item.Item.{Item}
 use Rattle.sil_cfg.specs.declared.item.Item.TheVariants as item
 use Rattle.sil_rules.specs.declared.rule.Rule.TheVariants as rule
 use Rattle.type_definitions.specs.Declarations.{Declarations, declarations_of}
-use Rattle.followed_objects.specs.inner.Said.{IsUnfinishedOn, has_new_field, said_in}
+use Rattle.followed_objects.specs.inner.Said.{has_new_field, said_in}
 use Rattle.followed_objects.specs.inner.Laws.{AreAsMadeBefore, AreFieldsFilled, AreFieldsLeft, AreNoneAtEntry, AreObjectsMade, FillsField, FillsNone, MakesObject}
 
 -- ---- what the tests say
