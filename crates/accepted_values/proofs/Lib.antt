@@ -22,3 +22,4 @@ pub mod Addresses
 pub mod Nones
 pub use Rattle.owned_run_typing.proofs.run_typing_laws as run_typing_laws
 pub use Rattle.lowering_laws.proofs as lowering_laws
+pub use Rattle.owned_run_typing.proofs as owned_run_typing

@@ -18,8 +18,8 @@ use Rattle.item_operands.specs.Parts.{args_behind, edge_at, edge_in, item_operan
 use Rattle.item_operands.specs.Roles.{consumed, taken_along, taken_by}
 use Rattle.item_operands.specs.declared.taken.Taken.{Taken}
 use Rattle.numbered_form.specs.Lists.{Each}
-use Rattle.owned_run_typing.specs.inner.OwnedEnds.{OwnedCase, OwnedEndForms}
-use Rattle.owned_run_typing.specs.inner.OwnedTyped.{OwnedFunction}
+use Rattle.accepted_values.specs.owned_run_typing.inner.OwnedEnds.{OwnedCase, OwnedEndForms}
+use Rattle.accepted_values.specs.owned_run_typing.inner.OwnedTyped.{OwnedFunction}
 use Rattle.ownership_chains.specs.declared.facts.Facts.{Facts}
 use Rattle.held_entries.specs.holder_model.Builtins.{is_set}
 use Rattle.held_entries.specs.holder_model.Data.{Datum, ValueOf}

@@ -11,8 +11,8 @@ use Rattle.holder_steps.specs.inner.Ways.{Enters, GoesBehind}
 use Rattle.holder_steps.proofs.WhichFaults.{slots_err}
 use Rattle.item_operands.specs.Items.{item_defined}
 use Rattle.numbered_form.specs.Lists.{Each}
-use Rattle.owned_run_typing.proofs.OwnedIsTyped.{owned_is_typed}
-use Rattle.owned_run_typing.specs.inner.OwnedTyped.{OwnedFunction, OwnedTyped}
+use Rattle.accepted_values.proofs.owned_run_typing.OwnedIsTyped.{owned_is_typed}
+use Rattle.accepted_values.specs.owned_run_typing.inner.OwnedTyped.{OwnedFunction, OwnedTyped}
 use Rattle.held_entries.proofs.accepted_trails.run_trails.WalkEdges.{are_next}
 use Rattle.held_entries.specs.holder_model.Calling.{value_count}
 use Rattle.held_entries.specs.holder_model.Data.{Datum}

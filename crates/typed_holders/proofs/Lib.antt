@@ -15,3 +15,4 @@ pub mod Edges
 pub mod Returns
 pub mod Drops
 pub mod TypedSteps
+pub use Rattle.holder_steps.proofs as holder_steps

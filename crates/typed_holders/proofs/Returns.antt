@@ -12,7 +12,7 @@ use Rattle.instruction_table.specs.Forms.{ending_of}
 use Rattle.instruction_table.specs.declared.entries.Ending.TheVariants as ending
 use Rattle.item_operands.specs.Items.{item_taken}
 use Rattle.numbered_form.specs.Lists.{Each}
-use Rattle.owned_run_typing.specs.inner.OwnedEnds.{OwnedEndForms}
+use Rattle.accepted_values.specs.owned_run_typing.inner.OwnedEnds.{OwnedEndForms}
 use Rattle.held_entries.specs.holder_model.Data.{Datum, as_value}
 use Rattle.held_entries.specs.holder_model.Effects.{only, unchanged}
 use Rattle.held_entries.specs.holder_model.Faults.{LeavesHeld, LeavesPlace, LeavesSlot}

@@ -5,8 +5,8 @@ use Rattle.accepted_values.specs.run_typing.Classes.{ClassesAreSound}
 use Rattle.accepted_values.specs.run_typing.Forms.{Form, OfFunction, OfValue}
 use Rattle.accepted_values.specs.run_typing.RowForms as lowered
 use Rattle.accepted_values.specs.run_typing.RowForms.{RowForms}
-use Rattle.owned_run_typing.specs.inner.OwnedRows as owned
-use Rattle.owned_run_typing.specs.inner.OwnedRows.{OwnedRowForms}
+use Rattle.accepted_values.specs.owned_run_typing.inner.OwnedRows as owned
+use Rattle.accepted_values.specs.owned_run_typing.inner.OwnedRows.{OwnedRowForms}
 use Rattle.held_entries.specs.holder_model.Data.{Datum, all_of}
 use Rattle.held_entries.specs.holder_model.Effects.{Calls, effect_of}
 use Rattle.held_entries.specs.holder_model.ModuleShapes.{field_shapes, shapes_of}

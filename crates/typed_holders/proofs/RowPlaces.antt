@@ -12,7 +12,7 @@ use Rattle.instruction_table.specs.declared.op.Op.{Op}
 use Rattle.instruction_table.specs.declared.op.Op.TheVariants as op
 use Rattle.numbered_form.specs.Lists.{Each}
 use Rattle.numbered_form.specs.Names.{Name}
-use Rattle.owned_run_typing.specs.inner.OwnedRows.{IsReadOf}
+use Rattle.accepted_values.specs.owned_run_typing.inner.OwnedRows.{IsReadOf}
 use Rattle.accepted_values.specs.run_typing.RowForms.{IsLoadOf}
 use Rattle.held_entries.specs.holder_model.Data.{AddressOf, Datum, ValueOf}
 use Rattle.held_entries.specs.holder_model.Effects.{ClosesSlot, Effect, Makes, OpensSlot, Traps, effect_of, gives, gives_value, makes_object, names_field_of, names_member}

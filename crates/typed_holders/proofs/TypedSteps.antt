@@ -17,8 +17,8 @@ use Rattle.holder_steps.proofs.StepsTold.{steps_told}
 use Rattle.item_operands.specs.Items.{item_taken}
 use Rattle.item_operands.specs.Parts.{edge_at, edge_in, inst_at, inst_in, terminator_in, terminator_of}
 use Rattle.numbered_form.specs.Lists.{Each}
-use Rattle.owned_run_typing.specs.inner.OwnedEnds.{OwnedEndForms}
-use Rattle.owned_run_typing.specs.inner.OwnedTyped.{OwnedFunction, OwnedInst}
+use Rattle.accepted_values.specs.owned_run_typing.inner.OwnedEnds.{OwnedEndForms}
+use Rattle.accepted_values.specs.owned_run_typing.inner.OwnedTyped.{OwnedFunction, OwnedInst}
 use Rattle.ownership_chains.specs.declared.facts.Facts.{Facts}
 use Rattle.held_entries.specs.holder_model.Data.{Datum, ValueOf, as_value}
 use Rattle.held_entries.specs.holder_model.Edges.{edge_of}

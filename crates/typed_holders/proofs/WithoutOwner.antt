@@ -26,7 +26,7 @@ use Rattle.item_operands.specs.Items.{arg_value}
 use Rattle.item_operands.specs.Parts.{inst_at}
 use Rattle.numbered_form.specs.Insts.{insts_of}
 use Rattle.numbered_form.specs.Lists.{Each}
-use Rattle.owned_run_typing.specs.ownership_origins.Origins.{is_trivial_or_untyped}
+use Rattle.accepted_values.specs.owned_run_typing.ownership_origins.Origins.{is_trivial_or_untyped}
 use Rattle.point_checks.specs.Points.{IsAt}
 use Rattle.held_entries.specs.holder_model.Data.{Datum}
 use Rattle.run_values.specs.Shapes.{Shape, shape_of}
