@@ -1,0 +1,33 @@
+//! The laws of the new objects on the trails of an accepted function, each on a call that does nothing. The lemmas behind them are in `proofs/`.
+
+ghost use Rattle.followed_objects.specs.inner.About.{AreAboutAsMade, AreAboutTaken};
+ghost use Rattle.followed_objects.specs.inner.Laws.{
+  AreAsMadeBefore,
+  AreEndsOfOthers,
+  AreFieldsFilled,
+  AreFieldsLeft,
+  AreNoneAtEntry,
+  AreObjectsMade,
+  LoseOthers,
+};
+
+/// At the entry nothing is unfinished. Behind an item the fields are to be written that it makes, those that it writes aren't, and all others are as they were.
+pub fn fields_are_followed()
+    ensures entry { AreNoneAtEntry }
+    ensures before { AreAsMadeBefore }
+    ensures left { AreFieldsLeft }
+    ensures filled { AreFieldsFilled }
+    ensures made { AreObjectsMade }
+{}
+
+/// No item ends an object that has a field to be written, so its entry stays.
+pub fn unfinished_objects_stay()
+    ensures ends { AreEndsOfOthers }
+    ensures loses { LoseOthers }
+{}
+
+/// What makes a value that is about a new object takes another one. So the object is, where an item takes what is about it, the one of which that was made.
+pub fn what_is_about_objects_is_made_of_them()
+    ensures taken { AreAboutTaken }
+    ensures made { AreAboutAsMade }
+{}

@@ -1,0 +1,9 @@
+//! What acceptance says of the new objects of a function: which of their fields are still to be written where a trail has come to, item by item,
+//! and that no unfinished object ends. It has no code that runs.
+#![tactic(auto)]
+
+mod laws;
+
+pub use laws::{
+    fields_are_followed, unfinished_objects_stay, what_is_about_objects_is_made_of_them,
+};

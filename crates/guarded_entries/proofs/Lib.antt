@@ -1,0 +1,14 @@
+pub mod Named
+pub mod Entries
+pub mod Guards
+pub mod Alive
+pub mod Behind
+pub mod Stepping
+pub mod Changing
+pub mod Ended
+pub mod Following
+pub mod RowTables
+pub mod Sources
+pub mod Rows
+pub mod EdgesLend
+pub mod Given

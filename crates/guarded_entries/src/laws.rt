@@ -1,0 +1,141 @@
+//! Guards of lent entries, each on a call that does nothing. The lemmas behind them are in `proofs/`.
+
+ghost use Rattle.guarded_entries.specs.inner.Changing.{
+  AreCarriedAlive,
+  AreChangesAlive,
+  AreDeadUnnamed,
+  AreGivenAlive,
+};
+ghost use Rattle.guarded_entries.specs.inner.EdgesLend.{AreEdgesGuarded};
+ghost use Rattle.guarded_entries.specs.inner.Following.{
+  AreArgumentsOfEntry,
+  AreBorrowedKept,
+  AreOperandsCurrent,
+  AreScopesNotRenewed,
+};
+ghost use Rattle.guarded_entries.specs.inner.Given.{
+  AreTrackedAlong,
+  AreTypedOfKinds,
+  HandTypedValues,
+};
+ghost use Rattle.guarded_entries.specs.inner.Kept.{
+  AreGuardedAlive,
+  AreGuardedBehind,
+  AreGuardedLeft,
+  AreGuardsKept,
+  AreOperandsAlive,
+  AreOperandsGuarded,
+  HaveGuardedHolders,
+  HaveKeptHolders,
+};
+ghost use Rattle.guarded_entries.specs.inner.Rows.{AreRowsGuarded};
+ghost use Rattle.guarded_entries.specs.inner.Stepping.{
+  AreCallsGuarded,
+  AreDeathsGuarded,
+  AreDeinitCallsGuarded,
+  AreDeinitReturnsGuarded,
+  AreDeinitsGuarded,
+  AreDropsGuarded,
+  AreItemsGuarded,
+  AreReturnsGuarded,
+  InEach,
+};
+
+/// A guard stays where what it rests on does.
+pub fn guards_are_kept()
+    ensures { AreGuardsKept }
+{}
+
+/// What is guarded has a strong holder, or is an argument's.
+pub fn guarded_have_holders()
+    ensures { HaveGuardedHolders }
+{}
+
+/// What is kept below a frame has a strong holder there, or a finish.
+pub fn kept_have_holders()
+    ensures { HaveKeptHolders }
+{}
+
+/// What is guarded in the frame that goes on isn't dead.
+pub fn guarded_are_alive()
+    ensures { AreGuardedAlive }
+{}
+
+/// An operand whose bases are there, as they were when it was made, is guarded in all that it names.
+pub fn operands_are_guarded()
+    ensures { AreOperandsGuarded }
+{}
+
+/// And it names no dead object.
+pub fn guarded_operands_are_alive()
+    ensures { AreOperandsAlive }
+{}
+
+/// Behind the ends of an item lent entries are guarded still, and behind its results.
+pub fn guarded_entries_go_on()
+    ensures left { AreGuardedLeft }
+    ensures behind { AreGuardedBehind }
+{}
+
+/// A state stays guarded behind an item of its first frame.
+pub fn items_stay_guarded()
+    ensures { InEach AreItemsGuarded }
+{}
+
+/// It stays guarded where a function is entered: by a call, or by a deinitialisation.
+pub fn calls_stay_guarded()
+    ensures calls { InEach AreCallsGuarded }
+    ensures deinits { InEach AreDeinitCallsGuarded }
+{}
+
+/// It stays guarded where references are dropped, where an object starts to deinitialise, and where it dies.
+pub fn drops_stay_guarded()
+    ensures drops { InEach AreDropsGuarded }
+    ensures deinits { InEach AreDeinitsGuarded }
+    ensures deaths { InEach AreDeathsGuarded }
+{}
+
+/// It stays guarded where a function returns: to the frame that waits for it, or from a deinitialiser.
+pub fn returns_stay_guarded()
+    ensures returns { InEach AreReturnsGuarded }
+    ensures deinits { InEach AreDeinitReturnsGuarded }
+{}
+
+/// The operands of an item name nothing dead, nor does what an instruction or an edge makes of them.
+pub fn given_are_alive()
+    ensures given { AreGivenAlive }
+    ensures unnamed { AreDeadUnnamed }
+    ensures changes { AreChangesAlive }
+    ensures carried { AreCarriedAlive }
+{}
+
+/// In an accepted function operands are current where entries go along with the trail. What open scopes borrow doesn't end, and neither an open scope
+/// nor an argument begins anew.
+pub fn guards_follow_trails()
+    ensures current { AreOperandsCurrent }
+    ensures borrowed { AreBorrowedKept }
+    ensures scopes { AreScopesNotRenewed }
+    ensures arguments { AreArgumentsOfEntry }
+{}
+
+/// What an instruction lends anew is guarded: by what a scope borrows, by a cell that it lends, or by the bases that are handed on. The law asks
+/// that what is handed on or copied as a whole is a value, and that a scope over a place lends the cells of what it loads.
+pub fn rows_lend_what_is_guarded()
+    ensures { AreRowsGuarded }
+{}
+
+/// What an edge lends anew is guarded, by the bases of what is switched. The law asks that what it carries are values.
+pub fn edges_lend_what_is_guarded()
+    ensures { AreEdgesGuarded }
+{}
+
+/// In a tracked frame the entries go along with the trail.
+pub fn tracked_go_along()
+    ensures { AreTrackedAlong }
+{}
+
+/// Typed entries are of their values' kinds, and what an instruction hands on or copies as a whole is a value where its operands are typed.
+pub fn typed_are_of_kinds()
+    ensures kinds { AreTypedOfKinds }
+    ensures handed { HandTypedValues }
+{}

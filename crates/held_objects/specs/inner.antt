@@ -1,0 +1,3 @@
+pub mod ObjectStates
+pub mod Laws
+pub mod Items

@@ -1,0 +1,4 @@
+pub mod Roots
+pub mod TrailLaws
+pub mod FramePlaces
+pub mod PlaceStates

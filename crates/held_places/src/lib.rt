@@ -1,0 +1,6 @@
+//! Laws: the places and slots of runs by holders of an accepted module are as the trails of their frames say. It has no code that runs.
+#![tactic(auto)]
+
+mod laws;
+
+pub use laws::trails_serve_places;

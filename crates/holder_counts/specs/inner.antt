@@ -1,0 +1,5 @@
+pub mod Taking
+pub mod Keeping
+pub mod Doing
+pub mod Naming
+pub mod Moving

@@ -1,0 +1,10 @@
+pub mod CellsFor
+pub mod MemoriesFor
+pub mod ValuesFor
+pub mod StoredCounts
+pub mod SameRows
+pub mod LoweredCode
+pub mod Reading
+pub mod StayingSteps
+pub mod NamedSteps
+pub mod TaskSteps
