@@ -123,6 +123,7 @@ module _ (laws : TrailLaws) (m : Module) (number : ℕ) (f : Function) (body : I
     apart = s.holds.apart;
     free = s.holds.free;
     parts = s.holds.parts;
+    fields = s.holds.fields;
     handed = s.holds.handed;
     slots = s.holds.slots;
   }

@@ -10,7 +10,7 @@ use Rattle.accepted_memory.specs.holder_model.StepParts.{new_frame}
 use Rattle.accepted_memory.specs.holder_model.States.{Drops, Finishes, Runs, Task}
 use Rattle.accepted_memory.specs.memory_accesses.Locations.{location_of}
 use Rattle.accepted_memory.specs.memory_accesses.Rows.{is_part}
-use Rattle.accepted_memory.specs.memory_accesses.Sources.{source_at, sources_of}
+use Rattle.accepted_memory.specs.memory_accesses.Sources.{argument_source_or, handed_source, source_at, sources_of}
 use Rattle.accepted_memory.specs.memory_accesses.declared.location.Location.{Location}
 use Rattle.accepted_memory.specs.memory_accesses.declared.source.Source.{Source}
 use Rattle.accepted_memory.specs.memory_accesses.declared.source.Source.TheVariants as source
@@ -19,7 +19,11 @@ use Rattle.accepted_memory.specs.memory_parts.declared.part.Part.TheVariants.{Co
 use Rattle.placed_values.specs.inner.Arguments.{IsTold}
 use Rattle.accepted_places.specs.inner.Cells.{is_full, part_by}
 use Rattle.accepted_places.specs.inner.Stacks.{slots_on}
+use Rattle.accepted_places.proofs.Fields.{has_among}
+use Rattle.accepted_values.proofs.Counted.{stands}
+use Rattle.accepted_values.specs.accepted_modules.sil_types.Typing.Shapes.{is_trivial_object}
 use Rattle.accepted_values.specs.inner.Known.{IsAcceptedBody}
+use Rattle.placed_values.proofs.ArgumentsTold.{entry_source}
 use Rattle.argument_conventions.specs.Arguments.{Told, arguments_of}
 use Rattle.argument_conventions.specs.Rows.{address_row}
 use Rattle.argument_conventions.specs.declared.convention.AddressConvention.TheVariants as address
@@ -31,7 +35,7 @@ use Rattle.argument_conventions.specs.declared.row.Content.TheVariants as conten
 use Rattle.item_operands.specs.Items.{item_defined}
 use Rattle.memory_cells.specs.inner.Cells.{AreApart, IsCell, IsInside, cell_at, has_cell}
 use Rattle.ownership_chains.specs.Facts.{has}
-use Rattle.point_checks.proofs.Among.{Among, among_map, map_among}
+use Rattle.point_checks.proofs.Among.{Among, among_map, contained_among, map_among}
 use Rattle.run_values.specs.Memory.{Memory}
 use Rattle.run_values.specs.Places.{Home, OnStack, Place, home_cells}
 use Rattle.sil_ast.specs.declared.function.Function.{Function}
@@ -53,7 +57,7 @@ use Rattle.held_places.proofs.HandedOver.{IsHandedOver, all_handed}
 use Rattle.held_places.proofs.Lending.{IsLentBy, is_alone, own_where_empty}
 use Rattle.held_places.proofs.Lent.{Calling, all_apart, lent_at, lent_found, lent_inside, lent_within}
 use Rattle.held_places.proofs.Naming.{inside_stack, names_once, stack_inside}
-use Rattle.held_places.proofs.Reading.{IsWithin}
+use Rattle.held_places.proofs.Reading.{IsWithin, root_itself}
 
 -- what is shared is full before and behind a call
 pub shared_full : (c : ArgumentConvention) (row : AddressRow) → address_row c ≡ Some row → row.shared ≡ true → (row.before ≡ content.Full) × (row.after ≡ content.Full)
@@ -166,6 +170,7 @@ module _ (laws : TrailLaws) (m : Module) (number : ℕ) (f : Function) (body : I
         let a = there_at_entry v there in
         x.free (lent_by a.0 p) (argument_place entries v a.0 a.1 a.2 p names) (sym (ap is_shared_source a.2) ∙ own) n has;
     parts = λ v l is part made whole p one two. absurd (no_part v l is part p two (has (item_defined f item.Entry) v.0) refl);
+    fields = λ v l is of k trivial src p names home. no_field v l is of k trivial src p names (has (item_defined f item.Entry) v.0) refl;
     handed = λ v row trivial is p names. (x.each (lent_by row p) (argument_place entries v row trivial is p names)).2;
     slots = subst (λ vs. AreSlotsOf entries vs []) (sym no_slots) tt;
   }
@@ -174,3 +179,22 @@ module _ (laws : TrailLaws) (m : Module) (number : ℕ) (f : Function) (body : I
           → (b : Bool) → has (item_defined f item.Entry) v.0 ≡ b → ⊥
       no_part v l is part p names true e = true≢false (sym part ∙ laws.whole m number f body v e l is)
       no_part v l is part p names false e = none-some _ (ap datum_in (sym (x.others v e)) ∙ names)
+
+      -- what an argument of the entry is by its source
+      no_source : (o : Option Told) (of : ValueId) (k : ℕ) (trivial : Bool) → argument_source_or (declarations_of m) o ≡ source.Field of k trivial → ⊥
+      no_source None of k trivial e = absurd (cc)
+      no_source (Some a) of k trivial e = handed_no (address_row a.convention) e
+        where
+          handed_no : (r : Option AddressRow) → handed_source (is_trivial_object (declarations_of m) a.ty) r ≡ source.Field of k trivial → ⊥
+          handed_no None e = absurd (cc)
+          handed_no (Some row) e = absurd (cc)
+
+      no_field : (v : ValueId) (l : Location) → location_of (sources_of (declarations_of m) f) v ≡ Some l → (of : ValueId) (k : ℕ) (trivial : Bool)
+          → source_at (sources_of (declarations_of m) f) l.root ≡ source.Field of k trivial → (p : Place) → Names entries v p
+          → (b : Bool) → has (item_defined f item.Entry) v.0 ≡ b → ⊥
+      no_field v l is of k trivial src p names false e = none-some _ (ap datum_in (sym (x.others v e)) ∙ names)
+      no_field v l is of k trivial src p names true e =
+          let at = stands (item_defined f item.Entry) v (contained_among v (item_defined f item.Entry) (has_among (item_defined f item.Entry) v e)) in
+          let itself = root_itself (sources_of (declarations_of m) f) v l is (laws.whole m number f body v e l is) in
+          no_source (slice_get (arguments_of f.signature) at.0) of k trivial
+          (sym (entry_source m number f body at.0 v at.1) ∙ ap (source_at (sources_of (declarations_of m) f)) (sym itself) ∙ src)

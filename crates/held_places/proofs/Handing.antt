@@ -20,18 +20,10 @@ use Rattle.sil_ast.specs.declared.inst.Qualifier.{Qualifier}
 use Rattle.sil_ast.specs.declared.place.ValueId.{ValueId}
 use Rattle.held_places.specs.inner.FramePlaces.{Names}
 use Rattle.held_places.specs.inner.PlaceStates.{AreLentBy, as_given}
+pub use Rattle.held_places.specs.inner.TakenPlaces.{AreAlike, AreHandedAs, IsHandedAs}
 use Rattle.held_places.proofs.RowsAt.{nothing_at}
 
 -- ---- the caller
-
--- what is handed over is the address of a place, which the entry names
-abbrev pub IsHandedAs : List Entry → Taken → Datum → Type 0
-IsHandedAs entries t x = (row : AddressRow) → t.handed ≡ Some row → (p : Place) × (x ≡ AddressOf p) × Names entries t.value p
-
-abbrev pub AreHandedAs : List Entry → List Taken → List Datum → Type 0
-AreHandedAs entries [] xs = Unit {0}
-AreHandedAs entries (t ∷ ts) [] = ⊥
-AreHandedAs entries (t ∷ ts) (x ∷ xs) = IsHandedAs entries t x × AreHandedAs entries ts xs
 
 pub lent_each : (entries : List Entry) (q : Qualifier) (ts : List Taken) (xs : List Datum) → AreHandedAs entries ts xs
     → AreLentBy entries (flat_map (operated_at access.Passes q) ts) (lent_places ts xs)
@@ -52,13 +44,6 @@ lent_each entries q (t ∷ ts) (x ∷ xs) h = at t.handed refl (lent_each entrie
         (refl, p.2, more))
 
 -- ---- the callee
-
--- operands are handed over as the signature of the callee says
-abbrev pub AreAlike : List Told → List Taken → Type 0
-AreAlike [] [] = Unit {0}
-AreAlike [] (t ∷ ts) = ⊥
-AreAlike (a ∷ told) [] = ⊥
-AreAlike (a ∷ told) (t ∷ ts) = (t.handed ≡ address_row a.convention) × AreAlike told ts
 
 map_both : {A B : Type 0} (g : A → B) (xs ys : List A) → map g (xs ++ ys) ≡ map g xs ++ map g ys
 map_both g [] ys = refl

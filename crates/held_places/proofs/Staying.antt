@@ -37,6 +37,7 @@ module _ (m : Module) (before after : Memory) (more : length before.stack ≤ le
     apart = h.apart;
     free = h.free;
     parts = h.parts;
+    fields = h.fields;
     handed = h.handed;
     slots = h.slots;
   }

@@ -63,6 +63,7 @@ module _ (laws : TrailLaws) (m : Module) (number : ℕ) (f : Function) (body : I
       apart = λ v w a b other shared p q pn qn. h.apart v w a b other shared p q (was v p pn) (was w q qn);
       free = λ v there own p names. h.free v there own p (was v p names);
       parts = λ v l loc part made whole p one two. h.parts v l loc part made whole p (was l.root whole one) (was v p two);
+      fields = λ v l loc of k trivial src p names. h.fields v l loc of k trivial src p (was v p names);
       handed = λ v row trivial src p names. h.handed v row trivial src p (was v p names);
       slots = slots_still frame.entries left (slots_on (declarations_of m) f frame.trail) frame.slots
           (λ v there. root_left h is plain v (slot_there laws m number f body frame.trail v there)) h.slots;
