@@ -35,3 +35,12 @@ pub mod MadeOnce
 pub mod TrailsSo
 pub mod PlainAddresses
 pub mod SlotsMoved
+pub mod PlainShapes
+pub mod RootsShaped
+pub mod OperandsNamed
+pub mod RowsTyped
+pub mod RowCalls
+pub mod StoresFit
+pub mod HandingOver
+pub mod NewParts
+pub mod NamedChanges
