@@ -68,7 +68,7 @@ use Rattle.typed_holders.proofs.Performs.{defines_results}
 use Rattle.typed_memory.proofs.Parts.{member_there}
 use Rattle.typed_memory.specs.inner.Worlds.{DatumIs, World}
 use Rattle.value_tables.specs.FirstValue.{first_value, value_of}
-use Rattle.held_places.specs.inner.FramePlaces.{AreInside, IsPartAt, Names}
+use Rattle.held_places.specs.inner.FramePlaces.{AreFieldsInside, IsPartAt, Names}
 use Rattle.held_places.specs.inner.PartsNamed.{AreNewNamed, ArePartsNamed}
 use Rattle.held_places.specs.inner.Premises.{AreChangesNamed, ReadsOperands}
 use Rattle.held_places.specs.inner.TakenPlaces.{AreNamedBy}
@@ -139,7 +139,7 @@ module _ (m : Module) (number : ℕ) (f : Function) (w : World) (facts : ValueId
     (s : ReadsOperands m number f w facts memory entries (item.Inst p) ops) (x : Inst) (there : inst_at f p ≡ Some x)
     (t : List Item) (trail : IsRunTrail f (item.Inst p ∷ t)) (before : ArePartsNamed (sources_of (declarations_of m) f) f t ops.left)
     (shapes : ModuleShapes) (values : List Shape) (c : Change) (new : List Entry)
-    (is : effect (declarations_of m) shapes values memory x ops.given ≡ Makes c)
+    (does : effect (declarations_of m) shapes values memory x ops.given ≡ Makes c)
     (put : results_put facts (item_defined f (item.Inst p)) c.results ops.left ≡ Ok new) where
   abbrev d : Declarations
   d = declarations_of m
@@ -203,7 +203,7 @@ module _ (m : Module) (number : ℕ) (f : Function) (w : World) (facts : ValueId
         at (Some o) h = field_named x.member (part_number d x) o h
 
     inside : NamesInside
-    inside = of_value (option_and_then as_value (only ops.given)) (ap (λ r. effect_by d shapes values memory x (at_places d shapes values memory x) r ops.given) (sym e) ∙ is)
+    inside = of_value (option_and_then as_value (only ops.given)) (ap (λ r. effect_by d shapes values memory x (at_places d shapes values memory x) r ops.given) (sym e) ∙ does)
 
     pub field_result : AreNewNamed sources f t i ops.left new
     field_result = record {
@@ -263,7 +263,7 @@ module _ (m : Module) (number : ℕ) (f : Function) (w : World) (facts : ValueId
         ∙ ap (λ ys. effects.the_place d shapes values memory x (effects.names_member d shapes values memory x (part_number d x)) ys) operand.given
         ∙ ap (λ n. effects.names_member d shapes values memory x n whole_place) says.number_is
         ∙ ap (with_some (λ q. gives memory (AddressOf q ∷ []))) (member_there whole_place says.number says.part member_there_is))
-        ∙ is))
+        ∙ does))
 
     given_one : GivesOne f p new (AddressOf part_place)
     given_one = one_result (AddressOf part_place) gives_part

@@ -19,7 +19,7 @@ use Rattle.sil_ast.specs.declared.place.ValueId.{ValueId}
 use Rattle.sil_cfg.specs.declared.item.Item.{Item}
 use Rattle.value_parts.specs.inner.Paths.{IsPart, cells_before, here, inside}
 use Rattle.value_parts.proofs.Paths.{cells_before_member, member_of_part}
-use Rattle.held_places.specs.inner.FramePlaces.{AreInside, IsPartAt, Names}
+use Rattle.held_places.specs.inner.FramePlaces.{AreFieldsInside, IsPartAt, Names}
 pub use Rattle.held_places.specs.inner.PartsNamed.{AreNewNamed, AreOldKept, ArePartsNamed}
 
 -- the first member of the whole, and a member of a part
@@ -74,7 +74,7 @@ module _ (sources : List Source) (f : Function) (t : List Item) (i : Item) (old 
               let was = made_before f t i l.root v e made in
               before.parts v l is part was.1 whole p (kept l.root was.0 whole one) (kept v e p two)
 
-      field : AreInside sources new
+      field : AreFieldsInside sources new
       field v l is of k trivial src p names = at (makes f v i) refl
         where
           at : (b : Bool) → makes f v i ≡ b → p.home ≡ OnStack → ⊥

@@ -43,8 +43,8 @@ pub record IsPartAt (whole : Place) (path : List ℕ) (p : Place) : Type 0 where
   pub part : p.is_part ≡ true
 
 -- addresses of fields, and of what lies in fields, name no place on the stack
-abbrev pub AreInside : List Source → List Entry → Type 0
-AreInside sources entries = (v : ValueId) (l : Location) → location_of sources v ≡ Some l → (of : ValueId) (k : ℕ) (trivial : Bool)
+abbrev pub AreFieldsInside : List Source → List Entry → Type 0
+AreFieldsInside sources entries = (v : ValueId) (l : Location) → location_of sources v ≡ Some l → (of : ValueId) (k : ℕ) (trivial : Bool)
     → source_at sources l.root ≡ source.Field of k trivial → (p : Place) → Names entries v p → p.home ≡ OnStack → ⊥
 
 -- the slots of a frame are named by these values, one by one, and none is a part
@@ -94,7 +94,7 @@ module _ (m : Module) (memory : Memory) where
     pub parts : (v : ValueId) (l : Location) → location_of (sources_of (declarations_of m) f) v ≡ Some l → is_part l ≡ true
         → IsAsMade f frame.trail l.root v
         → (whole p : Place) → Names frame.entries l.root whole → Names frame.entries v p → IsPartAt whole l.path p
-    pub fields : AreInside (sources_of (declarations_of m) f) frame.entries
+    pub fields : AreFieldsInside (sources_of (declarations_of m) f) frame.entries
     -- the place of an argument is a whole one
     pub handed : (v : ValueId) (row : AddressRow) (trivial : Bool) → source_at (sources_of (declarations_of m) f) v ≡ source.Argument row trivial
         → (p : Place) → Names frame.entries v p → p.is_part ≡ false

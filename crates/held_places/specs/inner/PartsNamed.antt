@@ -13,13 +13,13 @@ use Rattle.run_values.specs.Places.{OnStack, Place}
 use Rattle.sil_ast.specs.declared.function.Function.{Function}
 use Rattle.sil_ast.specs.declared.place.ValueId.{ValueId}
 use Rattle.sil_cfg.specs.declared.item.Item.{Item}
-use Rattle.held_places.specs.inner.FramePlaces.{AreInside, IsPartAt, Names}
+use Rattle.held_places.specs.inner.FramePlaces.{AreFieldsInside, IsPartAt, Names}
 
 -- addresses of parts name what they should, and those of fields, and of what lies in fields, no place on the stack
 pub record ArePartsNamed (sources : List Source) (f : Function) (t : List Item) (entries : List Entry) : Type 0 where
   pub parts : (v : ValueId) (l : Location) → location_of sources v ≡ Some l → is_part l ≡ true → IsAsMade f t l.root v
       → (whole p : Place) → Names entries l.root whole → Names entries v p → IsPartAt whole l.path p
-  pub fields : AreInside sources entries
+  pub fields : AreFieldsInside sources entries
 
 -- so do those that the item makes
 pub record AreNewNamed (sources : List Source) (f : Function) (t : List Item) (i : Item) (old new : List Entry) : Type 0 where
