@@ -1,5 +1,5 @@
 -- An instruction that isn't a call of a function with a body: the frame behind it holds its places, and no fault of places comes.
-use Rattle.std.specs.Prelude.{◌≡◌, ℕ, ◌++◌, List, [], ◌∷◌, Bool, true, false, Contains, Ok, Some, slice_get}
+use Rattle.std.specs.Prelude.{◌≡◌, ℕ, ℤ, List, [], ◌∷◌, Bool, true, false, Contains, Ok, Some, slice_get}
 use Rattle.accepted_memory.specs.holder_model.Data.{Datum, ValueOf}
 use Rattle.accepted_memory.specs.holder_model.Effects as effects
 use Rattle.accepted_memory.specs.holder_model.Effects.{Change, unchanged}
@@ -11,7 +11,7 @@ use Rattle.accepted_memory.specs.holder_model.MemoryEffects.{asked_before, holds
 use Rattle.accepted_memory.specs.holder_model.ModuleFacts.{facts_of}
 use Rattle.accepted_memory.specs.holder_model.Standing.{stands_at}
 use Rattle.accepted_memory.specs.holder_model.States.{Ends, Faulted, Goes, OutOfTurns, Returned, Runs, Task, Trapped}
-use Rattle.accepted_memory.specs.holder_model.Steps.{effect_in}
+use Rattle.accepted_memory.specs.holder_model.Steps.{effect_in, numbers_of}
 use Rattle.accepted_memory.specs.holder_model.declared.event.Event.{Event}
 use Rattle.accepted_memory.specs.memory_accesses.Operations.{operations_of}
 use Rattle.accepted_memory.specs.memory_accesses.declared.access.Operated.{Operated}
@@ -90,8 +90,9 @@ module _ (m : Module) (bound : ℕ) (s : HolderState) (frame : Frame) (rest : Li
         → GoesBehind m (facts_of m) bound s rest (left_with m (facts_of m) bound frame ops) f (item.Inst (stands_at f frame.trail)) c next
         → PlacedNext (AreFieldsFound m s) m next
     -- a function without a body is called
-    pub calls_out : (g : FuncId) (args : List Datum) (callee : Function) (events : List Event) (next : HolderNext) → effect_here ≡ effects.Calls g args
+    pub calls_out : (g : FuncId) (args : List Datum) (callee : Function) (numbers : List ℤ) (events : List Event) (next : HolderNext) → effect_here ≡ effects.Calls g args
         → slice_get m.functions g.0 ≡ Some callee → has_any callee.blocks ≡ false
+        → numbers_of m (facts_of m) bound args ≡ Some numbers
         → GoesBehind m (facts_of m) bound (record (turned s) { events = events }) rest (left_with m (facts_of m) bound frame ops) f (item.Inst (stands_at f frame.trail))
         (record (unchanged s.memory) { results = ValueOf (value.Group value.NoValue) ∷ [] }) next
         → PlacedNext (AreFieldsFound m s) m next
