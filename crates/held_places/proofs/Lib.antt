@@ -35,3 +35,14 @@ pub mod MadeOnce
 pub mod TrailsSo
 pub mod PlainAddresses
 pub mod SlotsMoved
+pub mod CallEffects
+pub mod Applying
+pub mod OtherFaults
+pub mod FirstFrames
+pub mod ComesToCalls
+pub mod CalleesBegin
+pub mod CallsPlaced
+pub mod EdgesPlaced
+pub mod ReturnsPlaced
+pub mod DeinitsPlaced
+pub mod PlacedSteps

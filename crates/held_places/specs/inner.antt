@@ -6,3 +6,4 @@ pub mod PartsNamed
 pub mod TakenPlaces
 pub mod Premises
 pub mod Items
+pub mod Laws
