@@ -5,7 +5,7 @@ use Rattle.std.specs.Option.{option_or, option_to_list}
 use Rattle.std.specs.Prelude.{Contains, option_map}
 use Rattle.std.proofs.lemmas.Option.{none-some, same_Some}
 use Rattle.accepted_memory.specs.holder_model.Effects.{effect_of}
-use Rattle.accepted_memory.specs.holder_model.declared.row_effect.RowEffect.TheVariants as row
+use Rattle.accepted_memory.specs.holder_model.declared.row_effect.RowEffect.TheVariants.{CallsFunction}
 use Rattle.accepted_memory.specs.memory_accesses.Operations.{access_kind_of, deallocates, deallocates_by, is_address_role, operated, operated_at, operations_of}
 use Rattle.accepted_memory.specs.memory_accesses.declared.access.Operated.{Operated}
 use Rattle.accepted_memory.specs.memory_accesses.declared.access.Operation.TheVariants.{Handed}
@@ -94,7 +94,7 @@ pub record IsHandedBy (x : Inst) (o : Operated) : Type 0 where
   pub handed : taken.handed ≡ Some row
   pub is : o ≡ operated taken.value (Handed row)
 
-module _ (x : Inst) (call : effect_of x.op ≡ row.CallsFunction) where
+module _ (x : Inst) (call : effect_of x.op ≡ CallsFunction) where
   is_apply : x.op ≡ op.Apply
   is_apply = apply_alone x.op call
 

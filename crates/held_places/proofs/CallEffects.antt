@@ -116,7 +116,14 @@ module _ (d : Declarations) (shapes : ModuleShapes) (values : List Shape) (m : M
   by_row row.RetainsOperand e xs = some (effects.retains d shapes values m i) (only xs) (λ x. tt)
   by_row row.DropsOperand e xs = some (effects.drops d shapes values m i) (only xs) (λ x. tt)
   by_row row.LoadsValue e xs =
-      at_one (memory.loads_by d shapes values m i) xs (λ o p. held p (asked_before p.is_part o) _ (some _ (value_at m p) (λ x. tt)))
+      at_one (memory.loads_by d shapes values m i) xs (λ o p. held p (asked_before p.is_part o) _ (loads o p (value_at m p)))
+    where
+      loads : (o : Operation) (p : Place) (v : Option Value) → IsNoCall (with_some (λ x. Makes (record (unchanged (memory.after d shapes values m i o p)) {
+        results = ValueOf x ∷ [];
+        retained = cond (memory.copies_with i.qualifier) (references_of x) [];
+      })) v)
+      loads o p None = tt
+      loads o p (Some x) = tt
   by_row row.StoresValue e xs =
       some (λ o. two (value_and_place (memory.stores_by d shapes values m i o)) xs) (memory.operation_done d shapes values m i)
       (λ o. pair (value_and_place (memory.stores_by d shapes values m i o)) xs (stored o))

@@ -8,7 +8,7 @@ use Rattle.accepted_memory.specs.holder_model.Frames.{Entry, Frame, Gone, LentPl
 use Rattle.accepted_memory.specs.holder_model.Standing.{stands_at}
 use Rattle.accepted_memory.specs.holder_model.StepParts.{new_frame}
 use Rattle.accepted_memory.specs.holder_model.States.{Drops, Finishes, Runs, Task}
-use Rattle.accepted_memory.specs.holder_model.declared.row_effect.RowEffect.TheVariants as row
+use Rattle.accepted_memory.specs.holder_model.declared.row_effect.RowEffect.TheVariants.{CallsFunction}
 use Rattle.accepted_memory.specs.memory_accesses.Operations.{operations_of}
 use Rattle.accepted_memory.specs.memory_accesses.Sources.{source_at, sources_of}
 use Rattle.accepted_memory.specs.memory_accesses.declared.source.Source.TheVariants as source
@@ -206,7 +206,7 @@ module _ (laws : TrailLaws) (m : Module) (number : ℕ) (f : Function) (body : I
     }
 
     -- the callee goes on over the frame that waits
-    pub calls_placed : slice_get m.functions frame.function.0 ≡ Some f → inst_at f (stands_at f frame.trail) ≡ Some x → effect_of x.op ≡ row.CallsFunction → BelowPlaced m memory frame rest
+    pub calls_placed : slice_get m.functions frame.function.0 ≡ Some f → inst_at f (stands_at f frame.trail) ≡ Some x → effect_of x.op ≡ CallsFunction → BelowPlaced m memory frame rest
         → TasksPlaced m after (Runs (new_frame g entries) ∷ Runs waiting ∷ rest)
     calls_placed is stands calls below = (
       record {

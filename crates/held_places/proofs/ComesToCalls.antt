@@ -2,7 +2,7 @@
 use Rattle.std.proofs.Common.{◌≡◌, ℕ, List, ◌∷◌, Some, refl, sym, ap, ◌∙◌, subst}
 use Rattle.accepted_memory.specs.holder_model.Effects.{effect_of}
 use Rattle.accepted_memory.specs.holder_model.Frames.{Entry, LentPlace}
-use Rattle.accepted_memory.specs.holder_model.declared.row_effect.RowEffect.TheVariants as row
+use Rattle.accepted_memory.specs.holder_model.declared.row_effect.RowEffect.TheVariants.{CallsFunction}
 use Rattle.accepted_memory.specs.memory_accesses.Operations.{operations_of}
 use Rattle.accepted_memory.specs.memory_accesses.declared.access.Operated.{Operated}
 use Rattle.accepted_memory.specs.run_trails.inner.RunTrails.{GoesOn, IsRunTrail}
@@ -32,7 +32,7 @@ module _ (laws : TrailLaws) (m : Module) (number : ℕ) (f : Function) (body : I
     (t : List Item) (point : PointId) (x : Inst) (lent : List LentPlace) where
   pub record StandsAtCall : Type 0 where
     pub inst : inst_at f point ≡ Some x
-    pub calls : effect_of x.op ≡ row.CallsFunction
+    pub calls : effect_of x.op ≡ CallsFunction
     pub trail : IsRunTrail f (item.Inst point ∷ t)
     pub goes : GoesOn t
     pub by : AreLentBy entries (operations_of x) lent

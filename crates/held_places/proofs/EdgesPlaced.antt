@@ -7,7 +7,7 @@ use Rattle.accepted_memory.specs.holder_model.Frames.{Frame}
 use Rattle.accepted_memory.specs.holder_model.HolderStates.{HolderNext, HolderState}
 use Rattle.accepted_memory.specs.holder_model.ModuleFacts.{ModuleFacts, facts_told}
 use Rattle.accepted_memory.specs.holder_model.States.{Task}
-use Rattle.accepted_memory.specs.holder_model.declared.row_effect.RowEffect.TheVariants as row
+use Rattle.accepted_memory.specs.holder_model.declared.row_effect.RowEffect.TheVariants.{NoEffect}
 use Rattle.accepted_memory.specs.memory_accesses.Operations.{deallocates, operations_of}
 use Rattle.accepted_memory.specs.memory_accesses.Sources.{sources_of}
 use Rattle.accepted_memory.specs.memory_parts.Parts.{whole_cell}
@@ -51,7 +51,7 @@ abbrev pub is_inside : Ending → Bool
 is_inside ending.Inside = true
 is_inside _ = false
 
-ends_only : (o : Op) → is_inside (ending_of o) ≡ false → effect_of o ≡ row.NoEffect
+ends_only : (o : Op) → is_inside (ending_of o) ≡ false → effect_of o ≡ NoEffect
 ends_only op.Br e = refl
 ends_only op.CondBr e = refl
 ends_only op.SwitchEnum e = refl
@@ -60,7 +60,7 @@ ends_only op.Unreachable e = refl
 ends_only _ e = absurd (cc)
 
 module _ (i : Inst) (ends : is_inside (ending_of i.op) ≡ false) where
-  no_effect : effect_of i.op ≡ row.NoEffect
+  no_effect : effect_of i.op ≡ NoEffect
   no_effect = ends_only i.op ends
 
   ends_slots : keeps_slots (Some i) ≡ true

@@ -1,5 +1,5 @@
 -- The frame that goes on: it is typed and holds its places, also without the operands that ended.
-use Rattle.std.proofs.Common.{◌≡◌, ℕ, List, [], Ok, Some, refl, sym, ap, ◌∙◌, subst, slice_get}
+use Rattle.std.proofs.Common.{◌≡◌, ℕ, List, [], Option, Ok, Some, refl, sym, ap, ◌∙◌, subst, slice_get}
 use Rattle.std.proofs.lemmas.Option.{same_Some}
 use Rattle.accepted_memory.specs.holder_model.Calling.{places_given}
 use Rattle.accepted_memory.specs.holder_model.Frames.{Entry, Frame, Operands, without_ended}
@@ -10,6 +10,7 @@ use Rattle.accepted_values.specs.accepted_modules.inner.Checked.{IsVerified}
 use Rattle.accepted_values.specs.inner.Known.{IsAcceptedBody}
 use Rattle.argument_conventions.specs.declared.row.AddressRow.{AddressRow}
 use Rattle.item_operands.specs.Items.{item_taken}
+use Rattle.ownership_chains.specs.declared.facts.Facts.{Facts}
 use Rattle.run_values.specs.Memory.{Memory}
 use Rattle.sil_ast.specs.declared.function.Function.{Function}
 use Rattle.sil_ast.specs.declared.module.Module.{Module}
@@ -48,7 +49,7 @@ module _ (laws : TrailLaws) (typing : TypingLaws) (m : Module) (verified : IsVer
   pub body : IsAcceptedBody m frame.function.0 f
   body = accepted_body m verified frame.function f first.typed.is first.typed.bodied
 
-  module _ (facts : ValueId → _) (i : Item) (ops : Operands) (reads : ReadsOperands m frame.function.0 f w facts memory frame.entries i ops) where
+  module _ (facts : ValueId → Option Facts) (i : Item) (ops : Operands) (reads : ReadsOperands m frame.function.0 f w facts memory frame.entries i ops) where
     ended : without_ended facts (item_taken f i) frame.entries ≡ Ok ops.left
     ended = (operands_read facts memory (item_taken f i) frame.entries ops reads.read).left
 

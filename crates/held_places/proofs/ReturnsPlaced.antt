@@ -9,7 +9,6 @@ use Rattle.accepted_memory.specs.holder_model.HolderStates.{HolderNext, HolderSt
 use Rattle.accepted_memory.specs.holder_model.ModuleFacts.{ModuleFacts, facts_told}
 use Rattle.accepted_memory.specs.holder_model.Standing.{stands_at}
 use Rattle.accepted_memory.specs.holder_model.States.{Drops, Finishes, Runs, Task}
-use Rattle.accepted_memory.specs.holder_model.declared.row_effect.RowEffect.TheVariants as row
 use Rattle.accepted_memory.specs.memory_accesses.Operations.{operations_of}
 use Rattle.accepted_memory.specs.run_trails.inner.RunTrails.{IsRunTrail}
 use Rattle.accepted_values.specs.accepted_modules.inner.Checked.{IsVerified}
