@@ -19,6 +19,7 @@ use Rattle.argument_conventions.specs.declared.row.AddressRow.{AddressRow}
 use Rattle.instruction_table.specs.Forms.{roles_of}
 use Rattle.instruction_table.specs.declared.entries.Role.{Role}
 use Rattle.instruction_table.specs.declared.entries.Role.TheVariants as role
+use Rattle.instruction_table.specs.declared.op.Op.{Op}
 use Rattle.instruction_table.specs.declared.op.Op.TheVariants as op
 use Rattle.item_operands.specs.Items.{item_taken, taken_in}
 use Rattle.item_operands.specs.Parts.{inst_at, item_inst}
@@ -31,8 +32,11 @@ use Rattle.sil_ast.specs.declared.inst.Inst.{Inst}
 use Rattle.sil_ast.specs.declared.operands.Operand.{Operand}
 use Rattle.sil_ast.specs.declared.place.PointId.{PointId}
 use Rattle.sil_cfg.specs.declared.item.Item.TheVariants as item
-use Rattle.held_places.proofs.CallEffects.{apply_alone}
 use Rattle.held_places.proofs.RowsAt.{nothing_at}
+
+apply_alone : (o : Op) → effect_of o ≡ CallsFunction → o ≡ op.Apply
+apply_alone op.Apply e = refl
+apply_alone _ e = absurd (cc)
 
 -- ---- what is handed over goes by a convention
 

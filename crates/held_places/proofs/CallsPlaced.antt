@@ -43,7 +43,6 @@ use Rattle.held_places.specs.inner.Items.{PlacedNext}
 use Rattle.held_places.specs.inner.PlaceStates.{TasksPlaced}
 use Rattle.held_places.specs.inner.Premises.{HandsOver, ReadsOperands}
 use Rattle.held_places.specs.inner.TrailLaws.{TrailLaws}
-use Rattle.held_places.proofs.CallEffects.{calls_by}
 use Rattle.held_places.proofs.CalleesBegin.{arguments_named, given_lent, others_gone}
 use Rattle.held_places.proofs.Calls.{calls_placed}
 use Rattle.held_places.proofs.ComesToCalls.{StandsAtCall, comes_to_call}
@@ -52,6 +51,7 @@ use Rattle.held_places.proofs.Lending.{IsCallAt}
 use Rattle.held_places.proofs.Lent.{Calling, all_as_before}
 use Rattle.held_places.proofs.OtherFaults.{result_fault}
 use Rattle.held_places.proofs.Reading.{operand_within}
+use Rattle.held_places.proofs.RowCalls.{calls_by_row}
 
 -- a function is entered, with these entries
 pub enters_placed : (m : Module) (told : ModuleFacts) (bound : ℕ) (Found : Type 0) (s : HolderState) (rest : List (Task Frame)) (g : FuncId) (callee : Function) (args : List Datum)
@@ -98,7 +98,7 @@ module _ (laws : TrailLaws) (typing : TypingLaws) (m : Module) (verified : IsVer
     call : IsCallAt laws m frame.function.0 f accepted frame.trail point i
     call = comes_to_call laws m frame.function.0 f accepted w ops.left now.typed.entries frame.trail point i lent (record {
       inst = s.here;
-      calls = (calls_by (declarations_of m) shapes values memory i ops.given g args s.is).0;
+      calls = calls_by_row (declarations_of m) shapes values memory i ops.given g args s.is;
       trail = s.trail;
       goes = first.typed.goes;
       by = over.lent;
@@ -133,7 +133,7 @@ module _ (laws : TrailLaws) (typing : TypingLaws) (m : Module) (verified : IsVer
         (given_lent laws m g.0 callee other new entries args ops.left (drop 1 (item_taken f (item.Inst point))) put over.alike over.handed)
         (arguments_named laws m g.0 callee other new entries args ops.left (drop 1 (item_taken f (item.Inst point))) put over.alike over.handed)
         (others_gone laws m g.0 callee other new entries (map as_argument args) put)
-        first.typed.is s.here (calls_by (declarations_of m) shapes values memory i ops.given g args s.is).0 now.below
+        first.typed.is s.here (calls_by_row (declarations_of m) shapes values memory i ops.given g args s.is) now.below
       where
         other : IsAcceptedBody m g.0 callee
         other = accepted_body m verified g callee s.there s.bodied

@@ -35,7 +35,7 @@ pub mod MadeOnce
 pub mod TrailsSo
 pub mod PlainAddresses
 pub mod SlotsMoved
-pub mod CallEffects
+pub mod RowCalls
 pub mod Applying
 pub mod OtherFaults
 pub mod FirstFrames

@@ -33,6 +33,7 @@ use Rattle.held_places.proofs.RowsAt as m31
 use Rattle.held_places.proofs.RowsHeld as m32
 use Rattle.held_places.proofs.Staying as m33
 use Rattle.held_places.proofs.Taking as m34
+use Rattle.held_places.proofs.PlacedSteps as m37
 use Rattle.held_places.proofs.TrailsSo.{trail_laws}
 use Rattle.held_places.proofs.laws.trails_serve_places.Goals as goal
 
