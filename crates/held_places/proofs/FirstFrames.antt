@@ -23,7 +23,7 @@ use Rattle.typed_holders.proofs.GoesOn.{accepted_body}
 use Rattle.typed_holders.proofs.Operands.{operands_read}
 use Rattle.held_places.specs.inner.FramePlaces.{HoldsPlaces}
 use Rattle.held_places.specs.inner.PlaceStates.{BelowPlaced}
-use Rattle.held_places.specs.inner.Premises.{AreCallsHandingOver, AreCallsNamed, AreEdgesNamed, AreEntriesPlain, AreLeftTyped, AreRootsShaped, ReadsOperands}
+use Rattle.held_places.specs.inner.Premises.{AreCallsHandingOver, AreCallsNamed, AreChangesNamed, AreEdgesNamed, AreEntriesPlain, AreLeftTyped, AreOperandsNamed, AreRootsShaped, AreStoresFit, ReadsOperands}
 use Rattle.held_places.specs.inner.Roots.{argument}
 use Rattle.held_places.specs.inner.TrailLaws.{TrailLaws}
 use Rattle.held_places.proofs.Calls.{below_same}
@@ -34,6 +34,9 @@ pub record TypingLaws : Type 0 where
   pub plain : AreEntriesPlain
   pub shaped : AreRootsShaped
   pub left : AreLeftTyped
+  pub named : AreOperandsNamed
+  pub stores : AreStoresFit
+  pub changes : AreChangesNamed
   pub calls : AreCallsHandingOver
   pub calls_named : AreCallsNamed
   pub edges_named : AreEdgesNamed

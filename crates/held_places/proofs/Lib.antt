@@ -46,3 +46,11 @@ pub mod EdgesPlaced
 pub mod ReturnsPlaced
 pub mod DeinitsPlaced
 pub mod PlacedSteps
+pub mod EffectsAt
+pub mod PlaceRows
+pub mod RowsPlaced
+pub mod SlotRows
+pub mod PlacesFound
+pub mod ChangesPlaced
+pub mod AtItem
+pub mod ItemsPlaced

@@ -34,6 +34,14 @@ use Rattle.held_places.proofs.RowsHeld as m32
 use Rattle.held_places.proofs.Staying as m33
 use Rattle.held_places.proofs.Taking as m34
 use Rattle.held_places.proofs.PlacedSteps as m37
+use Rattle.held_places.proofs.EffectsAt as b0
+use Rattle.held_places.proofs.PlaceRows as b1
+use Rattle.held_places.proofs.RowsPlaced as b2
+use Rattle.held_places.proofs.SlotRows as b3
+use Rattle.held_places.proofs.PlacesFound as b4
+use Rattle.held_places.proofs.ChangesPlaced as b5
+use Rattle.held_places.proofs.AtItem as b6
+use Rattle.held_places.proofs.ItemsPlaced as b7
 use Rattle.held_places.proofs.TrailsSo.{trail_laws}
 use Rattle.held_places.proofs.laws.trails_serve_places.Goals as goal
 
