@@ -4,6 +4,7 @@ use Rattle.std.proofs.lemmas.Option.{same_Some}
 use Rattle.accepted_memory.specs.holder_model.Data.{AddressOf, Datum}
 use Rattle.accepted_memory.specs.holder_model.Effects as effects
 use Rattle.accepted_memory.specs.holder_model.Effects.{Change, Makes, effect_by, effect_of}
+use Rattle.accepted_memory.specs.holder_model.Faults.{HolderFault}
 use Rattle.accepted_memory.specs.holder_model.Frames.{Entry, Frame, Operands, results_put}
 use Rattle.accepted_memory.specs.holder_model.HolderStates.{HolderState}
 use Rattle.accepted_memory.specs.holder_model.MemoryEffects.{at_places, effect}
@@ -137,10 +138,10 @@ module _ (laws : TrailLaws) (typing : TypingLaws) (m : Module) (bound : ℕ) (s 
   room : Each (λ (v : ValueId). v.0 < length ops.left) (item_defined f (item.Inst point))
   room = subst (λ n. Each (λ (v : ValueId). v.0 < n) (item_defined f (item.Inst point))) (sym behind.typed.entries.size) (function.items (item.Inst point)).defined
 
-  changed : (e : effects.Effect _) → EffectFits m w i.op ops.given (forms_of (declarations_of m) f i.results) e → (c : Change) → e ≡ Makes c
+  changed : (e : effects.Effect HolderFault) → EffectFits m w i.op ops.given (forms_of (declarations_of m) f i.results) e → (c : Change) → e ≡ Makes c
       → Changed m w (forms_of (declarations_of m) f i.results) c
   changed _ (EffectFits.makes b fits keeps) c e = let same : b ≡ c = cc in subst (Changed m w (forms_of (declarations_of m) f i.results)) same fits
-  changed _ (EffectFits.calls g args callee there bodied data form owned) c e = absurd (cc)
+  changed _ (EffectFits.calls g args callee there bodied typed_as form owned) c e = absurd (cc)
   changed _ (EffectFits.calls_out g args callee ns there bodiless numbers form) c e = absurd (cc)
   changed _ (EffectFits.traps t) c e = absurd (cc)
   changed _ (EffectFits.faults x other) c e = absurd (cc)

@@ -88,12 +88,12 @@ module _ (d : Declarations) (shapes : ModuleShapes) (values : List Shape) (memor
   abbrev Opened : Change → Type 0
   Opened c = (c.results ≡ AddressOf (slot_of memory new_shape) ∷ []) × (c.slots ≡ OpensSlot (slot_of memory new_shape)) × (c.memory ≡ with_slot memory new_shape) × (c.dropped ≡ [])
 
-  still_so : is_still (effect_of x.op) ≡ true → MakesSo ⊥ (effect_of x.op ≡ row.CallsFunction) (StaysStill memory) here
+  still_so : is_still (effect_of x.op) ≡ true → MakesSo ⊥ (StaysStill memory) here
   still_so still =
-      still_change d shapes values memory x (at_places d shapes values memory x) (effect_of x.op ≡ row.CallsFunction) (effect_of x.op) still (λ e. e) xs
+      still_change d shapes values memory x (at_places d shapes values memory x) (effect_of x.op) still xs
 
-  opened_so : row.MakesSlot ≡ effect_of x.op → MakesSo ⊥ ⊥ Opened here
-  opened_so is = subst (MakesSo ⊥ ⊥ Opened) (ap by_row is) (refl, refl, refl, refl)
+  opened_so : row.MakesSlot ≡ effect_of x.op → MakesSo ⊥ Opened here
+  opened_so is = subst (MakesSo ⊥ Opened) (ap by_row is) (refl, refl, refl, refl)
 
   removal_so : row.RemovesSlot ≡ effect_of x.op → Removing here
   removal_so is = subst Removing (ap by_row is) (removal_row d shapes values memory x xs)
@@ -137,13 +137,13 @@ module _ (d : Declarations) (shapes : ModuleShapes) (values : List Shape) (memor
 
         by : (r : RowEffect) → r ≡ effect_of x.op → IsOther r → Placed c slots entries
         by _ is IsOther.opens =
-            let new : Opened c = subst (MakesSo ⊥ ⊥ Opened) e (opened_so is) in
+            let new : Opened c = subst (MakesSo ⊥ Opened) e (opened_so is) in
             slot_placed laws m number f body facts memory frame rest point x xs s c slots entries g (sym is) new_shape new.0 new.1 new.2 new.3
         by _ is IsOther.closes = ⊎_elim
             (λ (unfit : here ≡ Unfit). let two : Unfit ≡ Makes c = sym unfit ∙ e in absurd (cc))
             (λ (r : RemovalRow d shapes values memory x xs here).
             removal_placed laws m number f body facts memory frame rest point x xs s (sym is) r.place r.given c slots entries g
-            (subst (MakesSo (Unit {0}) ⊥ (LeavesOut memory r.place)) e r.makes))
+            (subst (MakesSo (Unit {0}) (LeavesOut memory r.place)) e r.makes))
             (removal_so is)
         by _ is (IsOther.at_place r known) =
             let is_at : is_at_place (effect_of x.op) ≡ true = ap is_at_place (sym is) ∙ known in
@@ -151,11 +151,11 @@ module _ (d : Declarations) (shapes : ModuleShapes) (values : List Shape) (memor
             (λ (unfit : here ≡ Unfit). let two : Unfit ≡ Makes c = sym unfit ∙ e in absurd (cc))
             (λ (r : PlaceRow d shapes values memory x (effect_of x.op) xs here).
             place_placed laws m number f body facts memory frame rest point x xs s c slots entries g d shapes values is_at r.operation r.place r.done r.after r.how
-            (subst (MakesSo (Unit {0}) ⊥ (Leaves r.after)) e r.makes))
+            (subst (MakesSo (Unit {0}) (Leaves r.after)) e r.makes))
             (place_so is_at)
 
         at : (b : Bool) → is_still (effect_of x.op) ≡ b → Placed c slots entries
-        at true is = still (subst (MakesSo ⊥ (effect_of x.op ≡ row.CallsFunction) (StaysStill memory)) e (still_so is)) (still_quiet (effect_of x.op) is) is
+        at true is = still (subst (MakesSo ⊥ (StaysStill memory)) e (still_so is)) (still_quiet (effect_of x.op) is) is
         at false other = by (effect_of x.op) refl (other_row (effect_of x.op) other)
 
     -- a slot that goes is the newest one
@@ -167,24 +167,24 @@ module _ (d : Declarations) (shapes : ModuleShapes) (values : List Shape) (memor
 
         by : (r : RowEffect) → r ≡ effect_of x.op → IsOther r → ⊥
         by _ is IsOther.opens =
-            let new : Opened c = subst (MakesSo ⊥ ⊥ Opened) e (opened_so is) in
+            let new : Opened c = subst (MakesSo ⊥ Opened) e (opened_so is) in
             let never = by_change (OpensSlot (slot_of memory new_shape)) new.1 in
             cc
         by _ is IsOther.closes = ⊎_elim
             (λ (unfit : here ≡ Unfit). let two : Unfit ≡ Makes c = sym unfit ∙ e in cc)
             (λ (r : RemovalRow d shapes values memory x xs here).
             removal_last laws m number f body facts memory frame rest point x xs s (sym is) r.place r.given c
-            (subst (MakesSo (Unit {0}) ⊥ (LeavesOut memory r.place)) e r.makes).0 y wrong)
+            (subst (MakesSo (Unit {0}) (LeavesOut memory r.place)) e r.makes).0 y wrong)
             (removal_so is)
         by _ is (IsOther.at_place r known) = ⊎_elim
             (λ (unfit : here ≡ Unfit). let two : Unfit ≡ Makes c = sym unfit ∙ e in cc)
             (λ (r : PlaceRow d shapes values memory x (effect_of x.op) xs here).
-            let never = by_change effects.SameSlots (subst (MakesSo (Unit {0}) ⊥ (Leaves r.after)) e r.makes).0 in cc)
+            let never = by_change effects.SameSlots (subst (MakesSo (Unit {0}) (Leaves r.after)) e r.makes).0 in cc)
             (place_so (ap is_at_place (sym is) ∙ known))
 
         at : (b : Bool) → is_still (effect_of x.op) ≡ b → ⊥
         at true is =
-            let never = by_change effects.SameSlots (subst (MakesSo ⊥ (effect_of x.op ≡ row.CallsFunction) (StaysStill memory)) e (still_so is)).0 in cc
+            let never = by_change effects.SameSlots (subst (MakesSo ⊥ (StaysStill memory)) e (still_so is)).0 in cc
         at false other = by (effect_of x.op) refl (other_row (effect_of x.op) other)
 
     -- ---- a fault
@@ -213,11 +213,11 @@ module _ (d : Declarations) (shapes : ModuleShapes) (values : List Shape) (memor
             by_home (Inside object) home = fields r.operation r.place one own object home
 
         by : (r : RowEffect) → r ≡ effect_of x.op → IsOther r → ⊥
-        by _ is IsOther.opens = subst (MakesSo ⊥ ⊥ Opened) e (opened_so is)
+        by _ is IsOther.opens = subst (MakesSo ⊥ Opened) e (opened_so is)
         by _ is IsOther.closes = ⊎_elim
             (λ (unfit : here ≡ Unfit). let two : Unfit ≡ Faults y = sym unfit ∙ e in cc)
             (λ (r : RemovalRow d shapes values memory x xs here).
-            subst (MakesSo ⊥ ⊥ (LeavesOut memory r.place)) e
+            subst (MakesSo ⊥ (LeavesOut memory r.place)) e
             (r.met (removal_met laws m number f body facts memory frame rest point x xs s (sym is) r.place r.given d shapes values)))
             (removal_so is)
         by _ is (IsOther.at_place r known) =
@@ -225,9 +225,9 @@ module _ (d : Declarations) (shapes : ModuleShapes) (values : List Shape) (memor
             ⊎_elim
             (λ (unfit : here ≡ Unfit). let two : Unfit ≡ Faults y = sym unfit ∙ e in cc)
             (λ (r : PlaceRow d shapes values memory x (effect_of x.op) xs here).
-            subst (MakesSo ⊥ ⊥ (Leaves r.after)) e (r.met (met_where_found d shapes values memory x r.place r.operation (found is_at r))))
+            subst (MakesSo ⊥ (Leaves r.after)) e (r.met (met_where_found d shapes values memory x r.place r.operation (found is_at r))))
             (place_so is_at)
 
         at : (b : Bool) → is_still (effect_of x.op) ≡ b → ⊥
-        at true is = subst (MakesSo ⊥ (effect_of x.op ≡ row.CallsFunction) (StaysStill memory)) e (still_so is)
+        at true is = subst (MakesSo ⊥ (StaysStill memory)) e (still_so is)
         at false other = by (effect_of x.op) refl (other_row (effect_of x.op) other)

@@ -65,22 +65,22 @@ module _ (d : Declarations) (shapes : ModuleShapes) (values : List Shape) (m : M
     pub done : operation_done d shapes values m x ≡ Some operation
     pub after : Memory
     pub how : IsDoneBy r xs operation place after
-    pub makes : MakesSo (Unit {0}) ⊥ (Leaves after) e
-    pub met : IsMet d shapes values m x place operation → MakesSo ⊥ ⊥ (Leaves after) e
+    pub makes : MakesSo (Unit {0}) (Leaves after) e
+    pub met : IsMet d shapes values m x place operation → MakesSo ⊥ (Leaves after) e
 
   pub record RemovalRow (xs : List Datum) (e : Effect HolderFault) : Type 0 where
     pub place : Place
     pub given : xs ≡ AddressOf place ∷ []
-    pub makes : MakesSo (Unit {0}) ⊥ (LeavesOut m place) e
-    pub met : ((g : Effect HolderFault) → where_held d shapes values m x place (Some content.Empty) g ≡ g) → MakesSo ⊥ ⊥ (LeavesOut m place) e
+    pub makes : MakesSo (Unit {0}) (LeavesOut m place) e
+    pub met : ((g : Effect HolderFault) → where_held d shapes values m x place (Some content.Empty) g ≡ g) → MakesSo ⊥ (LeavesOut m place) e
 
   -- ---- a place is looked at first
 
-  held_so : (P : Change → Type 0) (p : Place) (c : Option Content) (e : Effect HolderFault) → MakesSo (Unit {0}) ⊥ P e → MakesSo (Unit {0}) ⊥ P (where_held d shapes values m x p c e)
-  held_so P p None e h = makes_either (Unit {0}) ⊥ P (is_there_at m p) e (Faults NotLastSlot) h tt
+  held_so : (P : Change → Type 0) (p : Place) (c : Option Content) (e : Effect HolderFault) → MakesSo (Unit {0}) P e → MakesSo (Unit {0}) P (where_held d shapes values m x p c e)
+  held_so P p None e h = makes_either (Unit {0}) P (is_there_at m p) e (Faults NotLastSlot) h tt
   held_so P p (Some c) e h =
-      makes_either (Unit {0}) ⊥ P (is_there_at m p) (cond (holds m c p) e (Faults (fault_of c))) (Faults NotLastSlot)
-      (makes_either (Unit {0}) ⊥ P (holds m c p) e (Faults (fault_of c)) h tt) tt
+      makes_either (Unit {0}) P (is_there_at m p) (cond (holds m c p) e (Faults (fault_of c))) (Faults NotLastSlot)
+      (makes_either (Unit {0}) P (holds m c p) e (Faults (fault_of c)) h tt) tt
 
   -- ---- what comes then
 
@@ -88,24 +88,24 @@ module _ (d : Declarations) (shapes : ModuleShapes) (values : List Shape) (m : M
   load_of o p y = Makes (record (unchanged (after_it o p)) { results = ValueOf y ∷ []; retained = cond (copies_with x.qualifier) (references_of y) [] })
 
   module _ (W : Type 0) where
-    loads_so : (o : Operation) (p : Place) → MakesSo W ⊥ (Leaves (after_it o p)) (with_some (load_of o p) (value_at m p))
-    loads_so o p = makes_some W ⊥ (Leaves (after_it o p)) (load_of o p) (value_at m p) (λ y. (refl, refl))
+    loads_so : (o : Operation) (p : Place) → MakesSo W (Leaves (after_it o p)) (with_some (load_of o p) (value_at m p))
+    loads_so o p = makes_some W (Leaves (after_it o p)) (load_of o p) (value_at m p) (λ y. (refl, refl))
 
-    name_so : (how : Option Storage) (after : Memory) (y : Value) → MakesSo W ⊥ (Leaves after) (loaded_name how m after y)
+    name_so : (how : Option Storage) (after : Memory) (y : Value) → MakesSo W (Leaves after) (loaded_name how m after y)
     name_so None after y = tt
     name_so (Some storage.Strong) after y = tt
     name_so (Some storage.Weak) after y =
-        makes_either W ⊥ (Leaves after) (all_live m (references_of y)) (named_again after y) (gives_value after (value.Case 0)) (refl, refl) (refl, refl)
+        makes_either W (Leaves after) (all_live m (references_of y)) (named_again after y) (gives_value after (value.Case 0)) (refl, refl) (refl, refl)
     name_so (Some storage.Unowned) after y =
-        makes_either W ⊥ (Leaves after) (all_live m (references_of y)) (named_again after y) (Traps trap.Unowned) (refl, refl) tt
+        makes_either W (Leaves after) (all_live m (references_of y)) (named_again after y) (Traps trap.Unowned) (refl, refl) tt
 
-    names_so : (o : Operation) (p : Place) → MakesSo W ⊥ (Leaves (after_it o p)) (with_some (loaded_name (storage_in p.shape) m (after_it o p)) (value_at m p))
-    names_so o p = makes_some W ⊥ (Leaves (after_it o p)) (loaded_name (storage_in p.shape) m (after_it o p)) (value_at m p) (name_so (storage_in p.shape) (after_it o p))
+    names_so : (o : Operation) (p : Place) → MakesSo W (Leaves (after_it o p)) (with_some (loaded_name (storage_in p.shape) m (after_it o p)) (value_at m p))
+    names_so o p = makes_some W (Leaves (after_it o p)) (loaded_name (storage_in p.shape) m (after_it o p)) (value_at m p) (name_so (storage_in p.shape) (after_it o p))
 
-    destroys_so : (o : Operation) (p : Place) → MakesSo W ⊥ (Leaves (after_it o p)) (Makes (record (unchanged (after_it o p)) { dropped = references_at m p }))
+    destroys_so : (o : Operation) (p : Place) → MakesSo W (Leaves (after_it o p)) (Makes (record (unchanged (after_it o p)) { dropped = references_at m p }))
     destroys_so o p = (refl, refl)
 
-    stores_so : (p : Place) (y : Value) → MakesSo W ⊥ (Leaves (filled m p y)) (Makes (record (unchanged (filled m p y)) { dropped = references_at m p }))
+    stores_so : (p : Place) (y : Value) → MakesSo W (Leaves (filled m p y)) (Makes (record (unchanged (filled m p y)) { dropped = references_at m p }))
     stores_so p y = (refl, refl)
 
   -- ---- at the one operand's place
@@ -113,10 +113,10 @@ module _ (d : Declarations) (shapes : ModuleShapes) (values : List Shape) (m : M
   abbrev One : RowEffect → List Datum → Effect HolderFault → Type 0
   One r xs e = (e ≡ Unfit) ⊎ PlaceRow r xs e
 
-  module _ (r : RowEffect) (reading : is_reading r ≡ true) (then : Operation → Place → Effect HolderFault)
-      (so : (W : Type 0) (o : Operation) (p : Place) → MakesSo W ⊥ (Leaves (after_it o p)) (then o p)) where
+  module _ (r : RowEffect) (reading : is_reading r ≡ true) (act : Operation → Place → Effect HolderFault)
+      (so : (W : Type 0) (o : Operation) (p : Place) → MakesSo W (Leaves (after_it o p)) (act o p)) where
     abbrev go : Operation → Place → Effect HolderFault
-    go o p = where_held d shapes values m x p (asked_before p.is_part o) (then o p)
+    go o p = where_held d shapes values m x p (asked_before p.is_part o) (act o p)
 
     one_row : (w : Option Operation) → operation_done d shapes values m x ≡ w → (xs : List Datum)
         → One r xs (with_some (λ o. with_some (go o) (option_and_then as_place (only xs))) w)
@@ -131,8 +131,8 @@ module _ (d : Declarations) (shapes : ModuleShapes) (values : List Shape) (m : M
       done = e;
       after = after_it o p;
       how = IsDoneBy.reads reading refl;
-      makes = held_so (Leaves (after_it o p)) p (asked_before p.is_part o) (then o p) (so (Unit {0}) o p);
-      met = λ met. subst (MakesSo ⊥ ⊥ (Leaves (after_it o p))) (sym (met (then o p))) (so ⊥ o p);
+      makes = held_so (Leaves (after_it o p)) p (asked_before p.is_part o) (act o p) (so (Unit {0}) o p);
+      met = λ met. subst (MakesSo ⊥ (Leaves (after_it o p))) (sym (met (act o p))) (so ⊥ o p);
     })
 
   -- ---- at the second one's
@@ -154,7 +154,7 @@ module _ (d : Declarations) (shapes : ModuleShapes) (values : List Shape) (m : M
     after = filled m p y;
     how = IsDoneBy.writes y refl refl;
     makes = held_so (Leaves (filled m p y)) p (asked_before p.is_part o) (Makes (record (unchanged (filled m p y)) { dropped = references_at m p })) (stores_so (Unit {0}) p y);
-    met = λ met. subst (MakesSo ⊥ ⊥ (Leaves (filled m p y))) (sym (met (Makes (record (unchanged (filled m p y)) { dropped = references_at m p })))) (stores_so ⊥ p y);
+    met = λ met. subst (MakesSo ⊥ (Leaves (filled m p y))) (sym (met (Makes (record (unchanged (filled m p y)) { dropped = references_at m p })))) (stores_so ⊥ p y);
   })
 
   pub place_row : (r : RowEffect) → is_at_place r ≡ true → (xs : List Datum) → One r xs (at_places d shapes values m x r xs)
@@ -178,7 +178,7 @@ module _ (d : Declarations) (shapes : ModuleShapes) (values : List Shape) (m : M
     place = p;
     given = refl;
     makes = held_so (LeavesOut m p) p (Some content.Empty) out (refl, refl, refl);
-    met = λ met. subst (MakesSo ⊥ ⊥ (LeavesOut m p)) (sym (met out)) (refl, refl, refl);
+    met = λ met. subst (MakesSo ⊥ (LeavesOut m p)) (sym (met out)) (refl, refl, refl);
   })
     where
       abbrev out : Effect HolderFault

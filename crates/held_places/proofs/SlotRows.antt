@@ -208,17 +208,17 @@ module _ (laws : TrailLaws) (m : Module) (number : ℕ) (f : Function) (body : I
         cc
 
     module _ (c : Change) (slots : List Place) (entries : List Entry) (g : GoesWith laws m number f body facts memory frame rest point x xs c slots entries) where
-      abbrev then : Frame
-      then = next_frame laws m number f body facts memory frame rest point x xs slots entries
+      abbrev later : Frame
+      later = next_frame laws m number f body facts memory frame rest point x xs slots entries
 
-      last : IsNewest laws m number f body frame then rest memory (item.Inst point) x (here then) first.0.value p (goes_out then)
-      last = newest laws m number f body frame then rest memory (item.Inst point) x (here then) first.0.value p (goes_out then)
+      last : IsNewest laws m number f body frame later rest memory (item.Inst point) x (here later) first.0.value p (goes_out later)
+      last = newest laws m number f body frame later rest memory (item.Inst point) x (here later) first.0.value p (goes_out later)
 
-      is_behind : c.slots ≡ ClosesSlot p → IsBehind laws m number f body frame then rest memory (item.Inst point) x (here then) first.0.value p (goes_out then)
+      is_behind : c.slots ≡ ClosesSlot p → IsBehind laws m number f body frame later rest memory (item.Inst point) x (here later) first.0.value p (goes_out later)
       is_behind closes = record {
         trail = refl;
         slots = sym (ok_once last.older slots
-            (sym (slots_left laws m number f body frame then rest memory (item.Inst point) x (here then) first.0.value p (goes_out then))
+            (sym (slots_left laws m number f body frame later rest memory (item.Inst point) x (here later) first.0.value p (goes_out later))
             ∙ sym (ap (λ k. parts.slots_behind k frame.slots) closes) ∙ g.slots_are));
         entries = kept c slots entries g (removed memory p);
         parts = named c slots entries g (removed memory p);
@@ -227,9 +227,9 @@ module _ (laws : TrailLaws) (m : Module) (number : ℕ) (f : Function) (body : I
       pub removal_placed : LeavesOut memory p c → ArePlaced laws m number f body facts memory frame rest point x xs c slots entries
       removal_placed leaves =
           let b = is_behind leaves.0 in
-          subst (λ k. TasksPlaced m k (dropping c.dropped (Runs then ∷ rest))) (sym leaves.1)
-          (subst (λ os. TasksPlaced m (removed memory p) (dropping os (Runs then ∷ rest))) (sym leaves.2)
-          (goes_placed m memory (removed memory p) f frame then rest s.is refl refl (given c slots entries g (removed memory p))
-          (removed_behind laws m number f body frame then rest memory (item.Inst point) x (here then) first.0.value p (goes_out then) b)
-          (removed_more laws m number f body frame then rest memory (item.Inst point) x (here then) first.0.value p (goes_out then) b)
-          (removed_below laws m number f body frame then rest memory (item.Inst point) x (here then) first.0.value p (goes_out then) b) s.below))
+          subst (λ k. TasksPlaced m k (dropping c.dropped (Runs later ∷ rest))) (sym leaves.1)
+          (subst (λ os. TasksPlaced m (removed memory p) (dropping os (Runs later ∷ rest))) (sym leaves.2)
+          (goes_placed m memory (removed memory p) f frame later rest s.is refl refl (given c slots entries g (removed memory p))
+          (removed_behind laws m number f body frame later rest memory (item.Inst point) x (here later) first.0.value p (goes_out later) b)
+          (removed_more laws m number f body frame later rest memory (item.Inst point) x (here later) first.0.value p (goes_out later) b)
+          (removed_below laws m number f body frame later rest memory (item.Inst point) x (here later) first.0.value p (goes_out later) b) s.below))
