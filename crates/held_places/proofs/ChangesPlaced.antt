@@ -28,17 +28,19 @@ use Rattle.sil_ast.specs.declared.place.FuncId.{FuncId}
 use Rattle.sil_ast.specs.declared.place.ObjectId.{ObjectId}
 use Rattle.sil_ast.specs.declared.place.PointId.{PointId}
 use Rattle.sil_ast.specs.declared.place.ValueId.{ValueId}
+use Rattle.sil_cfg.specs.declared.item.Item.TheVariants as item
 use Rattle.type_definitions.specs.Declarations.{Declarations}
 use Rattle.held_places.specs.inner.Items.{IsFoundSo}
 use Rattle.held_places.specs.inner.TrailLaws.{TrailLaws}
 use Rattle.held_places.proofs.Asking.{never_handed}
 use Rattle.held_places.proofs.EffectsAt.{Leaves, LeavesOut, PlaceRow, RemovalRow, is_at_place, place_row, removal_row}
+use Rattle.held_places.proofs.Locating.{operand_at}
 use Rattle.held_places.proofs.Opening.{slot_of, with_slot}
 use Rattle.held_places.proofs.PlaceRows.{DoesOne, place_kept, quiet_kept}
 use Rattle.held_places.proofs.PlacesFound.{met_where_found, operand_found}
 use Rattle.held_places.proofs.RowChanges.{MakesSo, StaysStill, is_still, still_change, still_slots}
 use Rattle.held_places.proofs.RowsAt.{is_quiet, no_operation, not_removed}
-use Rattle.held_places.proofs.RowsPlaced.{ArePlaced, GoesWith, StandsBefore, does_one, place_placed, still_placed}
+use Rattle.held_places.proofs.RowsPlaced.{ArePlaced, GoesWith, StandsBefore, does_one, operand_among, place_placed, still_placed}
 use Rattle.held_places.proofs.SlotRows.{removal_last, removal_met, removal_placed, slot_placed}
 
 -- of the rows that do nothing at places only calls do what may touch one
@@ -209,7 +211,17 @@ module _ (d : Declarations) (shapes : ModuleShapes) (values : List Shape) (memor
 
             by_home : (h : Home) → r.place.home ≡ h → IsFoundSo memory r.place r.operation
             by_home OnStack home =
-                operand_found laws m number f body facts memory frame rest point x xs s r.operation r.place one (not_removed x (place_kept (effect_of x.op) is)) own home
+                operand_found laws m number f body memory frame rest point x one.taken.value r.operation r.place (record {
+                  holds = s.holds;
+                  none_lent = s.none_lent;
+                  goes = s.goes;
+                  inst = s.inst;
+                  trail = s.trail;
+                  operand = operand_at laws m number f body frame.trail (item.Inst point) s.trail one.taken
+                      (operand_among laws m number f body facts memory frame rest point x xs s r.operation r.place one) (s.address one.taken.value r.place one.names);
+                  does = record { operations = one.operations; kept = not_removed x (place_kept (effect_of x.op) is) };
+                  names = one.names;
+                }) own home
             by_home (Inside object) home = fields r.operation r.place one own object home
 
         by : (r : RowEffect) → r ≡ effect_of x.op → IsOther r → ⊥

@@ -54,3 +54,4 @@ pub mod PlacesFound
 pub mod ChangesPlaced
 pub mod AtItem
 pub mod ItemsPlaced
+pub mod RowsFind

@@ -23,7 +23,7 @@ use Rattle.argument_conventions.specs.declared.row.Content.{Content}
 use Rattle.holder_steps.specs.inner.Ways.{GoesBehind, left_with, operands_in, turned}
 use Rattle.item_operands.specs.Parts.{inst_at}
 use Rattle.run_values.specs.Memory.{Memory}
-use Rattle.run_values.specs.Places.{Inside, Place, is_there_at}
+use Rattle.run_values.specs.Places.{Inside, OnStack, Place, is_there_at}
 use Rattle.run_values.specs.Values as value
 use Rattle.sil_ast.specs.declared.function.Function.{Function}
 use Rattle.sil_ast.specs.declared.inst.Inst.{Inst}
@@ -60,6 +60,15 @@ abbrev pub AreFieldsFound : Module → HolderState → Type 0
 AreFieldsFound m s = (frame : Frame) (rest : List (Task Frame)) (f : Function) (i : Inst) → s.tasks ≡ Runs frame ∷ rest → slice_get m.functions frame.function.0 ≡ Some f
     → inst_at f (stands_at f frame.trail) ≡ Some i → (o : Operated) → Contains (operations_of i) o → ((row : AddressRow) → o.operation ≡ Handed row → ⊥)
     → (p : Place) (object : ObjectId) → Names frame.entries o.address p → p.home ≡ Inside object → IsFoundSo s.memory p o.operation
+
+-- and so is each place on the stack
+abbrev pub AreSlotsFound : Module → HolderState → Type 0
+AreSlotsFound m s = (frame : Frame) (rest : List (Task Frame)) (f : Function) (i : Inst) → s.tasks ≡ Runs frame ∷ rest → slice_get m.functions frame.function.0 ≡ Some f
+    → inst_at f (stands_at f frame.trail) ≡ Some i → (o : Operated) → Contains (operations_of i) o → ((row : AddressRow) → o.operation ≡ Handed row → ⊥)
+    → (p : Place) → Names frame.entries o.address p → p.home ≡ OnStack → IsFoundSo s.memory p o.operation
+
+abbrev pub RowsFindTheirPlaces : Type 0
+RowsFindTheirPlaces = (m : Module) (s : HolderState) → IsVerified m → IsTypedState m s → AreSlotsRight m s → AreSlotsFound m s
 
 -- what holds of where a step leads, if places in objects are found so
 abbrev pub PlacedNext : Type 0 → Module → HolderNext → Type 0

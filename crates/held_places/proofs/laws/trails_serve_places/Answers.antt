@@ -42,6 +42,7 @@ use Rattle.held_places.proofs.PlacesFound as b4
 use Rattle.held_places.proofs.ChangesPlaced as b5
 use Rattle.held_places.proofs.AtItem as b6
 use Rattle.held_places.proofs.ItemsPlaced as b7
+use Rattle.held_places.proofs.RowsFind as b8
 use Rattle.held_places.proofs.TrailsSo.{trail_laws}
 use Rattle.held_places.proofs.laws.trails_serve_places.Goals as goal
 
