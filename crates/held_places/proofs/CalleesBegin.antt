@@ -123,6 +123,6 @@ module _ (laws : TrailLaws) (m : Module) (number : ℕ) (callee : Function) (acc
     arguments_named v row trivial src =
         let told = laws.told m number callee accepted v row trivial src in
         let x = mapped_get (λ y. Some (as_argument y)) args told.number (datum_in (entry_at entries v))
-        (sym (ap (λ ys. slice_get ys told.number) as_arguments) ∙ get_mapped (λ w. datum_in (entry_at entries w)) vs told.number v told.is) in
+            (sym (ap (λ ys. slice_get ys told.number) as_arguments) ∙ get_mapped (λ w. datum_in (entry_at entries w)) vs told.number v told.is) in
         let p = handed_at left (arguments_of callee.signature) ts args alike handed told.number told.told x.0 row told.told_is x.1 told.row_is in
         (record p.0 { is_part = false }, sym x.2 ∙ ap (λ y. Some (as_argument y)) p.1)

@@ -77,8 +77,7 @@ module _ (m : Module) (w : World) (number : ℕ) (f : Function) (body : IsAccept
   pub named_address : (v : ValueId) (p : Place) → Names entries v p → IsAddress (declarations_of m) f v
   named_address v p names = record {
     shape = p.shape;
-    is = named_form m w (kind_at (declarations_of m) f v) (form_of (declarations_of m) f v) p (entry_at entries v) (typed.each v (within v p names)) names;
-  }
+    is = named_form m w (kind_at (declarations_of m) f v) (form_of (declarations_of m) f v) p (entry_at entries v) (typed.each v (within v p names)) names }
 
   pub entries_plain : AreAddressesPlain entries
   entries_plain v p names =
