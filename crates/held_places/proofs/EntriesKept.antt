@@ -27,7 +27,7 @@ wrong x = Err x
 pub ok_once : {A : Type 0} (x y : A) → okay x ≡ okay y → x ≡ y
 ok_once x y e = cc
 
-never_ok : {A : Type 0} (x : HolderFault) (y : A) → wrong x ≡ okay y → ⊥
+pub never_ok : {A : Type 0} (x : HolderFault) (y : A) → wrong x ≡ okay y → ⊥
 never_ok x y e = cc
 
 module _ (facts : ValueId → Option Facts) where

@@ -55,3 +55,11 @@ pub mod ChangesPlaced
 pub mod AtItem
 pub mod ItemsPlaced
 pub mod RowsFind
+pub mod PlainShapes
+pub mod RootsShaped
+pub mod OperandsNamed
+pub mod RowsTyped
+pub mod StoresFit
+pub mod HandingOver
+pub mod NewParts
+pub mod NamedChanges

@@ -47,7 +47,7 @@ module _ (m : Module) (w : World) (k : Kind) (form : Form) (p : Place) where
       sym (ok_once (plain_address p.home (AddressOf p)) e (ap (made_entry kind.Plain) (sym same) ∙ ap (λ h. made_entry h x) (sym plain) ∙ is))
 
 -- the type of an address is that of one
-typed_place : (m : Module) (f : Function) (v : ValueId) (s : Shape) → form_of (declarations_of m) f v ≡ OfPlace s
+pub typed_place : (m : Module) (f : Function) (v : ValueId) (s : Shape) → form_of (declarations_of m) f v ≡ OfPlace s
     → (t u : TypeName) × (type_in (declarations_of m) f v ≡ Some t) × (target t ≡ Some u)
 typed_place m f v s is = at (type_in (declarations_of m) f v) refl is
   where
@@ -74,13 +74,15 @@ module _ (m : Module) (w : World) (number : ℕ) (f : Function) (body : IsAccept
       at (Some e) is h = subst (λ n. v.0 < n) typed.size (slice_get_within entries v.0 e is)
 
   -- what names a place is an address by its type
+  pub named_shape : (v : ValueId) (p : Place) → Names entries v p → form_of (declarations_of m) f v ≡ OfPlace p.shape
+  named_shape v p names =
+      named_form m w (kind_at (declarations_of m) f v) (form_of (declarations_of m) f v) p (entry_at entries v) (typed.each v (within v p names)) names
+
   pub named_address : (v : ValueId) (p : Place) → Names entries v p → IsAddress (declarations_of m) f v
-  named_address v p names = record {
-    shape = p.shape;
-    is = named_form m w (kind_at (declarations_of m) f v) (form_of (declarations_of m) f v) p (entry_at entries v) (typed.each v (within v p names)) names }
+  named_address v p names = record { shape = p.shape; is = named_shape v p names }
 
   pub entries_plain : AreAddressesPlain entries
   entries_plain v p names =
-      let ty = typed_place m f v p.shape (named_address v p names).is in
+      let ty = typed_place m f v p.shape (named_shape v p names) in
       named_plain m w (kind_at (declarations_of m) f v) (form_of (declarations_of m) f v) p (entry_at entries v) (typed.each v (within v p names)) names
       (addresses_plain m number f body v ty.0 ty.1 ty.2.0 ty.2.1)
