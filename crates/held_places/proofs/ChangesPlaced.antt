@@ -14,30 +14,28 @@ use Rattle.accepted_memory.specs.holder_model.declared.row_effect.RowEffect.{Row
 use Rattle.accepted_memory.specs.holder_model.declared.row_effect.RowEffect.TheVariants as row
 use Rattle.accepted_memory.specs.memory_accesses.Operations.{access_kind_of}
 use Rattle.accepted_memory.specs.memory_accesses.declared.access.Operation.{Operation}
-use Rattle.accepted_memory.specs.memory_accesses.declared.access.Operation.TheVariants.{Handed}
 use Rattle.accepted_values.specs.inner.Known.{IsAcceptedBody}
-use Rattle.argument_conventions.specs.declared.row.AddressRow.{AddressRow}
 use Rattle.ownership_chains.specs.declared.facts.Facts.{Facts}
 use Rattle.run_values.specs.Memory.{Memory}
-use Rattle.run_values.specs.Places.{Home, Inside, OnStack, Place}
+use Rattle.run_values.specs.Places.{Place}
 use Rattle.run_values.specs.Shapes.{Shape}
 use Rattle.sil_ast.specs.declared.function.Function.{Function}
 use Rattle.sil_ast.specs.declared.inst.Inst.{Inst}
 use Rattle.sil_ast.specs.declared.module.Module.{Module}
 use Rattle.sil_ast.specs.declared.place.FuncId.{FuncId}
-use Rattle.sil_ast.specs.declared.place.ObjectId.{ObjectId}
 use Rattle.sil_ast.specs.declared.place.PointId.{PointId}
 use Rattle.sil_ast.specs.declared.place.ValueId.{ValueId}
 use Rattle.sil_cfg.specs.declared.item.Item.TheVariants as item
-use Rattle.type_definitions.specs.Declarations.{Declarations}
+use Rattle.type_definitions.specs.Declarations.{Declarations, declarations_of}
 use Rattle.held_places.specs.inner.Items.{IsFoundSo}
+use Rattle.held_places.specs.inner.Roots.{IsThere}
 use Rattle.held_places.specs.inner.TrailLaws.{TrailLaws}
 use Rattle.held_places.proofs.Asking.{never_handed}
 use Rattle.held_places.proofs.EffectsAt.{Leaves, LeavesOut, PlaceRow, RemovalRow, is_at_place, place_row, removal_row}
-use Rattle.held_places.proofs.Locating.{operand_at}
+use Rattle.held_places.proofs.Locating.{IsInObject, IsOperandAt, operand_at}
 use Rattle.held_places.proofs.Opening.{slot_of, with_slot}
 use Rattle.held_places.proofs.PlaceRows.{DoesOne, place_kept, quiet_kept}
-use Rattle.held_places.proofs.PlacesFound.{met_where_found, operand_found}
+use Rattle.held_places.proofs.PlacesFound.{met_where_found, there_found}
 use Rattle.held_places.proofs.RowChanges.{MakesSo, StaysStill, is_still, still_change, still_slots}
 use Rattle.held_places.proofs.RowsAt.{is_quiet, no_operation, not_removed}
 use Rattle.held_places.proofs.RowsPlaced.{ArePlaced, GoesWith, StandsBefore, does_one, operand_among, place_placed, still_placed}
@@ -191,38 +189,37 @@ module _ (d : Declarations) (shapes : ModuleShapes) (values : List Shape) (memor
 
     -- ---- a fault
 
-    -- places in objects at which the instruction does something are found as it asks
+    -- fields at which the instruction does something are found as it asks
     abbrev pub FieldsFound : Type 0
-    FieldsFound = (o : Operation) (p : Place) → DoesOne x frame.entries o p → ((row : AddressRow) → o ≡ Handed row → ⊥) → (object : ObjectId) → p.home ≡ Inside object
-        → IsFoundSo memory p o
+    FieldsFound = (o : Operation) (p : Place) (one : DoesOne x frame.entries o p) (operand : IsOperandAt laws m number f body frame.trail one.taken.value)
+        → IsInObject laws m number f body operand.location.root → IsFoundSo memory p o
 
     -- so there is none
     pub never_faults : FieldsFound → (y : HolderFault) → here ≡ Faults y → ⊥
     never_faults fields y e = at (is_still (effect_of x.op)) refl
       where
         found : is_at_place (effect_of x.op) ≡ true → (r : PlaceRow d shapes values memory x (effect_of x.op) xs here) → IsFoundSo memory r.place r.operation
-        found is r = by_home r.place.home refl
+        found is r = ⊎_elim
+            (λ (there : IsThere (declarations_of m) f frame.trail operand.location.root).
+            there_found laws m number f body memory frame rest point x one.taken.value r.operation r.place (record {
+              holds = s.holds;
+              none_lent = s.none_lent;
+              goes = s.goes;
+              inst = s.inst;
+              trail = s.trail;
+              operand = operand;
+              does = record { operations = one.operations; kept = not_removed x (place_kept (effect_of x.op) is) };
+              names = one.names;
+            }) (never_handed (access_kind_of x.op) x.qualifier r.operation r.done) there)
+            (λ (field : IsInObject laws m number f body operand.location.root). fields r.operation r.place one operand field)
+            operand.root
           where
             one : DoesOne x frame.entries r.operation r.place
             one = does_one laws m number f body facts memory frame rest point x xs s d shapes values r.operation r.place r.done r.after r.how
 
-            own : (row : AddressRow) → r.operation ≡ Handed row → ⊥
-            own = never_handed (access_kind_of x.op) x.qualifier r.operation r.done
-
-            by_home : (h : Home) → r.place.home ≡ h → IsFoundSo memory r.place r.operation
-            by_home OnStack home =
-                operand_found laws m number f body memory frame rest point x one.taken.value r.operation r.place (record {
-                  holds = s.holds;
-                  none_lent = s.none_lent;
-                  goes = s.goes;
-                  inst = s.inst;
-                  trail = s.trail;
-                  operand = operand_at laws m number f body frame.trail (item.Inst point) s.trail one.taken
-                      (operand_among laws m number f body facts memory frame rest point x xs s r.operation r.place one) (s.address one.taken.value r.place one.names);
-                  does = record { operations = one.operations; kept = not_removed x (place_kept (effect_of x.op) is) };
-                  names = one.names;
-                }) own home
-            by_home (Inside object) home = fields r.operation r.place one own object home
+            operand : IsOperandAt laws m number f body frame.trail one.taken.value
+            operand = operand_at laws m number f body frame.trail (item.Inst point) s.trail one.taken
+                (operand_among laws m number f body facts memory frame rest point x xs s r.operation r.place one) (s.address one.taken.value r.place one.names)
 
         by : (r : RowEffect) → r ≡ effect_of x.op → IsOther r → ⊥
         by _ is IsOther.opens = subst (MakesSo ⊥ Opened) e (opened_so is)

@@ -41,15 +41,11 @@ use Rattle.held_places.specs.inner.TrailLaws.{TrailLaws}
 use Rattle.held_places.proofs.AtItem.{accepted, call_news, goes_with, named_before, reads, stands}
 use Rattle.held_places.proofs.ChangesPlaced.{FieldsFound, change_placed, never_faults, slot_right}
 use Rattle.held_places.proofs.FirstFrames.{TypingLaws}
+use Rattle.held_places.proofs.OtherFaults.{result_fault}
 use Rattle.held_places.proofs.RowCalls.{calls_by_row}
 use Rattle.held_places.proofs.RowChanges.{is_still, still_slots}
 use Rattle.held_places.proofs.RowsAt.{is_removal, not_removed}
 use Rattle.held_places.proofs.RowsPlaced.{ArePlaced, GoesWith, StandsBefore, still_placed}
-
--- putting results meets no fault of places
-result_fault : (x : HolderFault) → IsResultFault x → is_place_fault x ≡ false
-result_fault _ IsResultFault.overwrites_held = refl
-result_fault _ IsResultFault.wrong_shape = refl
 
 -- ---- operands that are values
 
@@ -105,7 +101,7 @@ module _ (laws : TrailLaws) (typing : TypingLaws) (m : Module) (bound : ℕ) (s 
   -- ---- a change
 
   makes_placed : (c : Change) (next : HolderNext) → effect_here m bound s frame rest f i ops ≡ Makes c
-      → GoesBehind m (facts_of m) bound s rest held f (item.Inst p) c next → PlacedNext (AreFieldsFound m s) m next
+      → GoesBehind m (facts_of m) bound s rest held f (item.Inst p) c next → PlacedNext (AreFieldsFound m bound s) m next
   makes_placed c _ e (GoesBehind.goes slots entries is put) =
       change_placed (declarations_of m) (shapes_of m) shapes s.memory i ops.given laws m number f own told held rest p before c e slots entries
       (goes_with laws typing m bound s frame rest f i ops at c e slots entries is put)
@@ -133,7 +129,7 @@ module _ (laws : TrailLaws) (typing : TypingLaws) (m : Module) (bound : ℕ) (s 
     out_placed : (callee : Function) (numbers : List ℤ) (events : List Event) (next : HolderNext) → slice_get m.functions g.0 ≡ Some callee
         → numbers_of m (facts_of m) bound args ≡ Some numbers
         → GoesBehind m (facts_of m) bound (record (turned s) { events = events }) rest held f (item.Inst p) change next
-        → PlacedNext (AreFieldsFound m s) m next
+        → PlacedNext (AreFieldsFound m bound s) m next
     out_placed callee numbers events _ there is (GoesBehind.goes slots entries slots_are put) =
         still_placed laws m number f own told s.memory held rest p i ops.given before change slots entries
         (record { slots_are = slots_are; put = put; news = call_news laws typing m bound s frame rest f i ops at call entries })
@@ -144,11 +140,12 @@ module _ (laws : TrailLaws) (typing : TypingLaws) (m : Module) (bound : ℕ) (s 
 
   -- ---- a fault
 
-  fields_found : AreFieldsFound m s → FieldsFound (declarations_of m) (shapes_of m) shapes s.memory i ops.given laws m number f own told held rest p before
-  fields_found found o q one unhanded object home =
-      found frame rest f i at.first at.is at.stands (operated one.taken.value o)
-      (subst (λ os. Contains os (operated one.taken.value o)) (sym one.operations) (Contains-push [] (operated one.taken.value o))) unhanded q object
-      (named_before laws typing m bound s frame rest f i ops at one.taken.value q one.names) home
+  fields_found : AreFieldsFound m bound s → FieldsFound (declarations_of m) (shapes_of m) shapes s.memory i ops.given laws m number f own told held rest p before
+  fields_found found o q one operand field =
+      found frame rest f i ops at.first at.is at.stands at.found (operated one.taken.value o)
+      (subst (λ os. Contains os (operated one.taken.value o)) (sym one.operations) (Contains-push [] (operated one.taken.value o)))
+      operand.location operand.is field.of field.place field.trivial field.source q
+      (named_before laws typing m bound s frame rest f i ops at one.taken.value q one.names)
 
   item_placed : IsItemPlaced m bound s frame rest f i ops
   item_placed = record {

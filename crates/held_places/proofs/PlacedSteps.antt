@@ -66,7 +66,7 @@ module _ (laws : TrailLaws) (typing : TypingLaws) (items : AreItemsPlaced) (m : 
   told = facts_of m
 
   abbrev Found : Type 0
-  Found = AreFieldsFound m s
+  Found = AreFieldsFound m bound s
 
   abbrev w : World
   w = typed.world
@@ -135,7 +135,7 @@ module _ (laws : TrailLaws) (typing : TypingLaws) (items : AreItemsPlaced) (m : 
       }
 
       performs_placed : (e : effects.Effect HolderFault) → steps.effect_in m (facts_of m) bound s frame i ops.given ≡ e → (next : HolderNext)
-          → Performs m (facts_of m) bound s rest (left_with m (facts_of m) bound frame ops) f (item.Inst (stands_at f frame.trail)) e next → PlacedNext (AreFieldsFound m s) m next
+          → Performs m (facts_of m) bound s rest (left_with m (facts_of m) bound frame ops) f (item.Inst (stands_at f frame.trail)) e next → PlacedNext (AreFieldsFound m bound s) m next
       performs_placed _ e next (Performs.makes c n moves) = by_row.makes c next e moves
       performs_placed _ e next (Performs.calls g args callee n called bodied before entering) =
           enters_placed m told bound Found _ _ g callee (map as_argument args)
@@ -155,7 +155,7 @@ module _ (laws : TrailLaws) (typing : TypingLaws) (items : AreItemsPlaced) (m : 
       performs_placed _ e _ Performs.unfit = λ fields. refl
 
     takes_placed : (e : EdgeId) (i : Inst) → terminator_of f e.block.0 ≡ Some i → is_inside (ending_of i.op) ≡ false → ComesAt f (stands_at f frame.trail) (item.Edge e)
-        → (next : HolderNext) → TakesEdge m (facts_of m) bound s rest frame f e next → PlacedNext (AreFieldsFound m s) m next
+        → (next : HolderNext) → TakesEdge m (facts_of m) bound s rest frame f e next → PlacedNext (AreFieldsFound m bound s) m next
     takes_placed e i terminator ends comes next (TakesEdge.takes ops carried n found so turn moves) =
         edge_placed laws typing m told bound verified w Found (turned s) (left_with m told bound frame ops) rest f
         (left_first laws typing m verified w s.memory frame rest f first facts (item.Edge e) ops (reads (item.Edge e) ops found))
@@ -168,7 +168,7 @@ module _ (laws : TrailLaws) (typing : TypingLaws) (items : AreItemsPlaced) (m : 
     chooses_outside i choose (Chooses.by_bit e) = ap is_inside e
     chooses_outside i choose (Chooses.by_case e) = ap is_inside e
 
-    acts_placed : (next : HolderNext) → Acts m (facts_of m) bound s rest frame f next → PlacedNext (AreFieldsFound m s) m next
+    acts_placed : (next : HolderNext) → Acts m (facts_of m) bound s rest frame f next → PlacedNext (AreFieldsFound m bound s) m next
     acts_placed next (Acts.does i ops n here found performed) = performs_placed i ops here found _ refl next performed
     acts_placed next (Acts.branches i n stands one along) =
         takes_placed (edge_of point 0) i stands.terminator (ap is_inside one)
@@ -194,7 +194,7 @@ module _ (laws : TrailLaws) (typing : TypingLaws) (items : AreItemsPlaced) (m : 
 
   -- ---- a step
 
-  steps_placed : (next : HolderNext) → StepsBy m (facts_of m) bound s next → PlacedNext (AreFieldsFound m s) m next
+  steps_placed : (next : HolderNext) → StepsBy m (facts_of m) bound s next → PlacedNext (AreFieldsFound m bound s) m next
   steps_placed next (StepsBy.runs frame rest f n is there acts) = acts_placed frame rest f is there next acts
   steps_placed _ (StepsBy.dropped rest is) = (subst (TasksPlaced m s.memory) is placed).1
   steps_placed next (StepsBy.drops o os rest n is dropping) = drops_one m told bound _ Found o (tt, (subst (TasksPlaced m s.memory) is placed).1) next dropping
@@ -209,17 +209,17 @@ module _ (laws : TrailLaws) (typing : TypingLaws) (items : AreItemsPlaced) (m : 
   steps_placed _ (StepsBy.no_function frame rest is there) = λ fields. refl
   steps_placed _ (StepsBy.no_deinit g gs o rest is there) = λ fields. refl
 
-  next_placed : PlacedNext (AreFieldsFound m s) m (steps.step m (facts_of m) bound s)
+  next_placed : PlacedNext (AreFieldsFound m bound s) m (steps.step m (facts_of m) bound s)
   next_placed = steps_placed (steps.step m (facts_of m) bound s) (steps_told m (facts_of m) bound s)
 
 module _ (laws : TrailLaws) (typing : TypingLaws) (items : AreItemsPlaced) where
   pub places_kept : ArePlacesKept
   places_kept m bound s next verified typed tracked placed e =
-      subst (PlacedNext (AreFieldsFound m s) m) e (next_placed laws typing items m bound verified s typed tracked placed)
+      subst (PlacedNext (AreFieldsFound m bound s) m) e (next_placed laws typing items m bound verified s typed tracked placed)
 
   pub no_place_faults : NoPlaceFaults
   no_place_faults m bound s last x verified typed tracked placed fields e =
-      subst (PlacedNext (AreFieldsFound m s) m) e (next_placed laws typing items m bound verified s typed tracked placed) fields
+      subst (PlacedNext (AreFieldsFound m bound s) m) e (next_placed laws typing items m bound verified s typed tracked placed) fields
 
 pub begin_placed : TrailLaws → BeginPlaced
 begin_placed laws m e f verified there starts =

@@ -88,11 +88,14 @@ module _ (laws : TrailLaws) (m : Module) (number : ℕ) (f : Function) (body : I
       names = s.names;
     }
 
-    -- the place is found as the operation asks, where it is on the stack
+    -- the place is found as the operation asks, where its root is there
+    pub there_found : ((row : AddressRow) → o ≡ Handed row → ⊥) → IsThere (declarations_of m) f frame.trail s.operand.location.root → IsFoundSo memory p o
+    there_found own there = found_on_stack laws m number f body frame frame rest memory point x v o s.operand.location p (stands there) own
+
+    -- and so it is where it is on the stack
     pub operand_found : ((row : AddressRow) → o ≡ Handed row → ⊥) → p.home ≡ OnStack → IsFoundSo memory p o
     operand_found own home = ⊎_elim
-        (λ (there : IsThere (declarations_of m) f frame.trail s.operand.location.root).
-        found_on_stack laws m number f body frame frame rest memory point x v o s.operand.location p (stands there) own)
+        (λ (there : IsThere (declarations_of m) f frame.trail s.operand.location.root). there_found own there)
         (λ (field : IsInObject laws m number f body s.operand.location.root).
         absurd (s.holds.fields v s.operand.location s.operand.is field.of field.place field.trivial field.source p s.names home))
         s.operand.root

@@ -25,7 +25,7 @@ abbrev pub ArePlacesKept : Type 0
 ArePlacesKept = (m : Module) (bound : ℕ) (s next : HolderState) → IsVerified m → IsTypedState m s → IsTrackedState m s → AreSlotsRight m s
     → step m (facts_of m) bound s ≡ Goes next → AreSlotsRight m next
 
--- and ends in no fault of places, where each place in an object is found as it is asked for
+-- and ends in no fault of places, where each field is found as it is asked for
 abbrev pub NoPlaceFaults : Type 0
 NoPlaceFaults = (m : Module) (bound : ℕ) (s last : HolderState) (x : HolderFault) → IsVerified m → IsTypedState m s → IsTrackedState m s → AreSlotsRight m s
-    → AreFieldsFound m s → step m (facts_of m) bound s ≡ Ends (Faulted x) last → is_place_fault x ≡ false
+    → AreFieldsFound m bound s → step m (facts_of m) bound s ≡ Ends (Faulted x) last → is_place_fault x ≡ false
