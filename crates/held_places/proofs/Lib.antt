@@ -63,3 +63,4 @@ pub mod StoresFit
 pub mod HandingOver
 pub mod NewParts
 pub mod NamedChanges
+pub mod TypingSo
