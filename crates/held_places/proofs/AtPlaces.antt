@@ -48,7 +48,7 @@ use Rattle.type_definitions.specs.Declarations.{Declarations, declarations_of}
 use Rattle.held_places.specs.inner.FramePlaces.{HoldsPlaces, IsFree, Names}
 use Rattle.held_places.specs.inner.Roots.{IsThere, argument, is_full_on, is_shared, slot}
 use Rattle.held_places.specs.inner.TrailLaws.{TrailLaws}
-use Rattle.held_places.proofs.Asking.{asked_by, met}
+use Rattle.held_places.proofs.Asking.{IsAsked, asked_by, met}
 use Rattle.held_places.proofs.Contents.{FoundAt, OperatesAt, found_at, on_stack, others_untouched, stays_full}
 use Rattle.held_places.proofs.GoingOn.{IsDoneAt as DoneAt, OthersStay, cells_behind, goes_on, stays_below, stays_quiet}
 use Rattle.held_places.proofs.Keeping.{Keeps, keeps_roots, slot_no_part, there_still}
@@ -102,14 +102,14 @@ module _ (laws : TrailLaws) (m : Module) (number : ℕ) (f : Function) (body : I
             ∙ slot_no_part frame.entries (slots_on (declarations_of m) f frame.trail) frame.slots l.root s.holds.slots there within.whole within.names))
         by (argument row t is) e same = absurd (true≢false (sym (ap (λ q. q.is_part) (sym same) ∙ part) ∙ s.holds.handed l.root row t is within.whole within.names))
 
+    pub asked_so : ((row : AddressRow) → o ≡ Handed row → ⊥) → IsAsked (asked_before p.is_part o) found.on
+    asked_so own = asked_by (is_trivial_at (sources_of (declarations_of m) f) l.root) (is_part l) o found.on p.is_part own found.found part_by_location
+
     -- so the place is as the run asks
     pub is_as_asked : (d : Declarations) (shapes : ModuleShapes) (values : List Shape) → ((row : AddressRow) → o ≡ Handed row → ⊥)
         → (e : Effect HolderFault)
         → where_held d shapes values memory x p (asked_before p.is_part o) e ≡ e
-    is_as_asked d shapes values own e =
-        met d shapes values memory x p found.on as_full (asked_before p.is_part o)
-        (asked_by (is_trivial_at (sources_of (declarations_of m) f) l.root) (is_part l) o found.on p.is_part own found.found
-        part_by_location) e
+    is_as_asked d shapes values own e = met d shapes values memory x p found.on as_full (asked_before p.is_part o) (asked_so own) e
 
     -- ---- behind it
 

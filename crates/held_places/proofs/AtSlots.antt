@@ -288,3 +288,6 @@ module _ (laws : TrailLaws) (m : Module) (number : ℕ) (f : Function) (body : I
 
       pub removed_below : (n : ℕ) → IsFree m rest n ⊎ (cell_at (removed memory p) OnStack n ≡ cell_at memory OnStack n)
       removed_below n = closes_below m f frame next rest memory (removed memory p) here.holds v p closes n
+
+      pub removed_more : length memory.stack ≤ length (removed memory p).stack
+      removed_more = let size = closes.changes.sizes OnStack in omega (arith, size)

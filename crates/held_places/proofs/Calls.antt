@@ -3,10 +3,12 @@ use Rattle.std.proofs.Common.{◌≡◌, ◌⊎◌, ⊎_elim, inl, inr, ◌==◌
 use Rattle.std.specs.List.{list_any}
 use Rattle.std.proofs.lemmas.Bool.{and_from, and_parts, and_right, false≢true, or_cases, true≢false}
 use Rattle.accepted_memory.specs.holder_model.Calling.{handed_over, places_given}
+use Rattle.accepted_memory.specs.holder_model.Effects.{effect_of}
 use Rattle.accepted_memory.specs.holder_model.Frames.{Entry, Frame, Gone, LentPlace, entry_at}
 use Rattle.accepted_memory.specs.holder_model.Standing.{stands_at}
 use Rattle.accepted_memory.specs.holder_model.StepParts.{new_frame}
 use Rattle.accepted_memory.specs.holder_model.States.{Drops, Finishes, Runs, Task}
+use Rattle.accepted_memory.specs.holder_model.declared.row_effect.RowEffect.TheVariants.{CallsFunction}
 use Rattle.accepted_memory.specs.memory_accesses.Operations.{operations_of}
 use Rattle.accepted_memory.specs.memory_accesses.Sources.{source_at, sources_of}
 use Rattle.accepted_memory.specs.memory_accesses.declared.source.Source.TheVariants as source
@@ -77,6 +79,7 @@ below_same m memory callee next (Runs frame ∷ rest) same kept h = (
     holds = h.0.holds;
     call = h.0.call;
     stands = h.0.stands;
+    calls = h.0.calls;
     lent = h.0.lent;
     body = h.0.body;
     there = ap (λ g. slice_get m.functions g.0) same ∙ h.0.there;
@@ -203,9 +206,9 @@ module _ (laws : TrailLaws) (m : Module) (number : ℕ) (f : Function) (body : I
     }
 
     -- the callee goes on over the frame that waits
-    pub calls_placed : slice_get m.functions frame.function.0 ≡ Some f → inst_at f (stands_at f frame.trail) ≡ Some x → BelowPlaced m memory frame rest
+    pub calls_placed : slice_get m.functions frame.function.0 ≡ Some f → inst_at f (stands_at f frame.trail) ≡ Some x → effect_of x.op ≡ CallsFunction → BelowPlaced m memory frame rest
         → TasksPlaced m after (Runs (new_frame g entries) ∷ Runs waiting ∷ rest)
-    calls_placed is stands below = (
+    calls_placed is stands calls below = (
       record {
         f = callee;
         is = there;
@@ -219,6 +222,7 @@ module _ (laws : TrailLaws) (m : Module) (number : ℕ) (f : Function) (body : I
           holds = waiting_holds;
           call = x;
           stands = stands;
+          calls = calls;
           lent = s.by;
           body = callee;
           there = there;

@@ -38,7 +38,7 @@ is_the_slot (source.Field of k trivial) e = absurd (false≢true e)
 is_the_slot (source.Part of k) e = absurd (false≢true e)
 is_the_slot source.Other e = absurd (false≢true e)
 
-each_has : (P : ValueId → Type 0) (vs : List ValueId) (v : ValueId) → Each P vs → has vs v.0 ≡ true → P v
+pub each_has : (P : ValueId → Type 0) (vs : List ValueId) (v : ValueId) → Each P vs → has vs v.0 ≡ true → P v
 each_has P [] v each h = absurd (false≢true h)
 each_has P (w ∷ vs) v each h = ⊎_elim
     (λ (here : (w.0 == v.0) ≡ true). subst P (ap (λ (k : ℕ). record { 0 = k }) (eqb-true w.0 v.0 here)) each.0)

@@ -28,7 +28,7 @@ use Rattle.held_places.proofs.EntriesKept.{made_datum, ok_once}
 use Rattle.held_places.proofs.Taking.{AreAddressesPlain}
 
 -- what is the address of a place has the form of one
-address_form : (m : Module) (w : World) (form : Form) (x : Datum) (p : Place) → DatumIs m w form x → x ≡ AddressOf p → form ≡ OfPlace p.shape
+pub address_form : (m : Module) (w : World) (form : Form) (x : Datum) (p : Place) → DatumIs m w form x → x ≡ AddressOf p → form ≡ OfPlace p.shape
 address_form m w _ _ p (DatumIs.value s x suits) e = absurd (cc)
 address_form m w _ _ p (DatumIs.place q is) e = let same : q ≡ p = cc in ap (λ (r : Place). OfPlace r.shape) same
 address_form m w _ _ p (DatumIs.function g) e = absurd (cc)

@@ -93,6 +93,13 @@ second_of r cs (o ∷ os) (suc n) s t e =
     let all = all_addresses os n t others in
     (ap (λ x. x.role) (sym same), ap (λ x. x.handed) (sym same), all.0, all.1)
 
+pub takes_second : (i : Inst) (s t : Taken) → is_store (effect_of i.op) ≡ true → taken_by i ≡ s ∷ t ∷ [] → TakesAddress i t
+takes_second i s t is e =
+    let roles = second_address i.op is in
+    let all = second_of roles.0 (conventions_in i) i.operands (length i.operands) s t
+    (sym (ap (λ rs. taken_each i.operands (roles_for rs (conventions_in i) (length i.operands))) roles.1) ∙ e) in
+    record { role_is = all.2; handed = all.3 }
+
 -- ---- what is done
 
 -- an operand that isn't handed over

@@ -58,6 +58,7 @@ module _ (m : Module) (before after : Memory) (more : length before.stack ≤ le
     holds = named_still h.f frame rest h.holds (λ n lt. ⊎_elim (λ free. inl (free.0 h.f h.is)) (λ same. inr same) (stays n lt));
     call = h.call;
     stands = h.stands;
+    calls = h.calls;
     lent = h.lent;
     body = h.body;
     there = h.there;

@@ -5,3 +5,5 @@ pub mod PlaceStates
 pub mod PartsNamed
 pub mod TakenPlaces
 pub mod Premises
+pub mod Items
+pub mod Laws

@@ -3,4 +3,4 @@
 
 mod laws;
 
-pub use laws::trails_serve_places;
+pub use laws::{places_are_as_asked, places_are_kept, runs_begin_placed};

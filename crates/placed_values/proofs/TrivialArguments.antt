@@ -423,11 +423,13 @@ module _ (m : Module) (n : ℕ) (f : Function) (a : IsAcceptedBody m n f) where
     makes_stay : (w : ValueId) (s : Source) → source_at sources w ≡ s → Each (λ x. StaysOn (turn_by d f p x)) (made_by w s)
     makes_stay w (source.Slot trivial) at =
         (turns_when (is_same w v) _ (λ same h. let two : source.Slot trivial ≡ source.Argument row true = same_source w (source.Slot trivial) at same in cc), tt)
-    makes_stay w (source.Argument r trivial) at =
-        (turns_when (is_same w v) (given_mark r.before) (λ same h.
-        let two : source.Argument r trivial ≡ source.Argument row true = same_source w (source.Argument r trivial) at same in
-        let rows : r ≡ row = cc in
-        full_on_given r (ap (λ (y : AddressRow). y.before) rows ∙ full) h), tt)
+    makes_stay w (source.Argument r trivial) at = (
+      turns_when (is_same w v) (given_mark r.before) (λ same h.
+          let two : source.Argument r trivial ≡ source.Argument row true = same_source w (source.Argument r trivial) at same in
+          let rows : r ≡ row = cc in
+          full_on_given r (ap (λ (y : AddressRow). y.before) rows ∙ full) h),
+      tt,
+    )
     makes_stay w (source.Object fields) at =
         (turns_when (is_same w v) _ (λ same h. let two : source.Object fields ≡ source.Argument row true = same_source w (source.Object fields) at same in cc), tt)
     makes_stay w (source.Borrow of) at = tt
