@@ -160,7 +160,7 @@ module _ (m : Module) (n : ℕ) (f : Function) (a : IsAcceptedBody m n f) where
       of_slot v trivial is at.0 at.1 ty t has_type points
   root_plain trail v (argument row trivial is) ty t has_type points = of_argument v row trivial is ty t has_type points
 
-  root_trivial : (trail : List Item) (v : ValueId) → IsThere d f trail v → (ty t : TypeName) → type_in d f v ≡ Some ty → target ty ≡ Some t
+  pub root_trivial : (trail : List Item) (v : ValueId) → IsThere d f trail v → (ty t : TypeName) → type_in d f v ≡ Some ty → target ty ≡ Some t
       → is_trivial_at sources v ≡ is_trivial_object d t
   root_trivial trail v (slot trivial is there) ty t has_type points =
       ap is_trivial_source is ∙ roots_trivial m n f a v trivial (subst (IsStackRoot trivial) (sym is) IsStackRoot.slot) ty t has_type points

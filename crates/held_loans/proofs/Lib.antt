@@ -1,0 +1,5 @@
+pub mod Reached
+pub mod LoanAt
+pub mod Clear
+pub mod TrivialStores
+pub mod Undisturbed
