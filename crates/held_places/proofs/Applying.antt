@@ -71,9 +71,9 @@ by_last role.ScopeRole cs n t c = by_rows role.ScopeRole n t c
 by_last role.Counted cs n t c = by_rows role.Counted n t c
 
 by_roles : (rs : List Role) (cs : List ArgumentConvention) (n : ℕ) (t : Treatment) → Among t (roles_for rs cs n) → IsByTable t
-by_roles [] cs n t c = absurd c
-by_roles (r ∷ []) cs n t c = by_last r cs n t c
-by_roles (r ∷ q ∷ rs) cs zero t c = absurd c
+by_roles [] cs n t c row e = absurd c
+by_roles (r ∷ []) cs n t c row e = by_last r cs n t c row e
+by_roles (r ∷ q ∷ rs) cs zero t c row e = absurd c
 by_roles (r ∷ q ∷ rs) cs (suc n) t (inl same) row e = absurd (none-some row (sym (ap (λ x. x.handed) same) ∙ e))
 by_roles (r ∷ q ∷ rs) cs (suc n) t (inr later) row e = by_roles (q ∷ rs) cs n t later row e
 

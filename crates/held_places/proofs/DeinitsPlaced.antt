@@ -12,10 +12,11 @@ use Rattle.accepted_values.specs.accepted_modules.inner.Checked.{IsVerified}
 use Rattle.accepted_values.specs.accepted_modules.sil_types.Typing.OperandTypes.{argument_types}
 use Rattle.accepted_values.specs.inner.Known.{IsAcceptedBody}
 use Rattle.accepted_values.specs.run_typing.CallForms.{IsDeinitOf}
-use Rattle.accepted_values.specs.run_typing.Forms.{Form, OfValue, entry_forms}
+use Rattle.accepted_values.specs.run_typing.Forms.{Form, OfValue, entry_forms, form_with}
 use Rattle.accepted_values.proofs.Accepted.{well_typed}
 use Rattle.accepted_values.proofs.run_typing_laws.FunctionFacts.{typed_function}
 use Rattle.accepted_values.proofs.run_typing_laws.Rows.Forms.{typed_form}
+use Rattle.accepted_values.proofs.run_typing_laws.Rows.Layers.{target-Address}
 use Rattle.accepted_values.proofs.run_typing_laws.SignatureFacts.{entry_forms_are}
 use Rattle.argument_conventions.specs.Arguments.{Told, argument_type, arguments_of, handed_type}
 use Rattle.argument_conventions.specs.Rows.{address_row}
@@ -35,6 +36,7 @@ use Rattle.sil_ast.specs.declared.place.FuncId.{FuncId}
 use Rattle.sil_ast.specs.declared.place.ObjectId.{ObjectId}
 use Rattle.sil_ast.specs.declared.place.ValueId.{ValueId}
 use Rattle.sil_ast.specs.declared.type_name.TypeName.{TypeName}
+use Rattle.sil_ast.specs.declared.type_name.TypeName.TheVariants as type
 use Rattle.sil_cfg.specs.declared.item.Item.TheVariants as item
 use Rattle.type_definitions.specs.Declarations.{Declarations, declarations_of}
 use Rattle.typed_holders.proofs.GoesOn.{accepted_body}
@@ -50,7 +52,9 @@ no_row : (d : Declarations) (c : ArgumentConvention) (t : TypeName) (s : Shape) 
 no_row d convention.Plain t s e = refl
 no_row d convention.Owned t s e = refl
 no_row d convention.Guaranteed t s e = refl
-no_row d (convention.Address k) t s e = absurd (cc)
+no_row d (convention.Address k) t s e =
+    let place : form_with d (type.Address t) (Some t) ≡ OfValue s = sym (ap (form_with d (type.Address t)) (target-Address t)) ∙ e in
+    absurd (cc)
 
 one_plain : (d : Declarations) (told : List Told) (s : Shape) → map (typed_form d) (map argument_type told) ≡ OfValue s ∷ []
     → (k : ℕ) (a : Told) → slice_get told k ≡ Some a → address_row a.convention ≡ None
