@@ -74,7 +74,7 @@ module _ (sources : List Source) (f : Function) (t : List Item) (i : Item) (old 
               let was = made_before f t i l.root v e made in
               before.parts v l is part was.1 whole p (kept l.root was.0 whole one) (kept v e p two)
 
-      field : AreFieldsInside sources new
+      fields_kept : AreFieldsInside sources new
       fields_kept v l is of k trivial src p names = at (makes f v i) refl
         where
           at : (b : Bool) → makes f v i ≡ b → p.home ≡ OnStack → ⊥
