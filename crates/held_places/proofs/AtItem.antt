@@ -46,7 +46,6 @@ use Rattle.typed_holders.proofs.Performs.{defines_results}
 use Rattle.typed_holders.proofs.RowForms.{row_fits}
 use Rattle.typed_holders.proofs.ShapesTold.{result_told}
 use Rattle.typed_memory.specs.inner.Worlds.{DatumIs, World}
-
 use Rattle.held_places.specs.inner.FramePlaces.{HoldsPlaces, Names}
 use Rattle.held_places.specs.inner.Items.{StandsAtItem, effect_here}
 use Rattle.held_places.specs.inner.PartsNamed.{AreNewNamed}

@@ -110,9 +110,12 @@ module _ (laws : TrailLaws) (m : Module) (number : ℕ) (f : Function) (body : I
         (laws.made_once m number f body frame.trail i here.trail here.goes v old);
     parts = a.parts;
     slots = subst (λ ps. AreSlotsOf next.entries (slots_of next.trail) ps) (sym a.slots)
-        (subst (λ vs. AreSlotsOf next.entries vs (slot_of memory shape ∷ frame.slots)) (sym (ap slots_of a.trail ∙ opened.0))
-        (a.names, refl, slots_still frame.entries next.entries (slots_of frame.trail) frame.slots
-        (λ v there. a.entries v (slot_there laws m number f body frame.trail v there)) here.holds.slots));
+        (subst (λ vs. AreSlotsOf next.entries vs (slot_of memory shape ∷ frame.slots)) (sym (ap slots_of a.trail ∙ opened.0)) (
+          a.names,
+          refl,
+          slots_still frame.entries next.entries (slots_of frame.trail) frame.slots
+              (λ v there. a.entries v (slot_there laws m number f body frame.trail v there)) here.holds.slots,
+        ));
   })
     where
       part : part_by (sources_of (declarations_of m) f) s (source_at (sources_of (declarations_of m) f) s) ≡ Some (Contents (whole_cell s) a.trivial None)

@@ -3,4 +3,7 @@
 
 mod laws;
 
-pub use laws::{places_are_as_asked, places_are_kept, runs_begin_placed};
+pub use laws::{
+    items_are_placed, places_are_as_asked, places_are_kept, rows_find_their_places,
+    runs_begin_placed,
+};
