@@ -196,8 +196,8 @@ module _ (laws : TrailLaws) (m : Module) (number : ℕ) (f : Function) (body : I
           at : operand.location.root ≡ l.cell.location.root → ⊥
           at same =
               let ty = s.address in
-              let trivial = s.trivially is ty.0 ty.1 ty.2.0 ty.2.1 in
-              let of_root = root_trivial m number f body frame.trail v (subst (IsThere (declarations_of m) f frame.trail) itself there) ty.0 ty.1 ty.2.0 ty.2.1 in
+              let trivial = s.trivially is ty.0 ty.1 ty.2 ty.3 in
+              let of_root = root_trivial m number f body frame.trail v (subst (IsThere (declarations_of m) f frame.trail) itself there) ty.0 ty.1 ty.2 ty.3 in
               true≢false (sym (of_root ∙ trivial)
               ∙ ap (is_trivial_at (sources_of (declarations_of m) f)) (sym itself ∙ same) ∙ l.cell.root.nontrivial)
 

@@ -124,11 +124,11 @@ module _ (d : Declarations) (shapes : ModuleShapes) (values : List Shape) (memor
         still : StaysStill memory c → (effect_of x.op ≡ row.CallsFunction) ⊎ (is_quiet (effect_of x.op) ≡ true) → is_still (effect_of x.op) ≡ true → Placed c slots entries
         still same (inl call) is = absurd (never_makes xs (sym (ap by_row call) ∙ e))
           where
-            never_makes : (ys : List Datum) → effects.calls d shapes values memory x ys ≡ Makes c → ⊥
+            never_makes : (ys : List Datum) → effects.calls d shapes values memory x {X = HolderFault} ys ≡ Makes c → ⊥
             never_makes [] h = cc
             never_makes (y ∷ ys) h = with_function (as_function y) h
               where
-                with_function : (o : Option FuncId) → effects.with_some (λ g. Calls g ys) o ≡ Makes c → ⊥
+                with_function : (o : Option FuncId) → effects.with_some {X = HolderFault} (λ g. Calls g ys) o ≡ Makes c → ⊥
                 with_function None h = cc
                 with_function (Some g) h = cc
         still same (inr quiet) is =

@@ -181,5 +181,5 @@ module _ (d : Declarations) (shapes : ModuleShapes) (values : List Shape) (m : M
     met = λ met. subst (MakesSo ⊥ (LeavesOut m p)) (sym (met out)) (refl, refl, refl);
   })
     where
-      abbrev out : Effect HolderFault
+      out : Effect HolderFault
       out = Makes (record (unchanged (removed m p)) { slots = ClosesSlot p })

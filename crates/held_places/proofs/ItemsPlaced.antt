@@ -55,11 +55,12 @@ values_lend [] xs vs e = refl
 values_lend (t ∷ ts) [] vs e = refl
 values_lend (t ∷ ts) (AddressOf p ∷ xs) vs e = absurd (cc)
 values_lend (t ∷ ts) (FunctionOf g ∷ xs) vs e = absurd (cc)
-values_lend (t ∷ ts) (ValueOf v ∷ xs) vs e = ap (λ ls. lent_with t.handed None ++ ls) (rest (values_of xs) refl e) ∙ none t.handed
+values_lend (t ∷ ts) (ValueOf v ∷ xs) vs e =
+    ap (λ ls. lent_with t.handed None ++ ls) (rest (values_of xs) e (λ ws is. values_lend ts xs ws is)) ∙ none t.handed
   where
-    rest : (o : Option (List Value)) → values_of xs ≡ o → with_first (Some v) o ≡ Some vs → lent_places ts xs ≡ []
-    rest None is h = absurd (cc)
-    rest (Some ws) is h = values_lend ts xs ws is
+    rest : (o : Option (List Value)) → with_first (Some v) o ≡ Some vs → ((ws : List Value) → o ≡ Some ws → lent_places ts xs ≡ []) → lent_places ts xs ≡ []
+    rest None h others = absurd (cc)
+    rest (Some ws) h others = others ws refl
 
     none : (r : Option AddressRow) → lent_with r None ++ [] ≡ []
     none None = refl

@@ -131,6 +131,12 @@ one_taken (o ∷ os) (r ∷ rs) t e = let same : taken_as o r ≡ t = cc in (o, 
 made_results : (a c : Change) → ◌≡◌ {A = Effect HolderFault} (Makes a) (Makes c) → a.results ≡ c.results
 made_results a c e = let same : a ≡ c = cc in ap (λ z. z.results) same
 
+-- a member is no root
+no_member_root : (of : ValueId) (k : ℕ) (s : Source) → s ≡ source.Part of k → IsRoot s → ⊥
+no_member_root of k _ e IsRoot.slot = cc
+no_member_root of k _ e IsRoot.argument = cc
+no_member_root of k _ e IsRoot.field = cc
+
 field_kind : (o : Op) → effect_of o ≡ row.AddressesField → is_member_kind (access_kind_of o) ≡ false
 field_kind op.RefElementAddr e = refl
 field_kind _ e = absurd (cc)
@@ -355,11 +361,8 @@ module _ (m : Module) (number : ℕ) (f : Function) (w : World) (facts : ValueId
         there_too : Names new a.location.root q
         there_too = subst (λ k. Names new k.root q) a.extends names
 
-        no_root : IsRoot (source.Part of says.number) → ⊥
-        no_root ()
-
         at : (b : Bool) → makes f a.location.root i ≡ b → Names ops.left a.location.root q
-        at true h = absurd (no_root (subst IsRoot (source_is a.location.root h) a.rooted))
+        at true h = absurd (no_member_root of says.number (source_at sources a.location.root) (source_is a.location.root h) a.rooted)
         at false h = stays a.location.root h q there_too
 
     pub member_result : AreNewNamed sources f t i ops.left new

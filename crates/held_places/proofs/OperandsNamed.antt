@@ -5,7 +5,7 @@ use Rattle.std.specs.declared.result.Result.{Result}
 use Rattle.accepted_memory.specs.holder_model.Data.{AddressOf, Datum}
 use Rattle.accepted_memory.specs.holder_model.Faults.{HolderFault}
 use Rattle.accepted_memory.specs.holder_model.Frames.{Entry, and_more, datum_in, datum_or_fault, ends, entry_at, has_any, operand, operand_data, unless_dead, used_datum, with_ok}
-use Rattle.accepted_memory.specs.ownership_marks.Marks.{ended_by, ended_with}
+use Rattle.accepted_memory.specs.memory_accesses.Marks.{ended_by, ended_with}
 use Rattle.instruction_table.specs.declared.entries.Role.{Role}
 use Rattle.instruction_table.specs.declared.entries.Role.TheVariants as role
 use Rattle.item_operands.specs.Items.{item_taken}

@@ -62,11 +62,11 @@ made_before f t i b v not_so h =
 
 module _ (sources : List Source) (f : Function) (t : List Item) (i : Item) (old new : List Entry) where
   pub parts_behind : ArePartsNamed sources f t old → AreNewNamed sources f t i old new → AreOldKept f i old new → ArePartsNamed sources f (i ∷ t) new
-  parts_behind before news kept = record { parts = part; fields = field }
+  parts_behind before news kept = record { parts = parts_kept; fields = fields_kept }
     where
-      part : (v : ValueId) (l : Location) → location_of sources v ≡ Some l → is_part l ≡ true → IsAsMade f (i ∷ t) l.root v
+      parts_kept : (v : ValueId) (l : Location) → location_of sources v ≡ Some l → is_part l ≡ true → IsAsMade f (i ∷ t) l.root v
           → (whole p : Place) → Names new l.root whole → Names new v p → IsPartAt whole l.path p
-      part v l is part made whole p one two = at (makes f v i) refl
+      parts_kept v l is part made whole p one two = at (makes f v i) refl
         where
           at : (b : Bool) → makes f v i ≡ b → IsPartAt whole l.path p
           at true e = news.parts v e l is part made whole p one two
@@ -74,8 +74,8 @@ module _ (sources : List Source) (f : Function) (t : List Item) (i : Item) (old 
               let was = made_before f t i l.root v e made in
               before.parts v l is part was.1 whole p (kept l.root was.0 whole one) (kept v e p two)
 
-      field : AreFieldsInside sources new
-      field v l is of k trivial src p names = at (makes f v i) refl
+      fields_kept : AreFieldsInside sources new
+      fields_kept v l is of k trivial src p names = at (makes f v i) refl
         where
           at : (b : Bool) → makes f v i ≡ b → p.home ≡ OnStack → ⊥
           at true e = news.fields v e l is of k trivial src p names

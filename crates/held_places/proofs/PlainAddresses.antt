@@ -85,4 +85,4 @@ module _ (m : Module) (w : World) (number : ℕ) (f : Function) (body : IsAccept
   entries_plain v p names =
       let ty = typed_place m f v p.shape (named_shape v p names) in
       named_plain m w (kind_at (declarations_of m) f v) (form_of (declarations_of m) f v) p (entry_at entries v) (typed.each v (within v p names)) names
-      (addresses_plain m number f body v ty.0 ty.1 ty.2.0 ty.2.1)
+      (addresses_plain m number f body v ty.0 ty.1 ty.2 ty.3)

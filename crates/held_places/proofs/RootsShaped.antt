@@ -172,8 +172,8 @@ roots_shaped m n f w entries a typed trail v there p names =
     let address = named_shape m w n f a entries typed v p names in
     let ty = typed_place m f v p.shape address in
     let shape : p.shape ≡ shape_of (declarations_of m) ty.1 =
-    place_shape (declarations_of m) ty.0 ty.1 p.shape (function_at (value_functions f) v.0) ty.2.1
-    (ap (λ o. form_by (declarations_of m) o (function_at (value_functions f) v.0)) (sym ty.2.0) ∙ address) in
+    place_shape (declarations_of m) ty.0 ty.1 p.shape (function_at (value_functions f) v.0) ty.3
+    (ap (λ o. form_by (declarations_of m) o (function_at (value_functions f) v.0)) (sym ty.2) ∙ address) in
     ap is_trivial shape
-    ∙ object_shape (declarations_of m) (no_addresses m (well_typed m a.verified)) ty.1 (plain_type ty.1 (root_plain m n f a trail v there ty.0 ty.1 ty.2.0 ty.2.1))
-    ∙ sym (root_trivial m n f a trail v there ty.0 ty.1 ty.2.0 ty.2.1)
+    ∙ object_shape (declarations_of m) (no_addresses m (well_typed m a.verified)) ty.1 (plain_type ty.1 (root_plain m n f a trail v there ty.0 ty.1 ty.2 ty.3))
+    ∙ sym (root_trivial m n f a trail v there ty.0 ty.1 ty.2 ty.3)

@@ -92,8 +92,8 @@ slot_there _ e = absurd (false≢true e)
 module _ (laws : TrailLaws) (m : Module) (number : ℕ) (f : Function) (body : IsAcceptedBody m number f) (facts : ValueId → Option Facts)
     (memory : Memory) (frame : Frame) (rest : List (Task Frame)) (point : PointId) (x : Inst) (xs : List Datum)
     (s : StandsBefore laws m number f body facts memory frame rest point x xs) where
-  here : (next : Frame) → StandsHere laws m number f body frame next rest memory (item.Inst point) x
-  here next = record { holds = s.holds; none_lent = s.none_lent; goes = s.goes; inst = s.inst; trail = s.trail }
+  here : (ahead : Frame) → StandsHere laws m number f body frame ahead rest memory (item.Inst point) x
+  here ahead = record { holds = s.holds; none_lent = s.none_lent; goes = s.goes; inst = s.inst; trail = s.trail }
 
   -- the source of an address that the instruction makes as a new slot
   slot_is : effect_of x.op ≡ row.MakesSlot → (v : ValueId) → item_defined f (item.Inst point) ≡ v ∷ []
@@ -188,8 +188,8 @@ module _ (laws : TrailLaws) (m : Module) (number : ℕ) (f : Function) (body : I
         (of_slots (declarations_of m) f (laws.accepted m number f body) (item.Inst point) x s.inst removes.deallocates_it first.0.value
         (subst (λ vs. Contains vs first.0.value) (sym removes.addresses) (Contains-push [] first.0.value)))
 
-    goes_out : (next : Frame) → Deallocates laws m number f body frame next rest memory (item.Inst point) x first.0.value p
-    goes_out next = record { removes = removes; names = first.2; trivial = old.0; source = old.1 }
+    abbrev goes_out : (ahead : Frame) → Deallocates laws m number f body frame ahead rest memory (item.Inst point) x first.0.value p
+    goes_out ahead = record { removes = removes; names = first.2; trivial = old.0; source = old.1 }
 
     -- it is empty or of a trivial type, as it is asked to be
     pub removal_met : (d : Declarations) (shapes : ModuleShapes) (values : List Shape) (e : Effect HolderFault)
@@ -211,7 +211,7 @@ module _ (laws : TrailLaws) (m : Module) (number : ℕ) (f : Function) (body : I
       abbrev later : Frame
       later = next_frame laws m number f body facts memory frame rest point x xs slots entries
 
-      last : IsNewest laws m number f body frame later rest memory (item.Inst point) x (here later) first.0.value p (goes_out later)
+      abbrev last : IsNewest laws m number f body frame later rest memory (item.Inst point) x (here later) first.0.value p (goes_out later)
       last = newest laws m number f body frame later rest memory (item.Inst point) x (here later) first.0.value p (goes_out later)
 
       is_behind : c.slots ≡ ClosesSlot p → IsBehind laws m number f body frame later rest memory (item.Inst point) x (here later) first.0.value p (goes_out later)

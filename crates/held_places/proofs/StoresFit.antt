@@ -1,5 +1,5 @@
 -- What an instruction stores fits the place.
-use Rattle.std.proofs.Common.{◌≡◌, List, [], ◌∷◌, map, refl, sym, ap, ◌∙◌, subst, true, Some}
+use Rattle.std.proofs.Common.{◌≡◌, ℕ, List, [], ◌∷◌, map, refl, sym, ap, ◌∙◌, subst, true, Some}
 use Rattle.accepted_memory.specs.holder_model.Data.{AddressOf, Datum, ValueOf}
 use Rattle.accepted_memory.specs.holder_model.Effects.{effect_of}
 use Rattle.accepted_memory.specs.holder_model.Frames.{Entry, Operands}
