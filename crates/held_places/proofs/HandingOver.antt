@@ -146,7 +146,7 @@ pub record IsCalledWith (xs : List Datum) (g : FuncId) (args : List Datum) : Typ
   pub names : as_function first ≡ Some g
 
 called_with : (d : Declarations) (shapes : ModuleShapes) (values : List Shape) (memory : Memory) (x : Inst) (xs : List Datum) (g : FuncId) (args : List Datum)
-    → calls d shapes values memory x xs ≡ Calls g args → IsCalledWith xs g args
+    → ◌≡◌ {A = Effect HolderFault} (calls d shapes values memory x xs) (Calls g args) → IsCalledWith xs g args
 called_with d shapes values memory x [] g args e = absurd (no_call e)
   where
     no_call : ◌≡◌ {A = Effect HolderFault} Unfit (Calls g args) → ⊥

@@ -1,5 +1,5 @@
 -- What an instruction stores fits the place.
-use Rattle.std.proofs.Common.{◌≡◌, ℕ, List, [], ◌∷◌, map, refl, sym, ap, ◌∙◌, subst, true, Some}
+use Rattle.std.proofs.Common.{◌≡◌, ℕ, List, [], ◌∷◌, map, refl, sym, ap, ◌∙◌, subst, true, Option, Some}
 use Rattle.accepted_memory.specs.holder_model.Data.{AddressOf, Datum, ValueOf}
 use Rattle.accepted_memory.specs.holder_model.Effects.{effect_of}
 use Rattle.accepted_memory.specs.holder_model.Frames.{Entry, Operands}
@@ -54,9 +54,9 @@ stored_fits : (m : Module) (w : World) (forms : List Form) (xs : List Datum) →
 stored_fits m w forms xs are says y q is = at (subst (λ ys. DataAre m w (OfValue says.value ∷ OfPlace says.place ∷ []) ys) is (subst (λ fs. DataAre m w fs xs) says.are are))
   where
     at : DataAre m w (OfValue says.value ∷ OfPlace says.place ∷ []) (ValueOf y ∷ AddressOf q ∷ []) → fits q.shape y ≡ true
-    at (data_are.more _ _ _ _ given (data_are.more _ _ _ _ place data_are.none)) =
+    at (data_are.more _ _ _ _ given (data_are.more _ _ _ _ at_place data_are.none)) =
         let v = read_value m w given says.value refl in
-        let r = read_place m w place says.place refl in
+        let r = read_place m w at_place says.place refl in
         let same_value : v.0 ≡ y = same_datum_value v.0 y v.1 in
         let same_place : r.0 ≡ q = same_datum_place r.0 q r.1 in
         ap (λ (z : Place). fits z.shape y) (sym same_place) ∙ ap (λ u. fits u y) r.2 ∙ ap (fits says.place) (sym same_value) ∙ says.fit (names m w) v.0 v.2
