@@ -1,5 +1,5 @@
 -- A place that is as full as an operation's mark needs it is as the run asks it to be.
-use Rattle.std.proofs.Common.{◌≡◌, ◌⊎◌, ⊎_elim, ◌||◌, List, Bool, true, false, not, cond, is_some, Option, Some, None, refl, sym, ap, ◌∙◌, subst}
+use Rattle.std.proofs.Common.{◌≡◌, List, Bool, true, false, cond, is_some, Option, Some, None, refl, ap, ◌∙◌, subst}
 use Rattle.std.proofs.lemmas.Bool.{false≢true, or_right}
 use Rattle.std.proofs.lemmas.Option.{none-some}
 use Rattle.accepted_memory.specs.holder_model.Effects.{Effect, Faults}
@@ -19,7 +19,7 @@ use Rattle.argument_conventions.specs.declared.row.Content.TheVariants as conten
 use Rattle.memory_cells.specs.inner.Cells.{IsPlace}
 use Rattle.memory_cells.proofs.PlaceCells.{empty_test, full_value, there_test}
 use Rattle.run_values.specs.Memory.{Memory}
-use Rattle.run_values.specs.Places.{Place, is_empty_at, is_there_at, value_at}
+use Rattle.run_values.specs.Places.{Place, is_empty_at}
 use Rattle.run_values.specs.Shapes.{Shape}
 use Rattle.run_values.specs.Trivial.{is_trivial}
 use Rattle.sil_ast.specs.declared.inst.Inst.{Inst}

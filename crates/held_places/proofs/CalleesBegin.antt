@@ -1,5 +1,5 @@
 -- A callee begins: the data of its arguments are those that it was handed, and the places that it was given those that the call lends.
-use Rattle.std.proofs.Common.{◌≡◌, ◌⊎◌, ⊎_elim, inl, inr, ◌==◌, ◌||◌, ◌<◌, ℕ, zero, suc, List, [], ◌∷◌, length, map, Bool, true, false, Option, Some, None, Ok, Err, refl, sym, ap, ap₂, ◌∙◌, subst, slice_get, arith, eq-eqb, eqb-true}
+use Rattle.std.proofs.Common.{◌≡◌, ⊎_elim, ◌==◌, ◌||◌, ◌<◌, ℕ, zero, suc, List, [], ◌∷◌, length, map, Bool, true, false, Option, Some, Ok, Err, refl, sym, ap, ap₂, ◌∙◌, subst, slice_get, arith, eq-eqb, eqb-true}
 use Rattle.std.specs.declared.result.Result.{Result}
 use Rattle.std.proofs.lemmas.Bool.{cases_Bool, false≢true, or_cases}
 use Rattle.std.proofs.lemmas.List.{length-replicate}
@@ -7,7 +7,7 @@ use Rattle.std.proofs.lemmas.Option.{none-some, same_Some}
 use Rattle.accepted_memory.specs.holder_model.Calling.{argument_data, as_argument, given_places, lent_places, places_given, value_count}
 use Rattle.accepted_memory.specs.holder_model.Data.{AddressOf, Datum}
 use Rattle.accepted_memory.specs.holder_model.Faults.{HolderFault}
-use Rattle.accepted_memory.specs.holder_model.Frames.{Entry, Gone, LentPlace, datum_in, entry_at, no_entries, result_put, results_put, with_ok}
+use Rattle.accepted_memory.specs.holder_model.Frames.{Entry, Gone, datum_in, entry_at, no_entries, result_put, results_put, with_ok}
 use Rattle.accepted_memory.specs.memory_accesses.Sources.{source_at, sources_of}
 use Rattle.accepted_memory.specs.memory_accesses.declared.source.Source.TheVariants as source
 use Rattle.accepted_values.specs.inner.Known.{IsAcceptedBody}

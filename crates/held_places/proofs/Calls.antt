@@ -1,5 +1,5 @@
 -- A call: the frame that waits, the new frame, and those below hold what they should while the callee begins.
-use Rattle.std.proofs.Common.{◌≡◌, ◌⊎◌, ⊎_elim, inl, inr, ◌==◌, ◌&&◌, ◌||◌, ◌<◌, ◌≤◌, ℕ, List, [], ◌∷◌, length, Bool, true, false, not, Some, refl, sym, ap, ◌∙◌, subst, arith, map, slice_get}
+use Rattle.std.proofs.Common.{◌≡◌, ◌⊎◌, ⊎_elim, inl, inr, ◌≤◌, ℕ, List, [], ◌∷◌, length, Bool, true, false, not, Some, refl, sym, ap, ◌∙◌, subst, arith, map, slice_get}
 use Rattle.std.specs.List.{list_any}
 use Rattle.std.proofs.lemmas.Bool.{and_from, and_parts, and_right, false≢true, or_cases, true≢false}
 use Rattle.accepted_memory.specs.holder_model.Calling.{handed_over, places_given}
@@ -9,7 +9,6 @@ use Rattle.accepted_memory.specs.holder_model.Standing.{stands_at}
 use Rattle.accepted_memory.specs.holder_model.StepParts.{new_frame}
 use Rattle.accepted_memory.specs.holder_model.States.{Drops, Finishes, Runs, Task}
 use Rattle.accepted_memory.specs.holder_model.declared.row_effect.RowEffect.TheVariants.{CallsFunction}
-use Rattle.accepted_memory.specs.memory_accesses.Operations.{operations_of}
 use Rattle.accepted_memory.specs.memory_accesses.Sources.{source_at, sources_of}
 use Rattle.accepted_memory.specs.memory_accesses.declared.source.Source.TheVariants as source
 use Rattle.accepted_places.specs.inner.Cells.{is_full}
@@ -33,18 +32,16 @@ use Rattle.sil_ast.specs.declared.place.PointId.{PointId}
 use Rattle.sil_ast.specs.declared.place.ValueId.{ValueId}
 use Rattle.sil_cfg.specs.declared.item.Item.TheVariants as item
 use Rattle.type_definitions.specs.Declarations.{declarations_of}
-use Rattle.held_places.specs.inner.FramePlaces.{Frees, HoldsPlaces, IsFree, Names, is_lent, lends}
-use Rattle.held_places.specs.inner.PlaceStates.{AreLentBy, BelowPlaced, GoesPlaced, TasksPlaced, WaitsPlaced, as_given}
-use Rattle.held_places.specs.inner.Roots.{IsThere}
+use Rattle.held_places.specs.inner.FramePlaces.{HoldsPlaces, IsFree, Names, is_lent, lends}
+use Rattle.held_places.specs.inner.PlaceStates.{BelowPlaced, TasksPlaced, as_given}
 use Rattle.held_places.specs.inner.TrailLaws.{TrailLaws}
 use Rattle.held_places.proofs.Entering.{IsGiven, begins_so}
 use Rattle.held_places.proofs.Given.{ArePairsApart, any_among, pairs_given, two_apart}
 use Rattle.held_places.proofs.HandedOver.{IsHandedOver, all_handed}
-use Rattle.held_places.proofs.Lending.{IsLentBy, is_alone, own_where_empty}
+use Rattle.held_places.proofs.Lending.{is_alone, own_where_empty}
 use Rattle.held_places.proofs.Lent.{Calling, all_apart, lent_at, lent_found, lent_inside, lent_within}
-use Rattle.held_places.proofs.Naming.{inside_stack, stack_inside}
 use Rattle.held_places.proofs.Reading.{IsWithin}
-use Rattle.held_places.proofs.Staying.{Stays, below_still}
+use Rattle.held_places.proofs.Staying.{below_still}
 
 pub among_any : {A : Type 0} (test : A → Bool) (xs : List A) → list_any test xs ≡ true → (x : A) × Among x xs × (test x ≡ true)
 among_any test [] e = absurd (false≢true e)

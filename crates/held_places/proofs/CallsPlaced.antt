@@ -1,5 +1,5 @@
 -- A function with a body is called: the places that are lent are as their rows ask, and the callee begins with its places.
-use Rattle.std.proofs.Common.{◌≡◌, ◌⊎◌, ⊎_elim, ℕ, List, [], ◌∷◌, drop, map, Bool, true, false, Option, Ok, Some, refl, sym, ap, ◌∙◌, subst, slice_get}
+use Rattle.std.proofs.Common.{◌≡◌, ⊎_elim, ℕ, List, ◌∷◌, drop, map, true, false, Option, Ok, Some, sym, ap, ◌∙◌, slice_get}
 use Rattle.std.proofs.lemmas.Bool.{true≢false}
 use Rattle.accepted_memory.specs.holder_model.Calling.{are_as_before, as_argument, handed_over, lent_places, value_count}
 use Rattle.accepted_memory.specs.holder_model.Data.{Datum}
@@ -45,7 +45,7 @@ use Rattle.held_places.specs.inner.Premises.{HandsOver, ReadsOperands}
 use Rattle.held_places.specs.inner.TrailLaws.{TrailLaws}
 use Rattle.held_places.proofs.CalleesBegin.{arguments_named, given_lent, others_gone}
 use Rattle.held_places.proofs.Calls.{calls_placed}
-use Rattle.held_places.proofs.ComesToCalls.{StandsAtCall, comes_to_call}
+use Rattle.held_places.proofs.ComesToCalls.{comes_to_call}
 use Rattle.held_places.proofs.FirstFrames.{IsFirst, TypingLaws, body, left_first}
 use Rattle.held_places.proofs.Lending.{IsCallAt}
 use Rattle.held_places.proofs.Lent.{Calling, all_as_before}

@@ -1,5 +1,5 @@
 -- A typed frame that has come to a call of which these places are lent: where its operations are.
-use Rattle.std.proofs.Common.{◌≡◌, ℕ, List, ◌∷◌, Some, refl, sym, ap, ◌∙◌, subst}
+use Rattle.std.proofs.Common.{◌≡◌, ℕ, List, ◌∷◌, Some, sym, ap, subst}
 use Rattle.accepted_memory.specs.holder_model.Effects.{effect_of}
 use Rattle.accepted_memory.specs.holder_model.Frames.{Entry, LentPlace}
 use Rattle.accepted_memory.specs.holder_model.declared.row_effect.RowEffect.TheVariants.{CallsFunction}
@@ -14,7 +14,6 @@ use Rattle.sil_ast.specs.declared.function.Function.{Function}
 use Rattle.sil_ast.specs.declared.inst.Inst.{Inst}
 use Rattle.sil_ast.specs.declared.module.Module.{Module}
 use Rattle.sil_ast.specs.declared.place.PointId.{PointId}
-use Rattle.sil_ast.specs.declared.place.ValueId.{ValueId}
 use Rattle.sil_cfg.specs.declared.item.Item.{Item}
 use Rattle.sil_cfg.specs.declared.item.Item.TheVariants as item
 use Rattle.type_definitions.specs.Declarations.{declarations_of}
@@ -23,7 +22,7 @@ use Rattle.typed_holders.specs.typed_memory.inner.Worlds.{World}
 use Rattle.held_places.specs.inner.PlaceStates.{AreLentBy}
 use Rattle.held_places.specs.inner.TrailLaws.{TrailLaws}
 use Rattle.held_places.proofs.Applying.{handed_by, no_slot_goes, rows_by_table, takes_it}
-use Rattle.held_places.proofs.CallsAt.{ComesToCall, call_at}
+use Rattle.held_places.proofs.CallsAt.{call_at}
 use Rattle.held_places.proofs.Lending.{IsCallAt, Lends, lends_one}
 use Rattle.held_places.proofs.Locating.{IsOperandAt, operand_at}
 use Rattle.held_places.proofs.PlainAddresses.{named_address}

@@ -1,18 +1,15 @@
 -- A deinitialiser begins with the object alone, which it owns: it was given no place.
-use Rattle.std.proofs.Common.{◌≡◌, ℕ, zero, suc, List, [], ◌∷◌, ◌++◌, map, Bool, true, false, Option, Ok, Some, None, refl, sym, ap, ◌∙◌, subst, slice_get}
+use Rattle.std.proofs.Common.{◌≡◌, ℕ, zero, suc, List, [], ◌∷◌, ◌++◌, map, true, Option, Ok, Some, None, refl, sym, ap, ◌∙◌, subst, slice_get}
 use Rattle.std.proofs.lemmas.Option.{none-some, same_Some}
 use Rattle.accepted_memory.specs.holder_model.Calling.{argument_data, given_places, lent_with, place_in, places_given, value_count}
 use Rattle.accepted_memory.specs.holder_model.Data.{Datum}
 use Rattle.accepted_memory.specs.holder_model.Frames.{Entry, Frame, LentPlace, has_any, no_entries, results_put}
 use Rattle.accepted_memory.specs.holder_model.StepParts.{new_frame}
 use Rattle.accepted_memory.specs.holder_model.States.{Finishes, Runs, Task}
-use Rattle.accepted_memory.specs.memory_accesses.Sources.{source_at, sources_of}
-use Rattle.accepted_memory.specs.memory_accesses.declared.source.Source.TheVariants as source
 use Rattle.accepted_values.specs.accepted_modules.inner.Checked.{IsVerified}
-use Rattle.accepted_values.specs.accepted_modules.sil_types.Typing.OperandTypes.{argument_types}
 use Rattle.accepted_values.specs.inner.Known.{IsAcceptedBody}
 use Rattle.accepted_values.specs.run_typing.CallForms.{IsDeinitOf}
-use Rattle.accepted_values.specs.run_typing.Forms.{Form, OfValue, entry_forms, form_with}
+use Rattle.accepted_values.specs.run_typing.Forms.{OfValue, entry_forms, form_with}
 use Rattle.accepted_values.proofs.Accepted.{well_typed}
 use Rattle.accepted_values.proofs.run_typing_laws.FunctionFacts.{typed_function}
 use Rattle.accepted_values.proofs.run_typing_laws.Rows.Forms.{typed_form}
@@ -22,13 +19,11 @@ use Rattle.argument_conventions.specs.Arguments.{Told, argument_type, arguments_
 use Rattle.argument_conventions.specs.Rows.{address_row}
 use Rattle.argument_conventions.specs.declared.convention.ArgumentConvention.{ArgumentConvention}
 use Rattle.argument_conventions.specs.declared.convention.ArgumentConvention.TheVariants as convention
-use Rattle.argument_conventions.specs.declared.row.AddressRow.{AddressRow}
 use Rattle.item_operands.specs.Items.{item_defined}
 use Rattle.numbered_form.specs.Names.{Name}
 use Rattle.ownership_chains.specs.declared.facts.Facts.{Facts}
 use Rattle.point_checks.proofs.Among.{Among}
 use Rattle.run_values.specs.Memory.{Memory}
-use Rattle.run_values.specs.Places.{Place}
 use Rattle.run_values.specs.Shapes.{Reference, Shape}
 use Rattle.sil_ast.specs.declared.function.Function.{Function}
 use Rattle.sil_ast.specs.declared.module.Module.{Module}
@@ -40,7 +35,6 @@ use Rattle.sil_ast.specs.declared.type_name.TypeName.TheVariants as type
 use Rattle.sil_cfg.specs.declared.item.Item.TheVariants as item
 use Rattle.type_definitions.specs.Declarations.{Declarations, declarations_of}
 use Rattle.typed_holders.proofs.GoesOn.{accepted_body}
-use Rattle.held_places.specs.inner.FramePlaces.{Names}
 use Rattle.held_places.specs.inner.PlaceStates.{TasksPlaced}
 use Rattle.held_places.specs.inner.TrailLaws.{TrailLaws}
 use Rattle.held_places.proofs.CalleesBegin.{others_gone}

@@ -1,16 +1,14 @@
 -- Drops and finishes touch no place on the stack.
-use Rattle.std.proofs.Common.{◌≡◌, ◌⊎◌, inr, ℕ, List, [], ◌∷◌, length, refl, sym, ap, ◌∙◌, subst, slice_get, arith}
+use Rattle.std.proofs.Common.{◌≡◌, inr, ℕ, List, length, refl, sym, ap, slice_get, arith}
 use Rattle.accepted_memory.specs.holder_model.Frames.{Frame}
 use Rattle.accepted_memory.specs.holder_model.HolderStates.{HolderNext, HolderState}
 use Rattle.accepted_memory.specs.holder_model.ModuleFacts.{ModuleFacts}
-use Rattle.accepted_memory.specs.holder_model.States.{Drops, Ending, Ends, Finishes, Goes, Runs, Task, dropping}
-use Rattle.accepted_memory.specs.holder_model.Dropping.{deinits_of, ended, field_references, in_phase}
-use Rattle.accepted_memory.specs.holder_model.Faults.{HolderFault}
-use Rattle.holder_steps.specs.inner.Ways.{DropsOne, FinishesOne, deinitialising, finished}
+use Rattle.accepted_memory.specs.holder_model.States.{Task}
+use Rattle.accepted_memory.specs.holder_model.Dropping.{ended, field_references, in_phase}
+use Rattle.holder_steps.specs.inner.Ways.{DropsOne, FinishesOne}
 use Rattle.run_values.specs.Memory.{Memory, object_at, with_object}
 use Rattle.run_values.specs.declared.phase.Phase.TheVariants.{Deiniting}
 use Rattle.sil_ast.specs.declared.module.Module.{Module}
-use Rattle.sil_ast.specs.declared.place.FuncId.{FuncId}
 use Rattle.sil_ast.specs.declared.place.ObjectId.{ObjectId}
 use Rattle.held_places.specs.inner.Items.{PlacedNext}
 use Rattle.held_places.specs.inner.PlaceStates.{AreSlotsRight, BelowPlaced, TasksPlaced}

@@ -1,5 +1,5 @@
 -- An edge is taken: nothing is done to places.
-use Rattle.std.proofs.Common.{◌≡◌, ℕ, List, [], ◌∷◌, Bool, true, false, Option, Ok, Some, refl, sym, ap, ◌∙◌, subst}
+use Rattle.std.proofs.Common.{◌≡◌, ℕ, List, [], ◌∷◌, Bool, true, false, Option, Some, refl, sym, ap, ◌∙◌}
 use Rattle.std.specs.List.{list_any}
 use Rattle.accepted_memory.specs.holder_model.Data.{Datum}
 use Rattle.accepted_memory.specs.holder_model.Effects.{effect_of, unchanged}

@@ -1,18 +1,16 @@
 -- A function with a body is called: what the frame that waits and the new frame hold.
-use Rattle.std.proofs.Common.{◌≡◌, ◌⊎◌, ⊎_elim, inl, inr, ◌==◌, ◌&&◌, ◌<◌, ◌≤◌, ℕ, List, [], ◌∷◌, length, Bool, true, false, Option, Some, None, refl, sym, ap, ◌∙◌, subst, arith, map, slice_get, eqb-true, eq-eqb}
+use Rattle.std.proofs.Common.{◌≡◌, ⊎_elim, ◌==◌, ◌&&◌, ◌<◌, ◌≤◌, ℕ, List, [], ◌∷◌, Bool, true, false, Option, Some, None, refl, sym, ap, ◌∙◌, subst, arith, slice_get, eq-eqb}
 use Rattle.std.specs.Prelude.{cond}
-use Rattle.std.proofs.lemmas.Bool.{and_from, and_left, and_right, cases_eq, cases_lt, false≢true, true≢false}
+use Rattle.std.proofs.lemmas.Bool.{and_right, cases_eq, cases_lt, false≢true, true≢false}
 use Rattle.std.proofs.lemmas.Option.{none-some, same_Some}
-use Rattle.accepted_memory.specs.holder_model.Calling.{argument_data, given_places, handed_over, lent_by, places_given}
-use Rattle.accepted_memory.specs.holder_model.Data.{AddressOf}
+use Rattle.accepted_memory.specs.holder_model.Calling.{argument_data, lent_by, places_given}
 use Rattle.accepted_memory.specs.holder_model.Frames.{Entry, Frame, Gone, LentPlace, datum_in, entry_at}
 use Rattle.accepted_memory.specs.holder_model.StepParts.{new_frame}
-use Rattle.accepted_memory.specs.holder_model.States.{Drops, Finishes, Runs, Task}
+use Rattle.accepted_memory.specs.holder_model.States.{Task}
 use Rattle.accepted_memory.specs.memory_accesses.Locations.{location_of}
 use Rattle.accepted_memory.specs.memory_accesses.Rows.{is_part}
 use Rattle.accepted_memory.specs.memory_accesses.Sources.{argument_source_or, handed_source, source_at, sources_of}
 use Rattle.accepted_memory.specs.memory_accesses.declared.location.Location.{Location}
-use Rattle.accepted_memory.specs.memory_accesses.declared.source.Source.{Source}
 use Rattle.accepted_memory.specs.memory_accesses.declared.source.Source.TheVariants as source
 use Rattle.accepted_memory.specs.memory_parts.Parts.{whole_cell}
 use Rattle.accepted_memory.specs.memory_parts.declared.part.Part.TheVariants.{Contents}
@@ -30,34 +28,24 @@ use Rattle.argument_conventions.specs.declared.convention.AddressConvention.TheV
 use Rattle.argument_conventions.specs.declared.convention.ArgumentConvention.{ArgumentConvention}
 use Rattle.argument_conventions.specs.declared.convention.ArgumentConvention.TheVariants as convention
 use Rattle.argument_conventions.specs.declared.row.AddressRow.{AddressRow}
-use Rattle.argument_conventions.specs.declared.row.Content.{Content}
 use Rattle.argument_conventions.specs.declared.row.Content.TheVariants as content
 use Rattle.item_operands.specs.Items.{item_defined}
 use Rattle.memory_cells.specs.inner.Cells.{AreApart, IsCell, IsInside, cell_at, has_cell}
 use Rattle.ownership_chains.specs.Facts.{has}
-use Rattle.point_checks.proofs.Among.{Among, among_map, contained_among, map_among}
+use Rattle.point_checks.proofs.Among.{Among, contained_among}
 use Rattle.run_values.specs.Memory.{Memory}
-use Rattle.run_values.specs.Places.{Home, OnStack, Place, home_cells}
+use Rattle.run_values.specs.Places.{OnStack, Place}
 use Rattle.sil_ast.specs.declared.function.Function.{Function}
-use Rattle.sil_ast.specs.declared.inst.Inst.{Inst}
 use Rattle.sil_ast.specs.declared.module.Module.{Module}
 use Rattle.sil_ast.specs.declared.place.FuncId.{FuncId}
-use Rattle.sil_ast.specs.declared.place.PointId.{PointId}
 use Rattle.sil_ast.specs.declared.place.ValueId.{ValueId}
-use Rattle.sil_cfg.specs.declared.item.Item.{Item}
 use Rattle.sil_cfg.specs.declared.item.Item.TheVariants as item
 use Rattle.type_definitions.specs.Declarations.{declarations_of}
-use Rattle.held_places.specs.inner.FramePlaces.{AreSlotsOf, Frees, HoldsPlaces, IsFree, IsNamed, Names, is_lent, lends}
-use Rattle.held_places.specs.inner.PlaceStates.{as_given}
-use Rattle.held_places.specs.inner.Roots.{IsThere, argument, full_by, is_full_on, is_shared, is_shared_source, slot}
+use Rattle.held_places.specs.inner.FramePlaces.{AreSlotsOf, HoldsPlaces, IsFree, Names}
+use Rattle.held_places.specs.inner.Roots.{IsThere, argument, full_by, is_full_on, is_shared_source, slot}
 use Rattle.held_places.specs.inner.TrailLaws.{TrailLaws}
-use Rattle.held_places.proofs.Contents.{FoundAt}
-use Rattle.held_places.proofs.Given.{ArePairsApart, IsApartFrom, any_among, apart_turned, get_mapped, given_apart, given_has, has_at, pairs_given, two_apart}
-use Rattle.held_places.proofs.HandedOver.{IsHandedOver, all_handed}
-use Rattle.held_places.proofs.Lending.{IsLentBy, is_alone, own_where_empty}
-use Rattle.held_places.proofs.Lent.{Calling, all_apart, lent_at, lent_found, lent_inside, lent_within}
-use Rattle.held_places.proofs.Naming.{inside_stack, names_once, stack_inside}
-use Rattle.held_places.proofs.Reading.{IsWithin, root_itself}
+use Rattle.held_places.proofs.Given.{ArePairsApart, apart_turned, get_mapped, given_apart, given_has, has_at}
+use Rattle.held_places.proofs.Reading.{root_itself}
 
 -- what is shared is full before and behind a call
 pub shared_full : (c : ArgumentConvention) (row : AddressRow) → address_row c ≡ Some row → row.shared ≡ true → (row.before ≡ content.Full) × (row.after ≡ content.Full)

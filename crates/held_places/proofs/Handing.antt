@@ -1,24 +1,17 @@
 -- The places that a call lends, by its operands, and that the callee is given, by its arguments.
-use Rattle.std.proofs.Common.{◌≡◌, ◌⊎◌, ⊎_elim, inl, inr, ◌<◌, ◌++◌, ℕ, zero, suc, List, [], ◌∷◌, length, map, Bool, true, false, cond, Option, Some, None, Ok, refl, sym, ap, ◌∙◌, subst, slice_get}
+use Rattle.std.proofs.Common.{◌≡◌, ◌++◌, List, [], ◌∷◌, map, cond, Option, Some, None, refl, sym, ap, ◌∙◌, subst}
 use Rattle.std.specs.Prelude.{flat_map, option_map}
 use Rattle.std.specs.Option.{option_or, option_to_list}
-use Rattle.std.proofs.lemmas.Option.{none-some}
-use Rattle.accepted_memory.specs.holder_model.Calling.{argument_data, as_argument, given_places, lent_by, lent_places, lent_with, place_in}
+use Rattle.accepted_memory.specs.holder_model.Calling.{as_argument, given_places, lent_places, lent_with}
 use Rattle.accepted_memory.specs.holder_model.Data.{AddressOf, Datum, FunctionOf, ValueOf, as_place}
-use Rattle.accepted_memory.specs.holder_model.Frames.{Entry, LentPlace, datum_in, entry_at, results_put}
-use Rattle.accepted_memory.specs.memory_accesses.Operations.{is_address_role, operated, operated_at, operation_by}
-use Rattle.accepted_memory.specs.memory_accesses.declared.access.Operated.{Operated}
+use Rattle.accepted_memory.specs.holder_model.Frames.{Entry}
+use Rattle.accepted_memory.specs.memory_accesses.Operations.{is_address_role, operated, operated_at}
 use Rattle.accepted_memory.specs.memory_accesses.declared.access.Operation.TheVariants.{Handed}
-use Rattle.accepted_memory.specs.memory_accesses.declared.columns.AccessKind.{AccessKind}
 use Rattle.accepted_memory.specs.memory_accesses.declared.columns.AccessKind.TheVariants as access
 use Rattle.argument_conventions.specs.Arguments.{Told}
-use Rattle.argument_conventions.specs.Rows.{address_row}
 use Rattle.argument_conventions.specs.declared.row.AddressRow.{AddressRow}
 use Rattle.item_operands.specs.declared.taken.Taken.{Taken}
-use Rattle.run_values.specs.Places.{Place}
 use Rattle.sil_ast.specs.declared.inst.Qualifier.{Qualifier}
-use Rattle.sil_ast.specs.declared.place.ValueId.{ValueId}
-use Rattle.held_places.specs.inner.FramePlaces.{Names}
 use Rattle.held_places.specs.inner.PlaceStates.{AreLentBy, as_given}
 pub use Rattle.held_places.specs.inner.TakenPlaces.{AreAlike, AreHandedAs, IsHandedAs}
 use Rattle.held_places.proofs.RowsAt.{nothing_at}

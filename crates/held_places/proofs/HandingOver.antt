@@ -1,15 +1,14 @@
 -- What a call hands over: its operands are as the signature of the callee says, and name the places that they hand over.
-use Rattle.std.proofs.Common.{◌≡◌, ◌++◌, append-nil, ℕ, List, [], ◌∷◌, length, map, refl, sym, ap, ap₂, ◌∙◌, subst, Bool, true, Option, Some, None}
+use Rattle.std.proofs.Common.{◌≡◌, ◌++◌, append-nil, ℕ, List, [], ◌∷◌, length, map, refl, sym, ap, ap₂, ◌∙◌, subst, Option, Some, None}
 use Rattle.std.specs.Prelude.{drop, flat_map, slice_get}
 use Rattle.std.specs.List.{AllZip}
-use Rattle.std.specs.Option.{option_to_list}
 use Rattle.std.proofs.lemmas.Option.{none-some, same_Some}
 use Rattle.accepted_memory.specs.holder_model.Calling.{lent_places}
 use Rattle.accepted_memory.specs.holder_model.Data.{AddressOf, Datum, FunctionOf, ValueOf, as_function}
 use Rattle.accepted_memory.specs.holder_model.Effects.{Calls, Effect, Unfit, calls, effect_by, effect_of, with_some}
 use Rattle.accepted_memory.specs.holder_model.Faults.{HolderFault}
 use Rattle.accepted_memory.specs.holder_model.Frames.{Entry, Operands}
-use Rattle.accepted_memory.specs.holder_model.MemoryEffects.{at_places, effect}
+use Rattle.accepted_memory.specs.holder_model.MemoryEffects.{at_places}
 use Rattle.accepted_memory.specs.holder_model.ModuleShapes.{ModuleShapes}
 use Rattle.accepted_memory.specs.holder_model.declared.row_effect.RowEffect.TheVariants as row
 use Rattle.accepted_memory.specs.memory_accesses.Operations.{access_kind_of, operated_at, operations_of}
@@ -25,8 +24,8 @@ use Rattle.accepted_values.specs.inner.Handed.{IsHanded}
 use Rattle.accepted_values.specs.inner.Known.{IsAcceptedBody, type_in}
 use Rattle.accepted_values.specs.run_typing.Forms.{Form, OfFunction, OfPlace, form_by, form_of, form_with}
 use Rattle.accepted_values.specs.run_typing.lowered_run.LowStepParts.{taken_value}
-use Rattle.argument_conventions.specs.Arguments.{Told, argument_type, arguments_of, conventions_of, handed_type}
-use Rattle.argument_conventions.specs.Rows.{address_row, row_of}
+use Rattle.argument_conventions.specs.Arguments.{Told, arguments_of, conventions_of, handed_type}
+use Rattle.argument_conventions.specs.Rows.{address_row}
 use Rattle.argument_conventions.specs.declared.convention.ArgumentConvention.{ArgumentConvention}
 use Rattle.argument_conventions.specs.declared.convention.ArgumentConvention.TheVariants as convention
 use Rattle.argument_conventions.specs.declared.row.AddressRow.{AddressRow}
@@ -45,7 +44,6 @@ use Rattle.run_values.specs.Places.{Place}
 use Rattle.run_values.specs.Shapes.{Shape, shape_of}
 use Rattle.sil_ast.specs.declared.function.Function.{Function}
 use Rattle.sil_ast.specs.declared.inst.Inst.{Inst}
-use Rattle.sil_ast.specs.declared.inst.Qualifier.{Qualifier}
 use Rattle.sil_ast.specs.declared.module.Module.{Module}
 use Rattle.sil_ast.specs.declared.operands.Operand.{Operand}
 use Rattle.sil_ast.specs.declared.place.FuncId.{FuncId}

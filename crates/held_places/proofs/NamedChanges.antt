@@ -1,13 +1,13 @@
 -- Rows that name a member of an address or a field of an object: what their results name.
-use Rattle.std.proofs.Common.{◌≡◌, ◌<◌, ◌==◌, ◌||◌, ⊎_elim, append-nil, ℕ, List, [], ◌∷◌, ◌++◌, length, map, Bool, true, false, Contains, Option, Some, None, Ok, Err, refl, sym, ap, ◌∙◌, subst, eqb-true}
+use Rattle.std.proofs.Common.{◌≡◌, ◌<◌, ◌==◌, ⊎_elim, append-nil, ℕ, List, [], ◌∷◌, ◌++◌, length, map, Bool, true, false, Contains, Option, Some, None, Ok, Err, refl, sym, ap, ◌∙◌, subst, eqb-true}
 use Rattle.std.specs.Prelude.{option_and_then, option_map, slice_get}
 use Rattle.std.specs.List.{list_any}
 use Rattle.std.proofs.lemmas.Bool.{false≢true, or_cases, or_left, true≢false}
 use Rattle.std.proofs.lemmas.List.Elements.{Contains-push}
-use Rattle.std.proofs.lemmas.Option.{none-some, same_Some}
+use Rattle.std.proofs.lemmas.Option.{same_Some}
 use Rattle.accepted_memory.specs.accepted_trails.inner.Bases.{IsAsMade}
-use Rattle.accepted_memory.specs.accepted_trails.inner.Defined.{IsDefinedOn, makes}
-use Rattle.accepted_memory.specs.holder_model.Data.{AddressOf, Datum, ValueOf, as_place, as_value}
+use Rattle.accepted_memory.specs.accepted_trails.inner.Defined.{makes}
+use Rattle.accepted_memory.specs.holder_model.Data.{AddressOf, Datum, as_value}
 use Rattle.accepted_memory.specs.holder_model.Effects as effects
 use Rattle.accepted_memory.specs.holder_model.Effects.{Change, Effect, Makes, effect_by, effect_of, gives, only, part_number, part_number_by, unchanged, with_some}
 use Rattle.accepted_memory.specs.holder_model.Faults.{HolderFault}
@@ -20,7 +20,7 @@ use Rattle.accepted_memory.specs.holder_model.declared.row_effect.RowEffect.TheV
 use Rattle.accepted_memory.specs.memory_accesses.Locations.{extended, location_of}
 use Rattle.accepted_memory.specs.memory_accesses.Operations.{access_kind_of}
 use Rattle.accepted_memory.specs.memory_accesses.Rows.{has_steps, is_part}
-use Rattle.accepted_memory.specs.memory_accesses.Sources.{part_source, result_source, source_at, source_by, sources_of}
+use Rattle.accepted_memory.specs.memory_accesses.Sources.{part_source, source_at, source_by, sources_of}
 use Rattle.accepted_memory.specs.memory_accesses.declared.location.Location.{Location}
 use Rattle.accepted_memory.specs.memory_accesses.declared.source.Source.{Source}
 use Rattle.accepted_memory.specs.memory_accesses.declared.source.Source.TheVariants as source
@@ -28,7 +28,6 @@ use Rattle.accepted_memory.specs.run_trails.inner.RunTrails.{IsRunTrail}
 use Rattle.accepted_places.proofs.Locating.{members_located}
 use Rattle.accepted_places.proofs.RootsMade.{operands_located}
 use Rattle.accepted_places.specs.inner.Located.{IsAddress, IsLocated, IsMemberOf, IsRoot}
-use Rattle.accepted_values.specs.inner.Known.{IsAcceptedBody}
 use Rattle.accepted_values.specs.owned_run_typing.inner.OwnedTyped.{OwnedFunction}
 use Rattle.accepted_values.specs.run_typing.CallForms.{IsOf}
 use Rattle.accepted_values.specs.run_typing.EndForms.{value_in}
@@ -46,8 +45,7 @@ use Rattle.ownership_chains.specs.Facts.{has}
 use Rattle.ownership_chains.specs.declared.facts.Facts.{Facts}
 use Rattle.placed_values.proofs.RootsTold.{results_told}
 use Rattle.run_values.specs.Memory.{Memory}
-use Rattle.run_values.specs.Places as places
-use Rattle.run_values.specs.Places.{Inside, OnStack, Place, field_in, field_place, part_of}
+use Rattle.run_values.specs.Places.{Inside, OnStack, Place, field_in, part_of}
 use Rattle.run_values.specs.Shapes.{Shape, member_shapes}
 use Rattle.run_values.specs.Values.{Value, object_of}
 use Rattle.sil_ast.specs.declared.function.Function.{Function}
@@ -66,13 +64,13 @@ use Rattle.typed_holders.proofs.Data as data_are
 use Rattle.typed_holders.proofs.GoesOn.{typed_module}
 use Rattle.typed_holders.proofs.Performs.{defines_results}
 use Rattle.typed_memory.proofs.Parts.{member_there}
-use Rattle.typed_memory.specs.inner.Worlds.{DatumIs, World}
+use Rattle.typed_memory.specs.inner.Worlds.{World}
 use Rattle.value_tables.specs.FirstValue.{first_value, value_of}
-use Rattle.held_places.specs.inner.FramePlaces.{AreFieldsInside, IsPartAt, Names}
+use Rattle.held_places.specs.inner.FramePlaces.{IsPartAt, Names}
 use Rattle.held_places.specs.inner.PartsNamed.{AreNewNamed, ArePartsNamed}
 use Rattle.held_places.specs.inner.Premises.{AreChangesNamed, ReadsOperands}
 use Rattle.held_places.specs.inner.TakenPlaces.{AreNamedBy}
-use Rattle.held_places.proofs.EntriesKept.{never_ok, ok_once, results_other, results_there}
+use Rattle.held_places.proofs.EntriesKept.{never_ok, results_other, results_there}
 use Rattle.held_places.proofs.Naming.{names_once, same_place}
 use Rattle.held_places.proofs.NewParts.{names_inner, others_named}
 use Rattle.held_places.proofs.OperandsNamed.{left_typed_still, operands_named}

@@ -1,44 +1,25 @@
 -- What results name: a member of an address names its part, the address of a field no place on the stack, and other results neither.
-use Rattle.std.proofs.Common.{◌≡◌, ◌+◌, ◌++◌, ◌<◌, ◌==◌, ◌||◌, ⊎_elim, inl, inr, append-nil, ℕ, zero, suc, List, [], ◌∷◌, length, map, Bool, true, false, Contains, Option, Some, None, Ok, refl, sym, ap, ◌∙◌, subst, eq-eqb, eqb-true}
-use Rattle.std.specs.Prelude.{option_and_then, option_map, slice_get}
-use Rattle.std.specs.List.{list_any}
-use Rattle.std.proofs.lemmas.Bool.{cases_Bool, false≢true, or_cases, or_left, true≢false}
-use Rattle.std.proofs.lemmas.List.Elements.{Contains-push}
-use Rattle.std.proofs.lemmas.Option.{none-some, same_Some}
-use Rattle.accepted_memory.specs.accepted_trails.inner.Bases.{IsAsMade}
-use Rattle.accepted_memory.specs.accepted_trails.inner.Defined.{IsDefinedOn, makes}
-use Rattle.accepted_memory.specs.holder_model.Data.{AddressOf, Datum, ValueOf, as_place, as_value}
-use Rattle.accepted_memory.specs.holder_model.Effects as effects
-use Rattle.accepted_memory.specs.holder_model.Effects.{Change, Effect, Makes, Unfit, effect_by, effect_of, gives, only, part_number, part_number_by, unchanged, with_some}
-use Rattle.accepted_memory.specs.holder_model.Faults.{HolderFault}
-use Rattle.accepted_memory.specs.holder_model.Frames.{Entry, Operands, datum_in, entry_at, results_put}
-use Rattle.accepted_memory.specs.holder_model.MemoryEffects.{at_places, effect}
-use Rattle.accepted_memory.specs.holder_model.ModuleShapes.{ModuleShapes, field_shapes}
+use Rattle.std.proofs.Common.{◌≡◌, ℕ, List, Bool, true, false, Option, Some, None, refl, sym, ap, ◌∙◌}
+use Rattle.std.proofs.lemmas.Bool.{true≢false}
+use Rattle.accepted_memory.specs.holder_model.Effects.{effect_of}
+use Rattle.accepted_memory.specs.holder_model.Frames.{Entry}
 use Rattle.accepted_memory.specs.holder_model.declared.row_effect.RowEffect.{RowEffect}
 use Rattle.accepted_memory.specs.holder_model.declared.row_effect.RowEffect.TheVariants as row
-use Rattle.accepted_memory.specs.memory_accesses.Locations.{extended, location_of}
 use Rattle.accepted_memory.specs.memory_accesses.Operations.{access_kind_of}
-use Rattle.accepted_memory.specs.memory_accesses.Rows.{has_steps, is_part}
-use Rattle.accepted_memory.specs.memory_accesses.Sources.{borrow_source, element_place, field_source, loan_source, member_place, object_source, part_source, result_source, slot_source}
+use Rattle.accepted_memory.specs.memory_accesses.Sources.{borrow_source, loan_source, object_source, slot_source}
 use Rattle.accepted_memory.specs.memory_accesses.Sources.{source_at, source_by, sources_of, upcast_source}
 use Rattle.accepted_memory.specs.memory_accesses.declared.columns.AccessKind.{AccessKind}
 use Rattle.accepted_memory.specs.memory_accesses.declared.columns.AccessKind.TheVariants as access
-use Rattle.accepted_memory.specs.memory_accesses.declared.location.Location.{Location}
 use Rattle.accepted_memory.specs.memory_accesses.declared.source.Source.{Source}
 use Rattle.accepted_memory.specs.memory_accesses.declared.source.Source.TheVariants as source
 use Rattle.accepted_values.specs.inner.Known.{IsAcceptedBody}
-use Rattle.instruction_table.specs.Forms.{detail_of}
 use Rattle.instruction_table.specs.declared.op.Op.{Op}
 use Rattle.instruction_table.specs.declared.op.Op.TheVariants as op
-use Rattle.item_operands.specs.Items.{item_defined}
 use Rattle.item_operands.specs.Parts.{inst_at}
-use Rattle.ownership_chains.specs.Facts.{has}
 use Rattle.placed_values.proofs.RootsTold.{begun_told, results_told}
-use Rattle.run_values.specs.Places.{Inside, OnStack}
 use Rattle.sil_ast.specs.declared.function.Function.{Function}
 use Rattle.sil_ast.specs.declared.inst.Inst.{Inst}
 use Rattle.sil_ast.specs.declared.module.Module.{Module}
-use Rattle.sil_ast.specs.declared.place.EdgeId.{EdgeId}
 use Rattle.sil_ast.specs.declared.place.PointId.{PointId}
 use Rattle.sil_ast.specs.declared.place.ValueId.{ValueId}
 use Rattle.sil_ast.specs.declared.type_name.TypeName.{TypeName}

@@ -1,5 +1,5 @@
 -- What a frame holds when a slot is allocated, and when one is deallocated.
-use Rattle.std.proofs.Common.{◌≡◌, ◌<◌, ◌≤◌, ◌+◌, ◌++◌, ◌⊎◌, ⊎_elim, inl, inr, ◌==◌, ◌&&◌, ℕ, List, [], ◌∷◌, length, Bool, true, false, Some, refl, sym, ap, ◌∙◌, subst, arith, eq-eqb, eqb-true}
+use Rattle.std.proofs.Common.{◌≡◌, ◌≤◌, ◌+◌, ◌++◌, ◌⊎◌, inl, inr, ◌==◌, ◌&&◌, ℕ, List, [], length, Bool, true, false, Some, refl, sym, ap, ◌∙◌, subst, arith, eq-eqb, eqb-true}
 use Rattle.std.proofs.lemmas.Bool.{and_right, true≢false}
 use Rattle.std.proofs.lemmas.Option.{same_Some}
 use Rattle.accepted_memory.specs.memory_accesses.Sources.{source_at, sources_of}

@@ -1,8 +1,8 @@
 -- Operands that are addresses by their rows don't end, so the entries that are left name their places.
-use Rattle.std.proofs.Common.{◌≡◌, ⊎_elim, List, [], ◌∷◌, Bool, true, false, cond, map, Option, Some, None, Ok, refl, sym, ap, ◌∙◌, subst}
+use Rattle.std.proofs.Common.{◌≡◌, ⊎_elim, List, [], ◌∷◌, Bool, false, cond, Option, Some, None, Ok, refl, sym, ap, ◌∙◌, subst}
 use Rattle.std.specs.Prelude.{Err}
 use Rattle.std.specs.declared.result.Result.{Result}
-use Rattle.accepted_memory.specs.holder_model.Data.{AddressOf, Datum}
+use Rattle.accepted_memory.specs.holder_model.Data.{Datum}
 use Rattle.accepted_memory.specs.holder_model.Faults.{HolderFault}
 use Rattle.accepted_memory.specs.holder_model.Frames.{Entry, and_more, datum_in, datum_or_fault, ends, entry_at, has_any, operand, operand_data, unless_dead, used_datum, with_ok}
 use Rattle.accepted_memory.specs.memory_accesses.Marks.{ended_by, ended_with}
@@ -12,7 +12,6 @@ use Rattle.item_operands.specs.Items.{item_taken}
 use Rattle.item_operands.specs.declared.taken.Taken.{Taken}
 use Rattle.ownership_chains.specs.declared.facts.Facts.{Facts}
 use Rattle.run_values.specs.Memory.{Memory}
-use Rattle.run_values.specs.Places.{Place}
 use Rattle.sil_ast.specs.declared.place.ValueId.{ValueId}
 use Rattle.type_definitions.specs.declared.kind.Kind.{Kind}
 use Rattle.type_definitions.specs.declared.kind.Kind.TheVariants as kind

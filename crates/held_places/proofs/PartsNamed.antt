@@ -1,8 +1,8 @@
 -- Addresses of parts behind an item: those that it names, and those that were named before.
-use Rattle.std.proofs.Common.{◌≡◌, ◌||◌, ◌&&◌, ◌+◌, ◌++◌, ℕ, List, [], ◌∷◌, Bool, true, false, not, Some, refl, sym, ap, ◌∙◌, subst, arith}
+use Rattle.std.proofs.Common.{◌≡◌, ◌||◌, ◌&&◌, ◌+◌, ◌++◌, ℕ, List, [], ◌∷◌, Bool, true, false, not, Some, refl, sym, ap, ◌∙◌, arith}
 use Rattle.std.specs.List.{list_any}
 use Rattle.std.specs.Prelude.{slice_get}
-use Rattle.std.proofs.lemmas.Bool.{false≢true, true≢false}
+use Rattle.std.proofs.lemmas.Bool.{false≢true}
 use Rattle.accepted_memory.specs.accepted_trails.inner.Bases.{IsAsMade}
 use Rattle.accepted_memory.specs.accepted_trails.inner.Defined.{IsDefinedOn, makes}
 use Rattle.accepted_memory.specs.holder_model.Frames.{Entry}
@@ -11,13 +11,12 @@ use Rattle.accepted_memory.specs.memory_accesses.Rows.{is_part}
 use Rattle.accepted_memory.specs.memory_accesses.declared.location.Location.{Location}
 use Rattle.accepted_memory.specs.memory_accesses.declared.source.Source.{Source}
 use Rattle.accepted_memory.specs.run_trails.inner.Since.{is_none_since}
-use Rattle.ownership_chains.specs.Facts.{has}
-use Rattle.run_values.specs.Places.{OnStack, Place, offset, part_of}
+use Rattle.run_values.specs.Places.{OnStack, Place, part_of}
 use Rattle.run_values.specs.Shapes.{Shape, member_shapes}
 use Rattle.sil_ast.specs.declared.function.Function.{Function}
 use Rattle.sil_ast.specs.declared.place.ValueId.{ValueId}
 use Rattle.sil_cfg.specs.declared.item.Item.{Item}
-use Rattle.value_parts.specs.inner.Paths.{IsPart, cells_before, here, inside}
+use Rattle.value_parts.specs.inner.Paths.{here, inside}
 use Rattle.value_parts.proofs.Paths.{cells_before_member, member_of_part}
 use Rattle.held_places.specs.inner.FramePlaces.{AreFieldsInside, IsPartAt, Names}
 pub use Rattle.held_places.specs.inner.PartsNamed.{AreNewNamed, AreOldKept, ArePartsNamed}

@@ -1,5 +1,5 @@
 -- A step of a state whose places are right leads to such a state, and ends in no fault of places.
-use Rattle.std.proofs.Common.{◌≡◌, ◌++◌, ℕ, List, [], ◌∷◌, map, Bool, true, false, Option, Some, Ok, Err, refl, sym, ap, ◌∙◌, subst, slice_get}
+use Rattle.std.proofs.Common.{◌≡◌, ◌++◌, ℕ, List, [], ◌∷◌, map, true, false, Option, Some, Ok, Err, refl, sym, ap, ◌∙◌, subst, slice_get}
 use Rattle.std.proofs.lemmas.Bool.{and_parts}
 use Rattle.std.proofs.lemmas.Option.{same_Some}
 use Rattle.std.specs.Prelude.{not}
@@ -11,9 +11,8 @@ use Rattle.accepted_memory.specs.holder_model.Faults.{HolderFault}
 use Rattle.accepted_memory.specs.holder_model.Frames.{Frame, Operands, has_any}
 use Rattle.accepted_memory.specs.holder_model.HolderStates.{HolderNext, HolderState}
 use Rattle.accepted_memory.specs.holder_model.ModuleFacts.{ModuleFacts, facts_of, facts_told}
-use Rattle.accepted_memory.specs.holder_model.Outcomes.{may_start}
 use Rattle.accepted_memory.specs.holder_model.Standing.{stands_at}
-use Rattle.accepted_memory.specs.holder_model.States.{Finishes, Runs, Task}
+use Rattle.accepted_memory.specs.holder_model.States.{Runs, Task}
 use Rattle.accepted_memory.specs.holder_model.Steps as steps
 use Rattle.accepted_memory.specs.holder_model.declared.event.Event.TheVariants as event
 use Rattle.accepted_memory.specs.run_trails.inner.RunTrails.{ComesAt, IsRunTrail}
@@ -21,7 +20,7 @@ use Rattle.accepted_values.specs.accepted_modules.inner.Checked.{IsVerified}
 use Rattle.accepted_values.specs.inner.Known.{IsAcceptedBody}
 use Rattle.argument_conventions.specs.Arguments.{arguments_of}
 use Rattle.held_entries.proofs.accepted_trails.run_trails.WalkEdges.{are_next}
-use Rattle.holder_steps.specs.inner.Ways.{Acts, Chooses, Performs, StepsBy, TakesEdge, left_with, operands_in, turned, waiting}
+use Rattle.holder_steps.specs.inner.Ways.{Acts, Chooses, Performs, StepsBy, TakesEdge, left_with, operands_in, turned}
 use Rattle.holder_steps.proofs.StepsTold.{steps_told}
 use Rattle.holder_steps.proofs.WhichFaults.{operands_err}
 use Rattle.instruction_table.specs.Forms.{ending_of}
@@ -58,7 +57,7 @@ use Rattle.held_places.proofs.Dropping.{drops_one, finishes_one}
 use Rattle.held_places.proofs.EdgesPlaced.{edge_placed, is_inside}
 use Rattle.held_places.proofs.FirstFrames.{IsFirst, TypingLaws, body, left_first}
 use Rattle.held_places.proofs.OtherFaults.{operand_fault}
-use Rattle.held_places.proofs.ReturnsPlaced.{TypedBelow, frame_of, leaves_placed}
+use Rattle.held_places.proofs.ReturnsPlaced.{frame_of, leaves_placed}
 
 module _ (laws : TrailLaws) (typing : TypingLaws) (items : AreItemsPlaced) (m : Module) (bound : ℕ) (verified : IsVerified m)
     (s : HolderState) (typed : IsTypedState m s) (tracked : IsTrackedState m s) (placed : AreSlotsRight m s) where

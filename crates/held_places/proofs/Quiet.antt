@@ -1,13 +1,12 @@
 -- An item that does nothing to the places on the stack: edges, calls of functions without a body, and all rows that touch no place.
-use Rattle.std.proofs.Common.{◌≡◌, ◌⊎◌, inr, ◌≤◌, ◌==◌, ℕ, zero, suc, List, [], ◌∷◌, ◌++◌, length, Bool, true, false, cond, Option, Some, None, Ok, refl, sym, ap, ◌∙◌, subst, slice_get, arith}
-use Rattle.std.specs.Prelude.{option_map}
-use Rattle.std.proofs.lemmas.Bool.{false≢true, true≢false}
+use Rattle.std.proofs.Common.{◌≡◌, ◌≤◌, ℕ, zero, suc, List, [], ◌∷◌, length, Bool, true, false, Option, Some, Ok, refl, sym, ap, ◌∙◌}
+use Rattle.std.proofs.lemmas.Bool.{false≢true}
 use Rattle.std.proofs.lemmas.Option.{none-some, same_Some}
 use Rattle.accepted_memory.specs.accepted_trails.inner.Defined.{makes}
-use Rattle.accepted_memory.specs.holder_model.Data.{AddressOf, Datum}
+use Rattle.accepted_memory.specs.holder_model.Data.{Datum}
 use Rattle.accepted_memory.specs.holder_model.Frames.{Entry, Frame, datum_in, entry_at, results_put}
 use Rattle.accepted_memory.specs.holder_model.States.{Task}
-use Rattle.accepted_memory.specs.memory_accesses.Locations.{extended, locate, located_by, location_of, whole}
+use Rattle.accepted_memory.specs.memory_accesses.Locations.{locate, located_by, location_of, whole}
 use Rattle.accepted_memory.specs.memory_accesses.Rows.{is_part}
 use Rattle.accepted_memory.specs.memory_accesses.Sources.{source_at, sources_of}
 use Rattle.accepted_memory.specs.memory_accesses.declared.location.Location.{Location}
@@ -21,17 +20,16 @@ use Rattle.accepted_values.specs.inner.Known.{IsAcceptedBody}
 use Rattle.item_operands.specs.Items.{item_defined}
 use Rattle.item_operands.specs.Parts.{item_inst}
 use Rattle.memory_cells.specs.inner.Cells.{cell_at}
-use Rattle.ownership_chains.specs.Facts.{has}
 use Rattle.ownership_chains.specs.declared.facts.Facts.{Facts}
 use Rattle.run_values.specs.Memory.{Memory}
-use Rattle.run_values.specs.Places.{OnStack, Place}
+use Rattle.run_values.specs.Places.{OnStack}
 use Rattle.sil_ast.specs.declared.function.Function.{Function}
 use Rattle.sil_ast.specs.declared.module.Module.{Module}
 use Rattle.sil_ast.specs.declared.place.ValueId.{ValueId}
 use Rattle.sil_cfg.specs.declared.item.Item.{Item}
 use Rattle.type_definitions.specs.Declarations.{declarations_of}
-use Rattle.held_places.specs.inner.FramePlaces.{HoldsPlaces, Names}
-use Rattle.held_places.specs.inner.Roots.{IsThere, is_full_on}
+use Rattle.held_places.specs.inner.FramePlaces.{HoldsPlaces}
+use Rattle.held_places.specs.inner.Roots.{IsThere}
 use Rattle.held_places.specs.inner.TrailLaws.{TrailLaws}
 use Rattle.held_places.proofs.Contents.{on_stack, stays_full}
 use Rattle.held_places.proofs.EntriesKept.{results_other}

@@ -1,15 +1,14 @@
 -- A return: what it leaves is as it should be, and what waits below goes on with its places.
-use Rattle.std.proofs.Common.{◌≡◌, ℕ, List, [], ◌∷◌, map, Bool, true, false, Option, Ok, Some, refl, sym, ap, ◌∙◌, subst, slice_get}
+use Rattle.std.proofs.Common.{◌≡◌, ℕ, List, [], ◌∷◌, map, true, Option, Ok, Some, refl, sym, ap, ◌∙◌, subst, slice_get}
 use Rattle.std.proofs.lemmas.Option.{same_Some}
-use Rattle.accepted_memory.specs.holder_model.Calling.{are_as_after, places_given}
+use Rattle.accepted_memory.specs.holder_model.Calling.{places_given}
 use Rattle.accepted_memory.specs.holder_model.Data.{Datum}
-use Rattle.accepted_memory.specs.holder_model.Effects.{effect_of, unchanged}
-use Rattle.accepted_memory.specs.holder_model.Frames.{Entry, Frame, LentPlace, Operands, has_any, results_put}
+use Rattle.accepted_memory.specs.holder_model.Effects.{unchanged}
+use Rattle.accepted_memory.specs.holder_model.Frames.{Entry, Frame, Operands, results_put}
 use Rattle.accepted_memory.specs.holder_model.HolderStates.{HolderNext, HolderState}
 use Rattle.accepted_memory.specs.holder_model.ModuleFacts.{ModuleFacts, facts_told}
 use Rattle.accepted_memory.specs.holder_model.Standing.{stands_at}
-use Rattle.accepted_memory.specs.holder_model.States.{Drops, Finishes, Runs, Task}
-use Rattle.accepted_memory.specs.memory_accesses.Operations.{operations_of}
+use Rattle.accepted_memory.specs.holder_model.States.{Runs, Task}
 use Rattle.accepted_memory.specs.run_trails.inner.RunTrails.{IsRunTrail}
 use Rattle.accepted_values.specs.accepted_modules.inner.Checked.{IsVerified}
 use Rattle.accepted_values.specs.inner.Known.{IsAcceptedBody}
@@ -20,23 +19,19 @@ use Rattle.holder_steps.proofs.WhichFaults.{results_err}
 use Rattle.item_operands.specs.Items.{item_defined}
 use Rattle.item_operands.specs.Parts.{inst_at}
 use Rattle.ownership_chains.specs.declared.facts.Facts.{Facts}
-use Rattle.run_values.specs.Memory.{Memory}
-use Rattle.run_values.specs.Places.{Place}
 use Rattle.sil_ast.specs.declared.function.Function.{Function}
-use Rattle.sil_ast.specs.declared.inst.Inst.{Inst}
 use Rattle.sil_ast.specs.declared.module.Module.{Module}
 use Rattle.sil_ast.specs.declared.place.PointId.{PointId}
 use Rattle.sil_ast.specs.declared.place.ValueId.{ValueId}
 use Rattle.sil_cfg.specs.Returns.{is_return}
 use Rattle.sil_cfg.specs.declared.item.Item.{Item}
 use Rattle.sil_cfg.specs.declared.item.Item.TheVariants as item
-use Rattle.type_definitions.specs.Declarations.{declarations_of}
 use Rattle.typed_holders.specs.inner.TypedStates.{DeinitsTyped, DroppedTyped, FinishedTyped, FrameIs, GoesTyped, WaitsTyped}
 use Rattle.typed_holders.specs.typed_memory.inner.Worlds.{World}
 use Rattle.typed_holders.proofs.GoesOn.{accepted_body}
 use Rattle.held_places.specs.inner.FramePlaces.{HoldsPlaces}
 use Rattle.held_places.specs.inner.Items.{PlacedNext}
-use Rattle.held_places.specs.inner.PlaceStates.{AreLentBy, BelowPlaced, TasksPlaced, WaitsPlaced, as_given}
+use Rattle.held_places.specs.inner.PlaceStates.{BelowPlaced, TasksPlaced, WaitsPlaced, as_given}
 use Rattle.held_places.specs.inner.Premises.{ReadsOperands}
 use Rattle.held_places.specs.inner.TrailLaws.{TrailLaws}
 use Rattle.held_places.proofs.Applying.{leaves_slots}

@@ -1,10 +1,8 @@
 -- In a typed frame the place of a root is of a trivial type just where the root is told to be.
 use Rattle.std.proofs.Common.{◌≡◌, ℕ, zero, suc, List, [], ◌∷◌, map, refl, sym, ap, ◌∙◌, subst, Bool, true, false, Option, Some, None}
 use Rattle.std.specs.Prelude.{option_map, slice_get, unwrap_or}
-use Rattle.std.specs.List.{list_all}
 use Rattle.std.proofs.lemmas.Bool.{true≢false}
 use Rattle.std.proofs.lemmas.Option.{none-some, same_Some}
-use Rattle.accepted_memory.specs.holder_model.Frames.{Entry, entry_at}
 use Rattle.accepted_memory.specs.memory_accesses.Operations.{access_kind_of}
 use Rattle.accepted_memory.specs.memory_accesses.Sources.{is_slot_source, is_trivial_at, is_trivial_source, result_source, slot_source, source_at, source_by, sources_of}
 use Rattle.accepted_memory.specs.memory_accesses.declared.source.Source.{Source}
@@ -25,26 +23,23 @@ use Rattle.accepted_values.specs.accepted_modules.sil_types.Typing.Shapes.{is_tr
 use Rattle.accepted_values.specs.accepted_modules.sil_types.Typing.Values.{function_at, value_functions}
 use Rattle.accepted_values.specs.inner.Known.{IsAcceptedBody, type_in}
 use Rattle.accepted_values.specs.inner.Making.{IsMadeAt}
-use Rattle.accepted_values.specs.run_typing.Forms.{OfPlace, form_by, form_of, form_with}
+use Rattle.accepted_values.specs.run_typing.Forms.{OfPlace, form_by, form_with}
 use Rattle.argument_conventions.specs.declared.row.AddressRow.{AddressRow}
 use Rattle.instruction_table.specs.declared.op.Op.{Op}
 use Rattle.instruction_table.specs.declared.op.Op.TheVariants as op
-use Rattle.item_operands.specs.Items.{arg_value, item_defined}
+use Rattle.item_operands.specs.Items.{arg_value}
 use Rattle.numbered_form.specs.inner.Types.{HasArgType, HasBlockTypes, HasFunctionTypes, IsPlainType, is_placed_at, is_placed_type, is_plain_type}
 use Rattle.placed_values.proofs.ArgumentsTold.{arguments_told, is_value}
 use Rattle.placed_values.proofs.RootsTold.{roots_trivial}
 use Rattle.placed_values.proofs.Sourcing.{argument_no_slot, result_no_slot}
 use Rattle.placed_values.specs.inner.Arguments.{IsStackRoot}
 use Rattle.point_checks.specs.Points.{IsAt}
-use Rattle.run_values.specs.Places.{Place}
 use Rattle.run_values.specs.Shapes.{Shape, shape_of}
 use Rattle.run_values.specs.Trivial.{is_trivial}
-use Rattle.run_values.specs.inner.Laws.{has_no_address}
 use Rattle.sil_ast.specs.Blocks.{args_in, args_of}
 use Rattle.sil_ast.specs.declared.function.Block.{Block}
 use Rattle.sil_ast.specs.declared.function.BlockArg.{BlockArg}
 use Rattle.sil_ast.specs.declared.function.Function.{Function}
-use Rattle.sil_ast.specs.declared.inst.Inst.{Inst}
 use Rattle.sil_ast.specs.declared.module.Module.{Module}
 use Rattle.sil_ast.specs.declared.place.FuncId.{FuncId}
 use Rattle.sil_ast.specs.declared.place.ValueId.{ValueId}
@@ -53,9 +48,6 @@ use Rattle.sil_cfg.specs.declared.item.Item.{Item}
 use Rattle.sil_cfg.specs.declared.item.Item.TheVariants as item
 use Rattle.sil_cfg.specs.inner.Splice.{Stop}
 use Rattle.type_definitions.specs.Declarations.{Declarations, declarations_of}
-use Rattle.typed_holders.specs.inner.TypedStates.{EntriesAre}
-use Rattle.typed_memory.specs.inner.Worlds.{World}
-use Rattle.held_places.specs.inner.FramePlaces.{Names}
 use Rattle.held_places.specs.inner.Premises.{AreRootsShaped}
 use Rattle.held_places.specs.inner.Roots.{IsThere, argument, slot}
 use Rattle.held_places.proofs.PlainAddresses.{named_shape, typed_place}

@@ -1,11 +1,11 @@
 -- No row but that of calls calls a function.
-use Rattle.std.proofs.Common.{◌≡◌, List, [], ◌∷◌, refl, sym, subst, Bool, true, false, cond, Option, Some, None}
+use Rattle.std.proofs.Common.{◌≡◌, List, [], ◌∷◌, refl, subst, Bool, true, false, cond, Option, Some, None}
 use Rattle.std.specs.Prelude.{ℕ, map, option_and_then}
 use Rattle.std.proofs.lemmas.Bool.{false≢true, true≢false}
 use Rattle.argument_conventions.specs.declared.row.Content.{Content}
 use Rattle.argument_conventions.specs.declared.row.Content.TheVariants as content
 use Rattle.accepted_memory.specs.holder_model.Builtins.{builtin_value, is_set}
-use Rattle.accepted_memory.specs.holder_model.Data.{AddressOf, Datum, FunctionOf, ValueOf, all_of, as_function, as_place, as_value, values_of}
+use Rattle.accepted_memory.specs.holder_model.Data.{AddressOf, Datum, FunctionOf, ValueOf, all_of, as_place, as_value, values_of}
 use Rattle.accepted_memory.specs.holder_model.Effects as effects
 use Rattle.accepted_memory.specs.holder_model.Effects.{Calls, Effect, Faults, Makes, Traps, Unfit, effect_by, effect_of, gives, only, part_number, unchanged, with_some}
 use Rattle.accepted_memory.specs.holder_model.Faults.{HolderFault, NotLastSlot}

@@ -3,8 +3,6 @@ use Rattle.std.proofs.Common.{◌≡◌, ℕ, List, [], ◌∷◌, map, refl, sy
 use Rattle.accepted_memory.specs.holder_model.Data.{AddressOf, Datum, ValueOf}
 use Rattle.accepted_memory.specs.holder_model.Effects.{effect_of}
 use Rattle.accepted_memory.specs.holder_model.Frames.{Entry, Operands}
-use Rattle.accepted_memory.specs.holder_model.declared.row_effect.RowEffect.TheVariants as row
-use Rattle.accepted_values.specs.inner.Known.{IsAcceptedBody}
 use Rattle.accepted_values.specs.owned_run_typing.inner.OwnedTyped.{OwnedFunction, OwnedInst}
 use Rattle.accepted_values.specs.run_typing.EndForms.{value_in}
 use Rattle.accepted_values.specs.run_typing.Forms.{Form, OfPlace, OfValue, forms_of}
@@ -14,7 +12,6 @@ use Rattle.ownership_chains.specs.declared.facts.Facts.{Facts}
 use Rattle.run_values.specs.Fits.{fits}
 use Rattle.run_values.specs.Memory.{Memory}
 use Rattle.run_values.specs.Places.{Place}
-use Rattle.run_values.specs.Shapes.{Shape}
 use Rattle.run_values.specs.Values.{Value}
 use Rattle.sil_ast.specs.declared.function.Function.{Function}
 use Rattle.sil_ast.specs.declared.inst.Inst.{Inst}
@@ -27,7 +24,7 @@ use Rattle.typed_holders.proofs.Data.{DataAre, read_place, read_value}
 use Rattle.typed_holders.proofs.Data as data_are
 use Rattle.typed_holders.proofs.Entries.{FitEach, fit_data, operands_fit}
 use Rattle.typed_holders.proofs.GoesOn.{typed_module}
-use Rattle.typed_memory.specs.inner.Worlds.{DatumIs, Suits, World, names}
+use Rattle.typed_memory.specs.inner.Worlds.{World, names}
 use Rattle.held_places.specs.inner.Premises.{AreStoresFit, ReadsOperands}
 use Rattle.held_places.proofs.RowsTyped.{Says, StoresForms, row_says}
 

@@ -1,8 +1,8 @@
 -- A frame without the operands that ended holds what it held, and a frame that goes on stands over the frames below as before.
-use Rattle.std.proofs.Common.{◌≡◌, ◌⊎◌, ⊎_elim, inl, inr, ◌<◌, ◌≤◌, ◌++◌, ℕ, zero, suc, List, [], ◌∷◌, length, map, Bool, true, false, Option, Some, None, Ok, refl, sym, ap, ◌∙◌, subst, slice_get}
+use Rattle.std.proofs.Common.{◌≡◌, ◌⊎◌, ◌≤◌, ◌++◌, ℕ, suc, List, [], ◌∷◌, length, Bool, Option, Some, None, Ok, refl, sym, ap, ◌∙◌, subst, slice_get}
 use Rattle.std.proofs.lemmas.Option.{same_Some}
 use Rattle.accepted_memory.specs.holder_model.Calling.{argument_data, given_places, lent_with, place_in, places_given}
-use Rattle.accepted_memory.specs.holder_model.Data.{AddressOf, Datum}
+use Rattle.accepted_memory.specs.holder_model.Data.{AddressOf}
 use Rattle.accepted_memory.specs.holder_model.Frames.{Entry, Frame, Plain, datum_in, entry_at, plain_address, without_ended}
 use Rattle.accepted_memory.specs.holder_model.States.{Runs, Task, dropping}
 use Rattle.accepted_memory.specs.memory_accesses.Sources.{handed_source, source_at, sources_of}
@@ -18,7 +18,7 @@ use Rattle.item_operands.specs.declared.taken.Taken.{Taken}
 use Rattle.memory_cells.specs.inner.Cells.{cell_at}
 use Rattle.ownership_chains.specs.declared.facts.Facts.{Facts}
 use Rattle.run_values.specs.Memory.{Memory}
-use Rattle.run_values.specs.Places.{Home, OnStack, Place}
+use Rattle.run_values.specs.Places.{OnStack, Place}
 use Rattle.sil_ast.specs.declared.function.Function.{Function}
 use Rattle.sil_ast.specs.declared.module.Module.{Module}
 use Rattle.sil_ast.specs.declared.place.ObjectId.{ObjectId}

@@ -1,9 +1,9 @@
 -- An argument of a trivial type stays full where it was given so: nothing is taken from it.
-use Rattle.std.proofs.Common.{◌≡◌, ◌⊎◌, inl, inr, ℕ, zero, suc, List, [], ◌∷◌, ◌++◌, refl, sym, ap, ◌∙◌, subst, Bool, true, false, not, ◌&&◌, ◌||◌, Option, Some, None, eq-eqb}
-use Rattle.std.specs.Prelude.{Contains, cond, is_some, length, option_and_then, option_map, slice_get}
+use Rattle.std.proofs.Common.{◌≡◌, inl, inr, ℕ, zero, suc, List, [], ◌∷◌, ◌++◌, refl, sym, ap, ◌∙◌, subst, Bool, true, false, not, ◌&&◌, ◌||◌, Option, Some, None}
+use Rattle.std.specs.Prelude.{Contains, cond, is_some, length, option_and_then, slice_get}
 use Rattle.std.proofs.lemmas.Bool.{and_parts, eqb-true, false≢true, not-false, not-true, true≢false}
 use Rattle.std.proofs.lemmas.Option.{none-some, same_Some}
-use Rattle.argument_conventions.specs.Arguments.{Told, argument_type, arguments_of, handed_type}
+use Rattle.argument_conventions.specs.Arguments.{argument_type, arguments_of, handed_type}
 use Rattle.argument_conventions.specs.Rows.{address_row}
 use Rattle.argument_conventions.specs.declared.convention.ArgumentConvention.{ArgumentConvention}
 use Rattle.argument_conventions.specs.declared.convention.ArgumentConvention.TheVariants as convention
@@ -15,12 +15,10 @@ use Rattle.accepted_memory.specs.memory_accesses.Locations.{cell_by, cell_of, ex
 use Rattle.accepted_memory.specs.memory_accesses.Operations.{access_kind_of, load_operation, operated, operation_by, operations_of, store_operation}
 use Rattle.accepted_memory.specs.memory_accesses.Rows.{has_by, has_operation, has_steps, is_part, shared_has, slot_has}
 use Rattle.accepted_memory.specs.memory_accesses.Sources.{is_slot, is_slot_source, is_trivial_at, is_trivial_source, source_at, sources_of}
-use Rattle.accepted_memory.specs.memory_accesses.declared.access.Access.{Access}
-use Rattle.accepted_memory.specs.memory_accesses.declared.access.Access.TheVariants.{Allocates, Deallocates, Does, Given}
+use Rattle.accepted_memory.specs.memory_accesses.declared.access.Access.TheVariants.{Deallocates, Does}
 use Rattle.accepted_memory.specs.memory_accesses.declared.access.Operated.{Operated}
 use Rattle.accepted_memory.specs.memory_accesses.declared.access.Operation.{Operation}
 use Rattle.accepted_memory.specs.memory_accesses.declared.access.Operation.TheVariants.{FirstWrite, Handed, Lend, Read, Take, TrivialStore, Write}
-use Rattle.accepted_memory.specs.memory_accesses.declared.location.Cell.{Cell}
 use Rattle.accepted_memory.specs.memory_accesses.declared.location.Location.{Location}
 use Rattle.accepted_memory.specs.memory_accesses.declared.source.Source.{Source}
 use Rattle.accepted_memory.specs.memory_accesses.declared.source.Source.TheVariants as source
@@ -33,9 +31,8 @@ use Rattle.accepted_memory.specs.ownership_kinds.Facts.{facts_in}
 use Rattle.accepted_memory.specs.run_trails.inner.RunTrails.{GoesOn, IsNext, IsRunTrail}
 use Rattle.accepted_memory.specs.inner.PartTrails.{IsPartOf, accesses_in, is_on}
 use Rattle.accepted_memory.proofs.PartsTurned.{turn_by}
-use Rattle.accepted_memory.proofs.Turning.{turned_each}
 use Rattle.accepted_values.specs.accepted_modules.sil_types.Typing.FormRules.{has_word_by, has_wrong_qualifier, is_owned_form, is_read_word}
-use Rattle.accepted_values.specs.accepted_modules.sil_types.Typing.RowTypes.{given_by, passes, takes, type_of, written}
+use Rattle.accepted_values.specs.accepted_modules.sil_types.Typing.RowTypes.{given_by, passes, type_of, written}
 use Rattle.accepted_values.specs.accepted_modules.sil_types.Typing.Shapes.{in_unowned, in_weak, is_nontrivial, is_object, is_object_layer, is_storage, is_storage_layer, is_trivial_object}
 use Rattle.accepted_values.specs.accepted_modules.sil_types.Typing.Shapes.{target, unowned_at, unowned_in, weak_at, weak_in, where_it}
 use Rattle.accepted_values.specs.accepted_modules.sil_types.Typing.OperandTypes.{is_as_written}
@@ -54,11 +51,10 @@ use Rattle.accepted_values.specs.accepted_modules.sil_types.Typing.SignatureRule
 use Rattle.instruction_table.specs.Forms.{type_words_of}
 use Rattle.instruction_table.specs.declared.op.Op.{Op}
 use Rattle.instruction_table.specs.declared.op.Op.TheVariants as op
-use Rattle.item_operands.specs.Items.{arg_value, item_defined}
+use Rattle.item_operands.specs.Items.{item_defined}
 use Rattle.item_operands.specs.Parts.{item_inst}
 use Rattle.numbered_form.specs.Lists.{Each}
 use Rattle.numbered_form.specs.inner.Parts.{has_operands, is_typed}
-use Rattle.ownership_chains.specs.Facts.{has}
 use Rattle.path_patterns.specs.declared.mark.Mark.{Mark}
 use Rattle.point_checks.proofs.Among.{Among, among_contained}
 use Rattle.point_checks.specs.Points.{IsAt}
