@@ -20,6 +20,7 @@ use Rattle.item_operands.specs.Items.{item_defined}
 use Rattle.item_operands.specs.declared.taken.Taken.{Taken}
 use Rattle.ownership_chains.specs.Facts.{has}
 use Rattle.ownership_chains.specs.declared.facts.Facts.{Facts}
+use Rattle.placed_values.specs.inner.Arguments.{IsTold}
 use Rattle.run_values.specs.Places.{Place}
 use Rattle.sil_ast.specs.declared.function.Function.{Function}
 use Rattle.sil_ast.specs.declared.module.Module.{Module}
@@ -120,9 +121,16 @@ module _ (laws : TrailLaws) (m : Module) (number : ℕ) (callee : Function) (acc
 
     -- and each argument that is handed over by its address names its place
     pub arguments_named : (v : ValueId) (row : AddressRow) (trivial : Bool) → source_at (sources_of (declarations_of m) callee) v ≡ source.Argument row trivial → (p : Place) × Names entries v p
-    arguments_named v row trivial src =
-        let told = laws.told m number callee accepted v row trivial src in
-        let x = mapped_get (λ y. Some (as_argument y)) args told.number (datum_in (entry_at entries v))
-            (sym (ap (λ ys. slice_get ys told.number) as_arguments) ∙ get_mapped (λ w. datum_in (entry_at entries w)) vs told.number v told.is) in
-        let p = handed_at left (arguments_of callee.signature) ts args alike handed told.number told.told x.0 row told.told_is x.1 told.row_is in
-        (record p.0 { is_part = false }, sym x.2 ∙ ap (λ y. Some (as_argument y)) p.1)
+    arguments_named v row trivial src = (record p.0 { is_part = false }, sym x.2 ∙ ap (λ y. Some (as_argument y)) p.1)
+      where
+        told : IsTold (declarations_of m) callee v row trivial
+        told = laws.told m number callee accepted v row trivial src
+
+        there : slice_get (map (λ y. Some (as_argument y)) args) told.number ≡ Some (datum_in (entry_at entries v))
+        there = sym (ap (λ ys. slice_get ys told.number) as_arguments) ∙ get_mapped (λ w. datum_in (entry_at entries w)) vs told.number v told.is
+
+        x : (y : Datum) × (slice_get args told.number ≡ Some y) × (Some (as_argument y) ≡ datum_in (entry_at entries v))
+        x = mapped_get (λ y. Some (as_argument y)) args told.number (datum_in (entry_at entries v)) there
+
+        p : (q : Place) × (x.0 ≡ AddressOf q)
+        p = handed_at left (arguments_of callee.signature) ts args alike handed told.number told.told x.0 row told.told_is x.1 told.row_is

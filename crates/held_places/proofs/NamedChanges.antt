@@ -1,5 +1,5 @@
 -- Rows that name a member of an address or a field of an object: what their results name.
-use Rattle.std.proofs.Common.{◌≡◌, ◌<◌, ◌==◌, ◌||◌, ⊎_elim, append-nil, ℕ, List, [], ◌∷◌, ◌++◌, length, map, Bool, true, false, Contains, Option, Some, None, Ok, refl, sym, ap, ◌∙◌, subst, eqb-true}
+use Rattle.std.proofs.Common.{◌≡◌, ◌<◌, ◌==◌, ◌||◌, ⊎_elim, append-nil, ℕ, List, [], ◌∷◌, ◌++◌, length, map, Bool, true, false, Contains, Option, Some, None, Ok, Err, refl, sym, ap, ◌∙◌, subst, eqb-true}
 use Rattle.std.specs.Prelude.{option_and_then, option_map, slice_get}
 use Rattle.std.specs.List.{list_any}
 use Rattle.std.proofs.lemmas.Bool.{false≢true, or_cases, or_left, true≢false}
@@ -180,11 +180,11 @@ module _ (m : Module) (number : ℕ) (f : Function) (w : World) (facts : ValueId
 
   module _ (e : effect_of x.op ≡ row.AddressesField) where
     -- a place in an object
-    pub record NamesInside : Type 0 where
-      pub place : Place
-      pub object : ObjectId
-      pub home : place.home ≡ Inside object
-      pub gives_it : c.results ≡ AddressOf place ∷ []
+    record NamesInside : Type 0 where
+      place : Place
+      object : ObjectId
+      home : place.home ≡ Inside object
+      gives_it : c.results ≡ AddressOf place ∷ []
 
     field_named : (n : Option Member) (k : Option ℕ) (o : ObjectId) → ◌≡◌ {A = Effect HolderFault} (effects.names_field_of d shapes values memory x n k o) (Makes c) → NamesInside
     field_named None k o h = absurd (cc)
@@ -241,10 +241,10 @@ module _ (m : Module) (number : ℕ) (f : Function) (w : World) (facts : ValueId
     says = subst (λ r. Says m x r (forms_of d f (map value_in x.operands)) (forms_of d f x.results)) e (forms_say m number f w facts memory entries p ops s x there)
 
     -- its operand
-    pub record OperandAt : Type 0 where
-      pub place : Place
-      pub shape : place.shape ≡ says.whole
-      pub given : ops.given ≡ AddressOf place ∷ []
+    record OperandAt : Type 0 where
+      place : Place
+      shape : place.shape ≡ says.whole
+      given : ops.given ≡ AddressOf place ∷ []
 
     operand : OperandAt
     operand = at ops.given refl (subst (λ fs. DataAre m w fs ops.given) says.are (given_typed m number f w facts memory entries p ops s x there))
@@ -280,11 +280,11 @@ module _ (m : Module) (number : ℕ) (f : Function) (w : World) (facts : ValueId
         same_place q part_place (sym names ∙ ap (λ u. datum_in (entry_at new u)) one ∙ given_one.holds)
 
     -- the operand as the item takes it
-    pub record TakenOne : Type 0 where
-      pub taken : Taken
-      pub only : item_taken f i ≡ taken ∷ []
-      pub first : first_value x ≡ Some taken.value
-      pub names : Names ops.left taken.value whole_place
+    record TakenOne : Type 0 where
+      taken : Taken
+      only : item_taken f i ≡ taken ∷ []
+      first : first_value x ≡ Some taken.value
+      names : Names ops.left taken.value whole_place
 
     taken_one : TakenOne
     taken_one = at (item_taken f i) refl (subst (AreNamedBy ops.left (item_taken f i)) operand.given (operands_named m number f w facts memory entries i ops s))
@@ -334,12 +334,12 @@ module _ (m : Module) (number : ℕ) (f : Function) (w : World) (facts : ValueId
         operands_located m number f s.body t i trail taken_one.taken (subst (λ ts. Contains ts taken_one.taken) (sym taken_one.only) (Contains-push [] taken_one.taken)) (member_of v made).address
 
     -- the location of the operand, and that of the result
-    pub record At (v : ValueId) (l : Location) : Type 0 where
-      pub location : Location
-      pub is : location_of sources of ≡ Some location
-      pub extends : l ≡ extended says.number location
-      pub made : IsAsMade f t location.root of
-      pub rooted : IsRoot (source_at sources location.root)
+    record At (v : ValueId) (l : Location) : Type 0 where
+      location : Location
+      is : location_of sources of ≡ Some location
+      extends : l ≡ extended says.number location
+      made : IsAsMade f t location.root of
+      rooted : IsRoot (source_at sources location.root)
 
     at_location : (v : ValueId) → makes f v i ≡ true → (l : Location) → location_of sources v ≡ Some l → At v l
     at_location v made l at =
