@@ -1,5 +1,5 @@
 -- A frame that stands at an instruction whose operands are found: behind those that end it holds its places, and all that typing says of the instruction is there.
-use Rattle.std.proofs.Common.{◌≡◌, ℕ, List, [], ◌∷◌, map, length, ◌<◌, Bool, true, false, Option, Some, None, Ok, refl, sym, ap, ◌∙◌, subst, slice_get}
+use Rattle.std.proofs.Common.{◌≡◌, ℕ, List, [], ◌∷◌, map, length, ◌<◌, Option, Ok, refl, sym, ap, ◌∙◌, subst}
 use Rattle.std.proofs.lemmas.Option.{same_Some}
 use Rattle.accepted_memory.specs.holder_model.Data.{AddressOf, Datum}
 use Rattle.accepted_memory.specs.holder_model.Effects as effects
@@ -7,14 +7,14 @@ use Rattle.accepted_memory.specs.holder_model.Effects.{Change, Makes, effect_by,
 use Rattle.accepted_memory.specs.holder_model.Faults.{HolderFault}
 use Rattle.accepted_memory.specs.holder_model.Frames.{Entry, Frame, Operands, results_put}
 use Rattle.accepted_memory.specs.holder_model.HolderStates.{HolderState}
-use Rattle.accepted_memory.specs.holder_model.MemoryEffects.{at_places, effect}
+use Rattle.accepted_memory.specs.holder_model.MemoryEffects.{at_places}
 use Rattle.accepted_memory.specs.holder_model.ModuleFacts.{facts_of, facts_told}
-use Rattle.accepted_memory.specs.holder_model.ModuleShapes.{ModuleShapes, shapes_in, shapes_of}
+use Rattle.accepted_memory.specs.holder_model.ModuleShapes.{shapes_in, shapes_of}
 use Rattle.accepted_memory.specs.holder_model.Standing.{stands_at}
 use Rattle.accepted_memory.specs.holder_model.StepParts.{slots_behind}
 use Rattle.accepted_memory.specs.holder_model.States.{Runs, Task}
 use Rattle.accepted_memory.specs.holder_model.declared.row_effect.RowEffect.TheVariants as row
-use Rattle.accepted_memory.specs.memory_accesses.Sources.{source_at, sources_of}
+use Rattle.accepted_memory.specs.memory_accesses.Sources.{sources_of}
 use Rattle.accepted_memory.specs.run_trails.inner.RunTrails.{IsRunTrail}
 use Rattle.accepted_places.specs.inner.Located.{IsAddress}
 use Rattle.accepted_values.specs.inner.Known.{IsAcceptedBody}
@@ -24,7 +24,6 @@ use Rattle.accepted_values.specs.run_typing.Forms.{Form, OfPlace, form_of, forms
 use Rattle.held_entries.proofs.accepted_trails.run_trails.WalkEdges.{are_next}
 use Rattle.holder_steps.specs.inner.Ways.{left_with}
 use Rattle.item_operands.specs.Items.{item_defined, item_taken}
-use Rattle.item_operands.specs.declared.taken.Taken.{Taken}
 use Rattle.numbered_form.specs.Lists.{Each}
 use Rattle.ownership_chains.specs.declared.facts.Facts.{Facts}
 use Rattle.run_values.specs.Places.{Place}
@@ -35,7 +34,7 @@ use Rattle.sil_ast.specs.declared.module.Module.{Module}
 use Rattle.sil_ast.specs.declared.place.PointId.{PointId}
 use Rattle.sil_ast.specs.declared.place.ValueId.{ValueId}
 use Rattle.sil_cfg.specs.declared.item.Item.TheVariants as item
-use Rattle.type_definitions.specs.Declarations.{Declarations, declarations_of}
+use Rattle.type_definitions.specs.Declarations.{declarations_of}
 use Rattle.typed_holders.specs.inner.TypedStates.{FrameIs, TasksAre}
 use Rattle.typed_holders.proofs.Data.{DataAre}
 use Rattle.typed_holders.proofs.Effects.{Changed, EffectFits}
@@ -45,7 +44,7 @@ use Rattle.typed_holders.proofs.Operands.{operands_read}
 use Rattle.typed_holders.proofs.Performs.{defines_results}
 use Rattle.typed_holders.proofs.RowForms.{row_fits}
 use Rattle.typed_holders.proofs.ShapesTold.{result_told}
-use Rattle.typed_memory.specs.inner.Worlds.{DatumIs, World}
+use Rattle.typed_memory.specs.inner.Worlds.{World}
 use Rattle.held_places.specs.inner.FramePlaces.{HoldsPlaces, Names}
 use Rattle.held_places.specs.inner.Items.{StandsAtItem, effect_here}
 use Rattle.held_places.specs.inner.PartsNamed.{AreNewNamed}

@@ -1,8 +1,7 @@
 -- What an instruction does at its operand's place on the stack: the place is as the run asks, and the frame holds its places behind it.
-use Rattle.std.proofs.Common.{◌≡◌, ◌⊎◌, ⊎_elim, inl, inr, ◌==◌, ◌<◌, ◌≤◌, ℕ, List, [], ◌∷◌, length, Bool, true, false, Contains, Option, Some, None, refl, sym, ap, ◌∙◌, subst, arith, eqb-true}
+use Rattle.std.proofs.Common.{◌≡◌, ◌⊎◌, ⊎_elim, inl, inr, ◌==◌, ◌≤◌, ℕ, List, [], ◌∷◌, length, Bool, true, false, Contains, Some, refl, sym, ap, ◌∙◌, subst, arith, eqb-true}
 use Rattle.std.specs.Prelude.{unwrap_or}
-use Rattle.std.proofs.lemmas.Bool.{false≢true, true≢false}
-use Rattle.std.proofs.lemmas.Option.{same_Some}
+use Rattle.std.proofs.lemmas.Bool.{true≢false}
 use Rattle.std.proofs.lemmas.List.Elements.{Contains-push}
 use Rattle.accepted_memory.specs.accepted_trails.inner.Bases.{IsAsMade}
 use Rattle.accepted_memory.specs.holder_model.Effects.{Effect}
@@ -14,21 +13,16 @@ use Rattle.accepted_memory.specs.holder_model.States.{Task}
 use Rattle.accepted_memory.specs.memory_accesses.Locations.{location_of}
 use Rattle.accepted_memory.specs.memory_accesses.Operations.{operated}
 use Rattle.accepted_memory.specs.memory_accesses.Rows.{has_operation, is_part}
-use Rattle.accepted_memory.specs.memory_accesses.Sources.{is_trivial_at, is_trivial_source, source_at, sources_of}
+use Rattle.accepted_memory.specs.memory_accesses.Sources.{is_trivial_at, source_at, sources_of}
 use Rattle.accepted_memory.specs.memory_accesses.declared.access.Operation.{Operation}
-use Rattle.accepted_memory.specs.memory_accesses.declared.access.Operation.TheVariants.{Handed, Take, TrivialStore}
+use Rattle.accepted_memory.specs.memory_accesses.declared.access.Operation.TheVariants.{Handed, Take}
 use Rattle.accepted_memory.specs.memory_accesses.declared.location.Location.{Location}
-use Rattle.accepted_memory.specs.memory_accesses.declared.source.Source.TheVariants as source
 use Rattle.accepted_memory.specs.memory_parts.Parts.{whole_cell}
 use Rattle.accepted_memory.specs.run_trails.inner.RunTrails.{GoesOn, IsRunTrail}
 use Rattle.accepted_places.specs.inner.Cells.{IsDoneAt, mark_at, touches}
 use Rattle.accepted_places.specs.inner.Stacks.{slots_on}
 use Rattle.accepted_values.specs.inner.Known.{IsAcceptedBody}
-use Rattle.argument_conventions.specs.Rows.{keeps_full, keeps_full_by}
 use Rattle.argument_conventions.specs.declared.row.AddressRow.{AddressRow}
-use Rattle.argument_conventions.specs.declared.row.Content.{Content}
-use Rattle.argument_conventions.specs.declared.row.Content.TheVariants as content
-use Rattle.item_operands.specs.Items.{item_defined}
 use Rattle.item_operands.specs.Parts.{item_inst}
 use Rattle.memory_cells.specs.inner.Cells.{ChangesAt, IsPlace, cell_at}
 use Rattle.memory_cells.proofs.Writes.{emptied_changes, emptied_empty, filled_changes, filled_full}

@@ -1,5 +1,5 @@
 -- A slot is allocated, or the newest one is deallocated.
-use Rattle.std.proofs.Common.{◌≡◌, ◌⊎◌, ⊎_elim, inl, inr, ◌==◌, ◌&&◌, ◌||◌, ◌≤◌, ℕ, List, [], ◌∷◌, length, Bool, true, false, cond, not, Some, None, Ok, Err, refl, sym, ap, ◌∙◌, subst, arith, eq-eqb, eqb-true}
+use Rattle.std.proofs.Common.{◌≡◌, ◌⊎◌, ⊎_elim, ◌==◌, ◌&&◌, ◌≤◌, ℕ, List, [], ◌∷◌, length, Bool, true, false, cond, not, Some, None, Ok, Err, refl, sym, ap, ◌∙◌, subst, arith, eq-eqb, eqb-true}
 use Rattle.std.specs.List.{list_any}
 use Rattle.std.proofs.lemmas.Bool.{and_from, and_right, false≢true, or_cases, or_from, or_left, or_right, true≢false}
 use Rattle.accepted_memory.specs.holder_model.Effects.{ClosesSlot, Effect, Faults}
@@ -10,7 +10,7 @@ use Rattle.accepted_memory.specs.holder_model.ModuleShapes.{ModuleShapes}
 use Rattle.accepted_memory.specs.holder_model.Standing as standing
 use Rattle.accepted_memory.specs.holder_model.StepParts as parts
 use Rattle.accepted_memory.specs.holder_model.States.{Task}
-use Rattle.accepted_memory.specs.memory_accesses.Operations.{access_kind_of, addresses_of, deallocates, operations_of}
+use Rattle.accepted_memory.specs.memory_accesses.Operations.{access_kind_of, deallocates, operations_of}
 use Rattle.accepted_memory.specs.memory_accesses.Sources.{is_slot, is_slot_source, source_at, sources_of}
 use Rattle.accepted_memory.specs.memory_accesses.declared.columns.AccessKind.TheVariants as access
 use Rattle.accepted_memory.specs.memory_accesses.declared.source.Source.TheVariants as source
@@ -49,7 +49,7 @@ use Rattle.held_places.proofs.Contents.{nothing_touched, on_stack, stays_full}
 use Rattle.held_places.proofs.GoingOn.{KeepsRoots, goes_on}
 use Rattle.held_places.proofs.Keeping.{slot_no_part, slot_there, slots_still}
 use Rattle.held_places.proofs.Naming.{names_once, other_way}
-use Rattle.held_places.proofs.Opening.{Closes, Opens, closed_cells, closes_below, opens, slot_of, with_slot}
+use Rattle.held_places.proofs.Opening.{Closes, closed_cells, closes_below, opens, slot_of, with_slot}
 use Rattle.held_places.proofs.PartsNamed.{ArePartsNamed}
 use Rattle.held_places.proofs.RowsAt.{Removes}
 

@@ -1,5 +1,5 @@
 -- What an instruction's effect leads to: behind each change the tasks hold their places, a slot that goes is the newest, and no place meets a fault.
-use Rattle.std.proofs.Common.{◌≡◌, ◌⊎◌, ⊎_elim, inl, inr, ℕ, List, [], ◌∷◌, Bool, true, false, Contains, Option, Some, None, Ok, Err, refl, sym, ap, ◌∙◌, subst}
+use Rattle.std.proofs.Common.{◌≡◌, ◌⊎◌, ⊎_elim, inl, inr, ℕ, List, [], ◌∷◌, Bool, true, false, Option, Some, None, Err, refl, sym, ap, ◌∙◌, subst}
 use Rattle.std.proofs.lemmas.Bool.{false≢true, true≢false}
 use Rattle.accepted_memory.specs.holder_model.Data.{AddressOf, Datum, as_function}
 use Rattle.accepted_memory.specs.holder_model.Effects as effects

@@ -1,12 +1,11 @@
 -- An instruction that isn't a call of a function with a body: the frame behind it holds its places, and it meets no fault of places.
-use Rattle.std.proofs.Common.{◌≡◌, ℕ, ℤ, List, [], ◌∷◌, ◌++◌, drop, Contains, Option, Some, None, Ok, Err, refl, sym, ap, ◌∙◌, subst, slice_get, true, false}
+use Rattle.std.proofs.Common.{◌≡◌, ℕ, ℤ, List, [], ◌∷◌, ◌++◌, drop, Contains, Option, Some, None, refl, sym, ap, ◌∙◌, subst, slice_get}
 use Rattle.std.specs.Prelude.{option_and_then}
 use Rattle.std.proofs.lemmas.List.Elements.{Contains-push}
 use Rattle.accepted_memory.specs.holder_model.Calling.{lent_places, lent_with}
 use Rattle.accepted_memory.specs.holder_model.Data.{AddressOf, Datum, FunctionOf, ValueOf, all_of, values_of, with_first}
-use Rattle.accepted_memory.specs.holder_model.Effects.{Calls, Change, Faults, Makes, effect_of, unchanged}
-use Rattle.accepted_memory.specs.holder_model.Faults.{HolderFault}
-use Rattle.accepted_memory.specs.holder_model.Frames.{Entry, Frame, Operands, has_any}
+use Rattle.accepted_memory.specs.holder_model.Effects.{Calls, Change, Makes, effect_of, unchanged}
+use Rattle.accepted_memory.specs.holder_model.Frames.{Entry, Frame, Operands}
 use Rattle.accepted_memory.specs.holder_model.HolderStates.{HolderNext, HolderState}
 use Rattle.accepted_memory.specs.holder_model.ModuleFacts.{facts_of, facts_told}
 use Rattle.accepted_memory.specs.holder_model.ModuleShapes.{shapes_in, shapes_of}
@@ -20,7 +19,7 @@ use Rattle.accepted_memory.specs.memory_accesses.declared.access.Operated.{Opera
 use Rattle.accepted_values.specs.inner.Known.{IsAcceptedBody}
 use Rattle.argument_conventions.specs.declared.row.AddressRow.{AddressRow}
 use Rattle.holder_steps.specs.inner.Ways.{GoesBehind, left_with, turned}
-use Rattle.holder_steps.proofs.WhichFaults.{IsResultFault, results_err}
+use Rattle.holder_steps.proofs.WhichFaults.{results_err}
 use Rattle.item_operands.specs.Items.{item_defined, item_taken}
 use Rattle.item_operands.specs.declared.taken.Taken.{Taken}
 use Rattle.ownership_chains.specs.declared.facts.Facts.{Facts}
@@ -35,7 +34,7 @@ use Rattle.sil_ast.specs.declared.place.PointId.{PointId}
 use Rattle.sil_ast.specs.declared.place.ValueId.{ValueId}
 use Rattle.sil_cfg.specs.declared.item.Item.TheVariants as item
 use Rattle.type_definitions.specs.Declarations.{declarations_of}
-use Rattle.held_places.specs.inner.Items.{AreFieldsFound, AreItemsPlaced, IsItemPlaced, PlacedNext, StandsAtItem, effect_here, is_place_fault}
+use Rattle.held_places.specs.inner.Items.{AreFieldsFound, AreItemsPlaced, IsItemPlaced, PlacedNext, StandsAtItem, effect_here}
 use Rattle.held_places.specs.inner.PlaceStates.{AreLentBy}
 use Rattle.held_places.specs.inner.TrailLaws.{TrailLaws}
 use Rattle.held_places.proofs.AtItem.{accepted, call_news, goes_with, named_before, reads, stands}
@@ -45,7 +44,7 @@ use Rattle.held_places.proofs.OtherFaults.{result_fault}
 use Rattle.held_places.proofs.RowCalls.{calls_by_row}
 use Rattle.held_places.proofs.RowChanges.{is_still, still_slots}
 use Rattle.held_places.proofs.RowsAt.{is_removal, not_removed}
-use Rattle.held_places.proofs.RowsPlaced.{ArePlaced, GoesWith, StandsBefore, still_placed}
+use Rattle.held_places.proofs.RowsPlaced.{StandsBefore, still_placed}
 
 -- ---- operands that are values
 

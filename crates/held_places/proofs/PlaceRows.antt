@@ -1,8 +1,8 @@
 -- Rows that do something at a place: which operand names it, and whether the operation looks, fills or empties.
-use Rattle.std.proofs.Common.{◌≡◌, ◌⊎◌, inl, inr, List, [], ◌∷◌, ◌++◌, Bool, true, false, cond, Option, Some, None, refl, sym, ap, ◌∙◌, subst}
-use Rattle.std.proofs.lemmas.Bool.{false≢true, true≢false}
-use Rattle.std.proofs.lemmas.Option.{none-some, same_Some}
-use Rattle.accepted_memory.specs.holder_model.Data.{AddressOf, Datum, ValueOf}
+use Rattle.std.proofs.Common.{◌≡◌, ◌⊎◌, inl, inr, List, [], ◌∷◌, ◌++◌, true, false, cond, Some, refl, sym, ap, subst}
+use Rattle.std.proofs.lemmas.Bool.{false≢true}
+use Rattle.std.proofs.lemmas.Option.{same_Some}
+use Rattle.accepted_memory.specs.holder_model.Data.{AddressOf, Datum}
 use Rattle.accepted_memory.specs.holder_model.Effects.{effect_of}
 use Rattle.accepted_memory.specs.holder_model.Frames.{Entry}
 use Rattle.accepted_memory.specs.holder_model.MemoryEffects.{takes}
@@ -10,9 +10,8 @@ use Rattle.accepted_memory.specs.holder_model.declared.row_effect.RowEffect.{Row
 use Rattle.accepted_memory.specs.holder_model.declared.row_effect.RowEffect.TheVariants as row
 use Rattle.accepted_memory.specs.memory_accesses.Operations.{access_kind_of, load_operation, operated, operation_by, operations_of, store_operation}
 use Rattle.accepted_memory.specs.memory_accesses.declared.access.Operation.{Operation}
-use Rattle.accepted_memory.specs.memory_accesses.declared.access.Operation.TheVariants.{FirstWrite, Lend, Read, Take, TrivialStore, Write}
+use Rattle.accepted_memory.specs.memory_accesses.declared.access.Operation.TheVariants.{Lend, Take}
 use Rattle.accepted_places.specs.inner.Stacks.{keeps_slots_by}
-use Rattle.instruction_table.specs.declared.entries.Role.TheVariants as role
 use Rattle.instruction_table.specs.declared.op.Op.{Op}
 use Rattle.instruction_table.specs.declared.op.Op.TheVariants as op
 use Rattle.item_operands.specs.Roles.{taken_by}

@@ -1,8 +1,8 @@
 -- A place that is found as the operation asks meets no fault; on the stack it is found so by what the frame holds.
-use Rattle.std.proofs.Common.{◌≡◌, ◌⊎◌, ⊎_elim, ℕ, List, [], ◌∷◌, Bool, true, false, cond, Contains, Option, Some, None, refl, sym, ap, ◌∙◌, subst}
+use Rattle.std.proofs.Common.{◌≡◌, ◌⊎◌, ⊎_elim, ℕ, List, [], ◌∷◌, true, cond, Contains, Option, Some, None, refl, sym, ap, ◌∙◌, subst}
 use Rattle.std.proofs.lemmas.List.Elements.{Contains-push}
-use Rattle.accepted_memory.specs.holder_model.Effects.{Effect, Faults}
-use Rattle.accepted_memory.specs.holder_model.Faults.{HolderFault, NotLastSlot}
+use Rattle.accepted_memory.specs.holder_model.Effects.{Faults}
+use Rattle.accepted_memory.specs.holder_model.Faults.{NotLastSlot}
 use Rattle.accepted_memory.specs.holder_model.Frames.{Frame}
 use Rattle.accepted_memory.specs.holder_model.MemoryEffects.{asked_before, fault_of, holds, where_held}
 use Rattle.accepted_memory.specs.holder_model.ModuleShapes.{ModuleShapes}

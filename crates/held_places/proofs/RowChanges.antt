@@ -1,5 +1,5 @@
 -- What a row changes that does nothing at places: no cell of the stack, and no slot. Nor does it meet a fault.
-use Rattle.std.proofs.Common.{◌≡◌, ℕ, List, [], ◌∷◌, Bool, true, false, cond, not, Option, Some, None, refl, sym, ap, ◌∙◌}
+use Rattle.std.proofs.Common.{◌≡◌, ℕ, List, [], ◌∷◌, Bool, true, false, cond, Option, Some, None, refl}
 use Rattle.std.specs.Prelude.{map, option_and_then, unwrap_or}
 use Rattle.std.proofs.lemmas.Bool.{false≢true, true≢false}
 use Rattle.accepted_memory.specs.holder_model.Builtins.{builtin_value, is_set}
@@ -12,7 +12,7 @@ use Rattle.accepted_memory.specs.holder_model.declared.trap.Trap.TheVariants as 
 use Rattle.accepted_memory.specs.holder_model.declared.row_effect.RowEffect.{RowEffect}
 use Rattle.accepted_memory.specs.holder_model.declared.row_effect.RowEffect.TheVariants as row
 use Rattle.accepted_memory.specs.memory_accesses.Operations.{access_kind_of}
-use Rattle.accepted_memory.specs.memory_accesses.Sources.{borrow_source, element_place, field_source, loan_source, member_place, object_source, part_source, slot_source, source_by, upcast_source}
+use Rattle.accepted_memory.specs.memory_accesses.Sources.{borrow_source, field_source, loan_source, member_place, object_source, slot_source, source_by, upcast_source}
 use Rattle.accepted_memory.specs.memory_accesses.declared.columns.AccessKind.{AccessKind}
 use Rattle.accepted_memory.specs.memory_accesses.declared.columns.AccessKind.TheVariants as access
 use Rattle.accepted_memory.specs.memory_accesses.declared.source.Source.{Source}

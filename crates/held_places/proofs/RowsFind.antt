@@ -1,5 +1,5 @@
 -- Each operation of the first frame's instruction whose place is on the stack finds the place as it asks.
-use Rattle.std.proofs.Common.{◌≡◌, ◌⊎◌, inl, inr, List, [], ◌∷◌, ◌++◌, append-nil, Bool, true, false, Contains, Option, Some, None, refl, sym, ap, ◌∙◌, subst, slice_get}
+use Rattle.std.proofs.Common.{◌≡◌, inl, inr, List, [], ◌∷◌, ◌++◌, append-nil, true, false, Contains, Option, Some, None, refl, sym, ap, ◌∙◌, subst, slice_get}
 use Rattle.std.specs.Prelude.{option_map}
 use Rattle.std.specs.Option.{option_to_list}
 use Rattle.std.proofs.lemmas.Bool.{false≢true}
@@ -21,7 +21,7 @@ use Rattle.accepted_values.specs.inner.Known.{IsAcceptedBody}
 use Rattle.accepted_values.proofs.Accepted.{typed}
 use Rattle.argument_conventions.specs.declared.row.AddressRow.{AddressRow}
 use Rattle.held_entries.proofs.accepted_trails.run_trails.WalkEdges.{are_next}
-use Rattle.item_operands.specs.Items.{item_taken, taken_in}
+use Rattle.item_operands.specs.Items.{taken_in}
 use Rattle.item_operands.specs.Parts.{inst_at}
 use Rattle.item_operands.specs.Roles.{taken_by}
 use Rattle.item_operands.specs.declared.taken.Taken.{Taken}
@@ -32,7 +32,6 @@ use Rattle.sil_ast.specs.declared.inst.Inst.{Inst}
 use Rattle.sil_ast.specs.declared.module.Module.{Module}
 use Rattle.sil_ast.specs.declared.place.PointId.{PointId}
 use Rattle.sil_cfg.specs.declared.item.Item.TheVariants as item
-use Rattle.type_definitions.specs.Declarations.{declarations_of}
 use Rattle.typed_holders.specs.inner.TypedStates.{FrameIs, IsTypedState, TasksAre}
 use Rattle.typed_holders.proofs.GoesOn.{accepted_body}
 use Rattle.held_places.specs.inner.FramePlaces.{HoldsPlaces, Names}

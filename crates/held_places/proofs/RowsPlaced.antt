@@ -1,5 +1,5 @@
 -- The tasks behind an instruction's change: what the frame holds there, by what its row does.
-use Rattle.std.proofs.Common.{◌≡◌, ◌<◌, ⊎_elim, ℕ, List, [], ◌∷◌, ◌++◌, append-nil, length, Bool, true, false, cond, Contains, Option, Some, None, Ok, refl, sym, ap, ◌∙◌, subst, slice_get}
+use Rattle.std.proofs.Common.{◌≡◌, ◌<◌, ⊎_elim, ℕ, List, [], ◌∷◌, ◌++◌, append-nil, length, true, false, Contains, Option, Some, Ok, refl, sym, ap, ◌∙◌, subst, slice_get}
 use Rattle.std.proofs.lemmas.List.Elements.{Contains-push}
 use Rattle.accepted_memory.specs.holder_model.Data.{AddressOf, Datum, ValueOf}
 use Rattle.accepted_memory.specs.holder_model.Effects.{Change, SameSlots, effect_of}
@@ -8,7 +8,6 @@ use Rattle.accepted_memory.specs.holder_model.MemoryEffects.{operation_done}
 use Rattle.accepted_memory.specs.holder_model.ModuleShapes.{ModuleShapes}
 use Rattle.accepted_memory.specs.holder_model.StepParts.{slots_behind}
 use Rattle.accepted_memory.specs.holder_model.States.{Runs, Task, dropping}
-use Rattle.accepted_memory.specs.holder_model.declared.row_effect.RowEffect.{RowEffect}
 use Rattle.accepted_memory.specs.holder_model.declared.row_effect.RowEffect.TheVariants as row
 use Rattle.accepted_memory.specs.memory_accesses.Operations.{access_kind_of, deallocates, operations_of}
 use Rattle.accepted_memory.specs.memory_accesses.Sources.{is_trivial_at, sources_of}
@@ -23,7 +22,6 @@ use Rattle.accepted_values.specs.inner.Known.{IsAcceptedBody}
 use Rattle.item_operands.specs.Items.{item_defined, item_taken, taken_in}
 use Rattle.item_operands.specs.Parts.{inst_at}
 use Rattle.item_operands.specs.Roles.{taken_by}
-use Rattle.item_operands.specs.declared.taken.Taken.{Taken}
 use Rattle.numbered_form.specs.Lists.{Each}
 use Rattle.ownership_chains.specs.declared.facts.Facts.{Facts}
 use Rattle.run_values.specs.Fits.{fits}

@@ -1,26 +1,25 @@
 -- The tasks behind the allocation of a slot, and behind the deallocation of the newest one.
-use Rattle.std.proofs.Common.{◌≡◌, ◌<◌, ◌==◌, eq-eqb, ℕ, List, [], ◌∷◌, ◌++◌, length, Bool, true, false, cond, Contains, Option, Some, None, Ok, Err, refl, sym, ap, ◌∙◌, subst, slice_get}
+use Rattle.std.proofs.Common.{◌≡◌, ◌<◌, ◌==◌, eq-eqb, ℕ, List, [], ◌∷◌, length, Bool, true, false, Contains, Option, Some, None, Ok, Err, refl, sym, ap, ◌∙◌, subst}
 use Rattle.std.specs.declared.result.Result.{Result}
 use Rattle.std.proofs.lemmas.Bool.{false≢true, or_left}
 use Rattle.std.proofs.lemmas.List.Elements.{Contains-push}
 use Rattle.accepted_memory.specs.holder_model.Calling.{places_given}
 use Rattle.accepted_memory.specs.holder_model.Data.{AddressOf, Datum}
 use Rattle.accepted_memory.specs.holder_model.Effects.{Change, ClosesSlot, Effect, OpensSlot, effect_of}
-use Rattle.accepted_memory.specs.holder_model.Faults.{HolderFault, WrongShape}
+use Rattle.accepted_memory.specs.holder_model.Faults.{HolderFault}
 use Rattle.accepted_memory.specs.holder_model.Frames.{Entry, Frame, entry_at, result_put, results_put, with_ok}
 use Rattle.accepted_memory.specs.holder_model.MemoryEffects.{where_held}
 use Rattle.accepted_memory.specs.holder_model.ModuleShapes.{ModuleShapes}
 use Rattle.accepted_memory.specs.holder_model.StepParts as parts
 use Rattle.accepted_memory.specs.holder_model.States.{Runs, Task, dropping}
-use Rattle.accepted_memory.specs.holder_model.declared.row_effect.RowEffect.{RowEffect}
 use Rattle.accepted_memory.specs.holder_model.declared.row_effect.RowEffect.TheVariants as row
 use Rattle.accepted_memory.specs.memory_accesses.Operations.{access_kind_of}
-use Rattle.accepted_memory.specs.memory_accesses.Sources.{is_slot_source, is_trivial_source, result_source, slot_source, source_at, source_by, sources_of}
+use Rattle.accepted_memory.specs.memory_accesses.Sources.{is_slot_source, is_trivial_source, slot_source, source_at, source_by, sources_of}
 use Rattle.accepted_memory.specs.memory_accesses.declared.access.Operation.TheVariants as operation
 use Rattle.accepted_memory.specs.memory_accesses.declared.columns.AccessKind.TheVariants as access
 use Rattle.accepted_memory.specs.memory_accesses.declared.source.Source.{Source}
 use Rattle.accepted_memory.specs.memory_accesses.declared.source.Source.TheVariants as source
-use Rattle.accepted_places.specs.inner.Located.{IsAddress, IsRoot}
+use Rattle.accepted_places.specs.inner.Located.{IsRoot}
 use Rattle.accepted_places.proofs.Naming.{MakesAddress, address_made, makes_member, makes_root}
 use Rattle.accepted_places.proofs.OperationsRight.{of_slots}
 use Rattle.accepted_values.specs.inner.Known.{IsAcceptedBody}
@@ -36,7 +35,6 @@ use Rattle.ownership_chains.specs.declared.facts.Facts.{Facts}
 use Rattle.run_values.specs.Memory.{Memory}
 use Rattle.run_values.specs.Places.{Place, removed}
 use Rattle.run_values.specs.Shapes.{Shape}
-use Rattle.run_values.specs.Trivial.{is_trivial}
 use Rattle.sil_ast.specs.declared.function.Function.{Function}
 use Rattle.sil_ast.specs.declared.inst.Inst.{Inst}
 use Rattle.sil_ast.specs.declared.module.Module.{Module}
