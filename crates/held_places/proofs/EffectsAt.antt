@@ -6,7 +6,7 @@ use Rattle.accepted_memory.specs.holder_model.Data.{AddressOf, Datum, FunctionOf
 use Rattle.accepted_memory.specs.holder_model.Effects.{Change, ClosesSlot, Effect, Faults, Makes, SameSlots, Traps, Unfit, gives_value, only, unchanged, with_some}
 use Rattle.accepted_memory.specs.holder_model.Faults.{HolderFault, NotLastSlot}
 use Rattle.accepted_memory.specs.holder_model.MemoryEffects as effects
-use Rattle.accepted_memory.specs.holder_model.MemoryEffects.{all_live, asked_before, at_place, at_places, copies_with, fault_of, holds, loaded_name, named_again, operation_done, references_at, two}
+use Rattle.accepted_memory.specs.holder_model.MemoryEffects.{all_live, asked_before, at_places, copies_with, fault_of, holds, loaded_name, named_again, operation_done, references_at, two}
 use Rattle.accepted_memory.specs.holder_model.MemoryEffects.{value_and_place, where_held}
 use Rattle.accepted_memory.specs.holder_model.ModuleShapes.{ModuleShapes}
 use Rattle.accepted_memory.specs.holder_model.declared.row_effect.RowEffect.{RowEffect}
