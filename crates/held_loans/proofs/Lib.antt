@@ -5,3 +5,5 @@ pub mod TrivialStores
 pub mod Undisturbed
 pub mod OpenScopes
 pub mod RootsStay
+pub mod CallsClear
+pub mod Below

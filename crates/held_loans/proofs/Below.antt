@@ -1,0 +1,154 @@
+-- The frames below: what their open scopes lend no frame above may change, so it is kept.
+use Rattle.std.proofs.Common.{◌≡◌, ◌⊎◌, ⊎_elim, inl, inr, ◌<◌, ℕ, List, [], ◌∷◌, length, Bool, true, false, Option, Some, refl, sym, ap, ◌∙◌, subst, slice_get}
+use Rattle.std.proofs.lemmas.Bool.{false≢true}
+use Rattle.std.proofs.lemmas.Option.{same_Some, slice_get_within}
+use Rattle.accepted_memory.specs.holder_model.Data.{Datum}
+use Rattle.accepted_memory.specs.holder_model.Frames.{Frame, Lent, entry_at}
+use Rattle.accepted_memory.specs.holder_model.Standing.{stands_at}
+use Rattle.accepted_memory.specs.holder_model.States.{Drops, Finishes, Runs, Task}
+use Rattle.accepted_memory.specs.run_trails.inner.RunTrails.{IsRunTrail, IsTurnedTrail}
+use Rattle.accepted_values.specs.accepted_modules.inner.Checked.{IsVerified}
+use Rattle.accepted_values.specs.inner.Known.{IsAcceptedBody}
+use Rattle.held_entries.proofs.accepted_trails.run_trails.WalkEdges.{are_next}
+use Rattle.holder_steps.specs.inner.Stacks.{Below, Going}
+use Rattle.memory_cells.specs.inner.Cells.{cell_at, has_cell}
+use Rattle.item_operands.specs.Parts.{inst_at}
+use Rattle.run_values.specs.Cells.{Keeps}
+use Rattle.run_values.specs.Memory.{Memory}
+use Rattle.run_values.specs.Places.{OnStack}
+use Rattle.run_values.specs.Values.{Value}
+use Rattle.sil_ast.specs.declared.function.Function.{Function}
+use Rattle.sil_ast.specs.declared.inst.Inst.{Inst}
+use Rattle.sil_ast.specs.declared.module.Module.{Module}
+use Rattle.sil_ast.specs.declared.place.PointId.{PointId}
+use Rattle.sil_ast.specs.declared.place.ValueId.{ValueId}
+use Rattle.sil_cfg.specs.declared.item.Item.{Item}
+use Rattle.sil_cfg.specs.declared.item.Item.TheVariants as item
+use Rattle.type_definitions.specs.Declarations.{declarations_of}
+use Rattle.typed_holders.proofs.GoesOn.{accepted_body}
+use Rattle.typed_holders.proofs.Stacks.{BelowTyped}
+use Rattle.typed_holders.specs.inner.TypedStates.{EntriesAre, FrameIs, TasksAre, WaitsTyped}
+use Rattle.typed_memory.specs.inner.Worlds.{World}
+use Rattle.tracked_frames.proofs.NextItems.{inst_comes, turned_next}
+use Rattle.tracked_frames.specs.inner.TrackedStates.{AreTasksTracked, GoesAlong, InFunction, WaitsAlong}
+use Rattle.value_tables.specs.Borrows.{is_borrow}
+use Rattle.guarded_entries.specs.inner.Guards.{KeepsAt}
+use Rattle.guarded_entries.specs.inner.Stepping.{KeepLoans, KeepsLoans}
+use Rattle.held_places.specs.inner.FramePlaces.{Frees, HoldsPlaces, IsFree, is_lent}
+use Rattle.held_places.specs.inner.PlaceStates.{BelowPlaced, GoesPlaced, TasksPlaced, WaitsPlaced}
+use Rattle.held_places.specs.inner.TrailLaws.{TrailLaws}
+use Rattle.held_places.proofs.ComesToCalls.{comes_to_call}
+use Rattle.held_places.proofs.Lending.{IsCallAt}
+use Rattle.held_places.proofs.TrailsSo.{trail_laws}
+use Rattle.held_loans.specs.inner.Loans.{loans_of}
+use Rattle.held_loans.proofs.CallsClear.{not_lent}
+use Rattle.held_loans.proofs.Clear.{in_root}
+use Rattle.held_loans.proofs.LoanAt.{LendsCell, lends_cell}
+use Rattle.held_loans.proofs.OpenScopes.{lent_on}
+
+abbrev pub TrackedBelow : Module → Frame → List (Task Frame) → Type 0
+TrackedBelow m callee tasks =
+    Below (λ frame rest. InFunction m GoesAlong frame) (λ waiting frame rest. InFunction m WaitsAlong frame) (λ waiting o. Unit {0}) (λ references. Unit {0}) (λ deinits o. Unit {0})
+    callee tasks
+
+-- a cell that a scope of a frame lends is one of a root's place: what is free of the frame is lent by it
+pub lent_where_free : (m : Module) (f : Function) (memory : Memory) (frame : Frame) (rest : List (Task Frame)) → HoldsPlaces m memory f frame rest → (s : ValueId) (n : ℕ)
+    → LendsCell m f frame s n → Frees (declarations_of m) f frame n → is_lent frame.lent n ≡ true
+lent_where_free m f memory frame rest h s n x free = free x.location.root x.whole x.root.there x.names (in_root m f memory frame rest h s n x)
+
+module _ (m : Module) (verified : IsVerified m) (memory later : Memory) (w : World) where
+  abbrev SameCell : ℕ → Type 0
+  SameCell n = cell_at later OnStack n ≡ cell_at memory OnStack n
+
+  -- each cell of the stack is free, or stays
+  abbrev pub StaysFor : List (Task Frame) → Type 0
+  StaysFor tasks = (n : ℕ) → n < length memory.stack → IsFree m tasks n ⊎ SameCell n
+
+  kept_where : (frame : Frame) (rest : List (Task Frame)) → StaysFor (Runs frame ∷ rest)
+      → ((f : Function) (s : ValueId) (x : Datum) (k : ℕ) → slice_get m.functions frame.function.0 ≡ Some f → is_borrow f s ≡ true → entry_at frame.entries s ≡ Lent x
+      → loans_of m f frame s k ≡ true → Frees (declarations_of m) f frame k → ⊥) → KeepsLoans m (loans_of m) memory later frame
+  kept_where frame rest stays never f s x k y is borrow lent lends keeps = ⊎_elim
+      (λ (free : IsFree m (Runs frame ∷ rest) k). absurd (never f s x k is borrow lent lends (free.0 f is)))
+      (λ (same : SameCell k). same ∙ keeps)
+      (stays k (slice_get_within memory.stack k _ keeps))
+
+  rest_stays : (frame : Frame) (rest : List (Task Frame)) → StaysFor (Runs frame ∷ rest) → StaysFor rest
+  rest_stays frame rest stays n lt = ⊎_elim (λ free. inl free.1) (λ same. inr same) (stays n lt)
+
+  -- a frame that goes on has lent nothing
+  goes_never : (frame : Frame) (rest : List (Task Frame)) → GoesPlaced m memory frame rest → (f : Function) (s : ValueId) (x : Datum) (k : ℕ)
+      → slice_get m.functions frame.function.0 ≡ Some f → is_borrow f s ≡ true → entry_at frame.entries s ≡ Lent x → loans_of m f frame s k ≡ true
+      → Frees (declarations_of m) f frame k → ⊥
+  goes_never frame rest g f s x k is borrow lent lends free =
+      let same : g.f ≡ f = same_Some g.f f (sym g.is ∙ is) in
+      let holds = subst (λ b. HoldsPlaces m memory b frame rest) same g.holds in
+      false≢true (sym (ap (λ ls. is_lent ls k) g.none_lent) ∙ lent_where_free m f memory frame rest holds s k (lends_cell m f frame s k lends) free)
+
+  -- a frame that waits has lent none of what its scopes lend
+  waits_never : (callee frame : Frame) (rest : List (Task Frame)) → WaitsTyped m w callee frame rest → WaitsPlaced m memory callee frame rest → InFunction m WaitsAlong frame
+      → (f : Function) (s : ValueId) (x : Datum) (k : ℕ) → slice_get m.functions frame.function.0 ≡ Some f → is_borrow f s ≡ true → entry_at frame.entries s ≡ Lent x
+      → loans_of m f frame s k ≡ true → Frees (declarations_of m) f frame k → ⊥
+  waits_never callee frame rest typed placed along f s x k is borrow lent lends free =
+      not_lent trail_laws m number f accepted memory frame rest holds point placed.call frame.lent call placed.lent k
+      (record { scope = s; cell = cell; on = lent_on m number f accepted frame.trail (item.Inst point) call.trail turned frame.entries (along f is).tracked s cell.address x borrow lent cell.source })
+      (lent_where_free m f memory frame rest holds s k cell free)
+    where
+      number : ℕ
+      number = frame.function.0
+
+      point : PointId
+      point = stands_at f frame.trail
+
+      of : FrameIs m w f frame
+      of = subst (λ b. FrameIs m w b frame) (same_Some typed.f f (sym typed.of.is ∙ is)) typed.of
+
+      same : placed.f ≡ f
+      same = same_Some placed.f f (sym placed.is ∙ is)
+
+      holds : HoldsPlaces m memory f frame rest
+      holds = subst (λ b. HoldsPlaces m memory b frame rest) same placed.holds
+
+      stands : inst_at f (stands_at f frame.trail) ≡ Some placed.call
+      stands = subst (λ b. inst_at b (stands_at b frame.trail) ≡ Some placed.call) same placed.stands
+
+      accepted : IsAcceptedBody m frame.function.0 f
+      accepted = accepted_body m verified frame.function f of.is of.bodied
+
+      run : IsRunTrail f (item.Inst (stands_at f frame.trail) ∷ frame.trail)
+      run = (are_next f frame.trail (item.Inst point) of.goes (inst_comes f point placed.call stands), of.trail)
+
+      turned : IsTurnedTrail f (item.Inst (stands_at f frame.trail) ∷ frame.trail)
+      turned = turned_next m number f accepted frame.trail (item.Inst point) of.trail of.goes (inst_comes f point placed.call stands)
+
+      call : IsCallAt trail_laws m frame.function.0 f accepted frame.trail (stands_at f frame.trail) placed.call
+      call = comes_to_call trail_laws m number f accepted w frame.entries of.entries frame.trail point placed.call frame.lent (record {
+        inst = stands;
+        calls = placed.calls;
+        trail = run;
+        goes = of.goes;
+        by = placed.lent;
+      })
+
+      cell : LendsCell m f frame s k
+      cell = lends_cell m f frame s k lends
+
+  mutual
+    pub below_kept : (callee : Frame) (rest : List (Task Frame)) → BelowTyped m w callee rest → BelowPlaced m memory callee rest → TrackedBelow m callee rest → StaysFor rest
+        → KeepLoans m (loans_of m) memory later rest
+    below_kept callee [] typed placed tracked stays = tt
+    below_kept callee (Runs frame ∷ rest) typed placed tracked stays = (
+      kept_where frame rest stays (waits_never callee frame rest typed.0 placed.0 tracked.0),
+      below_kept frame rest typed.1 placed.1 tracked.1 (rest_stays frame rest stays),
+    )
+    below_kept callee (Drops references ∷ rest) typed placed tracked stays = absurd typed
+    below_kept callee (Finishes deinits o ∷ rest) typed placed tracked stays = going_kept rest typed.2 placed.2 tracked.2 stays
+
+    pub going_kept : (tasks : List (Task Frame)) → TasksAre m w tasks → TasksPlaced m memory tasks → AreTasksTracked m tasks → StaysFor tasks
+        → KeepLoans m (loans_of m) memory later tasks
+    going_kept [] typed placed tracked stays = absurd typed
+    going_kept (Runs frame ∷ rest) typed placed tracked stays = (
+      kept_where frame rest stays (goes_never frame rest placed.0),
+      below_kept frame rest typed.1 placed.1 tracked.1 (rest_stays frame rest stays),
+    )
+    going_kept (Drops references ∷ rest) typed placed tracked stays = going_kept rest typed.1 placed.1 tracked.1 stays
+    going_kept (Finishes deinits o ∷ rest) typed placed tracked stays = going_kept rest typed.1 placed.1 tracked.1 stays
