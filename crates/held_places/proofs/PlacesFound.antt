@@ -1,5 +1,5 @@
 -- A place that is found as the operation asks meets no fault; on the stack it is found so by what the frame holds.
-use Rattle.std.proofs.Common.{◌≡◌, ◌⊎◌, ⊎_elim, ℕ, List, [], ◌∷◌, true, cond, Contains, Option, Some, None, refl, sym, ap, ◌∙◌, subst}
+use Rattle.std.proofs.Common.{◌≡◌, ⊎_elim, ℕ, List, [], ◌∷◌, true, cond, Contains, Option, Some, None, refl, sym, ap, ◌∙◌, subst}
 use Rattle.std.proofs.lemmas.List.Elements.{Contains-push}
 use Rattle.accepted_memory.specs.holder_model.Effects.{Faults}
 use Rattle.accepted_memory.specs.holder_model.Faults.{NotLastSlot}
