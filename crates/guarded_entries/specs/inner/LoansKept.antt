@@ -12,16 +12,16 @@ use Rattle.sil_cfg.specs.declared.item.Item.{Item}
 use Rattle.sil_cfg.specs.declared.item.Item.TheVariants as item
 use Rattle.type_definitions.specs.Declarations.{declarations_of}
 use Rattle.run_values.specs.Memory.{Memory}
-use Rattle.run_values.specs.Places.{Place}
+use Rattle.run_values.specs.Places.{OnStack, Place}
 use Rattle.run_values.specs.Values.{Value}
 use Rattle.value_tables.specs.Borrows.{is_borrow}
 use Rattle.held_entries.specs.accepted_trails.ownership_kinds.Facts.{facts_in}
 use Rattle.held_entries.specs.accepted_trails.run_trails.inner.RunTrails.{ComesAt}
 use Rattle.holder_counts.specs.holder_model.Calling.{are_as_before, handed_over, lent_places}
-use Rattle.holder_counts.specs.holder_model.Data.{Datum}
+use Rattle.holder_counts.specs.holder_model.Data.{AddressOf, Datum}
 use Rattle.holder_counts.specs.holder_model.Effects as effects
 use Rattle.holder_counts.specs.holder_model.Effects.{Change, SameSlots}
-use Rattle.holder_counts.specs.holder_model.Frames.{Entry, Frame, Lent, LentPlace, Operands, entry_at, has_any, operands_of, results_put}
+use Rattle.holder_counts.specs.holder_model.Frames.{Entry, Frame, Lent, LentPlace, Operands, datum_in, entry_at, has_any, operands_of, results_put}
 use Rattle.holder_counts.specs.holder_model.HolderStates.{HolderState}
 use Rattle.holder_counts.specs.holder_model.MemoryEffects.{effect}
 use Rattle.holder_counts.specs.holder_model.ModuleFacts.{facts_of}
@@ -31,7 +31,7 @@ use Rattle.holder_counts.specs.holder_model.StepParts.{slots_behind}
 use Rattle.holder_counts.specs.holder_model.States.{Runs, Task, dropping}
 use Rattle.typed_holders.specs.inner.TypedStates.{IsTypedState}
 use Rattle.tracked_frames.specs.inner.TrackedStates.{IsTrackedState}
-use Rattle.guarded_entries.specs.inner.Guards.{KeepsAt, Lending}
+use Rattle.guarded_entries.specs.inner.Guards.{IsArgument, KeepsAt, Lending}
 use Rattle.guarded_entries.specs.inner.GuardedStates.{Loans}
 use Rattle.guarded_entries.specs.inner.Rows.{LendsLoaded}
 use Rattle.guarded_entries.specs.inner.Stepping.{KeepLoans, frame_behind, frame_waiting}
@@ -128,3 +128,7 @@ module _ (m : Module) (loans : Loans) (Placed : HolderState → Type 0) where
     pub resumed : (s next : HolderState) (rest : List (Task Frame)) (callee frame : Frame) (f : Function) (c : Change) (slots : List Place)
         (behind : List Entry) → Resumes s next rest callee frame f c slots behind
         → LendOn f (loans f frame) (loans f (frame_behind m loans frame (item.Inst (stands_at f frame.trail)) behind slots)) s.memory s.memory frame.entries
+    -- the places of arguments are on the stack
+    pub arguments : (s : HolderState) (rest : List (Task Frame)) (frame : Frame) (f : Function) → IsPlacedState s → s.tasks ≡ Runs frame ∷ rest
+        → slice_get m.functions frame.function.0 ≡ Some f → (v : ValueId) (p : Place) → IsArgument f v
+        → datum_in (entry_at frame.entries v) ≡ Some (AddressOf p) → p.home ≡ OnStack
