@@ -54,7 +54,7 @@ operand_alive facts m before left t x h =
     let same : y.0 ≡ x = let e = put.1 in cc in
     subst (IsAlive m) same put.0
 
-more_parts : (x : Datum) (r : Result (List Datum) HolderFault) (all : List Datum) → and_more x r ≡ Ok all → (xs : List Datum) × (r ≡ Ok xs) × (x ∷ xs ≡ all)
+pub more_parts : (x : Datum) (r : Result (List Datum) HolderFault) (all : List Datum) → and_more x r ≡ Ok all → (xs : List Datum) × (r ≡ Ok xs) × (x ∷ xs ≡ all)
 more_parts x (Ok xs) all h = (xs, refl, cc)
 more_parts x (Err e) all h = cc
 

@@ -12,3 +12,7 @@ pub mod Sources
 pub mod Rows
 pub mod EdgesLend
 pub mod Given
+pub mod Handing
+pub mod CallRows
+pub mod LentArguments
+pub mod CallOperands
