@@ -7,3 +7,4 @@ pub mod Following
 pub mod Rows
 pub mod EdgesLend
 pub mod Given
+pub mod Premises
