@@ -20,12 +20,12 @@ use Rattle.type_definitions.specs.declared.kind.Kind.TheVariants as kind
 use Rattle.run_values.specs.Memory.{Memory}
 use Rattle.value_tables.specs.Borrows.{is_borrow}
 use Rattle.held_entries.specs.accepted_trails.inner.Bases.{IsBaseOf}
-use Rattle.held_entries.specs.accepted_trails.inner.Lives.{IsScopeIn, IsValueOf, is_open}
+use Rattle.held_entries.specs.accepted_trails.inner.Lives.{IsValueOf}
 use Rattle.held_entries.specs.accepted_trails.memory_accesses.Operations.{deallocates}
 use Rattle.held_entries.specs.accepted_trails.memory_accesses.Sources.{sources_of}
 use Rattle.held_entries.specs.accepted_trails.memory_parts.Parts.{is_scope}
 use Rattle.held_entries.specs.accepted_trails.ownership_kinds.Facts.{facts_in}
-use Rattle.held_entries.specs.accepted_trails.run_trails.inner.RunTrails.{IsTurnedTrail}
+use Rattle.held_entries.specs.accepted_trails.run_trails.inner.RunTrails.{IsRunTrail}
 use Rattle.accepted_places.specs.inner.Located.{IsNamed}
 use Rattle.accepted_values.specs.accepted_modules.inner.Checked.{IsVerified}
 use Rattle.accepted_values.specs.inner.Known.{InAccepted, IsAcceptedBody, kind_at}
@@ -56,12 +56,12 @@ PlainInScopesAreNamed = InAccepted (λ d f. (v b : ValueId) → IsValueOf f v �
 
 -- what deallocates a slot takes nothing with a scope among its bases
 abbrev pub SlotsHaveNoScopes : Type 0
-SlotsHaveNoScopes = InAccepted (λ d f. (t : List Item) (i : Item) (x : Inst) → IsTurnedTrail f (i ∷ t) → item_inst f i ≡ Some x → deallocates x ≡ true
+SlotsHaveNoScopes = InAccepted (λ d f. (i : Item) (x : Inst) → item_inst f i ≡ Some x → deallocates x ≡ true
     → (y : Taken) → Contains (item_taken f i) y → (b : ValueId) → IsBaseOf d f b y.value → is_borrow f b ≡ true → ⊥)
 
--- so the scopes of each address that is taken are open
+-- so the scopes of each address that the next item of a run takes are open
 abbrev pub AreAddressesInScopes : Type 0
-AreAddressesInScopes = InAccepted (λ d f. (t : List Item) (i : Item) → IsTurnedTrail f (i ∷ t) → TakesAddressesInScopes d f t i)
+AreAddressesInScopes = InAccepted (λ d f. (t : List Item) (i : Item) → IsRunTrail f (i ∷ t) → TakesAddressesInScopes d f t i)
 
 -- ---- typed operands
 
