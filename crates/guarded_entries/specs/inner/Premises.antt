@@ -1,10 +1,10 @@
 -- What an accepted module gives to the guards of its runs: scopes of addresses are open where these are taken, typed operands are as rows and edges ask,
 -- and a run begins guarded.
-use Rattle.std.specs.Prelude.{◌≡◌, ℕ, List, ◌∷◌, true, Contains, Ok, Some, slice_get}
+use Rattle.std.specs.Prelude.{◌≡◌, ℕ, List, ◌∷◌, Bool, true, Ok, Some, slice_get}
 use Rattle.std.specs.List.{AllZip}
+use Rattle.argument_conventions.specs.declared.row.AddressRow.{AddressRow}
 use Rattle.item_operands.specs.Items.{item_taken}
-use Rattle.item_operands.specs.Parts.{inst_at, item_inst}
-use Rattle.item_operands.specs.declared.taken.Taken.{Taken}
+use Rattle.item_operands.specs.Parts.{inst_at}
 use Rattle.numbered_form.specs.Lists.{Each}
 use Rattle.sil_ast.specs.declared.function.Function.{Function}
 use Rattle.sil_ast.specs.declared.inst.Inst.{Inst}
@@ -20,9 +20,8 @@ use Rattle.type_definitions.specs.declared.kind.Kind.TheVariants as kind
 use Rattle.run_values.specs.Memory.{Memory}
 use Rattle.value_tables.specs.Borrows.{is_borrow}
 use Rattle.held_entries.specs.accepted_trails.inner.Bases.{IsBaseOf}
-use Rattle.held_entries.specs.accepted_trails.inner.Lives.{IsValueOf}
-use Rattle.held_entries.specs.accepted_trails.memory_accesses.Operations.{deallocates}
-use Rattle.held_entries.specs.accepted_trails.memory_accesses.Sources.{sources_of}
+use Rattle.held_entries.specs.accepted_trails.memory_accesses.Sources.{is_slot, source_at, sources_of}
+use Rattle.held_entries.specs.accepted_trails.memory_accesses.declared.source.Source.TheVariants.{Argument}
 use Rattle.held_entries.specs.accepted_trails.memory_parts.Parts.{is_scope}
 use Rattle.held_entries.specs.accepted_trails.ownership_kinds.Facts.{facts_in}
 use Rattle.held_entries.specs.accepted_trails.run_trails.inner.RunTrails.{IsRunTrail}
@@ -46,18 +45,17 @@ use Rattle.guarded_entries.specs.inner.Rows.{HandsValues}
 -- ---- scopes of addresses
 
 -- what borrows is a scope to memory too
-abbrev pub BorrowsAreScopes : Type 0
-BorrowsAreScopes = InAccepted (λ d f. (b : ValueId) → IsValueOf f b → is_borrow f b ≡ true → is_scope (sources_of d f) b ≡ true)
+abbrev pub AreBorrowsScopes : Type 0
+AreBorrowsScopes = InAccepted (λ d f. (b : ValueId) → is_borrow f b ≡ true → is_scope (sources_of d f) b ≡ true)
 
--- a Plain value with a scope among its bases names a place
-abbrev pub PlainInScopesAreNamed : Type 0
-PlainInScopesAreNamed = InAccepted (λ d f. (v b : ValueId) → IsValueOf f v → kind_at d f v ≡ kind.Plain → IsBaseOf d f b v → is_borrow f b ≡ true
-    → IsNamed (sources_of d f) v)
+-- a Plain value with bases names a place, and is no argument
+abbrev pub ArePlainInScopesNamed : Type 0
+ArePlainInScopesNamed = InAccepted (λ d f. (v b : ValueId) → kind_at d f v ≡ kind.Plain → IsBaseOf d f b v
+    → IsNamed (sources_of d f) v × ((row : AddressRow) (trivial : Bool) → source_at (sources_of d f) v ≡ Argument row trivial → ⊥))
 
--- what deallocates a slot takes nothing with a scope among its bases
-abbrev pub SlotsHaveNoScopes : Type 0
-SlotsHaveNoScopes = InAccepted (λ d f. (i : Item) (x : Inst) → item_inst f i ≡ Some x → deallocates x ≡ true
-    → (y : Taken) → Contains (item_taken f i) y → (b : ValueId) → IsBaseOf d f b y.value → is_borrow f b ≡ true → ⊥)
+-- a slot has none
+abbrev pub HaveSlotsNoBases : Type 0
+HaveSlotsNoBases = InAccepted (λ d f. (v b : ValueId) → is_slot (sources_of d f) v ≡ true → kind_at d f v ≡ kind.Plain → IsBaseOf d f b v → ⊥)
 
 -- so the scopes of each address that the next item of a run takes are open
 abbrev pub AreAddressesInScopes : Type 0
