@@ -1,11 +1,9 @@
 -- The scopes of an address that the next item takes are open: an address with scopes among its bases is that of a field, or of what lies in one.
-use Rattle.std.proofs.Common.{◌≡◌, ℕ, List, [], ◌∷◌, ◌++◌, map, refl, sym, ap, ◌∙◌, subst, Bool, true, false, cond, ◌⊎◌, inl, inr, Option, Some, None}
+use Rattle.std.proofs.Common.{◌≡◌, ℕ, zero, suc, List, [], ◌∷◌, ◌++◌, length, map, refl, sym, ap, ◌∙◌, subst, Bool, true, false, cond, ◌⊎◌, inl, inr, Option, Some, None}
 use Rattle.std.specs.Prelude.{Contains, flat_map, option_map, slice_get}
 use Rattle.std.proofs.lemmas.Bool.{false≢true, true≢false}
 use Rattle.std.proofs.lemmas.List.Elements.{Contains-append_cases}
-use Rattle.std.proofs.lemmas.Option.{none-some}
-use Rattle.argument_conventions.specs.Arguments.{Told, arguments_of}
-use Rattle.argument_conventions.specs.Rows.{address_row}
+use Rattle.std.proofs.lemmas.Option.{none-some, slice_get-map}
 use Rattle.argument_conventions.specs.declared.row.AddressRow.{AddressRow}
 use Rattle.instruction_table.specs.Forms.{is_terminator, result_kind_of, roles_of}
 use Rattle.instruction_table.specs.declared.entries.ResultKind.{ResultKind}
@@ -13,13 +11,13 @@ use Rattle.instruction_table.specs.declared.entries.ResultKind.TheVariants.{Addr
 use Rattle.instruction_table.specs.declared.entries.Role.TheVariants as role
 use Rattle.instruction_table.specs.declared.op.Op.{Op}
 use Rattle.instruction_table.specs.declared.op.Op.TheVariants as op
-use Rattle.item_operands.specs.Items.{item_taken, taken_along_in, taken_in}
+use Rattle.item_operands.specs.Items.{item_defined, item_taken, taken_along_in, taken_in}
 use Rattle.item_operands.specs.Parts.{edge_in, inst_at, item_edge, item_inst}
 use Rattle.item_operands.specs.Roles.{by_row, conventions_in, roles_for, taken_as, taken_by, taken_each}
 use Rattle.item_operands.specs.declared.taken.Taken.{Taken}
 use Rattle.numbered_form.specs.inner.Parts.{has_operands, is_typed}
 use Rattle.ownership_chains.specs.Chains.{operands_at}
-use Rattle.ownership_chains.specs.Facts.{has, known_or, origin_at}
+use Rattle.ownership_chains.specs.Facts.{has, origin_at, told_by}
 use Rattle.ownership_chains.specs.declared.definition.Definition.{Definition}
 use Rattle.ownership_chains.specs.declared.definition.Origin.TheVariants as origin
 use Rattle.ownership_chains.specs.declared.facts.Facts.{Facts}
@@ -44,29 +42,31 @@ use Rattle.value_tables.specs.Borrows.{borrow_by, borrows, is_borrow}
 use Rattle.value_tables.specs.FirstValue as values
 use Rattle.value_tables.specs.declared.borrows.Borrow.TheVariants.{NoBorrow}
 use Rattle.accepted_memory.specs.accepted_trails.inner.Bases.{IsBaseOf}
+use Rattle.accepted_memory.specs.accepted_trails.inner.Lives.{is_open}
 use Rattle.accepted_memory.specs.memory_accesses.Operations.{access_kind_of, address_of, addresses_of, deallocates, deallocates_by}
-use Rattle.accepted_memory.specs.memory_accesses.Sources.{argument_source_or, borrow_source, field_source, handed_source, is_slot, is_slot_source, loan_source, part_source}
+use Rattle.accepted_memory.specs.memory_accesses.Sources.{borrow_source, element_place, field_source, is_slot, is_trivial_member, loan_source, member_place, part_source}
 use Rattle.accepted_memory.specs.memory_accesses.Sources.{result_source, slot_source, source_at, source_by, sources_of}
 use Rattle.accepted_memory.specs.memory_accesses.declared.source.Source.{Source}
 use Rattle.accepted_memory.specs.memory_accesses.declared.source.Source.TheVariants as source
 use Rattle.accepted_memory.specs.memory_parts.Parts.{is_scope, is_scope_source, scope_part, scope_parts}
 use Rattle.accepted_memory.specs.memory_parts.declared.part.Part.TheVariants.{InScope}
-use Rattle.accepted_memory.specs.ownership_kinds.Facts.{facts_in}
 use Rattle.accepted_memory.specs.ownership_origins.Origins.{arg_definition_by, chain_operands, definitions_of, is_zero, result_origin}
 use Rattle.accepted_memory.specs.ownership_origins.Switched.{switch_to}
 use Rattle.accepted_memory.specs.ownership_origins.declared.switched.Switched.{Switched}
 use Rattle.accepted_memory.specs.run_trails.inner.RunTrails.{IsRunTrail}
-use Rattle.accepted_memory.specs.inner.PartTrails.{IsPartOf, is_on}
+use Rattle.accepted_memory.specs.inner.PartTrails.{IsPartOf}
 use Rattle.accepted_memory.proofs.InScopes.{in_scopes}
 use Rattle.accepted_places.specs.inner.Located.{IsAddress, IsNamed, IsRoot, argument, field, member, root, slot}
 use Rattle.accepted_places.proofs.Fields.{has_among}
-use Rattle.accepted_places.proofs.ItemStacks.{accepted_in}
+use Rattle.accepted_places.proofs.ItemStacks.{accepted_in, none_made, opens_no_slot, opens_none}
 use Rattle.accepted_places.proofs.Mentioned.{are_in_open_scopes}
 use Rattle.accepted_places.proofs.Naming.{MakesAddress, address_made, makes_member, makes_root}
 use Rattle.accepted_places.proofs.OperationsRight.{of_slots, stands_somewhere}
-use Rattle.accepted_places.proofs.PartsThere.{part_there}
+use Rattle.accepted_places.proofs.PartsThere.{each_where_among, part_there}
 use Rattle.accepted_values.specs.inner.Known.{IsAcceptedBody, facts_at, kind_at, told_in_function}
 use Rattle.accepted_values.specs.run_typing.Forms.{Form, OfPlace, form_of, forms_of}
+use Rattle.accepted_values.specs.run_typing.RowForms as rows
+use Rattle.accepted_values.specs.run_typing.RowForms.{RowForms}
 use Rattle.accepted_values.proofs.Accepted.{in_ownership_form, typed, well_typed}
 use Rattle.accepted_values.proofs.Based.{based}
 use Rattle.accepted_values.proofs.Borrowed.{borrow_is_value}
@@ -78,7 +78,17 @@ use Rattle.accepted_values.proofs.TableRows.{argument_rows, result_rows}
 use Rattle.accepted_values.proofs.Told.{BaseFrom, addressed, base_from, itself, lent}
 use Rattle.accepted_values.proofs.lowering_laws.Lowerable.{contained}
 use Rattle.accepted_values.proofs.run_typing_laws.EndFacts.{no_operand, one_operand}
+use Rattle.owned_run_typing.specs.inner.OwnedRows as owned
+use Rattle.owned_run_typing.specs.inner.OwnedRows.{OwnedRowForms}
 use Rattle.owned_run_typing.proofs.OwnedInsts.{owned_inst}
+use Rattle.run_values.specs.Shapes.{Shape}
+use Rattle.typed_holders.proofs.Performs.{defines_results}
+use Rattle.holder_counts.specs.holder_model.Effects.{effect_of}
+use Rattle.holder_counts.specs.holder_model.declared.row_effect.RowEffect.{RowEffect}
+use Rattle.holder_counts.specs.holder_model.declared.row_effect.RowEffect.TheVariants as row
+use Rattle.guarded_entries.specs.inner.Following.{TakesAddressesInScopes}
+use Rattle.guarded_entries.specs.inner.Premises.{AreAddressesInScopes, AreBorrowsScopes, ArePlainInScopesNamed, HaveSlotsNoBases}
+use Rattle.guarded_entries.proofs.Following.{own_scope}
 
 -- ---- what borrows is a scope to memory
 
@@ -390,13 +400,13 @@ module _ (m : Module) (n : ℕ) (f : Function) (a : IsAcceptedBody m n f) where
 
   in_scope_by : (v b : ValueId) → IsBaseOf d f b v → is_scope sources b ≡ true → (s : Source) → source_at sources v ≡ s → IsRoot s
       → ((row : AddressRow) (trivial : Bool) → s ≡ source.Argument row trivial → ⊥) → IsPartOf d f (InScope v b)
-  in_scope_by v b base is _ e (slot {trivial}) other =
+  in_scope_by v b base is _ e (slot {trivial = trivial}) other =
       part_there d f v (source.Slot trivial) e (λ x. cc) (InScope v b)
       (inr (inr (among_left (InScope v b) (scope_parts sources v (facts_at d f v).bases) _ (scope_listed sources v b (facts_at d f v).bases base is))))
-  in_scope_by v b base is _ e (field {of} {k} {trivial}) other =
+  in_scope_by v b base is _ e (field {of = of} {k = k} {trivial = trivial}) other =
       part_there d f v (source.Field of k trivial) e (λ x. cc) (InScope v b)
       (among_left (InScope v b) (scope_parts sources v (facts_at d f v).bases) _ (scope_listed sources v b (facts_at d f v).bases base is))
-  in_scope_by v b base is _ e (argument {row} {trivial}) other = absurd (other row trivial refl)
+  in_scope_by v b base is _ e (argument {row = row} {trivial = trivial}) other = absurd (other row trivial refl)
 
   in_scope_there : (v b : ValueId) → IsBaseOf d f b v → is_scope sources b ≡ true → IsNamed sources v
       → ((row : AddressRow) (trivial : Bool) → source_at sources v ≡ source.Argument row trivial → ⊥) → IsPartOf d f (InScope v b)

@@ -29,8 +29,8 @@ begin_guarded m loans e f verified there may = record {
       f = f;
       is = there;
       kinds = λ v. inl (gone v);
-      lent = λ v x is. absurd (none_lent v x is);
-      arguments = λ a x o argument is. absurd (none_lent a x is);
+      lent = λ v x is current o named. absurd (none_lent v x is);
+      arguments = λ a x o argument is named. absurd (none_lent a x is);
     },
     tt,
   );

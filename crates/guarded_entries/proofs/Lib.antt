@@ -12,3 +12,7 @@ pub mod Sources
 pub mod Rows
 pub mod EdgesLend
 pub mod Given
+pub mod AddressScopes
+pub mod TypedLoads
+pub mod TypedGiven
+pub mod Begun

@@ -9,7 +9,7 @@ use Rattle.instruction_table.specs.Forms.{ending_of}
 use Rattle.instruction_table.specs.declared.entries.Ending.{Ending}
 use Rattle.instruction_table.specs.declared.entries.Ending.TheVariants as ending
 use Rattle.item_operands.specs.Items.{item_taken, taken_along_in, taken_in}
-use Rattle.item_operands.specs.Parts.{edge_at, inst_at, item_operands, operands_in, terminator_of}
+use Rattle.item_operands.specs.Parts.{args_behind, edge_at, edge_in, inst_at, item_operands, operands_in, terminator_of}
 use Rattle.item_operands.specs.Roles.{consumed, taken_along, taken_by}
 use Rattle.item_operands.specs.declared.taken.Taken.{Taken}
 use Rattle.numbered_form.specs.Lists.{Each}
@@ -26,7 +26,7 @@ use Rattle.sil_cfg.specs.declared.item.Item.TheVariants as item
 use Rattle.type_definitions.specs.Declarations.{Declarations, declarations_of}
 use Rattle.run_values.specs.Memory.{Memory}
 use Rattle.run_values.specs.Shapes.{Shape}
-use Rattle.run_values.specs.Values.{CaseValue, Value, case_of}
+use Rattle.run_values.specs.Values.{ChosenCase, Value, case_of}
 use Rattle.accepted_values.specs.inner.Known.{IsAcceptedBody}
 use Rattle.accepted_values.specs.run_typing.EndForms.{EdgeForms, EndForms, handed_over, value_in}
 use Rattle.accepted_values.specs.run_typing.Forms.{Form, OfValue, forms_of}
@@ -44,7 +44,9 @@ use Rattle.typed_holders.proofs.GoesOn.{typed_module}
 use Rattle.holder_counts.specs.holder_model.Data.{Datum, ValueOf}
 use Rattle.holder_counts.specs.holder_model.Edges.{carried_along, carried_by, first_value_of, is_default, payload_data, switched_data}
 use Rattle.holder_counts.specs.holder_model.Frames.{Entry, Operands, operands_of}
+use Rattle.holder_counts.specs.inner.Naming.{LoadsStrongly}
 use Rattle.guarded_entries.specs.inner.EdgesLend.{CarriesValues}
+use Rattle.guarded_entries.specs.inner.Rows.{HandsValues}
 use Rattle.guarded_entries.specs.inner.Premises.{AreTypedForRows, CarryTypedValues}
 use Rattle.guarded_entries.proofs.Changing.{given_alive}
 use Rattle.guarded_entries.proofs.Given.{hand_typed_values}
@@ -57,8 +59,7 @@ zipped m w DataAre.none = tt
 zipped m w (DataAre.more form x forms xs is rest) = (is, zipped m w rest)
 
 no_values : CarriesValues []
-no_values zero x e = cc
-no_values (suc k) x e = cc
+no_values k x e = absurd (cc)
 
 more_values : (v : Value) (xs : List Datum) → CarriesValues xs → CarriesValues (ValueOf v ∷ xs)
 more_values v xs rest zero x e = (v, cc)
@@ -85,7 +86,7 @@ payload_values x = at (case_of x)
     of_payload None = no_values
     of_payload (Some v) = one_value v
 
-    at : (o : Option CaseValue) → CarriesValues (unwrap_or (option_map (λ c. unwrap_or (option_map (λ v. ValueOf v ∷ []) c.payload) []) o) [])
+    at : (o : Option ChosenCase) → CarriesValues (unwrap_or (option_map (λ c. unwrap_or (option_map (λ v. ValueOf v ∷ []) c.payload) []) o) [])
     at None = no_values
     at (Some c) = of_payload c.payload
 
@@ -192,16 +193,16 @@ module _ (m : Module) (n : ℕ) (f : Function) (a : IsAcceptedBody m n f) (w : W
     two_branches is (OwnedEndForms.cases s is' operands is_enum all) = absurd (cc)
 
     carried_values : (x : Ending) → ending_of i.op ≡ x → carried_by x f e to ops.given ≡ Some carried → CarriesValues carried
-    carried_values ending.Inside is h = cc
+    carried_values ending.Inside is h = absurd (cc)
     carried_values ending.OneBranch is h =
         subst CarriesValues (same_Some _ carried h) (handed_values (one_branch is (typed.ends e.block.0 i ends)))
     carried_values ending.TwoBranches is h =
         subst CarriesValues (same_Some _ carried h) (handed_values (two_branches is (typed.ends e.block.0 i ends)))
     carried_values ending.Cases is h =
-        let from = mapped_from (switched_data to _) (first_value_of ops.given) carried h in
-        subst CarriesValues from.2 (switched_values to _ from.0)
-    carried_values ending.Return is h = cc
-    carried_values ending.Unreachable is h = cc
+        let from = mapped_from (switched_data to (length (args_behind f (Some to)))) (first_value_of ops.given) carried h in
+        subst CarriesValues from.2 (switched_values to (length (args_behind f (Some to))) from.0)
+    carried_values ending.Return is h = absurd (cc)
+    carried_values ending.Unreachable is h = absurd (cc)
 
 pub typed_for_rows : AreTypedForRows
 typed_for_rows m n f a w memory p i entries ops there memory_is entries_are ops_are = for_row m n f a w memory entries ops entries_are p i there memory_is ops_are

@@ -11,7 +11,7 @@ use Rattle.sil_ast.specs.declared.inst.Inst.{Inst}
 use Rattle.sil_ast.specs.declared.module.Module.{Module}
 use Rattle.sil_ast.specs.declared.place.ObjectId.{ObjectId}
 use Rattle.run_values.specs.Cells.{Cell, cell_count}
-use Rattle.run_values.specs.Memory.{Memory, is_dead}
+use Rattle.run_values.specs.Memory.{Memory, is_dead, object_at}
 use Rattle.run_values.specs.Places.{Place, cells_at, home_cells}
 use Rattle.run_values.specs.Shapes.{Shape, Shapes, NoMember, Member, Integer, Reference, Struct, Tuple, Enum, Stored, Unknown, each_by_layers, listed, storage_in}
 use Rattle.run_values.specs.Trivial.{itself}
@@ -28,7 +28,7 @@ use Rattle.typed_memory.proofs.CellShapes.{place_within, shape_count}
 use Rattle.typed_memory.proofs.Homes.{object_is, place_cells}
 use Rattle.typed_memory.proofs.Zips.{Within}
 use Rattle.typed_holders.proofs.Data.{read_place}
-use Rattle.holder_counts.specs.holder_model.Data.{AddressOf, Datum, references_in}
+use Rattle.holder_counts.specs.holder_model.Data.{AddressOf, Datum, home_references}
 use Rattle.holder_counts.specs.holder_model.Effects.{effect_of}
 use Rattle.holder_counts.specs.holder_model.Frames.{any_dead}
 use Rattle.holder_counts.specs.holder_model.declared.row_effect.RowEffect.{RowEffect}
@@ -106,11 +106,11 @@ module _ (m : Module) (w : World) where
       inside = subst (λ h. p.first + cell_count p.shape ≤ length (home_cells memory h)) (sym home) (part_inside w.slots p at memory.stack typed.stack);
     }
     place_there (PlaceIs.inside o class home there at) =
-        let live : is_dead memory o ≡ false = one_alive o (subst (λ h. any_dead memory (references_in (AddressOf (record p { home = h }))) ≡ false) home alive) in
+        let live : is_dead memory o ≡ false = one_alive o (subst (λ h. any_dead memory (home_references h) ≡ false) home alive) in
         record {
           alive = subst (IsAliveAt memory) (sym home) live;
           inside = subst (λ h. p.first + cell_count p.shape ≤ length (home_cells memory h)) (sym home)
-              (part_inside (fields_of_class m w class) p at _ ((object_is m w memory typed o class there).cells live));
+              (part_inside (fields_of_class m w class) p at (object_at memory o).cells ((object_is m w memory typed o class there).cells live));
         }
 
     read_strongly : PlaceIs m w p → has_no_storage p.shape ≡ true → IsReadStrongly memory p
@@ -177,8 +177,9 @@ module _ (m : Module) (i : Inst) (loading : effect_of i.op ≡ row.LoadsValue) w
       → AllZip (DatumIs m w) ins xs → Each (IsAlive memory) xs → xs ≡ AddressOf p ∷ [] → IsReadStrongly memory p
   loaded_strongly w memory ins outs xs p typed forms data alive only =
       let at = load_by_row forms in
-      let is = subst (λ fs. AllZip (DatumIs m w) fs (AddressOf p ∷ [])) at.is (subst (AllZip (DatumIs m w) ins) only data) in
-      let place = read_place m w is.0 at.shape refl in
+      let is : DatumIs m w (OfPlace at.shape) (AddressOf p) =
+      (subst (λ fs. AllZip (DatumIs m w) fs (AddressOf p ∷ [])) at.is (subst (AllZip (DatumIs m w) ins) only data)).0 in
+      let place = read_place m w is at.shape refl in
       let same : place.0 ≡ p = let e = place.1 in cc in
       let there : PlaceIs m w p = subst (PlaceIs m w) same place.3 in
       let shape : at.shape ≡ p.shape = sym place.2 ∙ ap (λ (q : Place). q.shape) same in
