@@ -56,6 +56,7 @@ use Rattle.accepted_memory.specs.ownership_origins.declared.switched.Switched.{S
 use Rattle.accepted_memory.specs.run_trails.inner.RunTrails.{IsRunTrail}
 use Rattle.accepted_memory.specs.inner.PartTrails.{IsPartOf}
 use Rattle.accepted_memory.proofs.InScopes.{in_scopes}
+use Rattle.accepted_memory.proofs.run_trails.RunPaths.{are_trails}
 use Rattle.accepted_places.specs.inner.Located.{IsAddress, IsNamed, IsRoot, argument, field, member, root, slot}
 use Rattle.accepted_places.proofs.Fields.{has_among}
 use Rattle.accepted_places.proofs.ItemStacks.{accepted_in, none_made, opens_no_slot, opens_none}
@@ -87,8 +88,9 @@ use Rattle.holder_counts.specs.holder_model.Effects.{effect_of}
 use Rattle.holder_counts.specs.holder_model.declared.row_effect.RowEffect.{RowEffect}
 use Rattle.holder_counts.specs.holder_model.declared.row_effect.RowEffect.TheVariants as row
 use Rattle.guarded_entries.specs.inner.Following.{TakesAddressesInScopes}
-use Rattle.guarded_entries.specs.inner.Premises.{AreAddressesInScopes, AreBorrowsScopes, ArePlainInScopesNamed, HaveSlotsNoBases}
-use Rattle.guarded_entries.proofs.Following.{own_scope}
+use Rattle.guarded_entries.specs.inner.Premises.{AreAddressesInScopes, AreBorrowsScopes, AreFramesCurrent, ArePlainInScopesNamed, HaveSlotsNoBases}
+use Rattle.guarded_entries.proofs.Following.{operands_current, own_scope}
+use Rattle.guarded_entries.proofs.Given.{tracked_along}
 
 -- ---- what borrows is a scope to memory
 
@@ -471,3 +473,8 @@ slots_no_bases m n f a v b slot plain base = slot_free m n f a v b slot plain ba
 
 pub addresses_in_scopes : AreAddressesInScopes
 addresses_in_scopes m n f a t i h = addresses_open m n f a t i h
+
+pub frames_current : AreFramesCurrent
+frames_current m n f a lends memory frame i h along =
+    operands_current m n f a lends memory frame.entries frame.trail i (are_trails f (accepted_in m n f a).once (i ∷ frame.trail) h)
+    (tracked_along (declarations_of m) f frame along) (addresses_open m n f a frame.trail i h)

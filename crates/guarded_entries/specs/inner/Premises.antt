@@ -5,6 +5,7 @@ use Rattle.std.specs.List.{AllZip}
 use Rattle.argument_conventions.specs.declared.row.AddressRow.{AddressRow}
 use Rattle.item_operands.specs.Items.{item_taken}
 use Rattle.item_operands.specs.Parts.{inst_at}
+use Rattle.item_operands.specs.declared.taken.Taken.{Taken}
 use Rattle.numbered_form.specs.Lists.{Each}
 use Rattle.sil_ast.specs.declared.function.Function.{Function}
 use Rattle.sil_ast.specs.declared.inst.Inst.{Inst}
@@ -32,14 +33,16 @@ use Rattle.accepted_values.specs.run_typing.Forms.{Form}
 use Rattle.owned_run_typing.specs.inner.OwnedRows.{OwnedRowForms}
 use Rattle.typed_memory.specs.inner.Worlds.{DatumIs, MemoryIs, World}
 use Rattle.typed_holders.specs.inner.TypedStates.{EntriesAre}
+use Rattle.tracked_frames.specs.inner.TrackedStates.{GoesAlong}
 use Rattle.holder_counts.specs.holder_model.Data.{Datum}
 use Rattle.holder_counts.specs.holder_model.Edges.{carried_along}
-use Rattle.holder_counts.specs.holder_model.Frames.{Entry, Operands, operands_of}
+use Rattle.holder_counts.specs.holder_model.Frames.{Entry, Frame, Operands, operands_of}
 use Rattle.holder_counts.specs.holder_model.Outcomes.{begins, may_start}
 use Rattle.holder_counts.specs.inner.Naming.{IsAlive, LoadsStrongly}
 use Rattle.guarded_entries.specs.inner.EdgesLend.{CarriesValues}
 use Rattle.guarded_entries.specs.inner.Following.{TakesAddressesInScopes}
 use Rattle.guarded_entries.specs.inner.GuardedStates.{IsGuardedState, Loans}
+use Rattle.guarded_entries.specs.inner.Guards.{IsCurrent, Lending}
 use Rattle.guarded_entries.specs.inner.Rows.{HandsValues}
 
 -- ---- scopes of addresses
@@ -60,6 +63,12 @@ HaveSlotsNoBases = InAccepted (λ d f. (v b : ValueId) → is_slot (sources_of d
 -- so the scopes of each address that the next item of a run takes are open
 abbrev pub AreAddressesInScopes : Type 0
 AreAddressesInScopes = InAccepted (λ d f. (t : List Item) (i : Item) → IsRunTrail f (i ∷ t) → TakesAddressesInScopes d f t i)
+
+-- and the operands of the item at which a tracked frame stands are current
+abbrev pub AreFramesCurrent : Type 0
+AreFramesCurrent = (m : Module) (n : ℕ) (f : Function) → IsAcceptedBody m n f → (lends : Lending) (memory : Memory) (frame : Frame) (i : Item)
+    → IsRunTrail f (i ∷ frame.trail) → GoesAlong (declarations_of m) f frame
+    → Each (λ (x : Taken). IsCurrent (declarations_of m) f lends memory frame.entries frame.trail x.value) (item_taken f i)
 
 -- ---- typed operands
 

@@ -1,4 +1,4 @@
-use Rattle.guarded_entries.proofs.AddressScopes.{addresses_in_scopes, borrows_scopes, plain_in_scopes_named, slots_no_bases}
+use Rattle.guarded_entries.proofs.AddressScopes.{addresses_in_scopes, borrows_scopes, frames_current, plain_in_scopes_named, slots_no_bases}
 use Rattle.guarded_entries.proofs.laws.addresses_are_in_scopes.Goals as goal
 
 pub returns-clause-borrows : goal.returns-clause-borrows
@@ -12,3 +12,6 @@ returns-clause-slots c = slots_no_bases
 
 pub returns-clause-open : goal.returns-clause-open
 returns-clause-open c = addresses_in_scopes
+
+pub returns-clause-current : goal.returns-clause-current
+returns-clause-current c = frames_current
