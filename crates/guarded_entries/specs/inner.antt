@@ -8,3 +8,4 @@ pub mod Rows
 pub mod EdgesLend
 pub mod Given
 pub mod LoansKept
+pub mod Premises

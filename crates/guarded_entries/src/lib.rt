@@ -5,6 +5,7 @@
 mod laws;
 
 pub use laws::{
+    addresses_are_in_scopes,
     calls_stay_guarded,
     drops_stay_guarded,
     edges_lend_what_is_guarded,
@@ -20,6 +21,8 @@ pub use laws::{
     operands_are_guarded,
     returns_stay_guarded,
     rows_lend_what_is_guarded,
+    runs_begin_guarded,
     tracked_go_along,
     typed_are_of_kinds,
+    typed_operands_are_right,
 };
