@@ -20,3 +20,6 @@ pub mod AddressScopes
 pub mod TypedLoads
 pub mod TypedGiven
 pub mod Begun
+pub mod FirstFrames
+pub mod GuardedCalls
+pub mod EnteredFrames
