@@ -8,12 +8,17 @@ use Rattle.sil_ast.specs.declared.module.Module.{Module}
 use Rattle.type_definitions.specs.Declarations.{Declarations, declarations_of}
 use Rattle.run_values.specs.Memory.{Memory}
 use Rattle.held_entries.specs.accepted_trails.ownership_kinds.Facts.{facts_in}
+use Rattle.typed_memory.specs.inner.Worlds.{World}
+use Rattle.typed_holders.specs.inner.TypedStates.{FrameIs}
 use Rattle.holder_counts.specs.holder_model.Frames.{Entry, Frame, without_ended}
 use Rattle.holder_counts.specs.holder_model.States.{Runs, Task}
 use Rattle.guarded_entries.specs.inner.Guards.{AreLentGuarded, AreOfKinds}
 use Rattle.guarded_entries.specs.inner.GuardedStates.{IsGuardedFrame, IsGuardedRun, Loans}
 use Rattle.guarded_entries.specs.inner.Stepping.{KeepsBorrowed}
 use Rattle.guarded_entries.proofs.Behind.{guarded_left}
+
+pub frame_of : (m : Module) (w : World) (frame : Frame) (f g : Function) → FrameIs m w f frame → slice_get m.functions frame.function.0 ≡ Some g → FrameIs m w g frame
+frame_of m w frame f g is there = subst (λ x. FrameIs m w x frame) (same_Some f g (sym is.is ∙ there)) is
 
 module _ (m : Module) (loans : Loans) (memory : Memory) (rest : List (Task Frame)) (frame : Frame) (f : Function)
     (state : IsGuardedRun m loans memory (Runs frame ∷ rest)) (is : slice_get m.functions frame.function.0 ≡ Some f) where

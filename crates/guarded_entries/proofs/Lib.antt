@@ -23,3 +23,5 @@ pub mod Begun
 pub mod FirstFrames
 pub mod GuardedCalls
 pub mod EnteredFrames
+pub mod DeadFaults
+pub mod GuardedReturns

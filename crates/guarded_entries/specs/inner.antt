@@ -9,3 +9,4 @@ pub mod EdgesLend
 pub mod Given
 pub mod LoansKept
 pub mod Premises
+pub mod Laws
