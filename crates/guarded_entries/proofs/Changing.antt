@@ -85,7 +85,7 @@ object_at_number : (m : Memory) (o p : ObjectId) → o.0 ≡ p.0 → is_dead m o
 object_at_number m o p e = ap (λ n. is_dead_phase (unwrap_or (slice_get m.objects n) no_object).phase) e
 
 -- another object than one that is dead, where it isn't
-alive_other : (m : Memory) (o p : ObjectId) → is_dead m o ≡ true → is_dead m p ≡ false → one_object o p ≡ 0
+pub alive_other : (m : Memory) (o p : ObjectId) → is_dead m o ≡ true → is_dead m p ≡ false → one_object o p ≡ 0
 alive_other m o p dead alive = ⊎_elim
     (λ same. absurd (true≢false (sym dead ∙ object_at_number m o p (eqb-true o.0 p.0 same) ∙ alive)))
     (λ other. counts_other o p other)
@@ -183,7 +183,7 @@ first_alive m (x ∷ xs) v e h = at x e h.0
     at (AddressOf p) e alive = cc
     at (FunctionOf g) e alive = cc
 
-some_through : {A B : Type 0} (f : A → Option B) (x : Option A) (y : B) → option_and_then f x ≡ Some y → (z : A) × (x ≡ Some z) × (f z ≡ Some y)
+pub some_through : {A B : Type 0} (f : A → Option B) (x : Option A) (y : B) → option_and_then f x ≡ Some y → (z : A) × (x ≡ Some z) × (f z ≡ Some y)
 some_through f None y h = cc
 some_through f (Some z) y h = (z, refl, h)
 

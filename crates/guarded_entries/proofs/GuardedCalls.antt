@@ -34,7 +34,7 @@ use Rattle.typed_holders.proofs.Data.{read_function}
 use Rattle.typed_holders.proofs.Entries.{FitEach, Fits, operands_fit}
 use Rattle.typed_holders.proofs.GoesOn.{typed_module}
 use Rattle.holder_counts.specs.holder_model.Calling.{as_argument}
-use Rattle.holder_counts.specs.holder_model.Data.{AddressOf, Datum, FunctionOf, ValueOf, as_function, references_in}
+use Rattle.holder_counts.specs.holder_model.Data.{Datum, FunctionOf, as_function, references_in}
 use Rattle.holder_counts.specs.holder_model.Effects as effects
 use Rattle.holder_counts.specs.holder_model.Frames.{Entry, Frame, Gone, Lent, LentPlace, Operands, datum_in, entry_at, made_entry, operand_data, operands_of, without_ended}
 use Rattle.holder_counts.specs.holder_model.MemoryEffects.{effect}
@@ -50,15 +50,10 @@ use Rattle.guarded_entries.proofs.CallOperands.{all_taken, calling, ends_no_scop
 use Rattle.guarded_entries.proofs.CallRows.{IsCall, call_row}
 use Rattle.guarded_entries.proofs.FirstFrames.{first_kinds, first_left}
 use Rattle.guarded_entries.proofs.Guards.{guard_there, guards_kept}
+use Rattle.guarded_entries.proofs.Handing.{argument_names}
 use Rattle.guarded_entries.proofs.LentArguments.{IsInObject, is_argument, lent_made, mapped_at, own_base}
 use Rattle.guarded_entries.proofs.Sources as sources
 use Rattle.guarded_entries.proofs.Sources.{held, lends_it}
-
--- as an argument it names what it named
-argument_names : (x : Datum) → references_in (as_argument x) ≡ references_in x
-argument_names (ValueOf x) = refl
-argument_names (AddressOf p) = refl
-argument_names (FunctionOf g) = refl
 
 first_fits : (m : Module) (w : World) (f : Function) (v : ValueId) (x : Datum) (vs : List ValueId) (xs : List Datum) → FitEach m w f (v ∷ vs) (x ∷ xs) → Fits m w f v x
 first_fits m w f v x vs xs (FitEach.more _ _ _ _ fit rest) = fit
@@ -175,12 +170,12 @@ module _ (m : Module) (loans : Loans) (n : ℕ) (f : Function) (a : IsAcceptedBo
     -- an argument that is lent is guarded there, where the places of arguments are on the stack
     own : IsAcceptedBody m g.0 how.body
         → ((k : ℕ) (v : ValueId) (x : Datum) → slice_get (item_defined how.body item.Entry) k ≡ Some v → slice_get (map as_argument args) k ≡ Some x
-        → made_entry (kind_at d how.body v) x ≡ Ok (Lent x) → IsInObject x → ⊥)
+        → made_entry (kind_at d how.body v) x ≡ Ok (Lent x) → kind_at d how.body v ≡ kind.Plain → IsInObject x → ⊥)
         → AreArgumentsGuarded m loans how.body (map as_argument args) (IsGuardedIn m loans later (frame_waiting m loans frame ops lent))
     own b outside = record {
       own = λ k v x o defined at made named. ⊎_elim
           (λ guaranteed. (is_argument m g.0 how.body b k v defined, own_base m g.0 how.body b k v defined guaranteed, one k v x o defined at guaranteed named))
-          (λ inside. absurd (outside k v x defined at made inside.1))
+          (λ inside. absurd (outside k v x defined at made inside.0 inside.1))
           (lent_made (kind_at d how.body v) x made);
     }
       where
@@ -195,11 +190,11 @@ module _ (m : Module) (loans : Loans) (n : ℕ) (f : Function) (a : IsAcceptedBo
 
     pub arguments_guarded : (callee : Function) → IsAcceptedBody m g.0 callee
         → ((k : ℕ) (v : ValueId) (x : Datum) → slice_get (item_defined callee item.Entry) k ≡ Some v → slice_get (map as_argument args) k ≡ Some x
-        → made_entry (kind_at d callee v) x ≡ Ok (Lent x) → IsInObject x → ⊥)
+        → made_entry (kind_at d callee v) x ≡ Ok (Lent x) → kind_at d callee v ≡ kind.Plain → IsInObject x → ⊥)
         → AreArgumentsGuarded m loans callee (map as_argument args) (IsGuardedIn m loans later (frame_waiting m loans frame ops lent))
     arguments_guarded callee b =
         subst (λ (h : Function). IsAcceptedBody m g.0 h
         → ((k : ℕ) (v : ValueId) (x : Datum) → slice_get (item_defined h item.Entry) k ≡ Some v → slice_get (map as_argument args) k ≡ Some x
-        → made_entry (kind_at d h v) x ≡ Ok (Lent x) → IsInObject x → ⊥)
+        → made_entry (kind_at d h v) x ≡ Ok (Lent x) → kind_at d h v ≡ kind.Plain → IsInObject x → ⊥)
         → AreArgumentsGuarded m loans h (map as_argument args) (IsGuardedIn m loans later (frame_waiting m loans frame ops lent)))
         (callee_is callee b.body.there) own b

@@ -1,15 +1,18 @@
 -- Places that are handed over to a callee: no phase changes, and memory holds no more.
-use Rattle.std.proofs.Common.{◌≡◌, ℕ, ◌≤◌, List, [], ◌∷◌, replicate, refl, sym, ap, ◌∙◌, arith}
+use Rattle.std.proofs.Common.{◌≡◌, ℕ, ◌+◌, ◌≤◌, List, [], ◌∷◌, map, replicate, refl, sym, ap, ◌∙◌, arith}
 use Rattle.argument_conventions.specs.declared.row.Content.{Content}
 use Rattle.argument_conventions.specs.declared.row.Content.TheVariants as content
 use Rattle.sil_ast.specs.declared.decl.Storage.{Storage}
 use Rattle.sil_ast.specs.declared.place.ObjectId.{ObjectId}
 use Rattle.run_values.specs.Cells.{Empty, cell_count}
 use Rattle.run_values.specs.Memory.{Memory, is_dead_phase, phase_of}
-use Rattle.holder_counts.specs.holder_model.Calling.{emptied_for, handed_over}
+use Rattle.holder_counts.specs.holder_model.Calling.{as_argument, emptied_for, handed_over}
+use Rattle.holder_counts.specs.holder_model.Data.{AddressOf, Datum, FunctionOf, ValueOf, references_in}
 use Rattle.holder_counts.specs.holder_model.Frames.{LentPlace}
-use Rattle.holder_counts.specs.holder_model.Holders.{in_memory}
+use Rattle.holder_counts.specs.holder_model.Holders.{in_memory, of_references}
+use Rattle.holder_counts.specs.inner.Naming.{in_data, in_datum}
 use Rattle.holder_counts.proofs.Most.{emptied_most, place_phases}
+use Rattle.holder_counts.proofs.Sums.{total_cons}
 use Rattle.guarded_entries.specs.inner.GuardedStates.{is_deiniting_phase}
 use Rattle.guarded_entries.specs.inner.Stepping.{KeepsPhases}
 
@@ -38,3 +41,20 @@ module _ (weight : ObjectId → ℕ) (how : Storage) where
       let rest = handed_less ls (emptied_for m l l.row.before) in
       let first = one_less m l l.row.before in
       omega (arith, rest, first)
+
+-- ---- what is handed over names what the operands name
+
+pub argument_names : (x : Datum) → references_in (as_argument x) ≡ references_in x
+argument_names (ValueOf x) = refl
+argument_names (AddressOf p) = refl
+argument_names (FunctionOf g) = refl
+
+pub arguments_name : (weight : ObjectId → ℕ) (xs : List Datum) → in_data weight (map as_argument xs) ≡ in_data weight xs
+arguments_name weight [] = refl
+arguments_name weight (x ∷ xs) =
+    let new : in_data weight (map as_argument (x ∷ xs)) ≡ in_datum weight (as_argument x) + in_data weight (map as_argument xs) =
+    total_cons (in_datum weight) (as_argument x) (map as_argument xs) in
+    let old : in_data weight (x ∷ xs) ≡ in_datum weight x + in_data weight xs = total_cons (in_datum weight) x xs in
+    let first : in_datum weight (as_argument x) ≡ in_datum weight x = ap (of_references weight) (argument_names x) in
+    let rest : in_data weight (map as_argument xs) ≡ in_data weight xs = arguments_name weight xs in
+    omega (arith, new, old, first, rest)

@@ -25,3 +25,5 @@ pub mod GuardedCalls
 pub mod EnteredFrames
 pub mod DeadFaults
 pub mod GuardedReturns
+pub mod GuardedItems
+pub mod GuardedWays

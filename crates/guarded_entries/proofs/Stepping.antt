@@ -254,7 +254,7 @@ items_guarded m loans memory rest frame f i ops c slots entries h goes =
     goes.put goes.arguments goes.right goes.phases goes.none goes.below
 
 -- nothing changes in memory
-same_phases : (memory : Memory) → KeepsPhases memory memory
+pub same_phases : (memory : Memory) → KeepsPhases memory memory
 same_phases memory = record { dead = λ o h. h; deiniting = λ o. refl }
 
 pub returns_guarded : (m : Module) (loans : Loans) → AreReturnsGuarded m loans
