@@ -102,9 +102,6 @@ module _ (m : Module) (loans : Loans) (Placed : HolderState → Type 0) (given :
 
   module _ (x : Inst) (here : inst_at f (stands_at f frame.trail) ≡ Some x) (ops : Operands)
       (ops_are : operands_of (facts_in (declarations_of m) f) s.memory frame.entries (item_taken f (item.Inst (stands_at f frame.trail))) ≡ Ok ops) where
-    abbrev E : effects.Effect _
-    E = effect d told.shapes (shapes_in told.shapes frame.function) s.memory x ops.given
-
     comes : ComesAt f (stands_at f frame.trail) (item.Inst (stands_at f frame.trail))
     comes = inst_comes f (stands_at f frame.trail) x here
 

@@ -27,3 +27,5 @@ pub mod DeadFaults
 pub mod GuardedReturns
 pub mod GuardedItems
 pub mod GuardedWays
+pub mod GuardedDeinits
+pub mod GuardedSteps
