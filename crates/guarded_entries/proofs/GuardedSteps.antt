@@ -53,12 +53,13 @@ use Rattle.holder_counts.specs.holder_model.Standing.{stands_at}
 use Rattle.holder_counts.specs.holder_model.States.{Drops, Finishes, Goes, Runs, Task}
 use Rattle.holder_counts.specs.holder_model.Steps as steps
 use Rattle.holder_counts.specs.holder_steps.inner.Ways.{Acts, DropsOne, Enters, FinishesOne, GoesBehind, Leaves, Performs, Reaches, StandsAtEnd, StepsBy, TakesEdge}
-use Rattle.holder_counts.specs.holder_steps.inner.Ways.{left_with, operands_in, with_tasks}
+use Rattle.holder_counts.specs.holder_steps.inner.Ways.{left_with, moved, operands_in, with_tasks}
 use Rattle.holder_counts.specs.inner.Naming.{in_data, in_datum}
 use Rattle.holder_counts.proofs.Sums.{total_cons}
 use Rattle.guarded_entries.specs.inner.GuardedStates.{IsGuardedRun, IsGuardedState, Loans}
 use Rattle.guarded_entries.specs.inner.Laws.{AreStepsGuarded}
 use Rattle.guarded_entries.specs.inner.LoansKept.{IsPlacedState, LoansAreKept}
+use Rattle.guarded_entries.specs.inner.Stepping.{frame_behind}
 use Rattle.guarded_entries.proofs.Changing.{dead_unnamed, given_alive}
 use Rattle.guarded_entries.proofs.FirstFrames.{frame_of}
 use Rattle.guarded_entries.proofs.Following.{arguments_of_entry}
@@ -129,8 +130,8 @@ module _ (m : Module) (loans : Loans) (Placed : HolderState → Type 0) (given :
           put = put';
           arguments = λ u argument. arguments_of_entry m frame.function.0 f a (item.Inst (stands_at f frame.trail)) (λ e. cc) u argument;
           right = returned_right m frame.function.0 f a (stands_at f frame.trail) waits.call here waits.result waits.results (taken_in waits.f f waits.result same waits.taken)
-              (loans f frame) _ s.memory frame.entries x v is_value
-              (kept.resumed s _ rest callee frame f (record (unchanged s.memory) { results = x ∷ [] }) slots entries (record {
+              (loans f frame) (loans f (frame_behind m loans frame (item.Inst (stands_at f frame.trail)) entries slots)) s.memory frame.entries x v is_value
+              (kept.resumed s (moved m told bound s rest frame (item.Inst (stands_at f frame.trail)) (record (unchanged s.memory) { results = x ∷ [] }) slots entries) rest callee frame f (record (unchanged s.memory) { results = x ∷ [] }) slots entries (record {
                 state = state;
                 tasks = tasks;
                 there = there;

@@ -41,12 +41,13 @@ use Rattle.holder_counts.specs.holder_model.ModuleShapes.{shapes_in}
 use Rattle.holder_counts.specs.holder_model.Standing.{stands_at}
 use Rattle.holder_counts.specs.holder_model.StepParts.{new_frame}
 use Rattle.holder_counts.specs.holder_model.States.{Runs, Task}
-use Rattle.holder_counts.specs.holder_steps.inner.Ways.{Enters, GoesBehind, left_with, waiting}
+use Rattle.holder_counts.specs.holder_steps.inner.Ways.{Enters, GoesBehind, left_with, turned, waiting}
 use Rattle.holder_counts.specs.inner.Naming.{LoadsStrongly, in_data, in_datum}
 use Rattle.holder_counts.proofs.Sums.{total_cons}
 use Rattle.guarded_entries.specs.inner.GuardedStates.{Loans}
 use Rattle.guarded_entries.specs.inner.LoansKept.{Calls, Does, IsPlacedState, LeadsTo, LoansAreKept}
 use Rattle.guarded_entries.specs.inner.Rows.{HandsValues}
+use Rattle.guarded_entries.specs.inner.Stepping.{frame_behind}
 use Rattle.guarded_entries.proofs.CallRows.{IsCall, call_row}
 use Rattle.guarded_entries.proofs.Changing.{carried_alive, changes_alive, dead_unnamed, some_through}
 use Rattle.guarded_entries.proofs.EdgesLend.{edges_guarded}
@@ -120,7 +121,8 @@ module _ (m : Module) (loans : Loans) (Placed : HolderState → Type 0) (given :
         (alive m loans Placed given kept bound s rest frame f first (item.Inst (stands_at f frame.trail)) comes ops ops_are) row.1 in
         record {
           lending = kept.lending s later rest frame f x ops c slots behind does;
-          made = rows_guarded m n f first.body (stands_at f frame.trail) x here told.shapes (shapes_in told.shapes frame.function) (loans f frame) _ s.memory frame.entries
+          made = rows_guarded m n f first.body (stands_at f frame.trail) x here told.shapes (shapes_in told.shapes frame.function) (loans f frame)
+              (loans f (frame_behind m loans frame (item.Inst (stands_at f frame.trail)) behind slots)) s.memory frame.entries
               frame.trail ops c ops_are makes
               (kinds m loans Placed given kept bound s rest frame f first (item.Inst (stands_at f frame.trail)) comes ops ops_are)
               (left m loans Placed given kept bound s rest frame f first (item.Inst (stands_at f frame.trail)) comes ops ops_are)
@@ -163,7 +165,10 @@ module _ (m : Module) (loans : Loans) (Placed : HolderState → Type 0) (given :
       called before _ (Enters.enters entries put deep turn) = λ placed.
           let put' : results_put (facts_in d callee) (item_defined callee item.Entry) (map as_argument args) (no_entries (value_count callee)) ≡ Ok entries =
           ap (λ facts. results_put facts (item_defined callee item.Entry) (map as_argument args) (no_entries (value_count callee))) (sym (run_facts m g callee there)) ∙ put in
-          let handing : Calls m loans Placed s _ rest frame f x ops g args lent = record {
+          let later : HolderState = record (turned (record s { memory = handed_over s.memory lent })) {
+            tasks = Runs (new_frame g entries) ∷ waiting m told bound rest (left_with m told bound frame ops) lent;
+          } in
+          let handing : Calls m loans Placed s later rest frame f x ops g args lent = record {
             takes = takes m loans Placed given kept bound s rest frame f first (item.Inst (stands_at f frame.trail)) comes ops ops_are;
             here = here;
             calls = calls;
@@ -177,7 +182,7 @@ module _ (m : Module) (loans : Loans) (Placed : HolderState → Type 0) (given :
             tasks = refl;
             memory = refl;
           } in
-          let lending = kept.handed s _ rest frame f x ops g args lent handing in
+          let lending = kept.handed s later rest frame f x ops g args lent handing in
           let along = tracked_along d callee (new_frame g entries) (placed.tracked.0 callee there) in
           calls_guarded m loans s.memory (handed_over s.memory lent) rest frame f (item.Inst (stands_at f frame.trail)) ops lent g callee (map as_argument args) entries first.run
           (record {
@@ -185,7 +190,7 @@ module _ (m : Module) (loans : Loans) (Placed : HolderState → Type 0) (given :
             ops_are = ops_are;
             borrowed = borrowed m loans Placed given kept bound s rest frame f first (item.Inst (stands_at f frame.trail)) comes ops ops_are;
             lending = lending;
-            below = kept.handed_below s _ rest frame f x ops g args lent handing;
+            below = kept.handed_below s later rest frame f x ops g args lent handing;
             phases = handed_phases lent s.memory;
             less = λ o. handed_less (one_object o) storage.Strong lent s.memory;
             callee_is = there;
@@ -202,7 +207,7 @@ module _ (m : Module) (loans : Loans) (Placed : HolderState → Type 0) (given :
                 (λ k v y defined at made plain inside.
                 let entry = argument_entry m g.0 callee b (map as_argument args) entries along put' k v y defined at plain (Lent y) made in
                 let names : datum_in (entry_at entries v) ≡ Some (AddressOf inside.place) = ap datum_in entry ∙ ap Some inside.is in
-                let on = kept.arguments _ _ (new_frame g entries) callee placed refl there v inside.place (is_argument m g.0 callee b k v defined) names in
+                let on = kept.arguments later (waiting m told bound rest (left_with m told bound frame ops) lent) (new_frame g entries) callee placed refl there v inside.place (is_argument m g.0 callee b k v defined) names in
                 let no : OnStack ≡ Inside inside.object = sym on ∙ inside.home in
                 absurd (cc));
           })

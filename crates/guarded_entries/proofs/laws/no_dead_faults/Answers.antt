@@ -2,5 +2,5 @@ use Rattle.guarded_entries.proofs.AddressScopes.{frames_current}
 use Rattle.guarded_entries.proofs.DeadFaults.{no_dead_faults}
 use Rattle.guarded_entries.proofs.laws.no_dead_faults.Goals as goal
 
-pub returns-clause-ensures : goal.returns-clause-ensures
-returns-clause-ensures c = no_dead_faults frames_current
+pub returns : goal.returns
+returns c = no_dead_faults frames_current
