@@ -75,7 +75,7 @@ module _ (facts : ValueId → Option Facts) (memory : Memory) (entries left : Li
 
   -- each datum is an operand's
   pub data_at : (ts : List Taken) → Found ts
-  data_at [] xs k x h at = let same : [] ≡ xs = cc in let none : slice_get {Datum} [] k ≡ Some x = ap (λ (ys : List Datum). slice_get ys k) same ∙ at in absurd (cc)
+  data_at [] xs k x h at = let same : [] ≡ xs = cc in let none : slice_get {X = Datum} [] k ≡ Some x = ap (λ (ys : List Datum). slice_get ys k) same ∙ at in absurd (cc)
   data_at (t ∷ ts) xs k x h at =
       let first = ok_through (λ y. and_more y (operand_data facts memory entries left ts)) (operand facts memory entries left t) xs h in
       let more = more_parts first.0 (operand_data facts memory entries left ts) xs first.2 in

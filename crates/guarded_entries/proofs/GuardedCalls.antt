@@ -73,10 +73,7 @@ module _ (m : Module) (loans : Loans) (n : ℕ) (f : Function) (a : IsAcceptedBo
   call : IsCall d shapes values memory i ops.given g args
   call = call_row d shapes values memory i ops.given g args calls
 
-  abbrev pub Calling : Type 0
-  Calling = Called m (well_typed m a.verified) n f a.body.there p.block.0 p.index i (is_at f p i here) call.is
-
-  pub how : Calling
+  abbrev how : Called m (well_typed m a.verified) n f a.body.there p.block.0 p.index i (is_at f p i here) call.is
   how = calling m n f a p i here call.is
 
   -- ---- which function is called
@@ -151,7 +148,8 @@ module _ (m : Module) (loans : Loans) (n : ℕ) (f : Function) (a : IsAcceptedBo
     -- the operand of a Guaranteed argument is guarded there
     guarded_operand : (k : ℕ) (t : Taken) (y : Datum) (o : ObjectId) → slice_get ts k ≡ Some t → slice_get ops.given k ≡ Some y → datum_in (entry_at ops.left t.value) ≡ Some y
         → IsNamed o (references_in y) → (b : ValueId) × Guard d f (loans f frame) memory ops.left o b
-    guarded_operand k t y o taken given at named = by (sources.form_of m n f a (item.Inst p) ts ts_are (loans f frame) memory frame.entries frame.trail ops ops_are kinds left current o t.value y entry named)
+    guarded_operand k t y o taken given at named =
+        by (sources.form_of m n f a (item.Inst p) ts ts_are (loans f frame) memory frame.entries frame.trail ops ops_are kinds left current o t.value y entry named)
       where
         was : entry_at frame.entries t.value ≡ entry_at ops.left t.value
         was = was_there frame.entries ops.left t.value from (datum_there (entry_at ops.left t.value) y at)

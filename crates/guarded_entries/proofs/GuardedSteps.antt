@@ -131,7 +131,8 @@ module _ (m : Module) (loans : Loans) (Placed : HolderState → Type 0) (given :
           arguments = λ u argument. arguments_of_entry m frame.function.0 f a (item.Inst (stands_at f frame.trail)) (λ e. cc) u argument;
           right = returned_right m frame.function.0 f a (stands_at f frame.trail) waits.call here waits.result waits.results (taken_in waits.f f waits.result same waits.taken)
               (loans f frame) (loans f (frame_behind m loans frame (item.Inst (stands_at f frame.trail)) entries slots)) s.memory frame.entries x v is_value
-              (kept.resumed s (moved m told bound s rest frame (item.Inst (stands_at f frame.trail)) (record (unchanged s.memory) { results = x ∷ [] }) slots entries) rest callee frame f (record (unchanged s.memory) { results = x ∷ [] }) slots entries (record {
+              (kept.resumed s (moved m told bound s rest frame (item.Inst (stands_at f frame.trail)) (record (unchanged s.memory) { results = x ∷ [] }) slots entries) rest
+              callee frame f (record (unchanged s.memory) { results = x ∷ [] }) slots entries (record {
                 state = state;
                 tasks = tasks;
                 there = there;

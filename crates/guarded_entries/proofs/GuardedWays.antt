@@ -207,7 +207,8 @@ module _ (m : Module) (loans : Loans) (Placed : HolderState → Type 0) (given :
                 (λ k v y defined at made plain inside.
                 let entry = argument_entry m g.0 callee b (map as_argument args) entries along put' k v y defined at plain (Lent y) made in
                 let names : datum_in (entry_at entries v) ≡ Some (AddressOf inside.place) = ap datum_in entry ∙ ap Some inside.is in
-                let on = kept.arguments later (waiting m told bound rest (left_with m told bound frame ops) lent) (new_frame g entries) callee placed refl there v inside.place (is_argument m g.0 callee b k v defined) names in
+                let on = kept.arguments later (waiting m told bound rest (left_with m told bound frame ops) lent) (new_frame g entries) callee placed refl there v
+                inside.place (is_argument m g.0 callee b k v defined) names in
                 let no : OnStack ≡ Inside inside.object = sym on ∙ inside.home in
                 absurd (cc));
           })
