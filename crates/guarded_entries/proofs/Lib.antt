@@ -12,6 +12,7 @@ pub mod Sources
 pub mod Rows
 pub mod EdgesLend
 pub mod Given
+pub mod AddressRows
 pub mod AddressScopes
 pub mod TypedLoads
 pub mod TypedGiven
