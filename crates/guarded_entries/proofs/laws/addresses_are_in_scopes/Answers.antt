@@ -1,4 +1,5 @@
-use Rattle.guarded_entries.proofs.AddressScopes.{addresses_in_scopes, borrows_scopes, frames_current, plain_in_scopes_named, slots_no_bases}
+use Rattle.guarded_entries.proofs.AddressRows.{borrows_scopes, plain_in_scopes_named, slots_no_bases}
+use Rattle.guarded_entries.proofs.AddressScopes.{addresses_in_scopes, frames_current}
 use Rattle.guarded_entries.proofs.laws.addresses_are_in_scopes.Goals as goal
 
 pub returns-clause-borrows : goal.returns-clause-borrows
