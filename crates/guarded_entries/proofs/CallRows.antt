@@ -171,11 +171,14 @@ module _ (d : Declarations) (shapes : ModuleShapes) (values : List Shape) (m : M
   some_call go None g args e = absurd (cc)
   some_call go (Some x) g args e = (x, refl, e)
 
-  of_call : i.op ≡ op.Apply → (xs : List Datum) (g : FuncId) (args : List Datum) → effects.calls d shapes values m i xs ≡ Calls g args → IsCall xs g args
+  abbrev made_call : List Datum → E
+  made_call xs = effects.calls d shapes values m i xs
+
+  of_call : i.op ≡ op.Apply → (xs : List Datum) (g : FuncId) (args : List Datum) → made_call xs ≡ Calls g args → IsCall xs g args
   of_call is [] g args e = absurd (cc)
   of_call is (f ∷ ys) g args e =
       let h = some_call (λ g. Calls g ys) (as_function f) g args e in
-      let made : Calls {HolderFault} h.0 ys ≡ Calls g args = h.2 in
+      let made = h.2 in
       let same : h.0 ≡ g = cc in
       let rest : ys ≡ args = cc in
       record { is = is; callee = f; given = ap (λ zs. f ∷ zs) rest; names = h.1 ∙ ap Some same }

@@ -23,14 +23,15 @@ use Rattle.accepted_values.proofs.Facts.{run_facts}
 use Rattle.held_entries.specs.accepted_trails.ownership_kinds.Facts.{facts_in}
 use Rattle.held_entries.specs.accepted_trails.run_trails.inner.RunTrails.{ComesAt}
 use Rattle.held_entries.proofs.accepted_trails.run_trails.WalkEdges.{are_next}
+use Rattle.holder_counts.specs.holder_model.Calling.{value_count}
 use Rattle.holder_counts.specs.holder_model.Data.{Datum}
 use Rattle.holder_counts.specs.holder_model.Edges.{edge_of}
 use Rattle.holder_counts.specs.holder_model.Effects as effects
 use Rattle.holder_counts.specs.holder_model.Effects.{Change}
 use Rattle.holder_counts.specs.holder_model.Faults.{HolderFault, NamesDead}
-use Rattle.holder_counts.specs.holder_model.Frames.{Frame, operands_of}
+use Rattle.holder_counts.specs.holder_model.Frames.{Frame, no_entries, operands_of}
 use Rattle.holder_counts.specs.holder_model.HolderStates.{HolderNext, HolderState}
-use Rattle.holder_counts.specs.holder_model.ModuleFacts.{ModuleFacts, facts_of}
+use Rattle.holder_counts.specs.holder_model.ModuleFacts.{ModuleFacts, facts_of, facts_told}
 use Rattle.holder_counts.specs.holder_model.Standing.{stands_at}
 use Rattle.holder_counts.specs.holder_model.States.{Ends, Faulted, Goes, OutOfTurns, Returned, Runs, Task, Trapped}
 use Rattle.holder_counts.specs.holder_model.Steps as steps
@@ -81,12 +82,14 @@ module _ (m : Module) (bound : ℕ) where
       → GoesBehind m told bound s rest frame f i c next → DeadNext next
   behind_dead s rest frame f i c _ (GoesBehind.goes slots entries is put) = tt
   behind_dead s rest frame f i c _ (GoesBehind.wrong_slot x e) = ap is_dead_fault (slots_err c.slots frame.slots x e)
-  behind_dead s rest frame f i c _ (GoesBehind.wrong_result slots x is put) = result_fault x (results_err _ (item_defined f i) c.results frame.entries x put)
+  behind_dead s rest frame f i c _ (GoesBehind.wrong_result slots x is put) =
+      result_fault x (results_err (facts_told told frame.function) (item_defined f i) c.results frame.entries x put)
 
   enters_dead : (s : HolderState) (rest : List (Task Frame)) (g : FuncId) (callee : Function) (args : List Datum) (next : HolderNext)
       → Enters m told bound s rest g callee args next → DeadNext next
   enters_dead s rest g callee args _ (Enters.enters entries put deep turn) = tt
-  enters_dead s rest g callee args _ (Enters.wrong_argument x put) = result_fault x (results_err _ (item_defined callee item.Entry) args _ x put)
+  enters_dead s rest g callee args _ (Enters.wrong_argument x put) =
+      result_fault x (results_err (facts_told told g) (item_defined callee item.Entry) args (no_entries (value_count callee)) x put)
   enters_dead s rest g callee args _ (Enters.too_deep deep) = tt
   enters_dead s rest g callee args _ (Enters.no_turn deep turn) = tt
 
@@ -136,7 +139,7 @@ module _ (m : Module) (bound : ℕ) where
     a = accepted_body m frame.function.0 f verified is.is is.bodied
 
     operands_dead : (i : Item) → ComesAt f (stands_at f frame.trail) i → (x : HolderFault) → operands_in m told bound s frame f i ≡ Err x → is_dead_fault x ≡ false
-    operands_dead i comes x e = operand_fault x (operands_err _ s.memory frame.entries (item_taken f i) x e) (λ dead. alive (found ∙ ap Err dead))
+    operands_dead i comes x e = operand_fault x (operands_err (facts_told told frame.function) s.memory frame.entries (item_taken f i) x e) (λ dead. alive (found ∙ ap Err dead))
       where
         found : operands_of (facts_in d f) s.memory frame.entries (item_taken f i) ≡ Err x
         found = ap (λ facts. operands_of facts s.memory frame.entries (item_taken f i)) (sym (run_facts m frame.function f is.is)) ∙ e

@@ -70,10 +70,10 @@ module _ (m : Module) (loans : Loans) (n : ℕ) (f : Function) (a : IsAcceptedBo
   abbrev d : Declarations
   d = declarations_of m
 
-  call : IsCall d shapes values memory i ops.given g args
+  pub call : IsCall d shapes values memory i ops.given g args
   call = call_row d shapes values memory i ops.given g args calls
 
-  abbrev how : Called m (well_typed m a.verified) n f a.body.there p.block.0 p.index i (is_at f p i here) call.is
+  abbrev pub how : Called m (well_typed m a.verified) n f a.body.there p.block.0 p.index i (is_at f p i here) call.is
   how = calling m n f a p i here call.is
 
   -- ---- which function is called

@@ -32,7 +32,7 @@ use Rattle.guarded_entries.specs.inner.LoansKept.{LendOn}
 use Rattle.guarded_entries.proofs.Following.{arguments_of_entry}
 use Rattle.guarded_entries.proofs.Sources.{lent_not_owned, same_value, value_lent}
 
-one_only : {A : Type 0} (x y : A) (k : ℕ) → slice_get (x ∷ []) k ≡ Some y → x ≡ y
+pub one_only : {A : Type 0} (x y : A) (k : ℕ) → slice_get (x ∷ []) k ≡ Some y → x ≡ y
 one_only x y zero e = same_Some x y e
 one_only x y (suc k) e = absurd (cc)
 

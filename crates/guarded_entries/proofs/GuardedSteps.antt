@@ -57,7 +57,7 @@ use Rattle.holder_counts.specs.holder_steps.inner.Ways.{left_with, moved, operan
 use Rattle.holder_counts.specs.inner.Naming.{in_data, in_datum}
 use Rattle.holder_counts.proofs.Sums.{total_cons}
 use Rattle.guarded_entries.specs.inner.GuardedStates.{IsGuardedRun, IsGuardedState, Loans}
-use Rattle.guarded_entries.specs.inner.Laws.{AreStepsGuarded}
+use Rattle.guarded_entries.specs.inner.Laws.{AreStepsGuarded, AreStepsGuardedWhere, IsEither}
 use Rattle.guarded_entries.specs.inner.LoansKept.{IsPlacedState, LoansAreKept}
 use Rattle.guarded_entries.specs.inner.Stepping.{frame_behind}
 use Rattle.guarded_entries.proofs.Changing.{dead_unnamed, given_alive}
@@ -276,7 +276,12 @@ module _ (m : Module) (loans : Loans) (Placed : HolderState → Type 0) (given :
   steps_guarded s state guarded _ (StepsBy.no_function frame rest is there) = tt
   steps_guarded s state guarded _ (StepsBy.no_deinit g gs o rest is there) = tt
 
-pub steps_stay_guarded : Given → AreStepsGuarded
-steps_stay_guarded given m loans Placed bound s next verified kept state placed guarded e =
+pub steps_stay_guarded_where : Given → AreStepsGuardedWhere
+steps_stay_guarded_where given m loans Placed bound s next verified kept state placed guarded e =
     subst (GuardedNext m loans Placed) e
     (steps_guarded m loans Placed given kept bound verified s state guarded (steps.step m (facts_of m) bound s) (steps_told m (facts_of m) bound s)) placed
+
+pub steps_stay_guarded : Given → AreStepsGuarded
+steps_stay_guarded given m loans bound s next verified kept typed tracked typed_next tracked_next guarded e =
+    steps_stay_guarded_where given m loans (IsEither s next) bound s next verified kept (record { typed = typed; tracked = tracked; placed = inl refl })
+    (record { typed = typed_next; tracked = tracked_next; placed = inr refl }) guarded e
