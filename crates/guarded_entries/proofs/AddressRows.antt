@@ -159,7 +159,7 @@ naming_row op.TupleElementAddr e = refl
 naming_row _ e = absurd (cc)
 
 module _ (m : Module) (i : Inst) (naming : names_place (effect_of i.op) ≡ true) where
-  GivesPlace : Form → Type 0
+  abbrev GivesPlace : Form → Type 0
   GivesPlace form = (s : Shape) × (form ≡ OfPlace s)
 
   other_row : (r : RowEffect) → effect_of i.op ≡ r → names_place r ≡ false → ⊥
