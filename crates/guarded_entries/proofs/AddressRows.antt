@@ -159,7 +159,7 @@ naming_row op.TupleElementAddr e = refl
 naming_row _ e = absurd (cc)
 
 module _ (m : Module) (i : Inst) (naming : names_place (effect_of i.op) ≡ true) where
-  GivesPlace : Form → Type 0
+  abbrev GivesPlace : Form → Type 0
   GivesPlace form = (s : Shape) × (form ≡ OfPlace s)
 
   other_row : (r : RowEffect) → effect_of i.op ≡ r → names_place r ≡ false → ⊥
@@ -188,10 +188,10 @@ module _ (m : Module) (i : Inst) (naming : names_place (effect_of i.op) ≡ true
   place_by_lowered (rows.destroys_name how s is named done) k x e = absurd (other_row _ is refl)
   place_by_lowered (rows.groups s ss is group) k x e = absurd (other_row _ is refl)
   place_by_lowered (rows.chooses_plain s n c is of_enum at there no_payload) k x e = absurd (other_row _ is refl)
-  place_by_lowered (rows.chooses_full s payload n c is of_enum at there has) k x e = absurd (other_row _ is refl)
+  place_by_lowered (rows.chooses_full s payload n c is of_enum at there full) k x e = absurd (other_row _ is refl)
   place_by_lowered (rows.member s part n is number there) k x e = absurd (other_row _ is refl)
   place_by_lowered (rows.member_address s part n is number there) k x e = one_place _ k x e
-  place_by_lowered (rows.field_address class named s n is member owner number there) k x e = one_place _ k x e
+  place_by_lowered (rows.field_address class named s n is of_class owner number there) k x e = one_place _ k x e
   place_by_lowered (rows.calls g callee is there bodied) k x e = absurd (other_row _ is refl)
   place_by_lowered (rows.calls_out g callee widths is there bodiless) k x e = absurd (other_row _ is refl)
 

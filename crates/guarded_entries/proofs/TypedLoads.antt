@@ -1,5 +1,5 @@
 -- The cells of a typed place that is loaded are there, and keep strongly what they keep: no weak or unowned storage is in what is loaded.
-use Rattle.std.proofs.Common.{◌≡◌, ℕ, zero, suc, ◌+◌, ◌≤◌, List, [], ◌∷◌, ◌++◌, length, refl, sym, ap, ◌∙◌, subst, Bool, true, false, ◌⊎◌, inl, inr, arith, Some, Ok}
+use Rattle.std.proofs.Common.{◌≡◌, ℕ, zero, suc, ◌+◌, ◌≤◌, List, [], ◌∷◌, ◌++◌, length, refl, sym, ap, ◌∙◌, subst, Bool, true, false, ◌||◌, ◌⊎◌, inl, inr, arith}
 use Rattle.std.specs.Prelude.{unwrap_or}
 use Rattle.std.specs.List.{AllByRecursion, AllZip, flat_map, list_all}
 use Rattle.std.proofs.lemmas.Bool.{and_parts, false≢true}
@@ -175,10 +175,10 @@ module _ (m : Module) (i : Inst) (loading : effect_of i.op ≡ row.LoadsValue) w
 
   loaded_strongly : (w : World) (memory : Memory) (ins outs : List Form) (xs : List Datum) (p : Place) → MemoryIs m w memory → OwnedRowForms m i ins outs
       → AllZip (DatumIs m w) ins xs → Each (IsAlive memory) xs → xs ≡ AddressOf p ∷ [] → IsReadStrongly memory p
-  loaded_strongly w memory ins outs xs p typed forms data alive only =
+  loaded_strongly w memory ins outs xs p typed forms typed_as alive only =
       let at = load_by_row forms in
       let is : DatumIs m w (OfPlace at.shape) (AddressOf p) =
-      (subst (λ fs. AllZip (DatumIs m w) fs (AddressOf p ∷ [])) at.is (subst (AllZip (DatumIs m w) ins) only data)).0 in
+      (subst (λ fs. AllZip (DatumIs m w) fs (AddressOf p ∷ [])) at.is (subst (AllZip (DatumIs m w) ins) only typed_as)).0 in
       let place = read_place m w is at.shape refl in
       let same : place.0 ≡ p = let e = place.1 in cc in
       let there : PlaceIs m w p = subst (PlaceIs m w) same place.3 in
@@ -186,4 +186,4 @@ module _ (m : Module) (i : Inst) (loading : effect_of i.op ≡ row.LoadsValue) w
       read_strongly m w memory typed p (subst (Each (IsAlive memory)) only alive).0 there (subst (λ s. has_no_storage s ≡ true) shape at.bare)
 
 pub load_typed_strongly : LoadTypedStrongly
-load_typed_strongly m w memory i ins outs xs typed forms data alive p loading only = loaded_strongly m i loading w memory ins outs xs p typed forms data alive only
+load_typed_strongly m w memory i ins outs xs typed forms typed_as alive p loading only = loaded_strongly m i loading w memory ins outs xs p typed forms typed_as alive only
