@@ -5,6 +5,7 @@
 mod laws;
 
 pub use laws::{
+    addresses_are_in_scopes,
     calls_stay_guarded,
     drops_stay_guarded,
     edges_lend_what_is_guarded,
@@ -17,9 +18,13 @@ pub use laws::{
     guards_follow_trails,
     items_stay_guarded,
     kept_have_holders,
+    no_dead_faults,
     operands_are_guarded,
     returns_stay_guarded,
     rows_lend_what_is_guarded,
+    runs_begin_guarded,
+    steps_stay_guarded,
     tracked_go_along,
     typed_are_of_kinds,
+    typed_operands_are_right,
 };
