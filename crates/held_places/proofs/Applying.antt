@@ -1,5 +1,6 @@
 -- The operations of an `apply`: each hands over the place of an operand, by the row of a convention.
-use Rattle.std.proofs.Common.{◌≡◌, inl, inr, ◌++◌, append-nil, ℕ, zero, suc, List, [], ◌∷◌, length, map, replicate, true, false, cond, Option, Some, None, refl, sym, ap, ◌∙◌, subst}
+use Rattle.std.proofs.Common.{◌≡◌, inl, inr, ◌++◌, append-nil, ℕ, zero, suc, List, [], ◌∷◌, length, map, replicate, true, false, cond, Option, Some}
+use Rattle.std.proofs.Common.{None, refl, sym, ap, ◌∙◌, subst}
 use Rattle.std.specs.List.{flat_map}
 use Rattle.std.specs.Option.{option_or, option_to_list}
 use Rattle.std.specs.Prelude.{Contains, option_map}

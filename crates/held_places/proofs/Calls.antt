@@ -133,8 +133,7 @@ module _ (laws : TrailLaws) (m : Module) (number : ℕ) (f : Function) (body : I
   free_of l c own n has =
       let by = lent_at laws m number f body point x memory frame rest lent s l c in
       let at = s.call.located by.by by.among in
-      let w = within l c in
-      (
+      let w = within l c in (
         λ g is v p there names hasp. cell_lent lent l c own n has,
         s.holds.free at.location.root at.there (is_alone laws m number f body frame.trail point x s.call by.by by.among l.row by.operation own)
             w.whole w.names n (w.within n has),
@@ -188,8 +187,7 @@ module _ (laws : TrailLaws) (m : Module) (number : ℕ) (f : Function) (body : I
           let k = one_given l c in
           let w = within k.0 k.1 in
           let fits = w.inside in
-          let size = handed.sizes k.0.place.home in
-          (
+          let size = handed.sizes k.0.place.home in (
             ap (λ z. z.place.home) k.2 ∙ w.home,
             subst (λ z. IsInside after z.place) (sym k.2) (omega (arith, fits, size)),
             ap (λ z. z.place.is_part) k.2,

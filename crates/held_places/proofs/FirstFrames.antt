@@ -19,7 +19,8 @@ use Rattle.typed_holders.proofs.GoesOn.{accepted_body}
 use Rattle.typed_holders.proofs.Operands.{operands_read}
 use Rattle.held_places.specs.inner.FramePlaces.{HoldsPlaces}
 use Rattle.held_places.specs.inner.PlaceStates.{BelowPlaced}
-use Rattle.held_places.specs.inner.Premises.{AreCallsHandingOver, AreCallsNamed, AreChangesNamed, AreEdgesNamed, AreEntriesPlain, AreLeftTyped, AreOperandsNamed, AreRootsShaped, AreStoresFit, ReadsOperands}
+use Rattle.held_places.specs.inner.Premises.{AreCallsHandingOver, AreCallsNamed, AreChangesNamed, AreEdgesNamed, AreEntriesPlain, AreLeftTyped}
+use Rattle.held_places.specs.inner.Premises.{AreOperandsNamed, AreRootsShaped, AreStoresFit, ReadsOperands}
 use Rattle.held_places.specs.inner.Roots.{argument}
 use Rattle.held_places.specs.inner.TrailLaws.{TrailLaws}
 use Rattle.held_places.proofs.Calls.{below_same}

@@ -1,6 +1,5 @@
 -- A frame behind an item that neither allocates nor deallocates a slot: the same roots are there, and name what they named.
 use Rattle.std.proofs.Common.{◌≡◌, ℕ, ◌==◌, ⊎_elim, List, [], ◌∷◌, Bool, true, false, refl, sym, ap, ◌∙◌, subst, eq-eqb, eqb-true}
-
 use Rattle.std.proofs.lemmas.Bool.{false≢true, or_cases, or_left, or_right}
 use Rattle.accepted_memory.specs.holder_model.Frames.{Entry, Frame, entry_at}
 use Rattle.accepted_memory.specs.holder_model.States.{Task}

@@ -93,8 +93,7 @@ module _ (laws : TrailLaws) (m : Module) (number : ℕ) (f : Function) (body : I
     lent_found l c =
         let by = lent_at l c in
         let found = found_there laws m number f body frame.trail point x s.call by.by by.among in
-        let at = s.call.located by.by by.among in
-        (
+        let at = s.call.located by.by by.among in (
           found.on,
           as_the_root m memory f frame rest s.holds s.none_lent by.by.address at.location l.place (lent_within l c) found.on found.was,
           λ e. found_full laws m number f body frame.trail point x s.call by.by by.among l.row by.operation e,

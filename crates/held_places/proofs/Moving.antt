@@ -173,7 +173,7 @@ module _ (laws : TrailLaws) (m : Module) (number : ℕ) (f : Function) (body : I
       (λ (there : IsThere (declarations_of m) f frame.trail s.operand.location.root).
       let at = stands (filled memory p y) s there in
       let b = fills laws m number f body frame (after_frame (filled memory p y) s) rest memory point x v o s.operand.location p at refl how y fit
-          (keeps laws m number f body facts memory (filled memory p y) frame rest (item.Inst point) results entries s.puts (same_slots (filled memory p y) s) s.news) in
+      (keeps laws m number f body facts memory (filled memory p y) frame rest (item.Inst point) results entries s.puts (same_slots (filled memory p y) s) s.news) in
       let size = (filled_changes memory p y (within laws m number f body frame (after_frame (filled memory p y) s) rest memory point x v o s.operand.location p at).inside fit).sizes OnStack in
       record { holds = b.holds; more = omega (arith, size); below = b.below })
       (λ (field : IsInObject laws m number f body s.operand.location.root).
@@ -186,7 +186,7 @@ module _ (laws : TrailLaws) (m : Module) (number : ℕ) (f : Function) (body : I
       (λ (there : IsThere (declarations_of m) f frame.trail s.operand.location.root).
       let at = stands (emptied memory p) s there in
       let b = empties laws m number f body frame (after_frame (emptied memory p) s) rest memory point x v o s.operand.location p at refl how
-          (keeps laws m number f body facts memory (emptied memory p) frame rest (item.Inst point) results entries s.puts (same_slots (emptied memory p) s) s.news) in
+      (keeps laws m number f body facts memory (emptied memory p) frame rest (item.Inst point) results entries s.puts (same_slots (emptied memory p) s) s.news) in
       let size = (emptied_changes memory p (within laws m number f body frame (after_frame (emptied memory p) s) rest memory point x v o s.operand.location p at).inside).sizes OnStack in
       record { holds = b.holds; more = omega (arith, size); below = b.below })
       (λ (field : IsInObject laws m number f body s.operand.location.root).

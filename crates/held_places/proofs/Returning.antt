@@ -287,12 +287,12 @@ module _ (laws : TrailLaws) (m : Module) (number : ℕ) (f : Function) (body : I
               let d = declarations_of m in
               let trivial = is_trivial_at (sources_of d f) (s.call.located o.by o.among).location.root in
               let left_is : found_left ≡ left_on left.trivial l.row.after =
-                  ap (λ p. unwrap_or (mark_at d f (s.call.located o.by o.among).location p).turns found.on) o.operation
-                  ∙ ap (λ r. unwrap_or (handed_mark trivial r.before r.after).turns found.on) table.1
-                  ∙ turned_as_left trivial left.trivial found.on table.0
-                  (λ e. found_full laws m number f body frame.trail point x s.call o.by o.among l.row o.operation (ap (λ r. r.before) table.1 ∙ e))
-                  (λ e. left.alike o.by o.among o.operation o.names (ap (λ r. r.after) table.1 ∙ e))
-                  ∙ ap (λ r. left_on left.trivial r.after) (sym table.1) in
+              ap (λ p. unwrap_or (mark_at d f (s.call.located o.by o.among).location p).turns found.on) o.operation
+              ∙ ap (λ r. unwrap_or (handed_mark trivial r.before r.after).turns found.on) table.1
+              ∙ turned_as_left trivial left.trivial found.on table.0
+              (λ e. found_full laws m number f body frame.trail point x s.call o.by o.among l.row o.operation (ap (λ r. r.before) table.1 ∙ e))
+              (λ e. left.alike o.by o.among o.operation o.names (ap (λ r. r.after) table.1 ∙ e))
+              ∙ ap (λ r. left_on left.trivial r.after) (sym table.1) in
               subst (λ b. IsCell b (cell_at memory OnStack n)) (sym left_is ∙ same_Some found_left on (sym found.left
               ∙ ap (λ w. is_full_on d f w (item.Inst point ∷ frame.trail)) (sym (ap (λ (k : ℕ). record { 0 = k }) (eqb-true v.0 _ same))) ∙ behind))
               (left.cells n inside)

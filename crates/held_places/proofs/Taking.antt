@@ -106,5 +106,5 @@ pub goes_placed : (m : Module) (before after : Memory) (f : Function) (frame nex
 goes_placed m before after f frame next rest is same none given holds more stays below = (
   record { f = f; is = ap (λ g. slice_get m.functions g.0) same ∙ is; holds = holds; none_lent = none },
   below_same m after frame next rest same (λ g there. subst (λ b. places_given b next.entries ≡ places_given b frame.entries) (same_Some f g (sym is ∙ there)) given)
-  (below_still m before after more frame rest below (λ n lt. stays n)),
+      (below_still m before after more frame rest below (λ n lt. stays n)),
 )

@@ -49,4 +49,5 @@ trail_laws = record {
   roots_trivial = roots_trivial;
   told = arguments_told;
   from_told = told_arguments;
-  whole = arguments_whole }
+  whole = arguments_whole;
+}
