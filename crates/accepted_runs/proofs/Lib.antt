@@ -1,3 +1,2 @@
 pub mod KeptOnRuns
 pub mod RightRuns
-pub mod Faultless
