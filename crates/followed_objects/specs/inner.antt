@@ -1,3 +1,4 @@
 pub mod Said
 pub mod Laws
 pub mod About
+pub mod Operands
