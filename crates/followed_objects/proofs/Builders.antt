@@ -71,31 +71,39 @@ module _ (sources : List Source) (object : ValueId) where
 
   -- ---- what holds of all
 
+  below_built : (v of : ValueId) → source_at sources v ≡ source.Upcast of → builds sources object v ≡ true → builds sources object of ≡ true
+  below_built v of is built = by (builder v built)
+    where
+      by : (source_at sources v ≡ source.Borrow object) ⊎ ((w : ValueId) × (source_at sources v ≡ source.Upcast w) × (builds sources object w ≡ true))
+          → builds sources object of ≡ true
+      by (inl borrow) = let two : source.Upcast of ≡ source.Borrow object = sym is ∙ borrow in absurd (cc)
+      by (inr (w, upcast, more)) =
+          let two : source.Upcast w ≡ source.Upcast of = sym upcast ∙ is in
+          let same : w ≡ of = cc in
+          subst (λ x. builds sources object x ≡ true) same more
+
   module _ (P : ValueId → Type 0) (borrows : (v : ValueId) → source_at sources v ≡ source.Borrow object → builds sources object v ≡ true → P v)
-      (upcasts : (v of : ValueId) → source_at sources v ≡ source.Upcast of → P of → P v) where
-    lent_builds : (v : ValueId) → source_at sources v ≡ source.Borrow object → lends (source_at sources v) ≡ true → builds sources object v ≡ true
-    unfolding upcast_from
-    lent_builds v is e = ap (λ w. lends (source_at sources w)) (borrow_stays (length sources) v is) ∙ e
+      (upcasts : (v of : ValueId) → source_at sources v ≡ source.Upcast of → builds sources object v ≡ true → P of → P v) where
+    borrow_holds : (v : ValueId) → lends (source_at sources v) ≡ true → builds sources object v ≡ true → P v
+    borrow_holds v e built = borrows v (lent_is (source_at sources v) e) built
 
-    borrow_holds : (v : ValueId) → lends (source_at sources v) ≡ true → P v
-    borrow_holds v e = let is = lent_is (source_at sources v) e in borrows v is (lent_builds v is e)
-
-    each_lent : (n : ℕ) (v : ValueId) → lent n v ≡ true → P v
-    each_lent zero v e = borrow_holds v e
-    each_lent (suc n) v e = by (source_at sources v) refl e
+    each_lent : (n : ℕ) (v : ValueId) → lent n v ≡ true → builds sources object v ≡ true → P v
+    each_lent zero v e built = borrow_holds v e built
+    each_lent (suc n) v e built = by (each_lent n) (source_at sources v) refl e
       where
-        by : (s : Source) → source_at sources v ≡ s → lends (source_at sources (below_by (below sources n) v s)) ≡ true → P v
-        by (source.Upcast of) is h = upcasts v of is (each_lent n of h)
-        by (source.Slot trivial) is h = borrow_holds v h
-        by (source.Argument row trivial) is h = borrow_holds v h
-        by (source.Object fields) is h = borrow_holds v h
-        by (source.Borrow of) is h = borrow_holds v h
-        by (source.Loan of) is h = borrow_holds v h
-        by (source.Field of k trivial) is h = borrow_holds v h
-        by (source.Part of k) is h = borrow_holds v h
-        by source.Other is h = borrow_holds v h
+        by : ((of : ValueId) → lent n of ≡ true → builds sources object of ≡ true → P of) → (s : Source) → source_at sources v ≡ s
+            → lends (source_at sources (below_by (below sources n) v s)) ≡ true → P v
+        by below (source.Upcast of) is h = upcasts v of is built (below of h (below_built v of is built))
+        by below (source.Slot trivial) is h = borrow_holds v h built
+        by below (source.Argument row trivial) is h = borrow_holds v h built
+        by below (source.Object fields) is h = borrow_holds v h built
+        by below (source.Borrow of) is h = borrow_holds v h built
+        by below (source.Loan of) is h = borrow_holds v h built
+        by below (source.Field of k trivial) is h = borrow_holds v h built
+        by below (source.Part of k) is h = borrow_holds v h built
+        by below source.Other is h = borrow_holds v h built
 
     -- it holds of each building borrow of the object
     pub each_builder : (v : ValueId) → builds sources object v ≡ true → P v
     unfolding upcast_from
-    each_builder v e = each_lent (length sources) v e
+    each_builder v e = each_lent (length sources) v e e

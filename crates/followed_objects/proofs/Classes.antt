@@ -9,9 +9,9 @@ use Rattle.accepted_memory.specs.memory_accesses.declared.location.Location.{Loc
 use Rattle.accepted_memory.specs.memory_accesses.declared.source.Source.{Source}
 use Rattle.accepted_memory.specs.memory_accesses.declared.source.Source.TheVariants as source
 use Rattle.accepted_memory.specs.memory_parts.Building.{builds}
-use Rattle.accepted_modules.specs.sil_types.Typing.RowTypes.{given_by, gives, made_types}
-use Rattle.accepted_modules.specs.sil_types.Typing.Shapes.{target, where_it}
-use Rattle.accepted_modules.specs.sil_types.Typing.Values.{function_at, value_functions}
+use Rattle.accepted_memory.specs.sil_types.Typing.RowTypes.{given_by, gives, made_types}
+use Rattle.accepted_memory.specs.sil_types.Typing.Shapes.{target, where_it}
+use Rattle.accepted_memory.specs.sil_types.Typing.Values.{function_at, value_functions}
 use Rattle.accepted_values.specs.inner.Known.{IsAcceptedBody, type_in}
 use Rattle.accepted_values.proofs.Accepted.{typed, well_typed}
 use Rattle.built_objects.specs.inner.Building.{IsFieldAddress, IsNewField}
@@ -165,7 +165,7 @@ module _ (m : Module) (n : ℕ) (f : Function) (a : IsAcceptedBody m n f) where
   pub builder_below : (object : ValueId) (class : Name) → IsOfClass object class → (v : ValueId) → builds sources object v ≡ true → IsBelow class v
   builder_below object class of_class =
       each_builder sources object (IsBelow class) (λ v is built. borrowed v object is class of_class)
-      (λ v w is below. let next = upcast v w is below.0 below.1 in (next.0, next.1, sound.passes class below.0 next.0 below.2 next.2))
+      (λ v w is built below. let next = upcast v w is below.0 below.1 in (next.0, next.1, sound.passes class below.0 next.0 below.2 next.2))
 
   -- ---- the fields of an object
 

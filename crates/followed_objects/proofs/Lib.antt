@@ -1,3 +1,9 @@
 pub mod Steps
 pub mod Ends
+pub mod Builders
 pub mod About
+pub mod ValueRows
+pub mod ObjectRows
+pub mod Classes
+pub mod ByBorrow
+pub mod Operands

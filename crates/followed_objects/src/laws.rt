@@ -10,6 +10,12 @@ ghost use Rattle.followed_objects.specs.inner.Laws.{
   AreObjectsMade,
   LoseOthers,
 };
+ghost use Rattle.followed_objects.specs.inner.Operands.{
+  AreBuildersByBorrow,
+  AreFieldsNew,
+  AreFieldsRight,
+  AreUnfinishedOperands,
+};
 
 /// At the entry nothing is unfinished. Behind an item the fields are to be written that it makes, those that it writes aren't, and all others are as they were.
 pub fn fields_are_followed()
@@ -30,4 +36,16 @@ pub fn unfinished_objects_stay()
 pub fn what_is_about_objects_is_made_of_them()
     ensures taken { AreAboutTaken }
     ensures made { AreAboutAsMade }
+{}
+
+/// Each operation at the address of a field of a new object is in its row, and asks of the field what the trail says of it.
+pub fn operations_ask_as_said()
+    ensures new { AreFieldsNew }
+    ensures right { AreFieldsRight }
+{}
+
+/// An unfinished object, and what goes by a borrow of it, is taken only where its taker's row allows it.
+pub fn operands_are_allowed()
+    ensures borrows { AreBuildersByBorrow }
+    ensures operands { AreUnfinishedOperands }
 {}

@@ -8,7 +8,7 @@ use Rattle.accepted_memory.specs.memory_accesses.declared.location.Location.{Loc
 use Rattle.accepted_memory.specs.memory_parts.Building.{builds, goes_by_borrow, takes_borrow, takes_object}
 use Rattle.accepted_memory.specs.run_trails.inner.RunTrails.{IsRunTrail}
 use Rattle.accepted_places.specs.inner.Cells.{IsDoneAt}
-use Rattle.accepted_values.specs.inner.Known.{InAccepted, IsValue, facts_at}
+use Rattle.accepted_values.specs.inner.Known.{InAccepted, facts_at}
 use Rattle.built_objects.specs.inner.Building.{IsFieldAddress, IsNewField}
 use Rattle.built_objects.specs.inner.Laws.{IsRightAt}
 use Rattle.item_operands.specs.Items.{item_taken}
@@ -37,7 +37,7 @@ AreFieldsRight = InAccepted (λ d f. (t : List Item) (p : PointId) → IsRunTrai
 
 -- a building borrow goes by a borrow of its object
 abbrev pub AreBuildersByBorrow : Type 0
-AreBuildersByBorrow = InAccepted (λ d f. (v object : ValueId) → IsValue f v → builds (sources_of d f) object v ≡ true
+AreBuildersByBorrow = InAccepted (λ d f. (v object : ValueId) → builds (sources_of d f) object v ≡ true
     → goes_by_borrow (sources_of d f) (facts_at d f v) object ≡ true)
 
 -- the next item takes an unfinished object, or a building borrow of one, only where its row allows it
