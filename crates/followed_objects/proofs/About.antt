@@ -13,7 +13,7 @@ use Rattle.instruction_table.specs.declared.op.Op.{Op}
 use Rattle.instruction_table.specs.declared.op.Op.TheVariants as op
 use Rattle.accepted_memory.specs.accepted_trails.inner.Bases.{IsAsMade}
 use Rattle.accepted_memory.specs.accepted_trails.inner.Defined.{IsDefinedOn, makes}
-use Rattle.accepted_memory.specs.memory_accesses.Locations.{locate, located_by, whole}
+use Rattle.accepted_memory.specs.memory_accesses.Locations.{below, below_by, is_object, locate, located_by, object_lent, upcast_from, whole}
 use Rattle.accepted_memory.specs.memory_accesses.Operations.{access_kind_of}
 use Rattle.accepted_memory.specs.memory_accesses.Sources.{argument_source_or, borrow_source, element_place, field_source, handed_source, is_trivial_member}
 use Rattle.accepted_memory.specs.memory_accesses.Sources.{loan_source, member_place, object_source, part_source, result_source, slot_source, source_at, source_by, sources_of, upcast_source}
@@ -22,7 +22,7 @@ use Rattle.accepted_memory.specs.memory_accesses.declared.columns.AccessKind.The
 use Rattle.accepted_memory.specs.memory_accesses.declared.location.Location.{Location}
 use Rattle.accepted_memory.specs.memory_accesses.declared.source.Source.{Source}
 use Rattle.accepted_memory.specs.memory_accesses.declared.source.Source.TheVariants as source
-use Rattle.accepted_memory.specs.memory_parts.Building.{builds}
+use Rattle.accepted_memory.specs.memory_parts.Building.{builds, is_object_of}
 use Rattle.accepted_memory.specs.run_trails.inner.RunTrails.{IsTurnedTrail}
 use Rattle.accepted_memory.specs.run_trails.inner.Since.{is_none_since}
 use Rattle.accepted_memory.proofs.accepted_trails.Tests.{any_alike, any_reversed, each_weaker, or_right, picked}
@@ -65,7 +65,6 @@ use Rattle.sil_cfg.proofs.Places.{same_item-true}
 use Rattle.type_definitions.specs.Declarations.{Declarations, declarations_of}
 use Rattle.value_tables.specs.FirstValue.{first_value}
 use Rattle.followed_objects.specs.inner.About.{AreAboutAsMade, AreAboutTaken, IsAboutTaken}
-use Rattle.followed_objects.proofs.Builders.{builder}
 
 -- ---- the operand that a source is made of
 
@@ -146,9 +145,67 @@ ending_idle op.Return e d i = refl
 ending_idle op.Unreachable e d i = refl
 ending_idle _ e d i = absurd (false≢true e)
 
--- ---- what is no address
+-- ---- building borrows, step by step
 
-module _ (sources : List Source) where
+module _ (sources : List Source) (object : ValueId) where
+  abbrev pub lends : Source → Bool
+  lends s = is_object_of object (object_lent sources s)
+
+  abbrev pub lent : ℕ → ValueId → Bool
+  lent n v = lends (source_at sources (below sources n v))
+
+  object_lends : (of : ValueId) (b : Bool) → is_object_of object (cond b (Some of) None) ≡ true → source.Borrow of ≡ source.Borrow object
+  object_lends of false e = absurd (false≢true e)
+  object_lends of true e = ap (λ v. source.Borrow v) (ap value_of (eqb-true of.0 object.0 e))
+
+  pub lent_is : (s : Source) → lends s ≡ true → s ≡ source.Borrow object
+  lent_is (source.Borrow of) e = object_lends of (is_object (source_at sources of)) e
+  lent_is _ e = absurd (false≢true e)
+
+  pub borrow_stays : (n : ℕ) (v : ValueId) → source_at sources v ≡ source.Borrow object → below sources n v ≡ v
+  borrow_stays zero v is = refl
+  borrow_stays (suc n) v is = ap (below_by (below sources n) v) is
+
+  pub lent_more : (n : ℕ) (v : ValueId) → lent n v ≡ true → lent (suc n) v ≡ true
+  lent_more zero v e = ap (λ w. lends (source_at sources w)) (borrow_stays 1 v (lent_is (source_at sources v) e)) ∙ e
+  lent_more (suc n) v e = by (λ of h. lent_more n of h) (source_at sources v) refl e
+    where
+      by : ((of : ValueId) → lent n of ≡ true → lent (suc n) of ≡ true) → (s : Source) → source_at sources v ≡ s → lends (source_at sources (below_by (below sources n) v s)) ≡ true
+          → lends (source_at sources (below_by (below sources (suc n)) v s)) ≡ true
+      by more (source.Upcast of) is h = more of h
+      by more (source.Slot trivial) is h = h
+      by more (source.Argument row trivial) is h = h
+      by more (source.Object fields) is h = h
+      by more (source.Borrow of) is h = h
+      by more (source.Loan of) is h = h
+      by more (source.Field of k trivial) is h = h
+      by more (source.Part of k) is h = h
+      by more source.Other is h = h
+
+  abbrev IsBuilder : ℕ → ValueId → Type 0
+  IsBuilder n v = (source_at sources v ≡ source.Borrow object) ⊎ ((of : ValueId) × (source_at sources v ≡ source.Upcast of) × (lent n of ≡ true))
+
+  builder_by : (n : ℕ) (v : ValueId) → lent n v ≡ true → IsBuilder n v
+  builder_by zero v e = inl (lent_is (source_at sources v) e)
+  builder_by (suc n) v e = by (source_at sources v) refl e
+    where
+      by : (s : Source) → source_at sources v ≡ s → lends (source_at sources (below_by (below sources n) v s)) ≡ true → IsBuilder (suc n) v
+      by (source.Upcast of) is h = inr (of, is, lent_more n of h)
+      by (source.Slot trivial) is h = inl (lent_is (source_at sources v) h)
+      by (source.Argument row trivial) is h = inl (lent_is (source_at sources v) h)
+      by (source.Object fields) is h = inl (lent_is (source_at sources v) h)
+      by (source.Borrow of) is h = inl (lent_is (source_at sources v) h)
+      by (source.Loan of) is h = inl (lent_is (source_at sources v) h)
+      by (source.Field of k trivial) is h = inl (lent_is (source_at sources v) h)
+      by (source.Part of k) is h = inl (lent_is (source_at sources v) h)
+      by source.Other is h = inl (lent_is (source_at sources v) h)
+
+  -- it borrows the object, or is an upcast of another one
+  pub builder : (v : ValueId) → builds sources object v ≡ true
+      → (source_at sources v ≡ source.Borrow object) ⊎ ((of : ValueId) × (source_at sources v ≡ source.Upcast of) × (builds sources object of ≡ true))
+  unfolding upcast_from
+  builder v e = builder_by (length sources) v e
+
   unlocated : (n : ℕ) (v : ValueId) (l : Location) (s : Source) → source_at sources v ≡ s → ((others : ValueId → Option Location) → located_by others v s ≡ None)
       → locate sources n v ≡ Some l → ⊥
   unlocated zero v l s is none e = none-some l e
@@ -188,7 +245,7 @@ module _ (m : Module) (n : ℕ) (f : Function) (a : IsAcceptedBody m n f) where
   taken_by_item (items.Edge g) x is w e = absurd (ends_idle g.block.0 x ((typed m n f a).ends g.block.0 x is).1.ends w e)
   taken_by_item (items.Exit p) x is w e = absurd (ends_idle p.block.0 x ((typed m n f a).ends p.block.0 x is).1.ends w e)
 
-  taken_for : (i : Item) (v w : ValueId) → makes f v i ≡ true → operand_of (source_at sources v) ≡ Some w → (y : Taken) × Contains (item_taken f i) y × (y.value ≡ w)
+  pub taken_for : (i : Item) (v w : ValueId) → makes f v i ≡ true → operand_of (source_at sources v) ≡ Some w → (y : Taken) × Contains (item_taken f i) y × (y.value ≡ w)
   taken_for i v w made e = by (made_so m n f a i v (contained_among v (item_defined f i) (has_among (item_defined f i) v made)))
     where
       by : IsMadeBy d f i v → (y : Taken) × Contains (item_taken f i) y × (y.value ≡ w)
@@ -218,7 +275,7 @@ module _ (m : Module) (n : ℕ) (f : Function) (a : IsAcceptedBody m n f) where
             sym (ap (λ (x : Location). source_at sources x.root) same) ∙ at.is
 
         none : (s : Source) → source_at sources v ≡ s → ((others : ValueId → Option Location) → located_by others v s ≡ None) → ⊥
-        none s is lacks = unlocated sources (length sources) v l s is lacks at.at
+        none s is lacks = unlocated sources object (length sources) v l s is lacks at.at
 
         by : (s : Source) → source_at sources v ≡ s → IsAboutTaken d f i object v
         by (source.Slot trivial) is =
@@ -280,7 +337,7 @@ module _ (m : Module) (n : ℕ) (f : Function) (a : IsAcceptedBody m n f) (objec
   abbrev IsTakenAt : Item → ValueId → Type 0
   IsTakenAt i w = list_any (λ (y : Taken). y.value.0 == w.0) (item_taken f i) ≡ true
 
-  before_item : (t : List Item) (i : Item) → IsTurnedTrail f (i ∷ t) → (y : Taken) → Contains (item_taken f i) y → IsDefinedOn f t y.value
+  pub before_item : (t : List Item) (i : Item) → IsTurnedTrail f (i ∷ t) → (y : Taken) → Contains (item_taken f i) y → IsDefinedOn f t y.value
   before_item t i h y c = taken_before m n f a t i h y.value (among_any y (item_taken f i) (among_contained y (item_taken f i) c))
 
   -- the object is defined where something about it is

@@ -1,7 +1,7 @@
 pub mod Steps
 pub mod Ends
-pub mod Builders
 pub mod About
+pub mod Builders
 pub mod ValueRows
 pub mod ObjectRows
 pub mod Classes
