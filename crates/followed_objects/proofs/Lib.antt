@@ -7,3 +7,5 @@ pub mod ObjectRows
 pub mod Classes
 pub mod ByBorrow
 pub mod Operands
+pub mod Reading
+pub mod Found

@@ -2,3 +2,4 @@ pub mod Said
 pub mod Laws
 pub mod About
 pub mod Operands
+pub mod Found

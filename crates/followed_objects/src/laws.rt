@@ -10,6 +10,7 @@ ghost use Rattle.followed_objects.specs.inner.Laws.{
   AreObjectsMade,
   LoseOthers,
 };
+ghost use Rattle.followed_objects.specs.inner.Found.{FindFields};
 ghost use Rattle.followed_objects.specs.inner.Operands.{
   AreBuildersByBorrow,
   AreFieldsNew,
@@ -48,4 +49,9 @@ pub fn operations_ask_as_said()
 pub fn operands_are_allowed()
     ensures borrows { AreBuildersByBorrow }
     ensures operands { AreUnfinishedOperands }
+{}
+
+/// The fields at which the first frame's instruction does something are there, and as its operations ask.
+pub fn fields_are_found()
+    ensures { FindFields }
 {}
