@@ -3,3 +3,4 @@ pub mod Laws
 pub mod About
 pub mod Operands
 pub mod Found
+pub mod FieldPlaces
