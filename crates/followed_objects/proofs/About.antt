@@ -206,7 +206,7 @@ module _ (sources : List Source) (object : ValueId) where
   unfolding upcast_from
   builder v e = builder_by (length sources) v e
 
-  unlocated : (n : ℕ) (v : ValueId) (l : Location) (s : Source) → source_at sources v ≡ s → ((others : ValueId → Option Location) → located_by others v s ≡ None)
+  pub unlocated : (n : ℕ) (v : ValueId) (l : Location) (s : Source) → source_at sources v ≡ s → ((others : ValueId → Option Location) → located_by others v s ≡ None)
       → locate sources n v ≡ Some l → ⊥
   unlocated zero v l s is none e = none-some l e
   unlocated (suc n) v l s is none e = none-some l (sym (none (locate sources n)) ∙ sym (ap (located_by (locate sources n) v) is) ∙ e)

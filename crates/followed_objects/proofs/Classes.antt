@@ -61,7 +61,7 @@ module _ (m : Module) (n : ℕ) (f : Function) (a : IsAcceptedBody m n f) where
   abbrev ResultOf : ValueId → Inst → Type 0
   ResultOf v x = IsResultOf m n f a v x
 
-  sound : ClassesAreSound m
+  pub sound : ClassesAreSound m
   sound = classes m (well_typed m a.verified)
 
   -- ---- what an instruction hands on
@@ -69,7 +69,7 @@ module _ (m : Module) (n : ℕ) (f : Function) (a : IsAcceptedBody m n f) where
   result_form : (v : ValueId) (x : Inst) (r : ResultOf v x) → slice_get (forms_of d f x.results) r.place ≡ Some (form_of d f v)
   result_form v x r = slice_get-map (form_of d f) x.results r.place ∙ ap (option_map (form_of d f)) r.at
 
-  first_by : (os : List Operand) (w : ValueId) → option_map (λ (o : Operand). o.value) (slice_get os 0) ≡ Some w
+  pub first_by : (os : List Operand) (w : ValueId) → option_map (λ (o : Operand). o.value) (slice_get os 0) ≡ Some w
       → slice_get (forms_of d f (map value_in os)) 0 ≡ Some (form_of d f w)
   first_by [] w e = absurd (none-some w e)
   first_by (o ∷ os) w e = ap (λ v. Some (form_of d f v)) (same_Some o.value w e)

@@ -9,3 +9,4 @@ pub mod ByBorrow
 pub mod Operands
 pub mod Reading
 pub mod Found
+pub mod FieldPlaces

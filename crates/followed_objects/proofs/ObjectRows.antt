@@ -2,6 +2,7 @@
 use Rattle.std.proofs.Common.{◌≡◌, ℕ, zero, suc, List, [], ◌∷◌, refl, sym, ap, ◌∙◌, subst, Bool, true, false, Option, Some, None}
 use Rattle.std.specs.Prelude.{slice_get}
 use Rattle.std.proofs.lemmas.Bool.{false≢true}
+use Rattle.std.proofs.lemmas.Option.{same_Some}
 use Rattle.numbered_form.specs.Names.{Name}
 use Rattle.owned_run_typing.specs.holder_model.Effects.{effect_of, part_number}
 use Rattle.owned_run_typing.specs.holder_model.ModuleShapes.{field_shapes, shapes_of}
@@ -35,8 +36,8 @@ module _ (m : Module) (i : Inst) where
     gives : (s : Shape) → effect_of i.op ≡ row.GivesOperand → ObjectRow (OfValue s ∷ []) (OfValue s ∷ [])
     upcasts : (class above : Name) → effect_of i.op ≡ row.GivesOperand → is_a d class above ≡ true
         → ObjectRow (OfValue (Reference class) ∷ []) (OfValue (Reference above) ∷ [])
-    names : (class : Name) (s : Shape) (k : ℕ) → effect_of i.op ≡ row.AddressesField → part_number d i ≡ Some k
-        → slice_get (field_shapes (shapes_of m) class) k ≡ Some s → ObjectRow (OfValue (Reference class) ∷ []) (OfPlace s ∷ [])
+    names : (class : Name) (member : Member) (s : Shape) (k : ℕ) → effect_of i.op ≡ row.AddressesField → i.member ≡ Some member → member.owner ≡ class
+        → part_number d i ≡ Some k → slice_get (field_shapes (shapes_of m) class) k ≡ Some s → ObjectRow (OfValue (Reference class) ∷ []) (OfPlace s ∷ [])
 
   abbrev IsOfObjects : Type 0
   IsOfObjects = of_objects (effect_of i.op) ≡ true
@@ -66,7 +67,7 @@ module _ (m : Module) (i : Inst) where
   of_lowered _ _ (rows.chooses_full t payload j c e is place there full) h = other row.ChoosesCase e refl h
   of_lowered _ _ (rows.member t part j e number there) h = other row.GivesMember e refl h
   of_lowered _ _ (rows.member_address t part j e number there) h = other row.AddressesMember e refl h
-  of_lowered _ _ (rows.field_address class named t j e is owner number there) h = names class t j e number there
+  of_lowered _ _ (rows.field_address class named t j e is owner number there) h = names class named t j e is owner number there
   of_lowered _ _ (rows.calls g callee e there some) h = other row.CallsFunction e refl h
   of_lowered _ _ (rows.calls_out g callee widths e there none) h = other row.CallsFunction e refl h
 
@@ -94,7 +95,7 @@ module _ (m : Module) (i : Inst) where
       let given : form ≡ OfValue (Reference above) = cc in
       (above, given, subst (λ c. is_a d c above ≡ true) same is)
   handed sound _ _ (upcasts own above e is) effect class first (suc k) form at = cc
-  handed sound _ _ (names own s k e number there) effect class first j form at = cc
+  handed sound _ _ (names own member s k e is owner number there) effect class first j form at = cc
 
   -- an object that is made is the one result
   pub made : (xs ys : List Form) → ObjectRow xs ys → effect_of i.op ≡ row.MakesObject → (k : ℕ) (form : Form) → slice_get ys k ≡ Some form → k ≡ 0
@@ -102,7 +103,7 @@ module _ (m : Module) (i : Inst) where
   made _ _ (makes class e is) effect (suc k) form at = cc
   made _ _ (gives s e) effect k form at = cc
   made _ _ (upcasts own above e is) effect k form at = cc
-  made _ _ (names own s j e number there) effect k form at = cc
+  made _ _ (names own member s j e is owner number there) effect k form at = cc
 
   -- a field that is named is one of the class of the first operand
   pub named : (xs ys : List Form) → ObjectRow xs ys → effect_of i.op ≡ row.AddressesField → (class : Name) → slice_get xs 0 ≡ Some (OfValue (Reference class))
@@ -110,5 +111,16 @@ module _ (m : Module) (i : Inst) where
   named _ _ (makes own e is) effect class first = cc
   named _ _ (gives s e) effect class first = cc
   named _ _ (upcasts own above e is) effect class first = cc
-  named _ _ (names own s k e number there) effect class first =
+  named _ _ (names own member s k e is owner number there) effect class first =
       let same : own ≡ class = cc in (s, k, number, subst (λ c. slice_get (field_shapes (shapes_of m) c) k ≡ Some s) same there)
+
+  -- and that class declares it
+  pub declared : (xs ys : List Form) → ObjectRow xs ys → effect_of i.op ≡ row.AddressesField → (member : Member) → i.member ≡ Some member
+      → (form : Form) → slice_get xs 0 ≡ Some form → form ≡ OfValue (Reference member.owner)
+  declared _ _ (makes own e is) effect member at form first = cc
+  declared _ _ (gives s e) effect member at form first = cc
+  declared _ _ (upcasts own above e is) effect member at form first = cc
+  declared _ _ (names own other s k e is owner number there) effect member at form first =
+      let given : form ≡ OfValue (Reference own) = cc in
+      let same : other ≡ member = same_Some other member (sym is ∙ at) in
+      given ∙ ap (λ c. OfValue (Reference c)) (sym owner ∙ ap (λ (x : Member). x.owner) same)

@@ -10,6 +10,7 @@ ghost use Rattle.followed_objects.specs.inner.Laws.{
   AreObjectsMade,
   LoseOthers,
 };
+ghost use Rattle.followed_objects.specs.inner.FieldPlaces.{AreFieldsPlaced, AreMembersPlaced, AreObjectsCounted};
 ghost use Rattle.followed_objects.specs.inner.Found.{FindFields};
 ghost use Rattle.followed_objects.specs.inner.Operands.{
   AreBuildersByBorrow,
@@ -54,4 +55,11 @@ pub fn operands_are_allowed()
 /// The fields at which the first frame's instruction does something are there, and as its operations ask.
 pub fn fields_are_found()
     ensures { FindFields }
+{}
+
+/// The address of a field names a place of the operand's object, and that of a member one within the place that its operand names. An object has the fields of its class.
+pub fn fields_are_placed()
+    ensures counted { AreObjectsCounted }
+    ensures fields { AreFieldsPlaced }
+    ensures members { AreMembersPlaced }
 {}
