@@ -1,5 +1,5 @@
 -- The rows of the instructions that make an object, hand one on, or name a field of one: the classes of what they take and give.
-use Rattle.std.proofs.Common.{◌≡◌, ℕ, zero, suc, List, [], ◌∷◌, refl, sym, ap, ◌∙◌, subst, Bool, true, false, Option, Some, None}
+use Rattle.std.proofs.Common.{◌≡◌, ℕ, zero, suc, List, [], ◌∷◌, refl, sym, ap, ◌∙◌, subst, Bool, true, false, Some}
 use Rattle.std.specs.Prelude.{slice_get}
 use Rattle.std.proofs.lemmas.Bool.{false≢true}
 use Rattle.std.proofs.lemmas.Option.{same_Some}
@@ -43,7 +43,7 @@ module _ (m : Module) (i : Inst) where
   IsOfObjects = of_objects (effect_of i.op) ≡ true
 
   other : {P : Type 0} (e : RowEffect) → effect_of i.op ≡ e → of_objects e ≡ false → IsOfObjects → P
-  other e is no h = absurd (false≢true (sym no ∙ sym (ap of_objects is) ∙ h))
+  other e is off h = absurd (false≢true (sym off ∙ sym (ap of_objects is) ∙ h))
 
   of_lowered : (xs ys : List Form) → RowForms m i xs ys → IsOfObjects → ObjectRow xs ys
   of_lowered _ _ (rows.looks form e) h = other row.NoEffect e refl h
