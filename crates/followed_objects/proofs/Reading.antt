@@ -1,5 +1,6 @@
 -- What an item reads: an operand's datum is that of its entry and names no dead object, so a place that it names in an object has its cells.
-use Rattle.std.proofs.Common.{◌≡◌, ◌≤◌, ◌<◌, ◌+◌, List, [], ◌∷◌, ◌++◌, length, refl, sym, ap, ◌∙◌, subst, arith, length-append, Bool, true, false, cond, inl, inr, Option, Some, None, Ok, Err}
+use Rattle.std.proofs.Common.{◌≡◌, ◌≤◌, ◌<◌, ◌+◌, List, [], ◌∷◌, ◌++◌, length, refl, sym, ap, ◌∙◌, subst, arith, length-append, Bool, true, false, cond}
+use Rattle.std.proofs.Common.{inl, inr, Option, Some, None, Ok, Err}
 use Rattle.std.specs.Prelude.{Contains, slice_get, unwrap_or}
 use Rattle.std.specs.declared.result.Result.{Result}
 use Rattle.std.proofs.lemmas.Bool.{or_parts}
@@ -77,7 +78,8 @@ module _ (facts : ValueId → Option Facts) (m : Memory) (before left : List Ent
           → (Among t ts → (x : Datum) × (datum_in (entry_at before t.value) ≡ Some x) × (any_dead m (references_in x) ≡ false))
           → Among t (y ∷ ts) → (x : Datum) × (datum_in (entry_at before t.value) ≡ Some x) × (any_dead m (references_in x) ≡ false)
       by x is rest (inl same) =
-          subst (λ (z : Taken). (x : Datum) × (datum_in (entry_at before z.value) ≡ Some x) × (any_dead m (references_in x) ≡ false)) (sym same) (x, (operand_read y x is).0, (operand_read y x is).1)
+          let read = operand_read y x is in
+          subst (λ (z : Taken). (x : Datum) × (datum_in (entry_at before z.value) ≡ Some x) × (any_dead m (references_in x) ≡ false)) (sym same) (x, read.0, read.1)
       by x is rest (inr more) = rest more
 
 -- the object in which an operand names a place isn't dead
