@@ -134,8 +134,7 @@ fields_asked shapes sources said memory entries h wm v l of k address p names in
 
 pub fields_of : AreFieldsOf
 fields_of shapes sources said memory entries h v l of k address p names =
-    let at = h.placed v l of k address p names in
-    (
+    let at = h.placed v l of k address p names in (
       at.0,
       at.1.home,
       by at.0 (address_may shapes sources said memory entries h v p at.0 names at.1.home),

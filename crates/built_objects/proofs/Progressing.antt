@@ -50,7 +50,7 @@ module _ (shapes : ModuleShapes) (sources : List Source) (said : Progress) (obje
       → IsUnfinished sources said object ⊎ IsWhole memory o
   built_or_whole made is = ⊎_elim
       (λ (r : (k : ℕ) × (k < length ss) × (said.unwritten object k ≡ Some true)).
-        inl (record { field = r.0; of = record { fields = length ss; is = is.count; within = r.1 }; unwritten = r.2 }))
+      inl (record { field = r.0; of = record { fields = length ss; is = is.count; within = r.1 }; unwritten = r.2 }))
       (λ (r : (k : ℕ) → k < length ss → said.unwritten object k ≡ Some false). inr (record { made = made; written = full r }))
       (some_or_none (said.unwritten object) (length ss) known)
     where

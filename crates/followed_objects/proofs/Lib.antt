@@ -1,3 +1,12 @@
 pub mod Steps
 pub mod Ends
 pub mod About
+pub mod Builders
+pub mod ValueRows
+pub mod ObjectRows
+pub mod Classes
+pub mod ByBorrow
+pub mod Operands
+pub mod Reading
+pub mod Found
+pub mod FieldPlaces

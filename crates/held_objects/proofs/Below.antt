@@ -71,7 +71,7 @@ module _ (m : Module) (said : Function → List Item → Progress) where
         let at = building_of frame b.f g b.is g_is o building in
         ⊎_elim
         (λ (is : IsWhole memory o). unfinished_not_whole (shapes_of m) (sources_of (declarations_of m) b.f) (said b.f frame.trail) memory frame.entries b.holds
-          at.object o at.unfinished at.holds is)
+        at.object o at.unfinished at.holds is)
         (λ (le : length memory.objects ≤ o.0). let made = (b.holds.built at.object o at.unfinished at.holds).0 in absurd (omega (arith, le, made)))
         other
 

@@ -37,8 +37,8 @@ module _ (m : Module) (said : Function → List Item → Progress) (memory : Mem
       classes : (q : ObjectId) → q.0 < length memory.objects → (object_at (with_object memory o x) q).class ≡ (object_at memory q).class
       classes q made = ⊎_elim
           (λ (e : q.0 ≡ o.0).
-            subst (λ r. (object_at (with_object memory o x) r).class ≡ (object_at memory r).class) (sym (same_number q o e))
-            (ap (λ y. y.class) (object_same memory o x is.made) ∙ same_class))
+          subst (λ r. (object_at (with_object memory o x) r).class ≡ (object_at memory r).class) (sym (same_number q o e))
+          (ap (λ y. y.class) (object_same memory o x is.made) ∙ same_class))
           (λ (differ : q.0 ≡ o.0 → ⊥). ap (λ y. y.class) (object_other memory o q x differ))
           (cases_eq q.0 o.0)
 

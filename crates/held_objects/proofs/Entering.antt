@@ -152,14 +152,17 @@ module _ (m : Module) (said : Function → List Item → Progress) where
 
     pub call_one : (g : FuncId) (callee : Function) (entries : List Entry) → slice_get m.functions g.0 ≡ Some callee → AreEntered m said memory callee entries
         → IsWholeMemory handed × TasksBuild m said handed (Runs (new_frame g entries) ∷ Runs waits ∷ rest)
-    call_one g callee entries is e = (alone_so.whole.0, (
+    call_one g callee entries is e = (
+      alone_so.whole.0,
+      (
         entered_builds handed g callee entries (Runs waits ∷ rest) is (record {
           none = e.none;
           named = λ v x names. let n = e.named v x names in (each_of (IsWhole memory) (IsWhole handed) alone_so.whole.1 (references_in x) n.0, n.1);
         }),
         below_stays m said memory handed alone_so.whole.1 (omega (arith, ap length alone_so.objects)) (λ o made. ap (λ y. y.class) (object_same o)) (Runs waits ∷ rest)
             (λ o some. object_same o) (new_frame g entries) (waiting, below_same m said memory frame waits rest stands.below),
-      ))
+      ),
+    )
 
   pub calls_right : AreCallsRight m said
   calls_right memory rest frame f left lent g callee entries stands loses on is e = call_one memory rest frame f left lent stands loses on g callee entries is e

@@ -130,7 +130,7 @@ module _ (weight : ObjectId → ℕ) where
       let rest : of_references weight (references_in_each (values_of p.1)) ≡ in_data weight xs = values_named xs p.1 p.3 in
       let whole : in_data weight (x ∷ xs) ≡ in_datum weight x + in_data weight xs = total_cons (in_datum weight) x xs in
       let both : of_references weight (references_of p.0 ++ references_in_each (values_of p.1))
-          ≡ of_references weight (references_of p.0) + of_references weight (references_in_each (values_of p.1)) =
+      ≡ of_references weight (references_of p.0) + of_references weight (references_in_each (values_of p.1)) =
       total_append weight (references_of p.0) (references_in_each (values_of p.1)) in
       let same : of_references weight (references_in_each (values_of vs)) ≡ of_references weight (references_of p.0 ++ references_in_each (values_of p.1)) =
       ap (λ ws. of_references weight (references_in_each (values_of ws))) p.4 in

@@ -277,7 +277,7 @@ module _ (d : Declarations) (shapes : ModuleShapes) (values : List Shape) (m : M
   loads_value is h =
       let a = at_one (memory.loads_by d shapes values m i) h in
       let x = some_made (loading a.operation a.place) (value_at m a.place) c
-          (held_made a.place (asked_before a.place.is_part a.operation) (with_some (loading a.operation a.place) (value_at m a.place)) a.made) in
+      (held_made a.place (asked_before a.place.is_part a.operation) (with_some (loading a.operation a.place) (value_at m a.place)) a.made) in
       is_it _ x.2 (doing.loads a.operation a.place x.0 is a.done a.given x.1)
 
   loads_name : effect_of i.op ≡ row.LoadsName → IsChange c (at_places d shapes values m i row.LoadsName xs) → Told
@@ -285,7 +285,7 @@ module _ (d : Declarations) (shapes : ModuleShapes) (values : List Shape) (m : M
       let a = at_one (memory.names_by d shapes values m i) h in
       let behind = memory.after d shapes values m i a.operation a.place in
       let x = some_made (loaded_name (storage_in a.place.shape) m behind) (value_at m a.place) c
-          (held_made a.place (asked_before a.place.is_part a.operation) (with_some (loaded_name (storage_in a.place.shape) m behind) (value_at m a.place)) a.made) in
+      (held_made a.place (asked_before a.place.is_part a.operation) (with_some (loaded_name (storage_in a.place.shape) m behind) (value_at m a.place)) a.made) in
       by_storage a.operation a.place a.done a.given x.0 x.1 (storage_in a.place.shape) x.2
     where
       by_live : (o : access.Operation) (p : Place) → operation_done d shapes values m i ≡ Some o → xs ≡ AddressOf p ∷ [] → (x : Value) → value_at m p ≡ Some x

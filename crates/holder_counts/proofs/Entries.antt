@@ -189,7 +189,7 @@ module _ (weight : ObjectId → ℕ) (facts : ValueId → Option Facts) where
       begins_behind vs xs middle.0 behind middle.2 (subst (λ n. Each (IsBelow n) vs) (sym first.1) each.1) in
       let here = first.0 in
       let both : of_references weight (references_begun facts (v ∷ vs) (x ∷ xs))
-          ≡ of_references weight (owned_references (known_or facts v).kind x) + of_references weight (references_begun facts vs xs) =
+      ≡ of_references weight (owned_references (known_or facts v).kind x) + of_references weight (references_begun facts vs xs) =
       total_append weight (owned_references (known_or facts v).kind x) (references_begun facts vs xs) in
       omega (arith, here, rest, both)
 

@@ -103,7 +103,7 @@ module _ (weight : ObjectId → ℕ) (how : Storage) where
       let first : in_cells weight how (take p.first (home_cells m p.home)) + in_cells weight how (drop p.first (home_cells m p.home)) ≡ in_cells weight how (home_cells m p.home) =
       total_cut (in_cell weight how) (home_cells m p.home) p.first in
       let rest : in_cells weight how (cells_at m p) + in_cells weight how (drop (cell_count p.shape) (drop p.first (home_cells m p.home)))
-          ≡ in_cells weight how (drop p.first (home_cells m p.home)) =
+      ≡ in_cells weight how (drop p.first (home_cells m p.home)) =
       total_cut (in_cell weight how) (drop p.first (home_cells m p.home)) (cell_count p.shape) in
       omega (arith, all, first, rest)
 

@@ -71,7 +71,7 @@ pub items_counted : InEach AreItemsCounted
 items_counted m told bound weight s rest frame f i ops c made slots entries at taken put each balanced =
     let move = moves_counted m told bound weight s rest (left_with m told bound frame ops) f i c slots entries put each in
     let ends = ends_counted weight (facts_told told frame.function) (item_taken f i) frame.entries ops.left
-        (operands_are (facts_told told frame.function) s.memory frame.entries (item_taken f i) ops taken).left in
+    (operands_are (facts_told told frame.function) s.memory frame.entries (item_taken f i) ops taken).left in
     let tasks : in_tasks weight s.tasks ≡ in_tasks weight (Runs frame ∷ rest) = ap (in_tasks weight) at in
     let first = first_task weight (Runs frame) rest in
     let balance = balanced.balance in
@@ -80,7 +80,7 @@ items_counted m told bound weight s rest frame f i ops c made slots entries at t
 pub entries_counted : InEach AreEntriesCounted
 entries_counted m told bound weight s rest g callee args entries put each =
     let begins = begins_counted weight (facts_told told g) (item_defined callee item.Entry) args (no_entries (value_count callee)) entries put
-        (subst (λ n. Each (IsBelow n) (item_defined callee item.Entry)) (sym (length-replicate (value_count callee) Gone)) each) in
+    (subst (λ n. Each (IsBelow n) (item_defined callee item.Entry)) (sym (length-replicate (value_count callee) Gone)) each) in
     let none : in_entries weight (no_entries (value_count callee)) ≡ 0 = total_none (in_entry weight) (value_count callee) Gone refl in
     let first = first_task weight (Runs (new_frame g entries)) rest in
     omega (arith, begins, none, first)

@@ -51,7 +51,7 @@ module _ (weight : ObjectId → ℕ) (how : Storage) where
 
   home_total : (m : Memory) (home : Home) (first n : ℕ) (new : List Cell) → IsAliveAt m home → first + n ≤ length (home_cells m home) → length new ≡ n
       → in_memory weight how (with_home_cells m home (put_cells (home_cells m home) first new)) + in_cells weight how (take n (drop first (home_cells m home)))
-        ≡ in_memory weight how m + in_cells weight how new
+      ≡ in_memory weight how m + in_cells weight how new
   home_total m OnStack first n new alive le count =
       let put : in_cells weight how (put_cells m.stack first new) + in_cells weight how (take (length new) (drop first m.stack)) ≡ in_cells weight how m.stack + in_cells weight how new =
       total_put (in_cell weight how) m.stack first new (omega (arith, le, count)) in

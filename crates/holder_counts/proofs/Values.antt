@@ -79,7 +79,7 @@ module _ (weight : ObjectId → ℕ) where
       let rest : of_references weight (references_in_each (values_of parts.1)) ≡ held (drop (cell_count s) cs) =
       each_reads ss hs.1 (drop (cell_count s) cs) parts.1 strong.1 rest_count parts.3 in
       let both : of_references weight (references_of parts.0 ++ references_in_each (values_of parts.1))
-          ≡ of_references weight (references_of parts.0) + of_references weight (references_in_each (values_of parts.1)) =
+      ≡ of_references weight (references_of parts.0) + of_references weight (references_in_each (values_of parts.1)) =
       total_append weight (references_of parts.0) (references_in_each (values_of parts.1)) in
       let cut : held (take (cell_count s) cs) + held (drop (cell_count s) cs) ≡ held cs = total_cut (in_cell weight storage.Strong) cs (cell_count s) in
       let all : of_references weight (references_in_each (values_of vs)) ≡ of_references weight (references_of parts.0 ++ references_in_each (values_of parts.1)) =

@@ -199,7 +199,7 @@ module _ (d : Declarations) (f : Function) where
       let before : insts_before f p ≡ take p.index b.0.insts = ap (λ o. take p.index (insts_of o)) b.1 in
       let front : List Inst = insts_become d (renamings_of f) there.0 (take p.index b.0.insts) in
       let size : length front ≡ (lowered_point d f p).index =
-          insts_as_long d (renamings_of f) (take p.index b.0.insts) there.0 0 ∙ ap (lowered_length d f) (sym before) in
+      insts_as_long d (renamings_of f) (take p.index b.0.insts) there.0 0 ∙ ap (lowered_length d f) (sym before) in
       record {
         spare = at.spare;
         each = λ j x is.
@@ -236,8 +236,8 @@ module _ (d : Declarations) (f : Function) where
       let b = end_parts f p i none e in
       let there = low_block p.block.0 b.0 b.1 in
       let size : length (insts_become d (renamings_of f) there.0 b.0.insts) ≡ (lowered_point d f p).index =
-          insts_as_long d (renamings_of f) b.0.insts there.0 0
-          ∙ ap (lowered_length d f) (sym (all_taken b.0.insts p.index b.2)) ∙ ap (λ o. lowered_length d f (take p.index (insts_of o))) (sym b.1) in
+      insts_as_long d (renamings_of f) b.0.insts there.0 0
+      ∙ ap (lowered_length d f) (sym (all_taken b.0.insts p.index b.2)) ∙ ap (λ o. lowered_length d f (take p.index (insts_of o))) (sym b.1) in
       let long = mapped_length (renumbered_inst (lowered_number d f)) (insts_become d (renamings_of f) there.0 b.0.insts) in
       record {
         behind = ap (λ o. inst_in o (lowered_point d f p).index) there.1

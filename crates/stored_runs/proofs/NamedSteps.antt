@@ -77,7 +77,7 @@ module _ (m : Module) (bound : ℕ) (l : LowState) (low : LowFrame) (others : Li
       → effect_in (lowered m) low_told bound l low j xs ≡ Makes c → slots_behind c.slots low.slots ≡ Ok slots → put_all j.results c.results low.values ≡ Some values
       → find (is_dead l.memory) c.retained ≡ None
       → steps.low_step (lowered m) low_told bound l
-        ≡ Goes (moved (lowered m) low_told bound (retained c.retained (steps.with_names (lowered m) low_told bound l low j xs)) others low lf (item.Inst low.at) c slots values)
+      ≡ Goes (moved (lowered m) low_told bound (retained c.retained (steps.with_names (lowered m) low_told bound l low j xs)) others low lf (item.Inst low.at) c slots values)
   inst_goes j xs c slots values here read eff is put alive =
       let next = moved (lowered m) low_told bound (retained c.retained (steps.with_names (lowered m) low_told bound l low j xs)) others low lf (item.Inst low.at) c slots values in
       told_taken (lowered m) low_told bound l (Goes next)

@@ -149,11 +149,13 @@ module _ (d : Declarations) (f : Function) (named : AreNamed d f) where
           let worth : x ≡ y = same_Some x y (sym (one.here y (subst (λ u. datum_in (entry_at entries u) ≡ Some y) is there))) in
           ap (λ u. low_frames.value_at values (number u)) is ∙ under ∙ ap Some worth
       at (inr other) =
-          shown v y (ap datum_in (sym (one.others v other)) ∙ there)
-          (ok.0, ⊎_elim
-          (λ made. absurd (eqb-false v.0 r.0 other (sym (eqb-true r.0 v.0 (only_one (sym (ap (λ vs. has vs v.0) defined) ∙ made))))))
-          (λ kept. (and_parts (not (makes f (stands_for (renamings_of f) v) i)) (is_none_since (makes f (stands_for (renamings_of f) v)) (makes f v) t) kept).1)
-          (or_cases (makes f v i) (not (makes f (stands_for (renamings_of f) v) i) && is_none_since (makes f (stands_for (renamings_of f) v)) (makes f v) t) ok.1))
+          shown v y (ap datum_in (sym (one.others v other)) ∙ there) (
+            ok.0,
+            ⊎_elim
+                (λ made. absurd (eqb-false v.0 r.0 other (sym (eqb-true r.0 v.0 (only_one (sym (ap (λ vs. has vs v.0) defined) ∙ made))))))
+                (λ kept. (and_parts (not (makes f (stands_for (renamings_of f) v) i)) (is_none_since (makes f (stands_for (renamings_of f) v)) (makes f v) t) kept).1)
+                (or_cases (makes f v i) (not (makes f (stands_for (renamings_of f) v) i) && is_none_since (makes f (stands_for (renamings_of f) v)) (makes f v) t) ok.1),
+          )
         where
           only_one : has (r ∷ []) v.0 ≡ true → (r.0 == v.0) ≡ true
           only_one h = ⊎_elim (λ here. here) (λ later. absurd (false≢true later)) (or_cases (r.0 == v.0) false h)
@@ -162,7 +164,10 @@ module _ (d : Declarations) (f : Function) (named : AreNamed d f) where
   pub behind_nothing : (t : List Item) (i : Item) → item_defined f i ≡ [] → (entries : List Entry) (values : List (Option Datum))
       → AreValuesFor d f t entries values → AreValuesFor d f (i ∷ t) entries values
   behind_nothing t i defined entries values shown v y there ok =
-      shown v y there (ok.0, ⊎_elim
-      (λ made. absurd (false≢true (sym (ap (λ vs. has vs v.0) defined) ∙ made)))
-      (λ kept. (and_parts (not (makes f (stands_for (renamings_of f) v) i)) (is_none_since (makes f (stands_for (renamings_of f) v)) (makes f v) t) kept).1)
-      (or_cases (makes f v i) (not (makes f (stands_for (renamings_of f) v) i) && is_none_since (makes f (stands_for (renamings_of f) v)) (makes f v) t) ok.1))
+      shown v y there (
+        ok.0,
+        ⊎_elim
+            (λ made. absurd (false≢true (sym (ap (λ vs. has vs v.0) defined) ∙ made)))
+            (λ kept. (and_parts (not (makes f (stands_for (renamings_of f) v) i)) (is_none_since (makes f (stands_for (renamings_of f) v)) (makes f v) t) kept).1)
+            (or_cases (makes f v i) (not (makes f (stands_for (renamings_of f) v) i) && is_none_since (makes f (stands_for (renamings_of f) v)) (makes f v) t) ok.1),
+      )

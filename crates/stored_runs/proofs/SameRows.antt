@@ -70,7 +70,6 @@ fields_same shapes low_shapes classes class = ap (λ cs. flat_map fields_in (opt
 module _ (d : Declarations) (shapes low_shapes : ModuleShapes) (values low_values : List Shape) (m low : Memory) (number : ValueId → ValueId) (i : Inst)
     (h : IsMemoryFor m low) (classes : low_shapes.classes ≡ shapes.classes)
     (shape : effects.result_shape d low_shapes low_values low (renumbered_inst number i) ≡ effects.result_shape d shapes values m i) where
-
   gives_for : (xs : List Datum) → IsEffectFor (gives m xs) (gives low xs)
   gives_for xs = (record (unchanged low) { results = xs }, refl, record { results = refl; dropped = refl; retained = refl; slots = refl; memory = h })
 
@@ -89,17 +88,20 @@ module _ (d : Declarations) (shapes low_shapes : ModuleShapes) (values low_value
   object_for : (class : Name) → IsEffectFor (effects.makes_object d shapes values m i class) (effects.makes_object d low_shapes low_values low (renumbered_inst number i) class)
   object_for class =
       let more : IsMemoryFor (record m { objects = m.objects ++ record { class = class; phase = Live; cells = empty_fields (field_shapes shapes class) } ∷ [] })
-          (record low { objects = low.objects ++ record { class = class; phase = Live; cells = empty_fields (field_shapes low_shapes class) } ∷ [] }) =
-          subst (λ fs. IsMemoryFor (record m { objects = m.objects ++ record { class = class; phase = Live; cells = empty_fields (field_shapes shapes class) } ∷ [] })
-          (record low { objects = low.objects ++ record { class = class; phase = Live; cells = empty_fields fs } ∷ [] })) (sym (fields_same shapes low_shapes classes class))
-          (object_added m low h (record { class = class; phase = Live; cells = empty_fields (field_shapes shapes class) })) in
-      (_, refl, record {
-        results = ap (λ n. ValueOf (value.Object (record { 0 = n })) ∷ []) (AllZip-long IsObjectFor m.objects low.objects h.objects);
-        dropped = refl;
-        retained = refl;
-        slots = refl;
-        memory = more;
-      })
+      (record low { objects = low.objects ++ record { class = class; phase = Live; cells = empty_fields (field_shapes low_shapes class) } ∷ [] }) =
+      subst (λ fs. IsMemoryFor (record m { objects = m.objects ++ record { class = class; phase = Live; cells = empty_fields (field_shapes shapes class) } ∷ [] })
+      (record low { objects = low.objects ++ record { class = class; phase = Live; cells = empty_fields fs } ∷ [] })) (sym (fields_same shapes low_shapes classes class))
+      (object_added m low h (record { class = class; phase = Live; cells = empty_fields (field_shapes shapes class) })) in (
+        _,
+        refl,
+        record {
+          results = ap (λ n. ValueOf (value.Object (record { 0 = n })) ∷ []) (AllZip-long IsObjectFor m.objects low.objects h.objects);
+          dropped = refl;
+          retained = refl;
+          slots = refl;
+          memory = more;
+        },
+      )
 
   slot_same : effects.new_slot d low_shapes low_values low (renumbered_inst number i) ≡ effects.new_slot d shapes values m i
   slot_same =
@@ -108,14 +110,18 @@ module _ (d : Declarations) (shapes low_shapes : ModuleShapes) (values low_value
       ∙ ap (λ s. record { home = OnStack; first = length m.stack; shape = s; is_part = false }) shape
 
   slot_for : IsEffectFor (effects.makes_slot d shapes values m i) (effects.makes_slot d low_shapes low_values low (renumbered_inst number i))
-  slot_for = (_, refl, record {
-    results = ap (λ p. AddressOf p ∷ []) slot_same;
-    dropped = refl;
-    retained = refl;
-    slots = ap OpensSlot slot_same;
-    memory = subst (λ s. IsMemoryFor (record m { stack = m.stack ++ empty_slot (effects.result_shape d shapes values m i) }) (record low { stack = low.stack ++ empty_slot s }))
-        (sym shape) (slot_added m low h (empty_slot (effects.result_shape d shapes values m i)));
-  })
+  slot_for = (
+    _,
+    refl,
+    record {
+      results = ap (λ p. AddressOf p ∷ []) slot_same;
+      dropped = refl;
+      retained = refl;
+      slots = ap OpensSlot slot_same;
+      memory = subst (λ s. IsMemoryFor (record m { stack = m.stack ++ empty_slot (effects.result_shape d shapes values m i) }) (record low { stack = low.stack ++ empty_slot s }))
+          (sym shape) (slot_added m low h (empty_slot (effects.result_shape d shapes values m i)));
+    },
+  )
 
   copies_for : (x : Datum) → IsEffectFor (effects.copies d shapes values m i x) (effects.copies d low_shapes low_values low (renumbered_inst number i) x)
   copies_for x = (_, refl, record { results = refl; dropped = refl; retained = refl; slots = refl; memory = h })

@@ -234,7 +234,7 @@ module _ (m : Module) (bound : ℕ) where
     module _ (ops : Operands) (found : operands_of facts s.memory frame.entries (item_taken f (item.Inst p)) ≡ Ok ops)
         (c : Change) (makes : holder.effect d (shapes_of m) (shapes_in (shapes_of m) frame.function) s.memory i ops.given ≡ Makes c)
         (place : IsEffectFor (holder.at_places d (shapes_of m) (shapes_in (shapes_of m) frame.function) s.memory i (effect_of i.op) ops.given)
-          (low_effects.at_places d low_told (shapes_in low_told top.low.function) l.memory j (effect_of i.op) ops.given))
+        (low_effects.at_places d low_told (shapes_in low_told top.low.function) l.memory j (effect_of i.op) ops.given))
         (shape : effects.result_shape d low_told (shapes_in low_told top.low.function) l.memory j ≡ effects.result_shape d (shapes_of m) (shapes_in (shapes_of m) frame.function) s.memory i)
         (alive : list_any (is_dead s.memory) c.retained ≡ false)
         (slots : List Place) (slots_left : parts.slots_behind c.slots frame.slots ≡ Ok slots)

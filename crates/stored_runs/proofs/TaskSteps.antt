@@ -121,8 +121,11 @@ module _ (m : Module) (bound : ℕ) (s : HolderState) (l : LowState) (related : 
 
     deinit_state : is_live s.memory o ≡ true → IsStateFor m (holder.deinitialising m (facts_of m) bound s1 o) (ways.deinitialising (lowered m) (shapes_of (lowered m)) bound l2 o)
     deinit_state live = record {
-      tasks = (subst (λ c. IsTaskFor m (Finishes (deinits_of (declarations_of m) (object_at s.memory o).class) o) (Finishes (deinits_of (declarations_of m) c) o)) (sym class)
-          (IsTaskFor.finishes (deinits_of (declarations_of m) (object_at s.memory o).class) o), (IsTaskFor.drops os, top.rest_for));
+      tasks = (
+        subst (λ c. IsTaskFor m (Finishes (deinits_of (declarations_of m) (object_at s.memory o).class) o) (Finishes (deinits_of (declarations_of m) c) o)) (sym class)
+            (IsTaskFor.finishes (deinits_of (declarations_of m) (object_at s.memory o).class) o),
+        (IsTaskFor.drops os, top.rest_for),
+      );
       memory = phase_put s.memory l.memory related.memory _ o;
       parts = (tt, (tt, parts_stay rest (full_parts_same m l.memory s.tasks (o ∷ os) rest is related.parts)));
       counts = record { size = counts.size ∙ sym (length-set s.memory.objects o.0 _); each = λ p. counts.each p ∙ sym (deinit_counted live p) };

@@ -219,7 +219,6 @@ module _ (facts : ValueId → Option Facts) where
         others = λ v other. entry_other entries r v parts.0 other;
       })
 
-
 module _ (number : ValueId → ValueId) where
   -- each of these values whose entry is there has its datum under its number
   abbrev pub Shown : (ValueId → Type 0) → List Entry → List (Option Datum) → Type 0
@@ -275,7 +274,7 @@ module _ (number : ValueId → ValueId) where
         let parts = with_parts (results_put facts rs xs) (with_ok (put_entry entries r) (made_entry (known_or facts r).kind x)) behind is in
         let same = length-set values (number r).0 (Some x) in
         let rest = results_shown rs xs parts.0 behind (set values (number r).0 (Some x)) (OrWritten r ok) (subst (λ n. Each (λ r. (number r).0 < n) rs) (sym same) small.1)
-            parts.2 (one_shown r x entries parts.0 values ok small.0 parts.1 shown) in
+        parts.2 (one_shown r x entries parts.0 values ok small.0 parts.1 shown) in
         record { values' = rest.values'; is = rest.is; size = rest.size ∙ same; shown = rest.shown }
 
   -- a value among those that were put is behind them, where numbers tell values apart

@@ -128,7 +128,7 @@ AreFieldsOf = (shapes : ModuleShapes) (sources : List Source) (said : Progress) 
     → (p : Place) → Names entries v (AddressOf p)
     → (o : ObjectId) × (p.home ≡ Inside o) × WhoseField sources said memory entries of o
     × ((object : ValueId) → builds sources object of ≡ true → IsNewField sources object k → said.unwritten object k ≡ Some true → said.as_made object v ≡ true
-        → Holds entries object o)
+    → Holds entries object o)
 
 -- ---- a new object
 

@@ -81,7 +81,7 @@ module _ (m : Module) (said : Function → List Item → Progress) where
   abbrev pub AreFieldWritesRight : Type 0
   AreFieldWritesRight = (memory : Memory) (rest : List (Task Frame)) (frame : Frame) (f : Function) (i : Item) (left : List Entry) (p : Place) (x : Value)
       (slots : List Place) (dropped : List ObjectId) → Stands memory rest frame f → IsFieldWrite memory frame f i left p x
-          → NameWhole (filled memory p x) dropped
+      → NameWhole (filled memory p x) dropped
       → IsWholeMemory (filled memory p x) × TasksBuild m said (filled memory p x) (dropping dropped (Runs (frame_behind frame i left slots) ∷ rest))
 
   -- an object is made

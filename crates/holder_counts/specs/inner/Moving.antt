@@ -41,9 +41,9 @@ module _ (m : Module) (told : ModuleFacts) (bound : ℕ) where
       → results_put (facts_told told frame.function) (item_defined f i) c.results frame.entries ≡ Ok entries
       → Each (IsBelow (length frame.entries)) (item_defined f i)
       → in_state weight (moved m told bound s rest frame i c slots entries)
-        ≡ (in_entries weight frame.entries + in_tasks weight rest)
-          + (of_references weight (references_begun (facts_told told frame.function) (item_defined f i) c.results) + of_references weight c.dropped)
-          + in_memory weight storage.Strong c.memory
+      ≡ (in_entries weight frame.entries + in_tasks weight rest)
+      + (of_references weight (references_begun (facts_told told frame.function) (item_defined f i) c.results) + of_references weight c.dropped)
+      + in_memory weight storage.Strong c.memory
 
   -- what an item brings, drops and leaves in memory is what it took, what it made anew, and what was in memory
   pub record IsBalanced (weight : ObjectId → ℕ) (s : HolderState) (frame : Frame) (f : Function) (i : Item) (c : Change) (made : List ObjectId) : Type 0 where
@@ -62,7 +62,7 @@ module _ (m : Module) (told : ModuleFacts) (bound : ℕ) where
       → Each (IsBelow (length ops.left)) (item_defined f i)
       → IsBalanced weight s frame f i c made
       → in_state weight (moved m told bound s rest (left_with m told bound frame ops) i c slots entries)
-        ≡ in_state weight s + (of_references weight c.retained + of_references weight made)
+      ≡ in_state weight s + (of_references weight c.retained + of_references weight made)
 
   -- ---- calls
 
@@ -72,8 +72,8 @@ module _ (m : Module) (told : ModuleFacts) (bound : ℕ) where
       → results_put (facts_told told g) (item_defined callee item.Entry) args (no_entries (value_count callee)) ≡ Ok entries
       → Each (IsBelow (value_count callee)) (item_defined callee item.Entry)
       → in_state weight (record (turned s) { tasks = Runs (new_frame g entries) ∷ rest })
-        ≡ of_references weight (references_begun (facts_told told g) (item_defined callee item.Entry) args) + in_tasks weight rest
-          + in_memory weight storage.Strong s.memory
+      ≡ of_references weight (references_begun (facts_told told g) (item_defined callee item.Entry) args) + in_tasks weight rest
+      + in_memory weight storage.Strong s.memory
 
   -- ---- drops and finishes
 
