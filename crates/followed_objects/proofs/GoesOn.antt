@@ -4,15 +4,18 @@ use Rattle.std.specs.Prelude.{Contains, ◌||◌, option_map, slice_get}
 use Rattle.std.specs.List.{list_any}
 use Rattle.std.proofs.lemmas.Bool.{false≢true, true≢false}
 use Rattle.std.proofs.lemmas.Option.{none-some, same_Some}
+use Rattle.instruction_table.specs.Forms.{detail_of}
+use Rattle.instruction_table.specs.declared.entries.Detail.TheVariants as detail
 use Rattle.instruction_table.specs.declared.op.Op.{Op}
 use Rattle.instruction_table.specs.declared.op.Op.TheVariants as op
 use Rattle.accepted_memory.specs.accepted_trails.inner.Defined.{IsDefinedOn, makes}
-use Rattle.accepted_memory.specs.holder_model.Effects.{effect_of}
+use Rattle.accepted_memory.specs.holder_model.Effects.{effect_of, part_number, part_number_by}
 use Rattle.accepted_memory.specs.holder_model.declared.row_effect.RowEffect.{RowEffect}
 use Rattle.accepted_memory.specs.holder_model.declared.row_effect.RowEffect.TheVariants as row
 use Rattle.accepted_memory.specs.memory_accesses.Accesses.{allowance_of}
 use Rattle.accepted_memory.specs.memory_accesses.Locations.{extended, is_object, location_of, whole}
 use Rattle.accepted_memory.specs.memory_accesses.Operations.{access_kind_of, deallocates, deallocates_by}
+use Rattle.accepted_memory.specs.memory_accesses.Sources as memory_accesses
 use Rattle.accepted_memory.specs.memory_accesses.Sources.{borrow_source, result_source, source_at, source_by, sources_of, upcast_source}
 use Rattle.accepted_memory.specs.memory_accesses.declared.columns.AccessKind.TheVariants as access
 use Rattle.accepted_memory.specs.memory_accesses.declared.location.Location.{Location}
@@ -46,10 +49,10 @@ use Rattle.sil_cfg.specs.declared.item.Item.TheVariants as item
 use Rattle.type_definitions.specs.Declarations.{Declarations, declarations_of}
 use Rattle.value_tables.specs.FirstValue.{first_value}
 use Rattle.followed_objects.specs.inner.About.{IsAboutTaken}
-use Rattle.followed_objects.specs.inner.Operands.{AreUnfinishedOperands}
 use Rattle.followed_objects.specs.inner.Said.{IsUnfinishedOn, said_in}
 use Rattle.followed_objects.proofs.About.{about_as_made, are_about_taken}
 use Rattle.followed_objects.proofs.Apart.{keeps_apart}
+use Rattle.followed_objects.proofs.Operands.{unfinished_operands}
 use Rattle.followed_objects.proofs.PlaceForms.{gives_place, made_row, result_place}
 use Rattle.followed_objects.proofs.Upcasts.{borrow_builds, upcast_builds}
 
@@ -83,6 +86,7 @@ gives_on o e = gives_on_by o (ap gives_operand e)
 -- the row names the field of the object that its operand names
 pub record NamesField (o : Op) : Type 0 where
   pub kind : access_kind_of o ≡ access.NamesField
+  pub detail : detail_of o ≡ detail.Field
   pub object : takes_object (allowance_of o) ≡ false
 
 abbrev addresses_field : RowEffect → Bool
@@ -90,28 +94,56 @@ addresses_field row.AddressesField = true
 addresses_field _ = false
 
 names_field_by : (o : Op) → addresses_field (effect_of o) ≡ true → NamesField o
-names_field_by op.RefElementAddr e = record { kind = refl; object = refl }
+names_field_by op.RefElementAddr e = record { kind = refl; detail = refl; object = refl }
 names_field_by _ e = absurd (false≢true e)
 
 pub names_field : (o : Op) → effect_of o ≡ row.AddressesField → NamesField o
 names_field o e = names_field_by o (ap addresses_field e)
 
 -- the row names a member of what is at its operand
+pub data NamesMember (o : Op) : Type 0 where
+  by_member : access_kind_of o ≡ access.NamesMember → detail_of o ≡ detail.Field → NamesMember o
+  by_element : access_kind_of o ≡ access.NamesElement → detail_of o ≡ detail.Element → NamesMember o
+
 abbrev addresses_member : RowEffect → Bool
 addresses_member row.AddressesMember = true
 addresses_member _ = false
 
-names_member_by : (o : Op) → addresses_member (effect_of o) ≡ true → TakesWhole o
-names_member_by op.StructElementAddr e = record { keeps = refl; object = refl; borrow = refl }
-names_member_by op.TupleElementAddr e = record { keeps = refl; object = refl; borrow = refl }
+names_member_by : (o : Op) → addresses_member (effect_of o) ≡ true → NamesMember o × TakesWhole o
+names_member_by op.StructElementAddr e = (by_member refl refl, record { keeps = refl; object = refl; borrow = refl })
+names_member_by op.TupleElementAddr e = (by_element refl refl, record { keeps = refl; object = refl; borrow = refl })
 names_member_by _ e = absurd (false≢true e)
 
-pub names_member : (o : Op) → effect_of o ≡ row.AddressesMember → TakesWhole o
+pub names_member : (o : Op) → effect_of o ≡ row.AddressesMember → NamesMember o × TakesWhole o
 names_member o e = names_member_by o (ap addresses_member e)
+
+-- ---- what the number of a row names
+
+module _ (d : Declarations) (x : Inst) (j : ℕ) (number : part_number d x ≡ Some j) where
+  by_its_member : detail_of x.op ≡ detail.Field → memory_accesses.member_place d x.member ≡ Some j
+  by_its_member e = sym (ap (λ k. part_number_by k d x) e) ∙ number
+
+  by_its_element : detail_of x.op ≡ detail.Element → memory_accesses.element_place x.number ≡ Some j
+  by_its_element e = sym (ap (λ k. part_number_by k d x) e) ∙ number
+
+  module _ (of : ValueId) (first : first_value x ≡ Some of) where
+    pub part_source_is : NamesMember x.op → result_source d x ≡ source.Part of j
+    part_source_is (by_member k e) =
+        ap (λ q. source_by q d x) k ∙ ap (λ o. memory_accesses.part_source o (memory_accesses.member_place d x.member)) first
+        ∙ ap (memory_accesses.part_source (Some of)) (by_its_member e)
+    part_source_is (by_element k e) =
+        ap (λ q. source_by q d x) k ∙ ap (λ o. memory_accesses.part_source o (memory_accesses.element_place x.number)) first
+        ∙ ap (memory_accesses.part_source (Some of)) (by_its_element e)
+
+    pub field_source_is : NamesField x.op → result_source d x ≡ source.Field of j (memory_accesses.is_trivial_member d x.member)
+    field_source_is names =
+        ap (λ q. source_by q d x) names.kind
+        ∙ ap (λ o. memory_accesses.field_source o (memory_accesses.member_place d x.member) (memory_accesses.is_trivial_member d x.member)) first
+        ∙ ap (λ k. memory_accesses.field_source (Some of) k (memory_accesses.is_trivial_member d x.member)) (by_its_member names.detail)
 
 -- ---- an instruction with one operand
 
-module _ (operands : AreUnfinishedOperands) (m : Module) (n : ℕ) (f : Function) (a : IsAcceptedBody m n f) (t : List Item) (p : PointId)
+module _ (m : Module) (n : ℕ) (f : Function) (a : IsAcceptedBody m n f) (t : List Item) (p : PointId)
     (h : IsRunTrail f (item.Inst p ∷ t)) (x : Inst) (is : inst_at f p ≡ Some x) (y : Taken) (alone : item_taken f (item.Inst p) ≡ y ∷ []) where
   abbrev d : Declarations
   d = declarations_of m
@@ -144,7 +176,7 @@ module _ (operands : AreUnfinishedOperands) (m : Module) (n : ℕ) (f : Function
 
   allowed : (object : ValueId) → IsUnfinishedOn d f t object → deallocates_by (access_kind_of x.op) ≡ false
       → (y.value ≡ object → takes_object (allowance_of x.op) ≡ true) × (builds sources object y.value ≡ true → takes_borrow (allowance_of x.op) ≡ true)
-  allowed object un keeps = operands m n f a t (item.Inst p) h x is keeps y among object un
+  allowed object un keeps = unfinished_operands m n f a t (item.Inst p) h x is keeps y among object un
 
   module _ (v : ValueId) (made : makes f v (item.Inst p) ≡ true) where
     defined : IsDefinedOn f (item.Inst p ∷ t) v
