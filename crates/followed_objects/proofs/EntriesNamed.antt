@@ -6,15 +6,18 @@ use Rattle.std.proofs.lemmas.Bool.{eqb-true, false≢true, true≢false}
 use Rattle.std.proofs.lemmas.List.{length-set}
 use Rattle.std.proofs.lemmas.Option.{none-some, same_Some, slice_get_within}
 use Rattle.accepted_memory.specs.holder_model.Data.{AddressOf, Datum, FunctionOf, ValueOf, references_in}
-use Rattle.accepted_memory.specs.holder_model.Faults.{HolderFault, NamesDead, NoEntry, OverwritesHeld, WrongShape}
+use Rattle.accepted_memory.specs.holder_model.Faults.{ConsumesLent, HolderFault, NamesDead, OverwritesHeld, WrongShape}
 use Rattle.accepted_memory.specs.holder_model.Frames.{Entry, Gone, Held, Lent, Operands, Plain, any_dead, datum_in, datum_or_fault, ends, entry_at, has_any}
-use Rattle.accepted_memory.specs.holder_model.Frames.{is_held, made_entry, operand, operand_data, operands_of, plain_address, plain_entry, put_entry, result_put}
+use Rattle.accepted_memory.specs.holder_model.Frames.{is_consumed, is_held, made_entry, operand, operand_data, operands_of, plain_address, plain_entry, put_entry, result_put}
 use Rattle.accepted_memory.specs.holder_model.Frames.{results_put, unless_dead, used_datum, with_ok}
 use Rattle.built_objects.specs.inner.FrameObjects.{Names}
 use Rattle.held_entries.proofs.EntriesEnded.{entry_set_other, entry_set_same}
+use Rattle.instruction_table.specs.declared.entries.Role.{Role}
+use Rattle.instruction_table.specs.declared.entries.Role.TheVariants as role
 use Rattle.item_operands.specs.declared.taken.Taken.{Taken}
 use Rattle.ownership_chains.specs.Facts.{has, known_or, value_of}
 use Rattle.ownership_chains.specs.declared.facts.Facts.{Facts}
+use Rattle.ownership_marks.specs.Marks.{ended_by, ended_with}
 use Rattle.run_values.specs.Memory.{Memory}
 use Rattle.run_values.specs.Places.{Home, Inside, OnStack}
 use Rattle.run_values.specs.Values.{references_of}
@@ -140,12 +143,36 @@ module _ (facts : ValueId → Option Facts) where
 
 -- ---- operands
 
--- the operands of an item, one by one: each was named by its value's entry, and names no dead object
-abbrev pub AreNamed : Memory → List Entry → List Taken → List Datum → Type 0
-AreNamed memory entries [] [] = Unit {0}
-AreNamed memory entries [] (x ∷ xs) = ⊥
-AreNamed memory entries (t ∷ ts) [] = ⊥
-AreNamed memory entries (t ∷ ts) (x ∷ xs) = (Names entries t.value x × (any_dead memory (references_in x) ≡ false)) × AreNamed memory entries ts xs
+-- the operands of an item, one by one: each was named by its value's entry, and names no dead object. That of an address is named still behind the ends
+abbrev pub AreNamed : Memory → List Entry → List Entry → List Taken → List Datum → Type 0
+AreNamed memory entries left [] [] = Unit {0}
+AreNamed memory entries left [] (x ∷ xs) = ⊥
+AreNamed memory entries left (t ∷ ts) [] = ⊥
+AreNamed memory entries left (t ∷ ts) (x ∷ xs) =
+    (Names entries t.value x × (any_dead memory (references_in x) ≡ false) × (t.role ≡ role.AddressRole → Names left t.value x)) × AreNamed memory entries left ts xs
+
+-- an address isn't ended
+address_unended : (facts : ValueId → Option Facts) (t : Taken) → t.role ≡ role.AddressRole → ends facts t ≡ false
+address_unended facts t is = at (facts t.value)
+  where
+    by_kind : (k : Kind) → has_any (ended_by k role.AddressRole t.value) ≡ false
+    by_kind kind.Owned = refl
+    by_kind kind.Guaranteed = refl
+    by_kind kind.Plain = refl
+
+    at : (o : Option Facts) → has_any (ended_with o t) ≡ false
+    at None = refl
+    at (Some x) = ap (λ r. has_any (ended_by x.kind r t.value)) is ∙ by_kind x.kind
+
+used_named : (r : Role) (e : Entry) (x : Datum) → used_datum r e ≡ Ok x → datum_in e ≡ Some x
+used_named r Gone x is = absurd (cc)
+used_named r (Held y) x is = cc
+used_named r (Lent y) x is = at (is_consumed r) is
+  where
+    at : (b : Bool) → cond b (Err ConsumesLent) (Ok y) ≡ Ok x → datum_in (Lent y) ≡ Some x
+    at true h = absurd (cc)
+    at false h = cc
+used_named r (Plain y) x is = cc
 
 module _ (facts : ValueId → Option Facts) (memory : Memory) (entries left : List Entry)
     (stays : (v : ValueId) → (entry_at left v ≡ entry_at entries v) ⊎ (entry_at left v ≡ Gone)) where
@@ -156,35 +183,45 @@ module _ (facts : ValueId → Option Facts) (memory : Memory) (entries left : Li
       by (inl same) = ap datum_in (sym same) ∙ names
       by (inr gone) = absurd (none-some x (sym (ap datum_in gone) ∙ names))
 
-  alive : (r : Result Datum HolderFault) (x : Datum) → with_ok (unless_dead memory) r ≡ Ok x → any_dead memory (references_in x) ≡ false
+  -- what is read names no dead object
+  alive : (r : Result Datum HolderFault) (x : Datum) → with_ok (unless_dead memory) r ≡ Ok x → (any_dead memory (references_in x) ≡ false) × (r ≡ Ok x)
   alive (Err y) x h = absurd (cc)
   alive (Ok y) x h = at (any_dead memory (references_in y)) refl h
     where
-      at : (b : Bool) → any_dead memory (references_in y) ≡ b → cond b (Err NamesDead) (Ok y) ≡ Ok x → any_dead memory (references_in x) ≡ false
+      at : (b : Bool) → any_dead memory (references_in y) ≡ b → cond b (Err NamesDead) (Ok y) ≡ Ok x → (any_dead memory (references_in x) ≡ false) × (Ok y ≡ Ok x)
       at true dead h = absurd (cc)
-      at false dead h = let same : y ≡ x = cc in ap (λ z. any_dead memory (references_in z)) (sym same) ∙ dead
+      at false dead h = let same : y ≡ x = cc in (ap (λ z. any_dead memory (references_in z)) (sym same) ∙ dead, ap Ok same)
 
-  one_named : (t : Taken) (x : Datum) → operand facts memory entries left t ≡ Ok x → Names entries t.value x × (any_dead memory (references_in x) ≡ false)
-  one_named t x is = (by (operand_there facts memory entries left t x is),
-      alive (cond (ends facts t) (datum_or_fault (datum_in (entry_at entries t.value))) (used_datum t.role (entry_at left t.value))) x is)
+  abbrev read_at : Taken → Bool → Result Datum HolderFault
+  read_at t b = cond b (datum_or_fault (datum_in (entry_at entries t.value))) (used_datum t.role (entry_at left t.value))
+
+  one_named : (t : Taken) (x : Datum) → operand facts memory entries left t ≡ Ok x
+      → Names entries t.value x × (any_dead memory (references_in x) ≡ false) × (t.role ≡ role.AddressRole → Names left t.value x)
+  one_named t x is = (by (operand_there facts memory entries left t x is), living.0, address)
     where
+      living : (any_dead memory (references_in x) ≡ false) × (read_at t (ends facts t) ≡ Ok x)
+      living = alive (read_at t (ends facts t)) x is
+
       by : (datum_in (entry_at entries t.value) ≡ Some x) ⊎ ((ends facts t ≡ false) × (datum_in (entry_at left t.value) ≡ Some x)) → Names entries t.value x
       by (inl there) = there
       by (inr there) = left_named t.value x there.1
 
-  all_named : (ts : List Taken) (xs : List Datum) → operand_data facts memory entries left ts ≡ Ok xs → AreNamed memory entries ts xs
+      address : t.role ≡ role.AddressRole → Names left t.value x
+      address is_address = used_named t.role (entry_at left t.value) x (sym (ap (read_at t) (address_unended facts t is_address)) ∙ living.1)
+
+  all_named : (ts : List Taken) (xs : List Datum) → operand_data facts memory entries left ts ≡ Ok xs → AreNamed memory entries left ts xs
   all_named [] [] is = tt
   all_named [] (x ∷ xs) is = absurd (cc)
   all_named (t ∷ ts) xs is = at (operand facts memory entries left t) refl (operand_data facts memory entries left ts) (λ ys. all_named ts ys) is
     where
       at : (r : Result Datum HolderFault) → operand facts memory entries left t ≡ r → (rs : Result (List Datum) HolderFault)
-          → ((ys : List Datum) → rs ≡ Ok ys → AreNamed memory entries ts ys) → joined r rs ≡ Ok xs → AreNamed memory entries (t ∷ ts) xs
-      at (Ok x) e (Ok ys) others h = let same : x ∷ ys ≡ xs = cc in subst (AreNamed memory entries (t ∷ ts)) same (one_named t x e, others ys refl)
+          → ((ys : List Datum) → rs ≡ Ok ys → AreNamed memory entries left ts ys) → joined r rs ≡ Ok xs → AreNamed memory entries left (t ∷ ts) xs
+      at (Ok x) e (Ok ys) others h = let same : x ∷ ys ≡ xs = cc in subst (AreNamed memory entries left (t ∷ ts)) same (one_named t x e, others ys refl)
       at (Ok x) e (Err z) others h = absurd (cc)
       at (Err z) e rs others h = absurd (cc)
 
 pub operands_named : (facts : ValueId → Option Facts) (memory : Memory) (ts : List Taken) (entries : List Entry) (ops : Operands)
     → ((v : ValueId) → (entry_at ops.left v ≡ entry_at entries v) ⊎ (entry_at ops.left v ≡ Gone)) → operands_of facts memory entries ts ≡ Ok ops
-    → AreNamed memory entries ts ops.given
+    → AreNamed memory entries ops.left ts ops.given
 operands_named facts memory ts entries ops stays is =
     let read = operands_read facts memory ts entries ops is in all_named facts memory entries ops.left stays ts ops.given read.given

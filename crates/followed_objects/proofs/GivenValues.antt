@@ -13,15 +13,12 @@ use Rattle.accepted_memory.specs.holder_model.declared.row_effect.RowEffect.TheV
 use Rattle.accepted_values.specs.inner.Known.{IsAcceptedBody}
 use Rattle.accepted_values.specs.run_typing.EndForms.{value_in}
 use Rattle.accepted_values.specs.run_typing.Forms.{Form, OfValue, form_of, forms_of}
-use Rattle.accepted_values.specs.run_typing.RowForms.{RowForms}
-use Rattle.accepted_values.specs.run_typing.RowForms as rows
 use Rattle.accepted_values.proofs.Accepted.{in_ownership_form, well_typed}
 use Rattle.built_objects.specs.inner.FrameObjects.{Names}
 use Rattle.item_operands.specs.Items.{item_taken}
 use Rattle.item_operands.specs.Parts.{inst_at}
 use Rattle.item_operands.specs.declared.taken.Taken.{Taken}
 use Rattle.owned_run_typing.specs.inner.OwnedRows.{OwnedRowForms}
-use Rattle.owned_run_typing.specs.inner.OwnedRows as owned
 use Rattle.owned_run_typing.proofs.OwnedInsts.{owned_inst}
 use Rattle.run_values.specs.Memory.{Memory}
 use Rattle.run_values.specs.Shapes.{Shape}
@@ -37,6 +34,7 @@ use Rattle.typed_holders.proofs.Data.{read_value}
 use Rattle.followed_objects.proofs.EntriesNamed.{AreNamed}
 use Rattle.followed_objects.proofs.GoesOn.{TakesWhole}
 use Rattle.followed_objects.proofs.Reading.{named_datum}
+use Rattle.followed_objects.proofs.RowsSay.{OneValue, Says, row_says}
 use Rattle.followed_objects.proofs.WholeOperands.{IsValueOf}
 
 -- ---- rows
@@ -88,51 +86,20 @@ ending_whole op.Return e = record { keeps = refl; object = refl; borrow = refl }
 ending_whole op.Unreachable e = record { keeps = refl; object = refl; borrow = refl }
 ending_whole _ e = absurd (false≢true e)
 
-module _ (m : Module) (x : Inst) (has : has_value (effect_of x.op) ≡ true) where
-  abbrev OneValue : List Form → Type 0
-  OneValue xs = (s : Shape) × (xs ≡ OfValue s ∷ [])
-
-  no_value : (e : RowEffect) → effect_of x.op ≡ e → has_value e ≡ false → (xs : List Form) → OneValue xs
-  no_value e is none xs = absurd (true≢false (sym has ∙ ap has_value is ∙ none))
-
-  lowered_value : (xs ys : List Form) → RowForms m x xs ys → OneValue xs
-  lowered_value _ _ (rows.looks form e) = no_value _ e refl _
-  lowered_value _ _ (rows.literal n w e num res) = no_value _ e refl _
-  lowered_value _ _ (rows.function g e is) = no_value _ e refl _
-  lowered_value _ _ (rows.computes b e is) = no_value _ e refl _
-  lowered_value _ _ (rows.traps text e is) = no_value _ e refl _
-  lowered_value _ _ (rows.object class e is) = no_value _ e refl _
-  lowered_value _ _ (rows.slot w t e is) = no_value _ e refl _
-  lowered_value _ _ (rows.removes t e) = no_value _ e refl _
-  lowered_value _ _ (rows.upcast class above e is) = (_, refl)
-  lowered_value _ _ (rows.retains t e none) = (t, refl)
-  lowered_value _ _ (rows.drops t e none) = (t, refl)
-  lowered_value _ _ (rows.loads t e done none) = no_value _ e refl _
-  lowered_value _ _ (rows.stores t e done none) = no_value _ e refl _
-  lowered_value _ _ (rows.loads_name w t o e named done is) = no_value _ e refl _
-  lowered_value _ _ (rows.stores_name w t o e named done is) = no_value _ e refl _
-  lowered_value _ _ (rows.destroys_name w t e named done) = no_value _ e refl _
-  lowered_value _ _ (rows.groups t ss e is) = no_value _ e refl _
-  lowered_value _ _ (rows.chooses_plain t j c e is place there none) = no_value _ e refl _
-  lowered_value _ _ (rows.chooses_full t payload j c e is place there full) = no_value _ e refl _
-  lowered_value _ _ (rows.member t part j e number there) = no_value _ e refl _
-  lowered_value _ _ (rows.member_address t part j e number there) = no_value _ e refl _
-  lowered_value _ _ (rows.field_address class named t j e is owner number there) = no_value _ e refl _
-  lowered_value _ _ (rows.calls g callee e there some) = no_value _ e refl _
-  lowered_value _ _ (rows.calls_out g callee widths e there none) = no_value _ e refl _
-
-  one_value : (xs ys : List Form) → OwnedRowForms m x xs ys → OneValue xs
-  one_value _ _ (owned.also_lowered xs ys r) = lowered_value xs ys r
-  one_value _ _ (owned.gives t e none) = (t, refl)
-  one_value _ _ (owned.copies t e none) = (t, refl)
-  one_value _ _ (owned.loads t o e done is none) = no_value _ e refl _
-  one_value _ _ (owned.stores t o e done is none) = no_value _ e refl _
-  one_value _ _ (owned.destroys t e done none) = no_value _ e refl _
-  one_value _ _ (owned.members t ss e is) = no_value _ e refl _
+-- the operand of a row that has one value has the form of a value
+one_value : (m : Module) (x : Inst) → has_value (effect_of x.op) ≡ true → (xs ys : List Form) → OwnedRowForms m x xs ys → OneValue xs
+one_value m x has xs ys r = by (effect_of x.op) has (row_says m x xs ys r)
+  where
+    by : (e : RowEffect) → has_value e ≡ true → Says e xs ys → OneValue xs
+    by row.GivesOperand h says = says
+    by row.CopiesOperand h says = says
+    by row.RetainsOperand h says = says
+    by row.DropsOperand h says = says
+    by _ h says = absurd (false≢true h)
 
 -- ---- the operand
 
-module _ (m : Module) (n : ℕ) (f : Function) (a : IsAcceptedBody m n f) (w : World) (memory : Memory) (entries : List Entry) (typed : EntriesAre m w f entries)
+module _ (m : Module) (n : ℕ) (f : Function) (a : IsAcceptedBody m n f) (w : World) (memory : Memory) (entries left : List Entry) (typed : EntriesAre m w f entries)
     (p : PointId) (x : Inst) (is : inst_at f p ≡ Some x) where
   -- what it takes, where one datum was given
   pub record TakesOne (z : Datum) : Type 0 where
@@ -140,16 +107,16 @@ module _ (m : Module) (n : ℕ) (f : Function) (a : IsAcceptedBody m n f) (w : W
     pub alone : item_taken f (item.Inst p) ≡ taken ∷ []
     pub names : Names entries taken.value z
 
-  pub takes_one : (z : Datum) → AreNamed memory entries (item_taken f (item.Inst p)) (z ∷ []) → TakesOne z
+  pub takes_one : (z : Datum) → AreNamed memory entries left (item_taken f (item.Inst p)) (z ∷ []) → TakesOne z
   takes_one z named = at (item_taken f (item.Inst p)) refl named
     where
-      at : (ts : List Taken) → item_taken f (item.Inst p) ≡ ts → AreNamed memory entries ts (z ∷ []) → TakesOne z
+      at : (ts : List Taken) → item_taken f (item.Inst p) ≡ ts → AreNamed memory entries left ts (z ∷ []) → TakesOne z
       at [] e h = absurd h
       at (t ∷ []) e h = record { taken = t; alone = e; names = h.0.0 }
       at (t ∷ u ∷ ts) e h = absurd h.1
 
   -- it is a value
-  pub one_given : has_value (effect_of x.op) ≡ true → (z : Datum) → AreNamed memory entries (item_taken f (item.Inst p)) (z ∷ []) → IsValueOf z
+  pub one_given : has_value (effect_of x.op) ≡ true → (z : Datum) → AreNamed memory entries left (item_taken f (item.Inst p)) (z ∷ []) → IsValueOf z
   one_given has z named =
       let one = takes_one z named in
       let inst = owned_inst m (well_typed m a.verified) n f a.body.there p x is (in_ownership_form m n f a) in

@@ -91,10 +91,10 @@ module _ (m : Module) (memory : Memory) (rest : List (Task Frame)) (frame : Fram
   May v z = MayBegin (shapes_of m) (sources_of (declarations_of m) f) (said m f frame.trail) memory ops.left v z
 
   -- the one operand
-  one_operand : (z : Datum) → ops.given ≡ z ∷ [] → TakesOne m frame.function.0 f ready.doing.body ready.w memory frame.entries ready.entries p x is z
+  one_operand : (z : Datum) → ops.given ≡ z ∷ [] → TakesOne m frame.function.0 f ready.doing.body ready.w memory frame.entries ops.left ready.entries p x is z
   one_operand z given =
-      takes_one m frame.function.0 f ready.doing.body ready.w memory frame.entries ready.entries p x is z
-      (subst (AreNamed memory frame.entries (item_taken f (item.Inst p))) given ready.named)
+      takes_one m frame.function.0 f ready.doing.body ready.w memory frame.entries ops.left ready.entries p x is z
+      (subst (AreNamed memory frame.entries ops.left (item_taken f (item.Inst p))) given ready.named)
 
   among_one : (y : Taken) → item_taken f (item.Inst p) ≡ y ∷ [] → Contains (item_taken f (item.Inst p)) y
   among_one y alone = subst (λ ts. Contains ts y) (sym alone) (contained_among y (y ∷ []) (inl refl))
@@ -129,13 +129,13 @@ module _ (m : Module) (memory : Memory) (rest : List (Task Frame)) (frame : Fram
       left : Gives (declarations_of m) (shapes_of m) values memory x ops.given c made
       left = gave (declarations_of m) (shapes_of m) values memory x ops.given c made e
 
-      one : TakesOne m frame.function.0 f ready.doing.body ready.w memory frame.entries ready.entries p x is left.datum
+      one : TakesOne m frame.function.0 f ready.doing.body ready.w memory frame.entries ops.left ready.entries p x is left.datum
       one = one_operand left.datum left.given
 
       value_of : IsValueOf left.datum
       value_of =
-          one_given m frame.function.0 f ready.doing.body ready.w memory frame.entries ready.entries p x is (ap has_value e) left.datum
-          (subst (AreNamed memory frame.entries (item_taken f (item.Inst p))) left.given ready.named)
+          one_given m frame.function.0 f ready.doing.body ready.w memory frame.entries ops.left ready.entries p x is (ap has_value e) left.datum
+          (subst (AreNamed memory frame.entries ops.left (item_taken f (item.Inst p))) left.given ready.named)
 
       names : Names frame.entries one.taken.value (ValueOf value_of.0)
       names = one.names ∙ ap (λ z. Some z) value_of.1
@@ -170,7 +170,7 @@ module _ (m : Module) (memory : Memory) (rest : List (Task Frame)) (frame : Fram
       member_left : NamesMember (declarations_of m) (shapes_of m) values memory x ops.given c made
       member_left = named_member (declarations_of m) (shapes_of m) values memory x ops.given c made e
 
-      member_one : TakesOne m frame.function.0 f ready.doing.body ready.w memory frame.entries ready.entries p x is (AddressOf member_left.at)
+      member_one : TakesOne m frame.function.0 f ready.doing.body ready.w memory frame.entries ops.left ready.entries p x is (AddressOf member_left.at)
       member_one = one_operand (AddressOf member_left.at) member_left.given
 
       member_first : first_value x ≡ Some member_one.taken.value
@@ -200,7 +200,7 @@ module _ (m : Module) (memory : Memory) (rest : List (Task Frame)) (frame : Fram
       field_left : NamesField (declarations_of m) (shapes_of m) values memory x ops.given c made
       field_left = named_field (declarations_of m) (shapes_of m) values memory x ops.given c made e
 
-      field_one : TakesOne m frame.function.0 f ready.doing.body ready.w memory frame.entries ready.entries p x is (ValueOf field_left.from)
+      field_one : TakesOne m frame.function.0 f ready.doing.body ready.w memory frame.entries ops.left ready.entries p x is (ValueOf field_left.from)
       field_one = one_operand (ValueOf field_left.from) field_left.given
 
       field_names : Names frame.entries field_one.taken.value (ValueOf (value.Object field_left.object))

@@ -27,15 +27,12 @@ use Rattle.accepted_places.specs.inner.Located.{IsAddress}
 use Rattle.accepted_values.specs.inner.Known.{IsAcceptedBody}
 use Rattle.accepted_values.specs.run_typing.EndForms.{value_in}
 use Rattle.accepted_values.specs.run_typing.Forms.{Form, OfPlace, OfValue, form_of, forms_of}
-use Rattle.accepted_values.specs.run_typing.RowForms.{RowForms}
-use Rattle.accepted_values.specs.run_typing.RowForms as rows
 use Rattle.accepted_values.proofs.Accepted.{in_ownership_form, well_typed}
 use Rattle.accepted_values.proofs.Counted.{stands}
 use Rattle.built_objects.specs.inner.Building.{IsFieldAddress}
 use Rattle.item_operands.specs.Items.{item_defined}
 use Rattle.item_operands.specs.Parts.{inst_at, item_inst, results_in}
 use Rattle.owned_run_typing.specs.inner.OwnedRows.{OwnedRowForms}
-use Rattle.owned_run_typing.specs.inner.OwnedRows as owned
 use Rattle.owned_run_typing.proofs.OwnedInsts.{owned_inst}
 use Rattle.ownership_chains.specs.Facts.{has}
 use Rattle.point_checks.proofs.Among.{contained_among}
@@ -51,6 +48,7 @@ use Rattle.sil_cfg.specs.declared.item.Item.TheVariants as item
 use Rattle.type_definitions.specs.Declarations.{Declarations, declarations_of}
 use Rattle.value_tables.specs.FirstValue.{first_value}
 use Rattle.followed_objects.proofs.Apart.{edge_apart, entry_apart, keeps_apart, made_apart}
+use Rattle.followed_objects.proofs.RowsSay.{OnePlace, Says, row_says}
 
 -- ---- rows
 
@@ -74,47 +72,14 @@ others_apart op.StructElementAddr e = absurd (true≢false e)
 others_apart op.TupleElementAddr e = absurd (true≢false e)
 others_apart o e = refl
 
-module _ (m : Module) (x : Inst) (gives : gives_place (effect_of x.op) ≡ true) where
-  abbrev OnePlace : List Form → Type 0
-  OnePlace ys = (s : Shape) × (ys ≡ OfPlace s ∷ [])
-
-  no_row : (e : RowEffect) → effect_of x.op ≡ e → gives_place e ≡ false → (ys : List Form) → OnePlace ys
-  no_row e is none ys = absurd (true≢false (sym gives ∙ ap gives_place is ∙ none))
-
-  lowered_place : (xs ys : List Form) → RowForms m x xs ys → OnePlace ys
-  lowered_place _ _ (rows.looks form e) = no_row _ e refl _
-  lowered_place _ _ (rows.literal n w e num res) = no_row _ e refl _
-  lowered_place _ _ (rows.function g e is) = no_row _ e refl _
-  lowered_place _ _ (rows.computes b e is) = no_row _ e refl _
-  lowered_place _ _ (rows.traps text e is) = no_row _ e refl _
-  lowered_place _ _ (rows.object class e is) = no_row _ e refl _
-  lowered_place _ _ (rows.slot w t e is) = no_row _ e refl _
-  lowered_place _ _ (rows.removes t e) = no_row _ e refl _
-  lowered_place _ _ (rows.upcast class above e is) = no_row _ e refl _
-  lowered_place _ _ (rows.retains t e none) = no_row _ e refl _
-  lowered_place _ _ (rows.drops t e none) = no_row _ e refl _
-  lowered_place _ _ (rows.loads t e done none) = no_row _ e refl _
-  lowered_place _ _ (rows.stores t e done none) = no_row _ e refl _
-  lowered_place _ _ (rows.loads_name w t o e named done is) = no_row _ e refl _
-  lowered_place _ _ (rows.stores_name w t o e named done is) = no_row _ e refl _
-  lowered_place _ _ (rows.destroys_name w t e named done) = no_row _ e refl _
-  lowered_place _ _ (rows.groups t ss e is) = no_row _ e refl _
-  lowered_place _ _ (rows.chooses_plain t j c e is place there none) = no_row _ e refl _
-  lowered_place _ _ (rows.chooses_full t payload j c e is place there full) = no_row _ e refl _
-  lowered_place _ _ (rows.member t part j e number there) = no_row _ e refl _
-  lowered_place _ _ (rows.member_address t part j e number there) = (part, refl)
-  lowered_place _ _ (rows.field_address class named t j e is owner number there) = (t, refl)
-  lowered_place _ _ (rows.calls g callee e there some) = no_row _ e refl _
-  lowered_place _ _ (rows.calls_out g callee widths e there none) = no_row _ e refl _
-
-  one_place : (xs ys : List Form) → OwnedRowForms m x xs ys → OnePlace ys
-  one_place _ _ (owned.also_lowered xs ys r) = lowered_place xs ys r
-  one_place _ _ (owned.gives t e none) = no_row _ e refl _
-  one_place _ _ (owned.copies t e none) = no_row _ e refl _
-  one_place _ _ (owned.loads t o e done is none) = no_row _ e refl _
-  one_place _ _ (owned.stores t o e done is none) = no_row _ e refl _
-  one_place _ _ (owned.destroys t e done none) = no_row _ e refl _
-  one_place _ _ (owned.members t ss e is) = no_row _ e refl _
+-- what such a row gives has the form of a place
+one_place : (m : Module) (x : Inst) → gives_place (effect_of x.op) ≡ true → (xs ys : List Form) → OwnedRowForms m x xs ys → OnePlace ys
+one_place m x gives xs ys r = by (effect_of x.op) gives (row_says m x xs ys r)
+  where
+    by : (e : RowEffect) → gives_place e ≡ true → Says e xs ys → OnePlace ys
+    by row.AddressesMember h says = says
+    by row.AddressesField h says = says
+    by _ h says = absurd (false≢true h)
 
 -- the row keeps its results apart, hands an object on, or gives the address of a place
 data HowRow (o : Op) : Type 0 where

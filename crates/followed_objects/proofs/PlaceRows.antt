@@ -70,14 +70,14 @@ inst_taken f p x is = ap (λ o. taken_in o ++ []) is ∙ append-nil (taken_by x)
 
 -- the operand is an address, and isn't handed over
 pub record IsAddressed (y : Taken) : Type 0 where
-  pub role : y.role ≡ role.AddressRole
+  pub address : y.role ≡ role.AddressRole
   pub handed : y.handed ≡ None
 
 one_addressed : (os : List Operand) (cs : List ArgumentConvention) (y : Taken) → taken_each os (roles_for (role.AddressRole ∷ []) cs (length os)) ≡ y ∷ [] → IsAddressed y
 one_addressed [] cs y e = cc
 one_addressed (o ∷ os) cs y e =
     let same : taken_as o (by_row role.AddressRole) ≡ y = cc in
-    record { role = sym (ap (λ (t : Taken). t.role) same); handed = sym (ap (λ (t : Taken). t.handed) same) }
+    record { address = sym (ap (λ (t : Taken). t.role) same); handed = sym (ap (λ (t : Taken). t.handed) same) }
 
 two_addressed : (os : List Operand) (r : Role) (cs : List ArgumentConvention) (u y : Taken) → taken_each os (roles_for (r ∷ role.AddressRole ∷ []) cs (length os)) ≡ u ∷ y ∷ []
     → IsAddressed y × (u.role ≡ r) × (u.handed ≡ None)
@@ -105,7 +105,7 @@ module _ (x : Inst) where
       → operation_at (access_kind_of x.op) x.qualifier y ≡ Some o
   operation_is y o at done =
       ap (λ h. option_or (option_map Handed h) (cond (is_address_role y.role) (operation_by (access_kind_of x.op) x.qualifier) None)) at.handed
-      ∙ ap (λ r. cond (is_address_role r) (operation_by (access_kind_of x.op) x.qualifier) None) at.role ∙ done
+      ∙ ap (λ r. cond (is_address_role r) (operation_by (access_kind_of x.op) x.qualifier) None) at.address ∙ done
 
   -- at the operand's address it does what its row says
   pub operates_at : (y : Taken) (o : Operation) → Among y (taken_by x) → IsAddressed y → operation_by (access_kind_of x.op) x.qualifier ≡ Some o
@@ -125,6 +125,6 @@ module _ (x : Inst) where
       ∙ ap (λ z. option_to_list (option_map (operated y.value) z) ++ []) (operation_is y o are.0 done)
     where
       nothing : (u : Taken) → is_address_role u.role ≡ false → u.handed ≡ None → operation_at (access_kind_of x.op) x.qualifier u ≡ None
-      nothing u role handed =
+      nothing u value handed =
           ap (λ h. option_or (option_map Handed h) (cond (is_address_role u.role) (operation_by (access_kind_of x.op) x.qualifier) None)) handed
-          ∙ ap (λ b. cond b (operation_by (access_kind_of x.op) x.qualifier) None) role
+          ∙ ap (λ b. cond b (operation_by (access_kind_of x.op) x.qualifier) None) value

@@ -121,20 +121,20 @@ module _ (m : Module) (memory : Memory) (rest : List (Task Frame)) (frame : Fram
   as_it_was = (whole_memory, λ o whole. whole)
 
   -- the operands that were given, where they are these
-  given_as : (zs : List Datum) → ops.given ≡ zs → AreNamed memory frame.entries (item_taken f (item.Inst p)) zs
-  given_as zs given = subst (AreNamed memory frame.entries (item_taken f (item.Inst p))) given ready.named
+  given_as : (zs : List Datum) → ops.given ≡ zs → AreNamed memory frame.entries ops.left (item_taken f (item.Inst p)) zs
+  given_as zs given = subst (AreNamed memory frame.entries ops.left (item_taken f (item.Inst p))) given ready.named
 
   among_taken : (y : Taken) → item_taken f (item.Inst p) ≡ y ∷ [] → Contains (item_taken f (item.Inst p)) y
   among_taken y alone = subst (λ ts. Contains ts y) (sym alone) (contained_among y (y ∷ []) (inl refl))
 
   one_taken : (z : Datum) → ops.given ≡ z ∷ []
-      → TakesOne m frame.function.0 f ready.doing.body ready.w memory frame.entries ready.entries p x is z
-  one_taken z given = takes_one m frame.function.0 f ready.doing.body ready.w memory frame.entries ready.entries p x is z (given_as (z ∷ []) given)
+      → TakesOne m frame.function.0 f ready.doing.body ready.w memory frame.entries ops.left ready.entries p x is z
+  one_taken z given = takes_one m frame.function.0 f ready.doing.body ready.w memory frame.entries ops.left ready.entries p x is z (given_as (z ∷ []) given)
 
   one_living : (q : Place) → ops.given ≡ AddressOf q ∷ [] → any_dead memory (references_in (AddressOf q)) ≡ false
   one_living q given = at (item_taken f (item.Inst p)) (given_as (AddressOf q ∷ []) given)
     where
-      at : (ts : List Taken) → AreNamed memory frame.entries ts (AddressOf q ∷ []) → any_dead memory (references_in (AddressOf q)) ≡ false
+      at : (ts : List Taken) → AreNamed memory frame.entries ops.left ts (AddressOf q ∷ []) → any_dead memory (references_in (AddressOf q)) ≡ false
       at [] h = absurd h
       at (t ∷ ts) h = h.0.1
 
@@ -149,7 +149,7 @@ module _ (m : Module) (memory : Memory) (rest : List (Task Frame)) (frame : Fram
 
   whole_datum : has_value (effect_of x.op) ≡ true → takes_whole (effect_of x.op) ≡ true → (z : Datum) → ops.given ≡ z ∷ [] → NameWhole memory (references_in z)
   whole_datum has e z given =
-      let v = one_given m frame.function.0 f ready.doing.body ready.w memory frame.entries ready.entries p x is has z (given_as (z ∷ []) given) in
+      let v = one_given m frame.function.0 f ready.doing.body ready.w memory frame.entries ops.left ready.entries p x is has z (given_as (z ∷ []) given) in
       subst (λ y. NameWhole memory (references_in y)) (sym v.1) (whole_one e v.0 (given ∙ ap (λ y. y ∷ []) v.1))
 
   -- ---- the one place

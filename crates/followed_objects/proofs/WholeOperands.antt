@@ -1,9 +1,10 @@
 -- Operands of an item whose row takes no unfinished object: as values they name whole objects alone.
-use Rattle.std.proofs.Common.{◌≡◌, ◌⊎◌, inl, inr, ℕ, List, [], ◌∷◌, map, refl, sym, ap, ◌∙◌, subst, Bool, true, false, Option, Some, None}
+use Rattle.std.proofs.Common.{◌≡◌, ◌⊎◌, inl, inr, ℕ, List, [], ◌∷◌, length, map, refl, sym, ap, ◌∙◌, subst, Bool, true, false, Option, Some, None}
 use Rattle.std.specs.Prelude.{Contains, slice_get}
 use Rattle.std.proofs.lemmas.Bool.{true≢false}
 use Rattle.std.proofs.lemmas.Option.{none-some, same_Some}
 use Rattle.accepted_memory.specs.accepted_trails.inner.Defined.{IsDefinedOn}
+use Rattle.accepted_memory.specs.holder_model.Calling.{value_count}
 use Rattle.accepted_memory.specs.holder_model.Data.{AddressOf, Datum, FunctionOf, ValueOf, as_value, references_in, values_of, with_first}
 use Rattle.accepted_memory.specs.holder_model.Frames.{Frame, Operands, any_dead}
 use Rattle.accepted_memory.specs.holder_model.ModuleShapes.{shapes_of}
@@ -89,7 +90,8 @@ module _ (m : Module) (memory : Memory) (rest : List (Task Frame)) (frame : Fram
     pub of : IsWorldOf m w
     pub typed : MemoryIs m w memory
     pub entries : EntriesAre m w f frame.entries
-    pub named : AreNamed memory frame.entries (item_taken f i) ops.given
+    pub size : length ops.left ≡ value_count f
+    pub named : AreNamed memory frame.entries ops.left (item_taken f i) ops.given
 
   module _ (ready : Ready) where
     pub turned : IsTurnedTrail f (i ∷ frame.trail)
@@ -133,7 +135,7 @@ module _ (m : Module) (memory : Memory) (rest : List (Task Frame)) (frame : Fram
           by o (frames.unfinished object about un holds) = absurd (forbidden object about un)
 
       -- all of several operands that are values
-      pub whole_data : (ts : List Taken) (xs : List Datum) → AreNamed memory frame.entries ts xs → ((t : Taken) → Among t ts → Contains (item_taken f i) t) → Each IsValueOf xs
+      pub whole_data : (ts : List Taken) (xs : List Datum) → AreNamed memory frame.entries ops.left ts xs → ((t : Taken) → Among t ts → Contains (item_taken f i) t) → Each IsValueOf xs
           → Each (λ x. NameWhole memory (references_in x)) xs
       whole_data [] [] named among values = tt
       whole_data [] (z ∷ xs) named among values = absurd named
