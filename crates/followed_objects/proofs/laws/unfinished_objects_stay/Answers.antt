@@ -1,4 +1,6 @@
 use Rattle.followed_objects.proofs.Ends.{ends_of_others, lose_others}
+use Rattle.followed_objects.proofs.Apart.{source_apart}
+use Rattle.followed_objects.proofs.Filling.{fills_none}
 use Rattle.followed_objects.proofs.laws.unfinished_objects_stay.Goals as goal
 
 pub returns : goal.returns
