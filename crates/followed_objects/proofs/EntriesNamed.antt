@@ -123,11 +123,12 @@ module _ (facts : ValueId → Option Facts) where
   put_named (w ∷ vs) [] entries behind is v some y names = absurd (cc)
   put_named (w ∷ vs) (x ∷ xs) entries behind is v some y names =
       let p = first_put w vs x xs entries behind is in
-      at p.0 p.1 p.2 (has vs v.0) refl
+      at p.0 p.1 p.2 (λ later. put_named vs xs p.0 behind p.2 v later y names) (has vs v.0) refl
     where
-      at : (next : List Entry) → IsPut w x entries next → results_put facts vs xs next ≡ Ok behind → (b : Bool) → has vs v.0 ≡ b → Begun (w ∷ vs) (x ∷ xs) v y
-      at next p more true later = let r = put_named vs xs next behind more v later y names in record { place = suc r.place; value = r.value; datum = r.datum }
-      at next p more false none =
+      at : (next : List Entry) → IsPut w x entries next → results_put facts vs xs next ≡ Ok behind → (has vs v.0 ≡ true → Begun vs xs v y)
+          → (b : Bool) → has vs v.0 ≡ b → Begun (w ∷ vs) (x ∷ xs) v y
+      at next p more others true later = let r = others later in record { place = suc r.place; value = r.value; datum = r.datum }
+      at next p more others false none =
           let here : w ≡ v = same_value w v (sideways (w.0 == v.0) (has vs v.0) none some) in
           let stays : Names next v y = ap datum_in (sym (put_other vs xs next behind more v none)) ∙ names in
           let set_names : datum_in (entry_at (set entries w.0 p.entry) w) ≡ Some y =
@@ -184,11 +185,12 @@ module _ (facts : ValueId → Option Facts) (memory : Memory) (entries left : Li
       by (inr gone) = absurd (none-some x (sym (ap datum_in gone) ∙ names))
 
   -- what is read names no dead object
-  alive : (r : Result Datum HolderFault) (x : Datum) → with_ok (unless_dead memory) r ≡ Ok x → (any_dead memory (references_in x) ≡ false) × (r ≡ Ok x)
+  alive : (r : Result Datum HolderFault) (x : Datum) → with_ok (unless_dead memory) r ≡ Ok x → (any_dead memory (references_in x) ≡ false) × (◌≡◌ {A = Result Datum HolderFault} r (Ok x))
   alive (Err y) x h = absurd (cc)
   alive (Ok y) x h = at (any_dead memory (references_in y)) refl h
     where
-      at : (b : Bool) → any_dead memory (references_in y) ≡ b → cond b (Err NamesDead) (Ok y) ≡ Ok x → (any_dead memory (references_in x) ≡ false) × (Ok y ≡ Ok x)
+      at : (b : Bool) → any_dead memory (references_in y) ≡ b → ◌≡◌ {A = Result Datum HolderFault} (cond b (Err NamesDead) (Ok y)) (Ok x)
+          → (any_dead memory (references_in x) ≡ false) × (◌≡◌ {A = Result Datum HolderFault} (Ok y) (Ok x))
       at true dead h = absurd (cc)
       at false dead h = let same : y ≡ x = cc in (ap (λ z. any_dead memory (references_in z)) (sym same) ∙ dead, ap Ok same)
 

@@ -28,3 +28,9 @@ pub mod StillRows
 pub mod HandedRows
 pub mod Makings
 pub mod StoreRows
+pub mod CallsMade
+pub mod ArgumentsHanded
+pub mod Entered
+pub mod EdgeValues
+pub mod RowsRight
+pub mod BuiltSteps

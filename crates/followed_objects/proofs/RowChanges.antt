@@ -63,7 +63,7 @@ module _ (d : Declarations) (shapes : ModuleShapes) (values : List Shape) (m : M
   at_row : (e : RowEffect) → effect_of i.op ≡ e → effect_at e ≡ Makes c
   at_row e is = ap effect_at (sym is) ∙ made
 
-  same_change : (a : Change) → Makes a ≡ Makes c → c ≡ a
+  same_change : (a : Change) → ◌≡◌ {A = E} (Makes a) (Makes c) → c ≡ a
   same_change a h = cc
 
   -- ---- a store
@@ -182,7 +182,7 @@ module _ (d : Declarations) (shapes : ModuleShapes) (values : List Shape) (m : M
     pub is : c ≡ record (unchanged m) { results = AddressOf place ∷ [] }
 
   field_of : (o : Option Member) → i.member ≡ o → (x : Value) (object : ObjectId) → xs ≡ ValueOf x ∷ [] → object_of x ≡ Some object
-      → effects.names_field_of d shapes values m i o (part_number d i) object ≡ Makes c → NamesField
+      → ◌≡◌ {A = E} (effects.names_field_of d shapes values m i o (part_number d i) object) (Makes c) → NamesField
   field_of None member x object given is_object h = cc
   field_of (Some named) member x object given is_object h =
       let q = some_made (λ q. effects.gives m (AddressOf q ∷ [])) (option_and_then (effects.field_of_object d shapes values m i named object) (part_number d i)) c h in

@@ -114,7 +114,7 @@ module _ (m : Module) (n : ℕ) (f : Function) (a : IsAcceptedBody m n f) (objec
     still : (t : List Item) (i : Item) (k : ℕ) → defined_on t k ≡ true → defined_on (i ∷ t) k ≡ true
     still t i k e = or_right (makes f (value_of k) i) (defined_on t k) e
 
-    BuiltIn : List Item → ValueId → Type 0
+    abbrev BuiltIn : List Item → ValueId → Type 0
     BuiltIn t v = lent sources object (steps t) v ≡ true
 
     first : (x y : Bool) → y ≡ false → (x || y) ≡ true → x ≡ true
@@ -155,7 +155,7 @@ module _ (m : Module) (n : ℕ) (f : Function) (a : IsAcceptedBody m n f) (objec
             let now : makes f v i ≡ true = first (makes f v i) (list_any (makes f v) t) is made in
             let within : v.0 < length sources = has_row sources v (λ e. let two : source.Upcast of ≡ source.Other = sym upcasts ∙ e in cc) in
             let up : steps t < steps (i ∷ t) =
-            counted_up (defined_on t) (defined_on (i ∷ t)) (still t i) v.0 is now 0 (length sources) (omega arith) (omega (arith, within)) in
+            counted_up (defined_on t) (defined_on (i ∷ t)) (still t i) v.0 is made 0 (length sources) (omega arith) (omega (arith, within)) in
             let most = counted_within (defined_on (i ∷ t)) 0 (length sources) in
             let y = taken_for m n f a i v of now (ap operand_of upcasts) in
             let earlier = built_on t (turned_older f i t h) of (subst (IsDefinedOn f t) y.2 (before_item m n f a object t i h y.0 y.1)) built in

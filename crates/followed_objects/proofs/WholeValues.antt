@@ -11,7 +11,7 @@ use Rattle.item_operands.specs.Parts.{args_behind, edge_at, item_operands, termi
 use Rattle.numbered_form.specs.Lists.{Each}
 use Rattle.run_values.specs.Values as value
 use Rattle.run_values.specs.Values.{Value, Values, listed, members_of, references_in_each, references_of, values_of}
-use Rattle.sil_ast.specs.declared.edge.Edge.{Edge}
+use Rattle.sil_ast.specs.declared.inst.Edge.{Edge}
 use Rattle.sil_ast.specs.declared.function.Function.{Function}
 use Rattle.sil_ast.specs.declared.inst.Inst.{Inst}
 use Rattle.sil_ast.specs.declared.place.EdgeId.{EdgeId}

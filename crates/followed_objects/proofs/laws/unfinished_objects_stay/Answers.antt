@@ -1,6 +1,12 @@
 use Rattle.followed_objects.proofs.Ends.{ends_of_others, lose_others}
 use Rattle.followed_objects.proofs.Apart.{source_apart}
 use Rattle.followed_objects.proofs.Filling.{fills_none}
+use Rattle.followed_objects.proofs.RowsSay.{row_says}
+use Rattle.followed_objects.proofs.PlaceForms.{no_field_address}
+use Rattle.followed_objects.proofs.Upcasts.{upcast_builds}
+use Rattle.followed_objects.proofs.RowChanges.{stored}
+use Rattle.followed_objects.proofs.EntriesNamed.{operands_named}
+use Rattle.followed_objects.proofs.WholeValues.{carried_names}
 use Rattle.followed_objects.proofs.laws.unfinished_objects_stay.Goals as goal
 
 pub returns : goal.returns
