@@ -105,8 +105,7 @@ module _ (m : Module) (n : ℕ) (f : Function) (a : IsAcceptedBody m n f) (p : P
       let inner = member_location m n f a v y j e l address.at in
       (
         ap is_part inner.2 ∙ steps_behind inner.0.path j,
-        inner.0,
-        record { at = inner.1; trivial = address.trivial; is = sym (ap (λ (u : Location). source_at sources u.root) inner.2) ∙ address.is },
+        (inner.0, record { at = inner.1; trivial = address.trivial; is = sym (ap (λ (u : Location). source_at sources u.root) inner.2) ∙ address.is }),
       )
 
   member_placed : effect_of x.op ≡ row.AddressesMember → (is_part l ≡ true) × ((u : Location) × IsFieldAddress sources y u of k)

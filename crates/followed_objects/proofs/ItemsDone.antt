@@ -32,7 +32,7 @@ use Rattle.built_objects.specs.inner.FrameObjects.{Holds, HoldsObjects, MayName,
 use Rattle.built_objects.specs.inner.FrameObjects as frames
 use Rattle.built_objects.specs.inner.Laws.{Begins, MayBegin}
 use Rattle.built_objects.specs.inner.Laws as laws
-use Rattle.built_objects.proofs.Results.{begin_whole}
+use Rattle.built_objects.proofs.Handing.{begin_whole}
 use Rattle.held_objects.specs.inner.Items.{LosesEntries, Stands, frame_behind, sources_in}
 use Rattle.held_objects.specs.inner.Laws.{StaysBelow}
 use Rattle.held_objects.specs.inner.ObjectStates.{TasksBuild}

@@ -43,7 +43,7 @@ module _ (m : Module) (i : Inst) where
   IsOfObjects = of_objects (effect_of i.op) ≡ true
 
   other : {P : Type 0} (e : RowEffect) → effect_of i.op ≡ e → of_objects e ≡ false → IsOfObjects → P
-  other e is no h = absurd (false≢true (sym no ∙ sym (ap of_objects is) ∙ h))
+  other e is off h = absurd (false≢true (sym off ∙ sym (ap of_objects is) ∙ h))
 
   of_lowered : (xs ys : List Form) → RowForms m i xs ys → IsOfObjects → ObjectRow xs ys
   of_lowered _ _ (rows.looks form e) h = other row.NoEffect e refl h

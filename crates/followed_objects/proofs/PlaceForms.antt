@@ -130,7 +130,7 @@ module _ (m : Module) (n : ℕ) (f : Function) (a : IsAcceptedBody m n f) where
       (has_among (item_defined f (item.Inst p)) v made)
 
   -- what the row makes is an address
-  result_place : (p : PointId) (x : Inst) → inst_at f p ≡ Some x → gives_place (effect_of x.op) ≡ true → (v : ValueId) → makes f v (item.Inst p) ≡ true → IsAddress d f v
+  pub result_place : (p : PointId) (x : Inst) → inst_at f p ≡ Some x → gives_place (effect_of x.op) ≡ true → (v : ValueId) → makes f v (item.Inst p) ≡ true → IsAddress d f v
   result_place p x is gives v made =
       let among : Contains x.results v =
       subst (λ vs. Contains vs v) (ap (λ o. results_in o ++ []) is ∙ append-nil x.results)

@@ -77,7 +77,7 @@ module _ (facts : ValueId → Option Facts) (m : Memory) (before left : List Ent
           → (Among t ts → (x : Datum) × (datum_in (entry_at before t.value) ≡ Some x) × (any_dead m (references_in x) ≡ false))
           → Among t (y ∷ ts) → (x : Datum) × (datum_in (entry_at before t.value) ≡ Some x) × (any_dead m (references_in x) ≡ false)
       by x is rest (inl same) =
-          subst (λ (z : Taken). (x : Datum) × (datum_in (entry_at before z.value) ≡ Some x) × (any_dead m (references_in x) ≡ false)) (sym same) (x, operand_read y x is)
+          subst (λ (z : Taken). (x : Datum) × (datum_in (entry_at before z.value) ≡ Some x) × (any_dead m (references_in x) ≡ false)) (sym same) (x, (operand_read y x is).0, (operand_read y x is).1)
       by x is rest (inr more) = rest more
 
 -- the object in which an operand names a place isn't dead
@@ -114,7 +114,7 @@ module _ (m : Module) (w : World) where
 
   within : (shapes : List Shape) (p : Place) → IsIn shapes p → (cells : List Cell) → CellsAre m w shapes cells → behind p ≤ length cells
   within shapes p at cells are =
-      let beside = zip_beside (CellIs m w) (place_within shapes p at) cells are in
+      let beside = (zip_beside (CellIs m w) (place_within shapes p at) cells are).0 in
       let count : length beside.before ≡ p.first = beside.count in
       let own : length beside.own ≡ cell_count p.shape = beside.size ∙ shape_count p.shape in
       let all : length cells ≡ length beside.before + (length beside.own + length beside.behind) =

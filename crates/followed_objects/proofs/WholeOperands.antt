@@ -64,21 +64,22 @@ IsValueOf x = (v : Value) × (x ≡ ValueOf v)
 -- what values name, one by one
 pub values_name : (P : ObjectId → Type 0) (xs : List Datum) (vs : List Value) → values_of xs ≡ Some vs → Each (λ x. Each P (references_in x)) xs → Each (λ v. Each P (references_of v)) vs
 values_name P [] vs e h = subst (Each (λ v. Each P (references_of v))) (same_Some [] vs e) tt
-values_name P (ValueOf x ∷ xs) vs e h = at (values_of xs) refl e
+values_name P (ValueOf x ∷ xs) vs e h = at (values_of xs) (λ ys is. values_name P xs ys is h.1) e
   where
-    at : (o : Option (List Value)) → values_of xs ≡ o → with_first (Some x) o ≡ Some vs → Each (λ v. Each P (references_of v)) vs
-    at None is e = absurd (none-some vs e)
-    at (Some ys) is e = subst (Each (λ v. Each P (references_of v))) (same_Some (x ∷ ys) vs e) (h.0, values_name P xs ys is h.1)
+    at : (o : Option (List Value)) → ((ys : List Value) → o ≡ Some ys → Each (λ v. Each P (references_of v)) ys) → with_first (Some x) o ≡ Some vs
+        → Each (λ v. Each P (references_of v)) vs
+    at None more e = absurd (none-some vs e)
+    at (Some ys) more e = subst (Each (λ v. Each P (references_of v))) (same_Some (x ∷ ys) vs e) (h.0, more ys refl)
 values_name P (AddressOf p ∷ xs) vs e h = absurd (none-some vs e)
 values_name P (FunctionOf g ∷ xs) vs e h = absurd (none-some vs e)
 
 pub values_each : (xs : List Datum) (vs : List Value) → values_of xs ≡ Some vs → Each IsValueOf xs
 values_each [] vs e = tt
-values_each (ValueOf x ∷ xs) vs e = at (values_of xs) refl e
+values_each (ValueOf x ∷ xs) vs e = at (values_of xs) (λ ys is. values_each xs ys is) e
   where
-    at : (o : Option (List Value)) → values_of xs ≡ o → with_first (Some x) o ≡ Some vs → Each IsValueOf (ValueOf x ∷ xs)
-    at None is e = absurd (none-some vs e)
-    at (Some ys) is e = ((x, refl), values_each xs ys is)
+    at : (o : Option (List Value)) → ((ys : List Value) → o ≡ Some ys → Each IsValueOf xs) → with_first (Some x) o ≡ Some vs → Each IsValueOf (ValueOf x ∷ xs)
+    at None more e = absurd (none-some vs e)
+    at (Some ys) more e = ((x, refl), more ys refl)
 values_each (AddressOf p ∷ xs) vs e = absurd (none-some vs e)
 values_each (FunctionOf g ∷ xs) vs e = absurd (none-some vs e)
 

@@ -7,6 +7,12 @@ use Rattle.followed_objects.proofs.Upcasts.{upcast_builds}
 use Rattle.followed_objects.proofs.RowChanges.{stored}
 use Rattle.followed_objects.proofs.EntriesNamed.{operands_named}
 use Rattle.followed_objects.proofs.WholeValues.{carried_names}
+use Rattle.followed_objects.proofs.GoesOn.{member_goes}
+use Rattle.followed_objects.proofs.ItemsDone.{may_behind}
+use Rattle.followed_objects.proofs.PlaceRows.{store_alone}
+use Rattle.followed_objects.proofs.WholeOperands.{all_whole}
+use Rattle.followed_objects.proofs.GivenValues.{one_given}
+use Rattle.followed_objects.proofs.OperandPlaces.{handed_on_stack}
 use Rattle.followed_objects.proofs.laws.unfinished_objects_stay.Goals as goal
 
 pub returns : goal.returns
