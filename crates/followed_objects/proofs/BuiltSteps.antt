@@ -258,8 +258,8 @@ module _ (fields : AreFieldsPlaced) (members : AreMembersPlaced) (m : Module) (b
         its_operands = ready (item.Inst p) (inst_comes f p x here) ops found
 
         others : OthersOnStack m frame f p
-        others y c l at no q names =
-            serve.others frame rest f x first is here y c l at (λ of k trivial so. true≢false (sym (ap is_field so) ∙ no)) q names
+        others y c l at off q names =
+            serve.others frame rest f x first is here y c l at (λ of k trivial so. true≢false (sym (ap is_field so) ∙ off)) q names
 
         -- a function with a body is called
         module _ (g : FuncId) (args : List Datum) (callee : Function) (there : slice_get m.functions g.0 ≡ Some callee) (bodied : has_any callee.blocks ≡ true)

@@ -207,7 +207,7 @@ module _ (m : Module) (memory : Memory) (rest : List (Task Frame)) (frame : Fram
     same_memory = record { keeps = as_it_was; objects = refl }
 
     special : (e : RowEffect) → effect_of x.op ≡ e → is_special e ≡ true → (c : Change) → Quietly c
-    special e so yes c = absurd (true≢false (sym yes ∙ sym (ap is_special so) ∙ none))
+    special e so on c = absurd (true≢false (sym on ∙ sym (ap is_special so) ∙ none))
 
     abbrev Told : Change → Type 0
     Told c = Leaves (declarations_of m) shapes values memory x ops.given c
@@ -251,7 +251,7 @@ module _ (m : Module) (memory : Memory) (rest : List (Task Frame)) (frame : Fram
     by _ (doing.destroys o q e done given) closes =
         let k = after_so o q given (ap is_at_place e) done in
         quietly (record (unchanged (after (declarations_of m) shapes values memory x o q)) { dropped = references_at memory q }) k
-        (later_whole (after (declarations_of m) shapes values memory x o q) k (references_at memory q) ((read_whole memory whole_memory).1.0 q)) tt
+        (later_whole (after (declarations_of m) shapes values memory x o q) k (references_at memory q) ((read_whole memory whole_memory).1 q)) tt
     by _ (doing.groups vs e are) closes =
         quietly (giving memory (ValueOf (grouped vs) ∷ [])) same_memory tt (group_names P vs (whole_given (ap takes_whole e) vs are), tt)
     by _ (doing.chooses k v e given) closes =

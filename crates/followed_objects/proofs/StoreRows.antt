@@ -322,7 +322,7 @@ module _ (m : Module) (memory : Memory) (rest : List (Task Frame)) (frame : Fram
   -- ---- nothing that is being built is written
 
   dropped_whole : KeepsWhole memory later → NameWhole later (references_at memory q)
-  dropped_whole keeps = each_of (IsWhole memory) (IsWhole later) keeps.1 (references_at memory q) ((read_whole memory ready.doing.stands.whole).1.0 q)
+  dropped_whole keeps = each_of (IsWhole memory) (IsWhole later) keeps.1 (references_at memory q) ((read_whole memory ready.doing.stands.whole).1 q)
 
   keeps : KeepsWhole memory later
   keeps = filled_whole memory ready.doing.stands.whole q there_inside left.new fit named_whole
@@ -338,9 +338,9 @@ module _ (m : Module) (memory : Memory) (rest : List (Task Frame)) (frame : Fram
 
   -- on the stack
   on_stack : is_field (source_at sources l.root) ≡ false → Leads
-  on_stack no =
-      quietly (λ object k. inl (unfilled object k (other_place sources object k l left.operation no)))
-      (stack_stays m memory later (Runs frame ∷ rest) keeps (stack_objects memory q _ (others takes.place place_among l at.is no q takes.place_names)))
+  on_stack off =
+      quietly (λ object k. inl (unfilled object k (other_place sources object k l left.operation off)))
+      (stack_stays m memory later (Runs frame ∷ rest) keeps (stack_objects memory q _ (others takes.place place_among l at.is off q takes.place_names)))
 
   -- in a whole object
   in_whole : (o : ObjectId) → q.home ≡ Inside o → IsWhole memory o → WritesNone m memory rest frame f (item.Inst p) ops.left → Leads

@@ -13,6 +13,10 @@ use Rattle.followed_objects.proofs.PlaceRows.{store_alone}
 use Rattle.followed_objects.proofs.WholeOperands.{all_whole}
 use Rattle.followed_objects.proofs.GivenValues.{one_given}
 use Rattle.followed_objects.proofs.OperandPlaces.{handed_on_stack}
+use Rattle.followed_objects.proofs.StillRows.{still_quietly}
+use Rattle.followed_objects.proofs.HandedRows.{field_quietly}
+use Rattle.followed_objects.proofs.Makings.{made_right}
+use Rattle.followed_objects.proofs.StoreRows.{stored_right}
 use Rattle.followed_objects.proofs.laws.unfinished_objects_stay.Goals as goal
 
 pub returns : goal.returns
