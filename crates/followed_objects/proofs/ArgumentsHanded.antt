@@ -1,6 +1,7 @@
 -- What a call takes behind its callee: an address is handed over by the convention of its argument.
 use Rattle.std.proofs.Common.{◌≡◌, inl, inr, ℕ, zero, suc, List, [], ◌∷◌, ◌++◌, append-nil, length, map, refl, sym, ap, ap₂, ◌∙◌, subst, Bool, true, false, ◌&&◌, not, Option, Some, None}
-use Rattle.std.specs.Prelude.{AllZip, slice_get}
+use Rattle.std.specs.Prelude.{slice_get}
+use Rattle.std.specs.List.{AllZip}
 use Rattle.std.proofs.lemmas.Bool.{and_parts, false≢true, true≢false}
 use Rattle.std.proofs.lemmas.Option.{none-some, same_Some}
 use Rattle.argument_conventions.specs.Arguments.{Told, argument_type, arguments_of, conventions_of, handed_type}

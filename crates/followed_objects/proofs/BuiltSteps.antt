@@ -220,7 +220,7 @@ module _ (fields : AreFieldsPlaced) (members : AreMembersPlaced) (m : Module) (b
         read : operands_of (facts_in (declarations_of m) f) s.memory frame.entries (item_taken f i) ≡ Ok ops
         read = sym (ap (λ facts. operands_of facts s.memory frame.entries (item_taken f i)) (run_facts m frame.function f is)) ∙ found
 
-        ends : End (facts_in (declarations_of m) f) (item_taken f i) frame.entries
+        abbrev ends : End (facts_in (declarations_of m) f) (item_taken f i) frame.entries
         ends = ended m frame.function.0 f a is_typed.world frame.trail i turned frame.entries own.entries along.tracked along.others
 
         same_left : ops.left ≡ ends.left
@@ -251,8 +251,8 @@ module _ (fields : AreFieldsPlaced) (members : AreMembersPlaced) (m : Module) (b
         abbrev p : PointId
         p = stands_at f frame.trail
 
-        abbrev left : Frame
-        left = left_with m told bound frame ops
+        abbrev frame_left : Frame
+        frame_left = left_with m told bound frame ops
 
         its_operands : Ready m s.memory rest frame f (item.Inst p) ops
         its_operands = ready (item.Inst p) (inst_comes f p x here) ops found
@@ -271,7 +271,7 @@ module _ (fields : AreFieldsPlaced) (members : AreMembersPlaced) (m : Module) (b
               hands_so m s.memory rest frame f p ops its_operands x here others call.calls call.callee args call.given
 
           enters_built : (next : HolderNext) → Enters m told bound (record s { memory = handed_over s.memory (lent_at m told bound f (item.Inst p) args) })
-              (Runs (record left { lent = lent_at m told bound f (item.Inst p) args }) ∷ rest) g callee (map as_argument args) next → BuiltNext m next
+              (Runs (record frame_left { lent = lent_at m told bound f (item.Inst p) args }) ∷ rest) g callee (map as_argument args) next → BuiltNext m next
           enters_built _ (Enters.enters entries put deep turn) =
               let leads = calls_right m (said m) s.memory rest frame f ops.left (lent_at m told bound f (item.Inst p) args) g callee entries stands
                   its_operands.doing.loses hands.lent there
@@ -284,8 +284,8 @@ module _ (fields : AreFieldsPlaced) (members : AreMembersPlaced) (m : Module) (b
 
         -- one without a body is called
         module _ (g : FuncId) (args : List Datum) (so : steps.effect_in m told bound s frame x ops.given ≡ effects.Calls g args) where
-          none : is_special (effect_of x.op) ≡ false
-          none = ap is_special (is_call (declarations_of m) (shapes_of m) (shapes_in (shapes_of m) frame.function) s.memory x ops.given g args so).calls
+          usual : is_special (effect_of x.op) ≡ false
+          usual = ap is_special (is_call (declarations_of m) (shapes_of m) (shapes_in (shapes_of m) frame.function) s.memory x ops.given g args so).calls
 
           its : (y : Inst) → inst_at f p ≡ Some y → x ≡ y
           its y at = same_Some x y (sym here ∙ at)
@@ -295,19 +295,19 @@ module _ (fields : AreFieldsPlaced) (members : AreMembersPlaced) (m : Module) (b
               → LeadsBy rest frame (item.Inst p) (record (unchanged s.memory) { results = ValueOf (value.Group value.NoValue) ∷ [] }) slots entries
           called_out slots entries put =
               given_built s.memory rest frame f (item.Inst p) ops.left its_operands.doing
-              (λ y at. subst (λ (z : Inst). keeps_apart (access_kind_of z.op) ≡ true) (its y at) (still_row x.op none).apart)
-              (λ y at. subst (λ (z : Inst). makes_object (access_kind_of z.op) ≡ false) (its y at) (still_row x.op none).makes)
-              (λ y at. subst (λ (z : Inst). stores (access_kind_of z.op) ≡ false) (its y at) (still_row x.op none).writes)
+              (λ y at. subst (λ (z : Inst). keeps_apart (access_kind_of z.op) ≡ true) (its y at) (still_row x.op usual).apart)
+              (λ y at. subst (λ (z : Inst). makes_object (access_kind_of z.op) ≡ false) (its y at) (still_row x.op usual).makes)
+              (λ y at. subst (λ (z : Inst). stores (access_kind_of z.op) ≡ false) (its y at) (still_row x.op usual).writes)
               (ValueOf (value.Group value.NoValue) ∷ []) (tt, tt) slots entries put
 
         performs_built : (e : effects.Effect HolderFault) → steps.effect_in m told bound s frame x ops.given ≡ e → (next : HolderNext)
-            → Performs m told bound s rest left f (item.Inst p) e next → BuiltNext m next
+            → Performs m told bound s rest frame_left f (item.Inst p) e next → BuiltNext m next
         performs_built _ so next (Performs.makes c n moves) =
-            behind_built s rest left f is (item.Inst p) c
+            behind_built s rest frame_left f is (item.Inst p) c
             (λ slots entries closes put. row_right fields members m s.memory rest frame f p ops its_operands x here others c so frame.slots slots closes entries put) n moves
         performs_built _ so next (Performs.calls g args callee n there bodied before entering) = enters_built g args callee there bodied so n entering
         performs_built _ so next (Performs.calls_out g args callee numbers n there bare is_numbers turn moves) =
-            behind_built _ rest left f is (item.Inst p) (record (unchanged s.memory) { results = ValueOf (value.Group value.NoValue) ∷ [] })
+            behind_built _ rest frame_left f is (item.Inst p) (record (unchanged s.memory) { results = ValueOf (value.Group value.NoValue) ∷ [] })
             (λ slots entries closes put. called_out g args so slots entries put) n moves
         performs_built _ so _ (Performs.no_turn g args callee numbers there bare is_numbers turn) = tt
         performs_built _ so _ (Performs.traps t) = tt

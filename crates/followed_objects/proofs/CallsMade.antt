@@ -141,11 +141,11 @@ module _ (d : Declarations) (shapes : ModuleShapes) (values : List Shape) (m : M
   pub is_call : (xs : List Datum) (g : FuncId) (args : List Datum) → effect d shapes values m i xs ≡ Calls g args → IsCall xs args
   is_call xs g args e = by (effect_of i.op) refl e
     where
-      called : (ys : List Datum) → xs ≡ ys → effect_of i.op ≡ row.CallsFunction → effects.calls d shapes values m i ys ≡ Calls g args → IsCall xs args
+      called : (ys : List Datum) → xs ≡ ys → effect_of i.op ≡ row.CallsFunction → ◌≡◌ {A = Effect HolderFault} (effects.calls d shapes values m i ys) (Calls g args) → IsCall xs args
       called [] same is h = absurd (cc)
       called (c ∷ rest) same is h = at (as_function c) h
         where
-          at : (o : Option FuncId) → with_some (λ g. Calls g rest) o ≡ Calls g args → IsCall xs args
+          at : (o : Option FuncId) → ◌≡◌ {A = Effect HolderFault} (with_some (λ k. Calls k rest) o) (Calls g args) → IsCall xs args
           at None h = absurd (cc)
           at (Some k) h = let args_are : rest ≡ args = cc in record { calls = is; callee = c; given = same ∙ ap (λ ys. c ∷ ys) args_are }
 

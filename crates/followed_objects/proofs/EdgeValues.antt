@@ -59,10 +59,10 @@ ends_values d f x (OwnedEndForms.also_lowered other (EndForms.branch e is none a
     subst (λ os. Each IsValueForm (forms_of d f (map value_in os))) (sym none) tt
 ends_values d f x (OwnedEndForms.also_lowered other (EndForms.branches set clear is operands first second a b)) goes =
     subst (Each IsValueForm) (sym operands) ((bit, refl), tt)
-ends_values d f x (OwnedEndForms.also_lowered other (EndForms.cases s is operands enum all)) goes = subst (Each IsValueForm) (sym operands) ((s, refl), tt)
+ends_values d f x (OwnedEndForms.also_lowered other (EndForms.cases s is operands is_enum all)) goes = subst (Each IsValueForm) (sym operands) ((s, refl), tt)
 ends_values d f x (OwnedEndForms.also_lowered other (EndForms.returns is operands)) goes = subst (Each IsValueForm) (sym operands) ((given_shape d f, refl), tt)
 ends_values d f x (OwnedEndForms.also_lowered other (EndForms.unreachable is)) goes = absurd (goes is)
-ends_values d f x (OwnedEndForms.cases s is operands enum all) goes = subst (Each IsValueForm) (sym operands) ((s, refl), tt)
+ends_values d f x (OwnedEndForms.cases s is operands is_enum all) goes = subst (Each IsValueForm) (sym operands) ((s, refl), tt)
 
 among_form : (d : Declarations) (f : Function) (ts : List Taken) → Each IsValueForm (forms_of d f (map (λ (t : Taken). t.value) ts)) → (t : Taken) → Among t ts
     → IsValueForm (form_of d f t.value)

@@ -17,6 +17,12 @@ use Rattle.followed_objects.proofs.StillRows.{still_quietly}
 use Rattle.followed_objects.proofs.HandedRows.{field_quietly}
 use Rattle.followed_objects.proofs.Makings.{made_right}
 use Rattle.followed_objects.proofs.StoreRows.{stored_right}
+use Rattle.followed_objects.proofs.CallsMade.{is_call}
+use Rattle.followed_objects.proofs.ArgumentsHanded.{handed_addresses}
+use Rattle.followed_objects.proofs.Entered.{hands_so}
+use Rattle.followed_objects.proofs.EdgeValues.{terminator_whole}
+use Rattle.followed_objects.proofs.RowsRight.{row_right}
+use Rattle.followed_objects.proofs.BuiltSteps.{objects_kept}
 use Rattle.followed_objects.proofs.laws.unfinished_objects_stay.Goals as goal
 
 pub returns : goal.returns
