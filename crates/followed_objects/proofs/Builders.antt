@@ -1,5 +1,5 @@
 -- What holds of each borrow of a new object, and goes on along upcasts, holds of all its building borrows.
-use Rattle.std.proofs.Common.{◌≡◌, ◌⊎◌, inl, inr, ℕ, zero, suc, List, length, refl, sym, ◌∙◌, subst, Bool, true, false}
+use Rattle.std.proofs.Common.{◌≡◌, ◌⊎◌, inl, inr, ℕ, zero, suc, List, length, refl, sym, ◌∙◌, subst, true}
 use Rattle.accepted_memory.specs.memory_accesses.Locations.{below, below_by, upcast_from}
 use Rattle.accepted_memory.specs.memory_accesses.Sources.{source_at}
 use Rattle.accepted_memory.specs.memory_accesses.declared.source.Source.{Source}

@@ -1,9 +1,9 @@
 -- A building borrow is Guaranteed, and has a building borrow of the object among its bases: it goes by a borrow of the object.
-use Rattle.std.proofs.Common.{◌≡◌, ◌⊎◌, inl, inr, ℕ, List, [], ◌∷◌, map, refl, sym, ap, ap₂, ◌∙◌, subst, Bool, true, false, ◌&&◌, ◌||◌, Option, Some, None, eq-eqb}
-use Rattle.std.specs.Prelude.{◌==◌, Contains, cond, option_map, slice_get}
+use Rattle.std.proofs.Common.{◌≡◌, inl, inr, ℕ, List, [], ◌∷◌, map, refl, sym, ap, ◌∙◌, subst, Bool, true, false, ◌||◌, Option, Some, None, eq-eqb}
+use Rattle.std.specs.Prelude.{Contains, cond, option_map, slice_get}
 use Rattle.std.specs.List.{list_any}
 use Rattle.std.proofs.lemmas.Bool.{and_from, false≢true}
-use Rattle.std.proofs.lemmas.Option.{none-some, same_Some}
+use Rattle.std.proofs.lemmas.Option.{same_Some}
 use Rattle.accepted_memory.specs.memory_accesses.Operations.{access_kind_of}
 use Rattle.accepted_memory.specs.memory_accesses.Sources.{source_at, sources_of}
 use Rattle.accepted_memory.specs.memory_accesses.declared.source.Source.{Source}
@@ -14,17 +14,16 @@ use Rattle.accepted_memory.specs.sil_types.Typing.RowTypes.{made_types}
 use Rattle.accepted_memory.specs.sil_types.Typing.Shapes.{target}
 use Rattle.accepted_memory.specs.sil_types.Typing.Values.{function_at, value_functions}
 use Rattle.accepted_places.proofs.Fields.{has_among}
-use Rattle.accepted_values.specs.inner.Bases.{IsBaseOf, IsLender}
+use Rattle.accepted_values.specs.inner.Bases.{IsBaseOf}
 use Rattle.accepted_values.specs.inner.Known.{IsAcceptedBody, facts_at, kind_at, type_in}
 use Rattle.accepted_values.specs.inner.Operands.{kind_by_row, kind_of_result, kind_together}
-use Rattle.accepted_values.specs.run_typing.Forms.{Form, OfPlace, OfValue, form_by, form_of, form_with}
+use Rattle.accepted_values.specs.run_typing.Forms.{OfValue, form_by, form_with}
 use Rattle.accepted_values.proofs.Based.{handed_on, lenders_own_bases}
 use Rattle.accepted_values.proofs.Accepted.{typed}
 use Rattle.accepted_values.proofs.Suited.{result_kind}
 use Rattle.accepted_values.proofs.Told.{any_of}
 use Rattle.built_objects.proofs.About.{built_new}
 use Rattle.instruction_table.specs.Forms.{result_kind_of}
-use Rattle.instruction_table.specs.declared.entries.ResultKind.{ResultKind}
 use Rattle.instruction_table.specs.declared.entries.ResultKind.TheVariants.{ForwardedResult, ScopeResult}
 use Rattle.instruction_table.specs.declared.op.Op.TheVariants as op
 use Rattle.numbered_form.specs.Names.{Name}
@@ -46,7 +45,6 @@ use Rattle.sil_ast.specs.declared.place.FuncId.{FuncId}
 use Rattle.sil_ast.specs.declared.place.ValueId.{ValueId}
 use Rattle.sil_ast.specs.declared.type_name.TypeName.{TypeName}
 use Rattle.type_definitions.specs.Declarations.{Declarations, declarations_of}
-use Rattle.type_definitions.specs.declared.kind.Kind.{Kind}
 use Rattle.type_definitions.specs.declared.kind.Kind.TheVariants as kind
 use Rattle.typed_holders.proofs.TrivialShapes.{trivial_shape}
 use Rattle.value_tables.specs.Borrows.{borrow_at, borrow_by, borrows, is_borrow, takes_address}
@@ -55,7 +53,7 @@ use Rattle.value_tables.specs.FirstValue.{first_value, value_of}
 use Rattle.followed_objects.specs.inner.Operands.{AreBuildersByBorrow}
 use Rattle.followed_objects.proofs.About.{first_of, operand_of}
 use Rattle.followed_objects.proofs.Builders.{each_builder}
-use Rattle.followed_objects.proofs.Classes.{ObjectClass, builder_below, object_class}
+use Rattle.followed_objects.proofs.Classes.{builder_below, object_class}
 use Rattle.followed_objects.proofs.ValueRows.{IsResultOf, is_made, made_there, makes_borrow, makes_upcast}
 
 -- ---- reading what is computed

@@ -1,10 +1,10 @@
 -- A building borrow names its object as one of the object's class, or of a class above it. So a field that is named by way of one is the object's.
-use Rattle.std.proofs.Common.{◌≡◌, ◌<◌, ◌+◌, ℕ, List, [], ◌∷◌, ◌++◌, length, map, refl, sym, ap, ◌∙◌, subst, arith, length-append, Bool, true, Option, Some, None}
+use Rattle.std.proofs.Common.{◌≡◌, ◌<◌, ◌+◌, ℕ, List, [], ◌∷◌, length, map, sym, ap, ◌∙◌, subst, arith, length-append, Bool, true, Some}
 use Rattle.std.specs.Prelude.{is_some, option_map, slice_get, unwrap_or}
 use Rattle.std.proofs.lemmas.List.{length-map}
 use Rattle.std.proofs.lemmas.Option.{none-some, same_Some, slice_get-map, slice_get_within}
 use Rattle.accepted_memory.specs.memory_accesses.Operations.{access_kind_of}
-use Rattle.accepted_memory.specs.memory_accesses.Sources.{field_count_in, member_place, object_source, result_source, source_at, source_by, sources_of}
+use Rattle.accepted_memory.specs.memory_accesses.Sources.{field_count_in, object_source, result_source, source_at, source_by, sources_of}
 use Rattle.accepted_memory.specs.memory_accesses.declared.location.Location.{Location}
 use Rattle.accepted_memory.specs.memory_accesses.declared.source.Source.{Source}
 use Rattle.accepted_memory.specs.memory_accesses.declared.source.Source.TheVariants as source
@@ -17,7 +17,6 @@ use Rattle.accepted_values.proofs.Accepted.{typed, well_typed}
 use Rattle.built_objects.specs.inner.Building.{IsFieldAddress, IsNewField}
 use Rattle.built_objects.proofs.About.{built_new}
 use Rattle.instruction_table.specs.Forms.{detail_of}
-use Rattle.instruction_table.specs.declared.op.Op.{Op}
 use Rattle.instruction_table.specs.declared.op.Op.TheVariants as op
 use Rattle.numbered_form.specs.Names.{Name}
 use Rattle.owned_run_typing.specs.holder_model.Effects.{effect_of, part_number, part_number_by}
@@ -25,7 +24,7 @@ use Rattle.owned_run_typing.specs.holder_model.ModuleShapes.{field_shape, field_
 use Rattle.owned_run_typing.specs.holder_model.declared.row_effect.RowEffect.TheVariants as row
 use Rattle.owned_run_typing.specs.run_typing.Classes.{ClassesAreSound, is_a}
 use Rattle.owned_run_typing.specs.run_typing.EndForms.{value_in}
-use Rattle.owned_run_typing.specs.run_typing.Forms.{Form, OfValue, form_by, form_of, forms_of}
+use Rattle.owned_run_typing.specs.run_typing.Forms.{OfValue, form_by, form_of, forms_of}
 use Rattle.owned_run_typing.proofs.run_typing_laws.ClassFacts.{classes, field_shapes_are}
 use Rattle.owned_run_typing.proofs.run_typing_laws.Rows.Finding.{where_found}
 use Rattle.owned_run_typing.proofs.run_typing_laws.Rows.Forms.{value_form}

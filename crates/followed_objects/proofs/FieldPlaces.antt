@@ -1,13 +1,13 @@
 -- The address of a field names a place of the operand's object, and that of a member a place within the one that its operand names.
-use Rattle.std.proofs.Common.{◌≡◌, ◌≤◌, ◌<◌, ℕ, List, [], ◌∷◌, ◌++◌, length, map, refl, sym, ap, ◌∙◌, subst, arith, Bool, true, false, Option, Some, None}
+use Rattle.std.proofs.Common.{◌≡◌, ◌≤◌, ◌<◌, ℕ, List, [], ◌∷◌, ◌++◌, length, map, refl, sym, ap, ◌∙◌, subst, arith, true, false, Option, Some, None}
 use Rattle.std.specs.Prelude.{Contains, slice_get}
-use Rattle.std.proofs.lemmas.Option.{none-some, same_Some, slice_get_within}
+use Rattle.std.proofs.lemmas.Option.{same_Some, slice_get_within}
 use Rattle.accepted_memory.specs.holder_model.Data.{ValueOf}
 use Rattle.accepted_memory.specs.holder_model.Effects.{effect_of, part_number, part_number_by}
 use Rattle.accepted_memory.specs.holder_model.Frames.{Entry}
 use Rattle.accepted_memory.specs.holder_model.ModuleShapes.{field_shapes, shapes_of}
 use Rattle.accepted_memory.specs.holder_model.declared.row_effect.RowEffect.TheVariants as row
-use Rattle.accepted_memory.specs.memory_accesses.Locations.{extended, locate, location_of, whole}
+use Rattle.accepted_memory.specs.memory_accesses.Locations.{whole}
 use Rattle.accepted_memory.specs.memory_accesses.Operations.{access_kind_of}
 use Rattle.accepted_memory.specs.memory_accesses.Rows.{has_steps, is_part}
 use Rattle.accepted_memory.specs.memory_accesses.Sources.{element_place, field_source, is_trivial_member, member_place, part_source, result_source, source_at, source_by, sources_of}
@@ -31,13 +31,11 @@ use Rattle.instruction_table.specs.declared.op.Op.TheVariants as op
 use Rattle.item_operands.specs.Items.{item_defined}
 use Rattle.item_operands.specs.Parts.{inst_at}
 use Rattle.memory_cells.specs.inner.Cells.{has_cell}
-use Rattle.numbered_form.specs.Names.{Name}
-use Rattle.owned_run_typing.specs.run_typing.Classes.{is_a}
 use Rattle.owned_run_typing.proofs.OwnedInsts.{owned_inst}
 use Rattle.owned_run_typing.proofs.run_typing_laws.Rows.Points.{in_front}
 use Rattle.point_checks.proofs.Among.{among_contained}
-use Rattle.run_values.specs.Memory.{Memory, Object, object_at}
-use Rattle.run_values.specs.Places.{Inside, Place, field_in, offset}
+use Rattle.run_values.specs.Memory.{Memory, object_at}
+use Rattle.run_values.specs.Places.{Inside, field_in, offset}
 use Rattle.run_values.specs.Shapes.{Reference, Shape}
 use Rattle.run_values.specs.Values as value
 use Rattle.run_values.specs.Values.{Value}
@@ -59,7 +57,7 @@ use Rattle.typed_memory.proofs.Naming.{NamedBy, each_at, named_by}
 use Rattle.value_tables.specs.FirstValue.{first_value}
 use Rattle.followed_objects.specs.inner.FieldPlaces.{AreFieldsPlaced, AreMembersPlaced, AreObjectsCounted}
 use Rattle.followed_objects.proofs.About.{unlocated}
-use Rattle.followed_objects.proofs.Classes.{ObjectClass, first_by, object_class, sound}
+use Rattle.followed_objects.proofs.Classes.{first_by, object_class, sound}
 use Rattle.followed_objects.proofs.ObjectRows.{declared, object_row, of_objects}
 use Rattle.followed_objects.proofs.Reading.{named_datum}
 
@@ -102,8 +100,7 @@ module _ (m : Module) (n : ℕ) (f : Function) (a : IsAcceptedBody m n f) (p : P
   member_at None e =
       absurd (unlocated sources v (length sources) v l source.Other e (λ others. refl) address.at)
   member_at (Some j) e =
-      let inner = member_location m n f a v y j e l address.at in
-      (
+      let inner = member_location m n f a v y j e l address.at in (
         ap is_part inner.2 ∙ steps_behind inner.0.path j,
         (inner.0, record { at = inner.1; trivial = address.trivial; is = sym (ap (λ (u : Location). source_at sources u.root) inner.2) ∙ address.is }),
       )

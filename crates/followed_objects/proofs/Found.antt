@@ -1,5 +1,5 @@
 -- The fields at which a frame's instruction does something are there, and as its operations ask.
-use Rattle.std.proofs.Common.{◌≡◌, ℕ, List, [], ◌∷◌, refl, sym, ap, ◌∙◌, subst, Bool, true, false, Some, Ok}
+use Rattle.std.proofs.Common.{◌≡◌, ℕ, List, ◌∷◌, sym, ◌∙◌, subst, Bool, false, Some, Ok}
 use Rattle.std.specs.Prelude.{Contains, slice_get}
 use Rattle.std.proofs.lemmas.List.Elements.{Contains-append_left}
 use Rattle.std.proofs.lemmas.Option.{same_Some}
@@ -23,7 +23,7 @@ use Rattle.accepted_values.specs.inner.Known.{IsAcceptedBody}
 use Rattle.built_objects.specs.inner.Building.{IsFieldAddress}
 use Rattle.built_objects.specs.inner.FrameObjects.{HoldsObjects, Names}
 use Rattle.built_objects.proofs.Asked.{fields_asked}
-use Rattle.held_objects.specs.inner.ObjectStates.{AreObjectsRight, FrameBuilds, TasksBuild}
+use Rattle.held_objects.specs.inner.ObjectStates.{AreObjectsRight, TasksBuild}
 use Rattle.item_operands.specs.Items.{item_taken, taken_along_in, taken_in}
 use Rattle.item_operands.specs.Parts.{inst_at, item_edge, item_inst}
 use Rattle.item_operands.specs.declared.taken.Taken.{Taken}
@@ -35,7 +35,6 @@ use Rattle.sil_ast.specs.declared.module.Module.{Module}
 use Rattle.sil_ast.specs.declared.place.ObjectId.{ObjectId}
 use Rattle.sil_ast.specs.declared.place.PointId.{PointId}
 use Rattle.sil_ast.specs.declared.place.ValueId.{ValueId}
-use Rattle.sil_cfg.specs.declared.item.Item.{Item}
 use Rattle.sil_cfg.specs.declared.item.Item.TheVariants as item
 use Rattle.tracked_frames.proofs.NextItems.{inst_comes}
 use Rattle.type_definitions.specs.Declarations.{declarations_of}
@@ -76,9 +75,12 @@ module _ (m : Module) (s : HolderState) (verified : IsVerified m) (typed : IsTyp
     module _ (ops : Operands) (read : operands_in m (facts_of m) bound s frame f (item.Inst point) ≡ Ok ops) (o : Operated) (among : Contains (operations_of i) o) where
       taken : (y : Taken) × Contains (item_taken f (item.Inst point)) y × (o.address ≡ y.value)
       taken =
-          let y = operand_of_operation i o among in
-          (y.0, Contains-append_left (taken_in (item_inst f (item.Inst point))) (taken_along_in (item_edge f (item.Inst point))) y.0
-          (subst (λ x. Contains (taken_in x) y.0) (sym stands) y.1), y.2)
+          let y = operand_of_operation i o among in (
+            y.0,
+            Contains-append_left (taken_in (item_inst f (item.Inst point))) (taken_along_in (item_edge f (item.Inst point))) y.0
+                (subst (λ x. Contains (taken_in x) y.0) (sym stands) y.1),
+            y.2,
+          )
 
       alive : (p : Place) → Names frame.entries o.address (AddressOf p) → (object : ObjectId) → p.home ≡ Inside object → is_dead s.memory object ≡ false
       alive p names object home =

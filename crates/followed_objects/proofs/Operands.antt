@@ -1,24 +1,22 @@
 -- An operation at the field of a new object asks what the trail says of it; and an unfinished object is taken only where its taker's row allows it.
-use Rattle.std.proofs.Common.{◌≡◌, inl, inr, ℕ, List, [], ◌∷◌, refl, sym, ap, ◌∙◌, subst, Bool, true, false, not, is_some, ◌&&◌, ◌||◌, Option, Some, None, eq-eqb}
-use Rattle.std.specs.Prelude.{◌==◌, Contains, option_map}
+use Rattle.std.proofs.Common.{◌≡◌, inl, inr, ℕ, List, ◌∷◌, refl, sym, ap, ◌∙◌, subst, Bool, true, false, not, is_some, ◌&&◌, Option, Some, None, eq-eqb}
+use Rattle.std.specs.Prelude.{Contains, option_map}
 use Rattle.std.specs.Option.{option_to_list}
 use Rattle.std.proofs.lemmas.Bool.{and_parts, false≢true, or_parts, true≢false}
 use Rattle.std.proofs.lemmas.List.Elements.{Contains-append_left}
 use Rattle.std.proofs.lemmas.Option.{same_Some}
-use Rattle.argument_conventions.specs.declared.row.AddressRow.{AddressRow}
 use Rattle.argument_conventions.specs.declared.row.Content.{Content}
 use Rattle.argument_conventions.specs.declared.row.Content.TheVariants as content
 use Rattle.accepted_memory.specs.accepted_trails.inner.Bases.{IsAsMade}
 use Rattle.accepted_memory.specs.holder_model.MemoryEffects.{asked_before}
 use Rattle.accepted_memory.specs.memory_accesses.Accesses.{allowance_of}
 use Rattle.accepted_memory.specs.memory_accesses.Locations.{cell_by, cell_of, field_cell, object_built}
-use Rattle.accepted_memory.specs.memory_accesses.Operations.{access_kind_of, deallocates, operated, operated_at, operation_at, operations_of}
+use Rattle.accepted_memory.specs.memory_accesses.Operations.{access_kind_of, operated, operated_at, operation_at, operations_of}
 use Rattle.accepted_memory.specs.memory_accesses.Rows.{field_has, has_by, has_operation, is_part}
 use Rattle.accepted_memory.specs.memory_accesses.Sources.{is_trivial_at, source_at, sources_of}
 use Rattle.accepted_memory.specs.memory_accesses.declared.access.Operated.{Operated}
 use Rattle.accepted_memory.specs.memory_accesses.declared.access.Operation.{Operation}
 use Rattle.accepted_memory.specs.memory_accesses.declared.access.Operation.TheVariants.{FirstWrite, Read, Lend, Write, TrivialStore, Handed, Take}
-use Rattle.accepted_memory.specs.memory_accesses.declared.location.Cell.{Cell}
 use Rattle.accepted_memory.specs.memory_accesses.declared.location.Location.{Location}
 use Rattle.accepted_memory.specs.memory_accesses.declared.source.Source.{Source}
 use Rattle.accepted_memory.specs.memory_parts.Building.{builds, goes_by_borrow, is_forbidden, takes_borrow, takes_object}
@@ -35,7 +33,7 @@ use Rattle.accepted_places.proofs.OperationsRight.{rows_right}
 use Rattle.accepted_places.specs.inner.Cells.{IsDoneAt, IsFoundSo, mark_at}
 use Rattle.accepted_values.specs.inner.Known.{IsAcceptedBody, facts_at}
 use Rattle.built_objects.specs.inner.Building.{IsFieldAddress, IsNewField, address}
-use Rattle.built_objects.specs.inner.Laws.{IsRightAt, asks_empty}
+use Rattle.built_objects.specs.inner.Laws.{asks_empty}
 use Rattle.item_operands.specs.Items.{item_taken, taken_along_in, taken_in}
 use Rattle.item_operands.specs.Parts.{item_edge, item_inst}
 use Rattle.item_operands.specs.Roles.{taken_by}
@@ -50,7 +48,7 @@ use Rattle.sil_cfg.specs.declared.item.Item.{Item}
 use Rattle.sil_cfg.specs.declared.item.Item.TheVariants as item
 use Rattle.type_definitions.specs.Declarations.{Declarations, declarations_of}
 use Rattle.followed_objects.specs.inner.Operands.{AreFieldsRight, AreUnfinishedOperands}
-use Rattle.followed_objects.specs.inner.Said.{IsUnfinishedOn, has_new_field, said_in}
+use Rattle.followed_objects.specs.inner.Said.{has_new_field, said_in}
 use Rattle.followed_objects.proofs.About.{about_as_made}
 use Rattle.followed_objects.proofs.ByBorrow.{builders_by_borrow}
 use Rattle.followed_objects.proofs.Classes.{fields_new}
@@ -108,9 +106,12 @@ module _ (m : Module) (n : ℕ) (f : Function) (a : IsAcceptedBody m n f) (t : L
 
     taken : (y : Taken) × Contains (item_taken f (item.Inst p)) y × (o.address ≡ y.value)
     taken =
-        let y = operand_of_operation done.inst o done.among in
-        (y.0, Contains-append_left (taken_in (item_inst f (item.Inst p))) (taken_along_in (item_edge f (item.Inst p))) y.0
-        (subst (λ x. Contains (taken_in x) y.0) (sym done.is) y.1), y.2)
+        let y = operand_of_operation done.inst o done.among in (
+          y.0,
+          Contains-append_left (taken_in (item_inst f (item.Inst p))) (taken_along_in (item_edge f (item.Inst p))) y.0
+              (subst (λ x. Contains (taken_in x) y.0) (sym done.is) y.1),
+          y.2,
+        )
 
     as_made : IsAsMade f t object o.address
     as_made =
@@ -172,8 +173,7 @@ unfinished_operands m n f a t i h x is stays y c object u =
     unfinished_allowed m n f a object u.field (there m n f a object u.field of_new) t i h unwritten x is stays y c in
     let whole : Bool = is_same y.value object && not (takes_object (allowance_of x.op)) in
     let borrowed : Bool = goes_by_borrow sources (facts_at d f y.value) object && not (builds sources object y.value && takes_borrow (allowance_of x.op)) in
-    let parts = or_parts whole borrowed none in
-    (
+    let parts = or_parts whole borrowed none in (
       λ same. allowed (is_same y.value object) (takes_object (allowance_of x.op)) parts.0 (eq-eqb y.value.0 object.0 (ap (λ (v : ValueId). v.0) same)),
       λ built. (and_parts (builds sources object y.value) (takes_borrow (allowance_of x.op))
           (allowed (goes_by_borrow sources (facts_at d f y.value) object) (builds sources object y.value && takes_borrow (allowance_of x.op)) parts.1

@@ -1,5 +1,6 @@
 -- What an item reads: an operand's datum is that of its entry and names no dead object, so a place that it names in an object has its cells.
-use Rattle.std.proofs.Common.{◌≡◌, ◌≤◌, ◌<◌, ◌+◌, ℕ, List, [], ◌∷◌, ◌++◌, length, refl, sym, ap, ◌∙◌, subst, arith, length-append, Bool, true, false, cond, inl, inr, Option, Some, None, Ok, Err}
+use Rattle.std.proofs.Common.{◌≡◌, ◌≤◌, ◌<◌, ◌+◌, List, [], ◌∷◌, ◌++◌, length, refl, sym, ap, ◌∙◌, subst, arith, length-append, Bool, true, false, cond}
+use Rattle.std.proofs.Common.{inl, inr, Option, Some, None, Ok, Err}
 use Rattle.std.specs.Prelude.{Contains, slice_get, unwrap_or}
 use Rattle.std.specs.declared.result.Result.{Result}
 use Rattle.std.proofs.lemmas.Bool.{or_parts}
@@ -7,7 +8,7 @@ use Rattle.std.proofs.lemmas.Option.{none-some, same_Some, slice_get_within}
 use Rattle.accepted_memory.specs.holder_model.Data.{AddressOf, Datum, home_references, references_in}
 use Rattle.accepted_memory.specs.holder_model.Faults.{HolderFault, NamesDead}
 use Rattle.accepted_memory.specs.holder_model.Frames.{Entry, Gone, Held, Lent, Operands, Plain, and_more, any_dead, datum_in, datum_or_fault, ends, entry_at, operand, operand_data}
-use Rattle.accepted_memory.specs.holder_model.Frames.{operands_of, unless_dead, used_datum, with_ok}
+use Rattle.accepted_memory.specs.holder_model.Frames.{operands_of, unless_dead, used_datum}
 use Rattle.accepted_values.specs.run_typing.CallForms.{IsOf}
 use Rattle.accepted_values.specs.run_typing.Forms.{Form, OfPlace, form_of}
 use Rattle.built_objects.specs.inner.FrameObjects.{Names}
@@ -18,8 +19,8 @@ use Rattle.memory_cells.specs.inner.Cells.{IsInside, behind}
 use Rattle.ownership_chains.specs.declared.facts.Facts.{Facts}
 use Rattle.point_checks.proofs.Among.{Among, among_contained}
 use Rattle.run_values.specs.Cells.{Cell, cell_count}
-use Rattle.run_values.specs.Memory.{Memory, Object, is_dead, is_dead_phase, object_at}
-use Rattle.run_values.specs.Places.{Home, Inside, OnStack, Place, home_cells}
+use Rattle.run_values.specs.Memory.{Memory, is_dead, object_at}
+use Rattle.run_values.specs.Places.{Inside, Place, home_cells}
 use Rattle.run_values.specs.Shapes.{Shape}
 use Rattle.sil_ast.specs.declared.function.Function.{Function}
 use Rattle.sil_ast.specs.declared.module.Module.{Module}
@@ -28,7 +29,7 @@ use Rattle.sil_ast.specs.declared.place.ValueId.{ValueId}
 use Rattle.type_definitions.specs.Declarations.{declarations_of}
 use Rattle.typed_holders.specs.inner.TypedStates.{EntriesAre}
 use Rattle.typed_holders.proofs.Entries.{entry_fits}
-use Rattle.typed_holders.specs.typed_memory.inner.Worlds.{CellIs, CellsAre, DatumIs, IsIn, MemoryIs, PlaceIs, World, cell_shapes, fields_of_class}
+use Rattle.typed_holders.specs.typed_memory.inner.Worlds.{CellIs, CellsAre, DatumIs, IsIn, MemoryIs, PlaceIs, World, fields_of_class}
 use Rattle.typed_memory.proofs.CellShapes.{place_within, shape_count}
 use Rattle.typed_memory.proofs.Homes.{object_is}
 use Rattle.typed_memory.proofs.Zips.{zip_beside}
@@ -77,7 +78,8 @@ module _ (facts : ValueId → Option Facts) (m : Memory) (before left : List Ent
           → (Among t ts → (x : Datum) × (datum_in (entry_at before t.value) ≡ Some x) × (any_dead m (references_in x) ≡ false))
           → Among t (y ∷ ts) → (x : Datum) × (datum_in (entry_at before t.value) ≡ Some x) × (any_dead m (references_in x) ≡ false)
       by x is rest (inl same) =
-          subst (λ (z : Taken). (x : Datum) × (datum_in (entry_at before z.value) ≡ Some x) × (any_dead m (references_in x) ≡ false)) (sym same) (x, (operand_read y x is).0, (operand_read y x is).1)
+          let read = operand_read y x is in
+          subst (λ (z : Taken). (x : Datum) × (datum_in (entry_at before z.value) ≡ Some x) × (any_dead m (references_in x) ≡ false)) (sym same) (x, read.0, read.1)
       by x is rest (inr more) = rest more
 
 -- the object in which an operand names a place isn't dead

@@ -1,6 +1,6 @@
 -- The instruction that makes a value, by what the value is to memory: which one it is, and what it takes.
-use Rattle.std.proofs.Common.{◌≡◌, ◌⊎◌, inl, inr, ℕ, zero, suc, List, length, refl, sym, ap, ◌∙◌, subst, arith, Bool, true, false, Option, Some, None}
-use Rattle.std.specs.Prelude.{Contains, option_map, slice_get}
+use Rattle.std.proofs.Common.{◌≡◌, ◌⊎◌, inl, inr, ℕ, zero, suc, List, length, refl, sym, ap, ◌∙◌, arith, Bool, true, false, Option, Some, None}
+use Rattle.std.specs.Prelude.{slice_get}
 use Rattle.std.proofs.lemmas.Bool.{false≢true}
 use Rattle.std.proofs.lemmas.List.{length-replicate}
 use Rattle.std.proofs.lemmas.List.FromFn.{length-map-range_with_len}
@@ -12,7 +12,8 @@ use Rattle.instruction_table.specs.declared.op.Op.{Op}
 use Rattle.instruction_table.specs.declared.op.Op.TheVariants as op
 use Rattle.accepted_memory.specs.memory_accesses.Operations.{access_kind_of}
 use Rattle.accepted_memory.specs.memory_accesses.Sources.{arg_sources, argument_source_or, borrow_source, element_place, field_source, handed_source, is_trivial_member}
-use Rattle.accepted_memory.specs.memory_accesses.Sources.{loan_source, member_place, object_source, part_source, result_source, result_sources, slot_source, source_at, source_by, sources_of, upcast_source}
+use Rattle.accepted_memory.specs.memory_accesses.Sources.{loan_source, member_place, object_source, part_source, result_source, result_sources, slot_source}
+use Rattle.accepted_memory.specs.memory_accesses.Sources.{source_at, source_by, sources_of, upcast_source}
 use Rattle.accepted_memory.specs.memory_accesses.declared.columns.AccessKind.{AccessKind}
 use Rattle.accepted_memory.specs.memory_accesses.declared.columns.AccessKind.TheVariants as access
 use Rattle.accepted_memory.specs.memory_accesses.declared.source.Source.{Source}

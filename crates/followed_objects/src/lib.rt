@@ -5,6 +5,6 @@
 mod laws;
 
 pub use laws::{
-    fields_are_followed, fields_are_found, fields_are_placed, operands_are_allowed, operations_ask_as_said, unfinished_objects_stay,
-    what_is_about_objects_is_made_of_them,
+    fields_are_followed, fields_are_found, fields_are_placed, operands_are_allowed,
+    operations_ask_as_said, unfinished_objects_stay, what_is_about_objects_is_made_of_them,
 };
