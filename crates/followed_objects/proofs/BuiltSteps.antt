@@ -71,7 +71,6 @@ use Rattle.typed_holders.proofs.Stacks.{BelowTyped}
 use Rattle.typed_holders.proofs.holder_steps.StepsTold.{steps_told}
 use Rattle.whole_objects.specs.inner.Whole.{IsWhole, IsWholeMemory, NameWhole}
 use Rattle.followed_objects.specs.inner.BuiltStates.{AreObjectsKept, BeginBuilt, DoPlacesServe}
-use Rattle.followed_objects.specs.inner.FieldPlaces.{AreFieldsPlaced, AreMembersPlaced}
 use Rattle.followed_objects.specs.inner.Said.{said}
 use Rattle.followed_objects.proofs.Apart.{KeepsApart, edge_apart, keeps_apart}
 use Rattle.followed_objects.proofs.CallsMade.{is_call}
@@ -93,7 +92,7 @@ abbrev BuiltNext : Module → HolderNext → Type 0
 BuiltNext m (Goes s) = AreObjectsRight m (said m) s
 BuiltNext m (Ends e s) = Unit {0}
 
-module _ (fields : AreFieldsPlaced) (members : AreMembersPlaced) (m : Module) (bound : ℕ) (verified : IsVerified m) where
+module _ (m : Module) (bound : ℕ) (verified : IsVerified m) where
   abbrev told : ModuleFacts
   told = facts_of m
 
@@ -304,7 +303,7 @@ module _ (fields : AreFieldsPlaced) (members : AreMembersPlaced) (m : Module) (b
             → Performs m told bound s rest frame_left f (item.Inst p) e next → BuiltNext m next
         performs_built _ so next (Performs.makes c n moves) =
             behind_built s rest frame_left f is (item.Inst p) c
-            (λ slots entries closes put. row_right fields members m s.memory rest frame f p ops its_operands x here others c so frame.slots slots closes entries put) n moves
+            (λ slots entries closes put. row_right m s.memory rest frame f p ops its_operands x here others c so frame.slots slots closes entries put) n moves
         performs_built _ so next (Performs.calls g args callee n there bodied before entering) = enters_built g args callee there bodied so n entering
         performs_built _ so next (Performs.calls_out g args callee numbers n there bare is_numbers turn moves) =
             behind_built _ rest frame_left f is (item.Inst p) (record (unchanged s.memory) { results = ValueOf (value.Group value.NoValue) ∷ [] })
@@ -453,9 +452,9 @@ module _ (fields : AreFieldsPlaced) (members : AreMembersPlaced) (m : Module) (b
     steps_built _ (StepsBy.no_function frame rest first there) = tt
     steps_built _ (StepsBy.no_deinit g gs o rest first there) = tt
 
-pub objects_kept : AreFieldsPlaced → AreMembersPlaced → AreObjectsKept
-objects_kept fields members m bound s next verified is_typed tracked serve right e =
-    subst (BuiltNext m) e (steps_built fields members m bound verified s is_typed tracked serve right (steps.step m (facts_of m) bound s) (steps_told m (facts_of m) bound s))
+pub objects_kept : AreObjectsKept
+objects_kept m bound s next verified is_typed tracked serve right e =
+    subst (BuiltNext m) e (steps_built m bound verified s is_typed tracked serve right (steps.step m (facts_of m) bound s) (steps_told m (facts_of m) bound s))
 
 pub begin_built : BeginBuilt
 begin_built m e f verified there starts =

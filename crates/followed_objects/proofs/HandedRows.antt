@@ -42,10 +42,10 @@ use Rattle.sil_ast.specs.declared.place.ValueId.{ValueId}
 use Rattle.sil_cfg.specs.declared.item.Item.TheVariants as item
 use Rattle.type_definitions.specs.Declarations.{declarations_of}
 use Rattle.value_tables.specs.FirstValue.{first_value}
-use Rattle.followed_objects.specs.inner.FieldPlaces.{AreFieldsPlaced, AreMembersPlaced}
 use Rattle.followed_objects.specs.inner.Said.{said}
 use Rattle.followed_objects.proofs.Apart.{KeepsApart, keeps_apart}
 use Rattle.followed_objects.proofs.EntriesNamed.{AreNamed, Begun}
+use Rattle.followed_objects.proofs.FieldPlaces.{fields_placed, members_placed}
 use Rattle.followed_objects.proofs.Filling.{fills_none, stores}
 use Rattle.followed_objects.proofs.GivenValues.{TakesOne, has_value, one_given, takes_one}
 use Rattle.followed_objects.proofs.GoesOn.{GivesOn, TakesWhole, borrow_goes, field_goes, field_source_is, first_is, gives_on, lends, member_goes, moves}
@@ -166,7 +166,7 @@ module _ (m : Module) (memory : Memory) (rest : List (Task Frame)) (frame : Fram
 
     -- ---- a member
 
-    module _ (placed : AreMembersPlaced) (e : effect_of x.op ≡ row.AddressesMember) where
+    module _ (e : effect_of x.op ≡ row.AddressesMember) where
       member_left : NamesMember (declarations_of m) (shapes_of m) values memory x ops.given c made
       member_left = named_member (declarations_of m) (shapes_of m) values memory x ops.given c made e
 
@@ -188,7 +188,7 @@ module _ (m : Module) (memory : Memory) (rest : List (Task Frame)) (frame : Fram
           (handing.name_member (shapes_of m) (sources_of (declarations_of m) f) (said m f frame.trail) memory frame.entries
           (holds_objects m memory rest frame f (item.Inst p) ops ready) member_one.taken.value v member_left.at member_one.names goes member_left.number member_left.place
           member_left.member
-          (placed m frame.function.0 f ready.doing.body p x is e v
+          (members_placed m frame.function.0 f ready.doing.body p x is e v
           (contained_among v (item_defined f (item.Inst p)) (has_among (item_defined f (item.Inst p)) v made_it)) member_one.taken.value member_first))
 
       pub member_quietly : Quietly c
@@ -196,7 +196,7 @@ module _ (m : Module) (memory : Memory) (rest : List (Task Frame)) (frame : Fram
 
     -- ---- a field
 
-    module _ (placed : AreFieldsPlaced) (e : effect_of x.op ≡ row.AddressesField) where
+    module _ (e : effect_of x.op ≡ row.AddressesField) where
       field_left : NamesField (declarations_of m) (shapes_of m) values memory x ops.given c made
       field_left = named_field (declarations_of m) (shapes_of m) values memory x ops.given c made e
 
@@ -223,7 +223,7 @@ module _ (m : Module) (memory : Memory) (rest : List (Task Frame)) (frame : Fram
           (holds_objects m memory rest frame f (item.Inst p) ops ready) field_one.taken.value v field_left.object field_names goes field_left.place
           (ap (λ (q : Place). q.home) field_left.place_is)
           (λ l of k at. subst (IsInField (shapes_of m) field_left.object (object_at memory field_left.object) l k) (sym field_left.place_is)
-          (placed m frame.function.0 f ready.doing.body ready.w ready.of memory ready.typed frame.entries ready.entries p x is e v
+          (fields_placed m frame.function.0 f ready.doing.body ready.w ready.of memory ready.typed frame.entries ready.entries p x is e v
           (contained_among v (item_defined f (item.Inst p)) (has_among (item_defined f (item.Inst p)) v made_it)) field_one.taken.value field_first
           field_left.object field_names field_left.named field_left.number field_left.shape field_left.member field_left.part field_left.there l of k at)))
 

@@ -29,7 +29,6 @@ use Rattle.sil_ast.specs.declared.place.PointId.{PointId}
 use Rattle.sil_cfg.specs.declared.item.Item.TheVariants as item
 use Rattle.type_definitions.specs.Declarations.{declarations_of}
 use Rattle.whole_objects.specs.inner.Whole.{IsWholeMemory}
-use Rattle.followed_objects.specs.inner.FieldPlaces.{AreFieldsPlaced, AreMembersPlaced}
 use Rattle.followed_objects.specs.inner.Said.{said}
 use Rattle.followed_objects.proofs.HandedRows as handed
 use Rattle.followed_objects.proofs.HandedRows.{field_quietly, gives_quietly, handing_row, member_quietly}
@@ -55,7 +54,7 @@ closed_home q (slot ∷ slots) behind e = at (is_slot q slot) refl e
     at true so e = home_is q.home _ so
     at false so e = absurd (cc)
 
-module _ (fields : AreFieldsPlaced) (members : AreMembersPlaced) (m : Module) (memory : Memory) (rest : List (Task Frame)) (frame : Frame) (f : Function) (p : PointId)
+module _ (m : Module) (memory : Memory) (rest : List (Task Frame)) (frame : Frame) (f : Function) (p : PointId)
     (ops : Operands) (ready : Ready m memory rest frame f (item.Inst p) ops) (x : Inst) (is : inst_at f p ≡ Some x) (others : OthersOnStack m frame f p)
     (c : Change) (made : effect (declarations_of m) (shapes_of m) (shapes_in (shapes_of m) frame.function) memory x ops.given ≡ effects.Makes c)
     (old slots : List Place) (closes : slots_behind c.slots old ≡ Ok slots) (behind : List Entry)
@@ -77,12 +76,12 @@ module _ (fields : AreFieldsPlaced) (members : AreMembersPlaced) (m : Module) (m
       quietly_right m memory rest frame f (item.Inst p) ops.left ready.doing
       (handed.makes_none m memory rest frame f p ops ready x is (handing_row x.op (ap is_handing e)))
       (handed.writes_none m memory rest frame f p ops ready x is (handing_row x.op (ap is_handing e))) c
-      (member_quietly m memory rest frame f p ops ready x is c values made members e) (facts_in (declarations_of m) f) behind slots put
+      (member_quietly m memory rest frame f p ops ready x is c values made e) (facts_in (declarations_of m) f) behind slots put
   hands_on row.AddressesField h e =
       quietly_right m memory rest frame f (item.Inst p) ops.left ready.doing
       (handed.makes_none m memory rest frame f p ops ready x is (handing_row x.op (ap is_handing e)))
       (handed.writes_none m memory rest frame f p ops ready x is (handing_row x.op (ap is_handing e))) c
-      (field_quietly m memory rest frame f p ops ready x is c values made fields e) (facts_in (declarations_of m) f) behind slots put
+      (field_quietly m memory rest frame f p ops ready x is c values made e) (facts_in (declarations_of m) f) behind slots put
   hands_on _ h e = absurd (false≢true h)
 
   special : (e : RowEffect) → is_special e ≡ true → effect_of x.op ≡ e → Leads
