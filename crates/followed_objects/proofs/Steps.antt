@@ -70,7 +70,7 @@ below_so k fields e = grind (arith, nat_tests)
 below_told : (k fields : ℕ) → k < fields → nat_lt k fields ≡ true
 below_told k fields h = grind (arith, nat_tests)
 
-field_told : (s : Source) (k : ℕ) → has_new_field s k ≡ true → (fields : ℕ) × (s ≡ source.Object fields) × (k < fields)
+pub field_told : (s : Source) (k : ℕ) → has_new_field s k ≡ true → (fields : ℕ) × (s ≡ source.Object fields) × (k < fields)
 field_told (source.Object fields) k e = (fields, refl, below_so k fields e)
 field_told _ k e = absurd (false≢true e)
 

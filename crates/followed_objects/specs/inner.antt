@@ -4,3 +4,4 @@ pub mod About
 pub mod Operands
 pub mod Found
 pub mod FieldPlaces
+pub mod BuiltStates

@@ -11,6 +11,7 @@ ghost use Rattle.followed_objects.specs.inner.Laws.{
   LoseOthers,
 };
 ghost use Rattle.followed_objects.specs.inner.FieldPlaces.{AreFieldsPlaced, AreMembersPlaced, AreObjectsCounted};
+ghost use Rattle.followed_objects.specs.inner.BuiltStates.{AreObjectsKept, BeginBuilt};
 ghost use Rattle.followed_objects.specs.inner.Found.{FindFields};
 ghost use Rattle.followed_objects.specs.inner.Operands.{
   AreBuildersByBorrow,
@@ -62,4 +63,14 @@ pub fn fields_are_placed()
     ensures counted { AreObjectsCounted }
     ensures fields { AreFieldsPlaced }
     ensures members { AreMembersPlaced }
+{}
+
+/// A run of an accepted module begins with objects that are right.
+pub fn runs_begin_built()
+    ensures { BeginBuilt }
+{}
+
+/// Each step keeps them so, where places serve: all but fields are on the stack, and what waits is a call.
+pub fn objects_are_kept()
+    ensures { AreObjectsKept }
 {}
