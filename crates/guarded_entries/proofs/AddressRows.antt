@@ -267,7 +267,14 @@ module _ (m : Module) (n : ℕ) (f : Function) (a : IsAcceptedBody m n f) where
   address_by_row _ w (a_result block index k i v here at) o c =
       let row = result_rows m n f a block index k i v here at in
       record {
-        block = block; index = index; k = k; i = i; here = here; at = at; operand = w; rests = c;
+        block = block;
+        index = index;
+        k = k;
+        i = i;
+        here = here;
+        at = at;
+        operand = w;
+        rests = c;
         address = only_addresses (result_kind_of i.op) _ (sym row.defined.origin ∙ o);
       }
   address_by_row _ w (an_argument b k x at) o c =
