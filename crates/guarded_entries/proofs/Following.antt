@@ -309,7 +309,7 @@ module _ (m : Module) (n : ℕ) (f : Function) (a : IsAcceptedBody m n f) where
 
   -- ---- arguments
 
-  argument_made : (v : ValueId) → IsArgument f v → makes f v item.Entry ≡ true
+  pub argument_made : (v : ValueId) → IsArgument f v → makes f v item.Entry ≡ true
   argument_made v lt = at (slice_get (args_of f 0) v.0) refl
     where
       at : (o : Option BlockArg) → slice_get (args_of f 0) v.0 ≡ o → has (map arg_value (args_of f 0)) v.0 ≡ true

@@ -28,6 +28,7 @@ ghost use Rattle.guarded_entries.specs.inner.Kept.{
   HaveGuardedHolders,
   HaveKeptHolders,
 };
+ghost use Rattle.guarded_entries.specs.inner.Laws.{AreStepsGuarded, NoDeadFaults};
 ghost use Rattle.guarded_entries.specs.inner.Premises.{
   AreAddressesInScopes,
   AreBorrowsScopes,
@@ -172,4 +173,14 @@ pub fn typed_operands_are_right()
 /// A run begins guarded.
 pub fn runs_begin_guarded()
     ensures { BeginGuarded }
+{}
+
+/// A step leads from a guarded state to a guarded one, where open scopes keep what they lend.
+pub fn steps_stay_guarded()
+    ensures { AreStepsGuarded }
+{}
+
+/// It ends in no fault of dead objects.
+pub fn no_dead_faults()
+    ensures { NoDeadFaults }
 {}
