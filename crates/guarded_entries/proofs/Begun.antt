@@ -1,17 +1,17 @@
 -- A run begins guarded: its one frame has no entries, memory has no objects, and no finish waits.
-use Rattle.std.proofs.Common.{◌≡◌, ℕ, zero, suc, ◌+◌, List, [], ◌∷◌, refl, sym, ap, ◌∙◌, inl, arith}
+use Rattle.std.proofs.Common.{◌≡◌, ℕ, zero, suc, ◌+◌, [], refl, inl, arith}
 use Rattle.std.specs.Prelude.{replicate, slice_get, unwrap_or}
 use Rattle.sil_ast.specs.declared.decl.Storage.TheVariants as storage
 use Rattle.sil_ast.specs.declared.place.ObjectId.{ObjectId}
 use Rattle.sil_ast.specs.declared.place.ValueId.{ValueId}
 use Rattle.holder_counts.specs.holder_model.Calling.{value_count}
 use Rattle.holder_counts.specs.holder_model.Data.{Datum}
-use Rattle.holder_counts.specs.holder_model.Frames.{Entry, Frame, Gone, Lent, entry_at, no_entries}
+use Rattle.holder_counts.specs.holder_model.Frames.{Gone, Lent, entry_at, no_entries}
 use Rattle.holder_counts.specs.holder_model.Holders.{in_memory, one_object}
 use Rattle.holder_counts.specs.holder_model.HolderStates.{in_entry, in_task}
 use Rattle.holder_counts.specs.holder_model.Outcomes.{begins}
 use Rattle.holder_counts.specs.holder_model.StepParts.{new_frame}
-use Rattle.holder_counts.specs.holder_model.States.{Runs, Task}
+use Rattle.holder_counts.specs.holder_model.States.{Runs}
 use Rattle.holder_counts.specs.inner.Moving.{in_tasks}
 use Rattle.holder_counts.specs.inner.Taking.{in_entries}
 use Rattle.holder_counts.proofs.Sums.{total_cons, total_none}

@@ -1,14 +1,7 @@
 -- No step of a guarded state ends where an operand names a dead object.
-use Rattle.std.proofs.Common.{◌≡◌, ℕ, List, ◌∷◌, refl, sym, ap, ◌∙◌, subst, true, false, Some, Ok, Err}
-use Rattle.std.specs.Prelude.{slice_get}
-use Rattle.std.proofs.lemmas.Option.{same_Some}
-use Rattle.instruction_table.specs.Forms.{ending_of}
-use Rattle.instruction_table.specs.declared.entries.Ending.TheVariants as ending
+use Rattle.std.proofs.Common.{◌≡◌, ℕ, List, ◌∷◌, refl, sym, ap, ◌∙◌, subst, false, Err}
 use Rattle.item_operands.specs.Items.{item_defined, item_taken}
-use Rattle.item_operands.specs.declared.taken.Taken.{Taken}
-use Rattle.numbered_form.specs.Lists.{Each}
 use Rattle.sil_ast.specs.declared.function.Function.{Function}
-use Rattle.sil_ast.specs.declared.inst.Inst.{Inst}
 use Rattle.sil_ast.specs.declared.module.Module.{Module}
 use Rattle.sil_ast.specs.declared.place.EdgeId.{EdgeId}
 use Rattle.sil_ast.specs.declared.place.FuncId.{FuncId}
@@ -43,7 +36,6 @@ use Rattle.typed_holders.specs.inner.TypedStates.{FrameIs, TasksAre}
 use Rattle.tracked_frames.specs.inner.TrackedStates.{AreTasksTracked, GoesAlong, IsTrackedState}
 use Rattle.tracked_frames.proofs.HowValuesEnd.{accepted_body}
 use Rattle.tracked_frames.proofs.NextItems.{chooses_on, chosen_within, edge_comes, exit_comes, inst_comes, one_edge}
-use Rattle.guarded_entries.specs.inner.Guards.{IsCurrent}
 use Rattle.guarded_entries.specs.inner.GuardedStates.{IsGuardedState, Loans}
 use Rattle.guarded_entries.specs.inner.Laws.{NoDeadFaults, is_dead_fault}
 use Rattle.guarded_entries.specs.inner.Premises.{AreFramesCurrent}

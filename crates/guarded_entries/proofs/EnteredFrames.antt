@@ -1,5 +1,5 @@
 -- A frame that was entered: its arguments have the entries that they were given.
-use Rattle.std.proofs.Common.{◌≡◌, ℕ, List, [], ◌∷◌, refl, sym, ap, ◌∙◌, subst, Bool, true, false, ◌&&◌, ◌||◌, Some, Ok}
+use Rattle.std.proofs.Common.{◌≡◌, ℕ, List, [], ◌∷◌, sym, ap, ◌∙◌, true, false, ◌||◌, Some, Ok}
 use Rattle.std.specs.Prelude.{slice_get}
 use Rattle.std.proofs.lemmas.Bool.{and_parts, false≢true}
 use Rattle.std.proofs.lemmas.Option.{same_Some}
@@ -20,7 +20,7 @@ use Rattle.accepted_values.specs.inner.Known.{IsAcceptedBody, kind_at}
 use Rattle.accepted_values.proofs.Made.{distinct}
 use Rattle.holder_counts.specs.holder_model.Calling.{value_count}
 use Rattle.holder_counts.specs.holder_model.Data.{Datum}
-use Rattle.holder_counts.specs.holder_model.Frames.{Entry, Lent, entry_at, made_entry, no_entries, results_put}
+use Rattle.holder_counts.specs.holder_model.Frames.{Entry, entry_at, made_entry, no_entries, results_put}
 use Rattle.guarded_entries.specs.inner.Following.{GoAlong}
 use Rattle.guarded_entries.specs.inner.Guards.{IsThere}
 use Rattle.guarded_entries.proofs.Entries.{results_made}

@@ -53,7 +53,9 @@ use Rattle.accepted_values.proofs.lowering_laws.Lowerable.{contained}
 use Rattle.holder_counts.specs.holder_model.Data.{Datum}
 use Rattle.holder_counts.specs.holder_model.Frames.{Entry, Gone, Held, Lent, entry_at, has_any, without_ended}
 use Rattle.holder_counts.proofs.Entries.{left_of, was_there}
-use Rattle.guarded_entries.specs.inner.Following.{AreArgumentsOfEntry, AreBorrowedKept, AreOperandsCurrent, AreScopesNotRenewed, GoAlong, TakesAddressesInScopes}
+use Rattle.scoped_addresses.specs.inner.Addresses.{TakesAddressesInScopes}
+use Rattle.scoped_addresses.proofs.OwnScopes.{lender_kind, own_scope}
+use Rattle.guarded_entries.specs.inner.Following.{AreArgumentsOfEntry, AreBorrowedKept, AreOperandsCurrent, AreScopesNotRenewed, GoAlong}
 use Rattle.guarded_entries.specs.inner.Guards.{IsArgument, IsCurrent, IsThere, Lending}
 use Rattle.guarded_entries.proofs.Ended.{ended_gone, unended_stays}
 
@@ -134,23 +136,8 @@ module _ (m : Module) (n : ℕ) (f : Function) (a : IsAcceptedBody m n f) where
   accepted : IsAcceptedIn d f
   accepted = are_accepted m n f a.verified a.body
 
-  lender_kind : (b : ValueId) → IsLender d f b → kind_at d f b ≡ kind.Guaranteed
-  lender_kind b l = ap (λ (o : Option Facts). (known_or (λ _. o) b).kind) l.facts
-
-  -- a borrow is a scope of its own
-  pub own_scope : (s : ValueId) → is_borrow f s ≡ true → IsOwnScope d f s
-  own_scope s borrow =
-      let l = lenders_own_bases m n f a s (inr borrow) in
-      record {
-        scope = record {
-          is_value = guaranteed_value m n f a s (lender_kind s l);
-          scope = ap (λ (k : Kind). is_guaranteed k && is_borrow f s) (lender_kind s l) ∙ borrow;
-        };
-        own = ap (λ (o : Option Facts). has (known_or (λ _. o) s).bases s.0) l.facts ∙ ap (λ b. b || false) (eq-eqb s.0 s.0 refl);
-      }
-
   not_owned : (b : ValueId) → IsLender d f b → IsOwnedIn d f b → ⊥
-  not_owned b l owned = false≢true (sym (ap is_owned (lender_kind b l)) ∙ owned.owned)
+  not_owned b l owned = false≢true (sym (ap is_owned (lender_kind d f b l)) ∙ owned.owned)
 
   not_scope : (b : ValueId) → is_borrow f b ≡ false → IsOwnScope d f b → ⊥
   not_scope b none own = false≢true (sym none ∙ (and_parts (is_guaranteed (known_or facts b).kind) (is_borrow f b) own.scope.scope).1)
@@ -245,9 +232,9 @@ module _ (m : Module) (n : ℕ) (f : Function) (a : IsAcceptedBody m n f) where
             subst (λ (v : ValueId). IsThere (entry_at entries v)) same
             (held_there x.value (record { is_value = owned_value m n f a x.value is; owned = ap is_owned is }) front rest x parts (owned_touched x.value x refl known))
         at kind.Guaranteed is =
-            by_lender (lent_by_lenders m n f a x.value b is base) (λ borrow. used_there b (own_scope b borrow) front rest x parts (guaranteed_touched b x among is base))
+            by_lender (lent_by_lenders m n f a x.value b is base) (λ borrow. used_there b (own_scope m n f a b borrow) front rest x parts (guaranteed_touched b x among is base))
         at kind.Plain is =
-            by_lender (addresses_of_lenders m n f a x.value b is base) (λ borrow. scope_there b (own_scope b borrow) (addresses x b among is base borrow))
+            by_lender (addresses_of_lenders m n f a x.value b is base) (λ borrow. scope_there b (own_scope m n f a b borrow) (addresses x b among is base borrow))
 
     current_operands : (lends : Lending) (memory : Memory) → TakesAddressesInScopes d f t i
         → Each (λ (x : Taken). IsCurrent d f lends memory entries t x.value) (item_taken f i)
@@ -266,7 +253,7 @@ module _ (m : Module) (n : ℕ) (f : Function) (a : IsAcceptedBody m n f) where
     -- a scope that is lent is open
     lent_open : (s : ValueId) (x : Datum) → is_borrow f s ≡ true → entry_at entries s ≡ Lent x → is_open d f s t ≡ Some true
     lent_open s x borrow e =
-        let own = own_scope s borrow in
+        let own = own_scope m n f a s borrow in
         let pass = scopes_passed d f accepted s own.scope t i h in
         at pass.on pass.was (tracked.scopes s own pass.on pass.was)
       where
@@ -283,13 +270,13 @@ module _ (m : Module) (n : ℕ) (f : Function) (a : IsAcceptedBody m n f) where
         → IsThere (entry_at entries b) → IsThere (entry_at left b)
     borrowed s b x borrow e there from there_b =
         subst IsThere (sym (unended_stays facts b (item_taken f i) entries left
-        (bases_kept d f accepted s b (own_scope s borrow).scope from t i h (lent_open s x borrow e) (left_unended s x e there)) ends_are)) there_b
+        (bases_kept d f accepted s b (own_scope m n f a s borrow).scope from t i h (lent_open s x borrow e) (left_unended s x e there)) ends_are)) there_b
 
     not_renewed : (s : ValueId) (x : Datum) → is_borrow f s ≡ true → entry_at left s ≡ Lent x → makes f s i ≡ false
     not_renewed s x borrow e = ⊎_elim (λ made. absurd (never made)) (λ none. none) (cases_Bool (makes f s i))
       where
         own : IsOwnScope d f s
-        own = own_scope s borrow
+        own = own_scope m n f a s borrow
 
         there : IsThere (entry_at left s)
         there gone = cc

@@ -1,8 +1,7 @@
 -- Where a function is called, what its Guaranteed arguments name is guarded in the frame that waits for it.
-use Rattle.std.proofs.Common.{◌≡◌, ℕ, suc, List, [], ◌∷◌, map, refl, sym, ap, ap₂, ◌∙◌, subst, ◌⊎◌, inl, inr, ⊎_elim, Option, Some, None, Ok}
+use Rattle.std.proofs.Common.{◌≡◌, ℕ, suc, List, ◌∷◌, map, sym, ap, ap₂, ◌∙◌, subst, ⊎_elim, Some, None, Ok}
 use Rattle.std.specs.Prelude.{slice_get}
 use Rattle.std.proofs.lemmas.Option.{same_Some}
-use Rattle.instruction_table.specs.declared.op.Op.TheVariants as op
 use Rattle.item_operands.specs.Items.{item_defined, item_taken}
 use Rattle.item_operands.specs.Parts.{inst_at}
 use Rattle.item_operands.specs.declared.taken.Taken.{Taken}
@@ -10,7 +9,6 @@ use Rattle.numbered_form.specs.Lists.{Each}
 use Rattle.sil_ast.specs.declared.function.Function.{Function}
 use Rattle.sil_ast.specs.declared.inst.Inst.{Inst}
 use Rattle.sil_ast.specs.declared.module.Module.{Module}
-use Rattle.sil_ast.specs.declared.operands.Operand.{Operand}
 use Rattle.sil_ast.specs.declared.place.FuncId.{FuncId}
 use Rattle.sil_ast.specs.declared.place.ObjectId.{ObjectId}
 use Rattle.sil_ast.specs.declared.place.PointId.{PointId}
@@ -36,7 +34,7 @@ use Rattle.typed_holders.proofs.GoesOn.{typed_module}
 use Rattle.holder_counts.specs.holder_model.Calling.{as_argument}
 use Rattle.holder_counts.specs.holder_model.Data.{Datum, FunctionOf, as_function, references_in}
 use Rattle.holder_counts.specs.holder_model.Effects as effects
-use Rattle.holder_counts.specs.holder_model.Frames.{Entry, Frame, Gone, Lent, LentPlace, Operands, datum_in, entry_at, made_entry, operand_data, operands_of, without_ended}
+use Rattle.holder_counts.specs.holder_model.Frames.{Entry, Frame, Lent, LentPlace, Operands, datum_in, entry_at, made_entry, operand_data, operands_of, without_ended}
 use Rattle.holder_counts.specs.holder_model.MemoryEffects.{effect}
 use Rattle.holder_counts.specs.holder_model.ModuleShapes.{ModuleShapes}
 use Rattle.holder_counts.specs.holder_model.States.{Runs, Task}

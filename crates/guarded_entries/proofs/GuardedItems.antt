@@ -1,5 +1,5 @@
 -- The first frame of a guarded state goes on behind an item: what is lent anew is guarded, and open scopes keep what they lend.
-use Rattle.std.proofs.Common.{◌≡◌, ℕ, ◌+◌, List, [], ◌∷◌, refl, sym, ap, ◌∙◌, subst, true, false, ⊎_elim, Option, Some, Ok, arith}
+use Rattle.std.proofs.Common.{◌≡◌, ℕ, ◌+◌, List, [], ◌∷◌, refl, sym, ap, ◌∙◌, subst, true, false, ⊎_elim, Some, Ok, arith}
 use Rattle.std.specs.Prelude.{slice_get}
 use Rattle.item_operands.specs.Items.{item_defined, item_taken}
 use Rattle.item_operands.specs.declared.taken.Taken.{Taken}
@@ -17,7 +17,7 @@ use Rattle.run_values.specs.Places.{Place}
 use Rattle.run_values.specs.Values as value
 use Rattle.held_entries.specs.accepted_trails.inner.Defined.{makes}
 use Rattle.held_entries.specs.accepted_trails.ownership_kinds.Facts.{facts_in}
-use Rattle.held_entries.specs.accepted_trails.run_trails.inner.RunTrails.{ComesAt, IsRunTrail, IsTurnedTrail}
+use Rattle.held_entries.specs.accepted_trails.run_trails.inner.RunTrails.{ComesAt, IsTurnedTrail}
 use Rattle.held_entries.proofs.accepted_trails.run_trails.WalkEdges.{are_next}
 use Rattle.accepted_values.specs.inner.Known.{IsAcceptedBody, kind_at}
 use Rattle.accepted_values.proofs.Facts.{run_facts}

@@ -1,5 +1,5 @@
 -- What a function returns is put right in the frame that waits for it: the result of a call is Owned or a value without references.
-use Rattle.std.proofs.Common.{◌≡◌, ℕ, zero, suc, List, [], ◌∷◌, refl, sym, ap, ◌∙◌, Bool, true, false, ◌||◌, ◌⊎◌, inl, inr, ⊎_elim, Option, Some, Ok}
+use Rattle.std.proofs.Common.{◌≡◌, ℕ, zero, suc, List, [], ◌∷◌, sym, ap, ◌∙◌, true, false, ◌||◌, ◌⊎◌, inr, ⊎_elim, Option, Some, Ok}
 use Rattle.std.specs.Prelude.{◌==◌, slice_get}
 use Rattle.std.proofs.lemmas.Bool.{cases_Bool, eqb-true, false≢true, or_cases}
 use Rattle.std.proofs.lemmas.Option.{same_Some}
@@ -10,12 +10,10 @@ use Rattle.ownership_chains.specs.declared.facts.Facts.{Facts}
 use Rattle.sil_ast.specs.declared.function.Function.{Function}
 use Rattle.sil_ast.specs.declared.inst.Inst.{Inst}
 use Rattle.sil_ast.specs.declared.module.Module.{Module}
-use Rattle.sil_ast.specs.declared.place.ObjectId.{ObjectId}
 use Rattle.sil_ast.specs.declared.place.PointId.{PointId}
 use Rattle.sil_ast.specs.declared.place.ValueId.{ValueId}
 use Rattle.sil_cfg.specs.declared.item.Item.TheVariants as item
 use Rattle.type_definitions.specs.Declarations.{Declarations, declarations_of}
-use Rattle.type_definitions.specs.declared.kind.Kind.{Kind}
 use Rattle.type_definitions.specs.declared.kind.Kind.TheVariants as kind
 use Rattle.run_values.specs.Memory.{Memory}
 use Rattle.run_values.specs.Values.{Value}
@@ -26,7 +24,7 @@ use Rattle.accepted_values.proofs.Based.{lenders_own_bases}
 use Rattle.typed_holders.proofs.Performs.{defines_results}
 use Rattle.holder_counts.specs.holder_model.Data.{Datum, ValueOf}
 use Rattle.holder_counts.specs.holder_model.Frames.{Entry, Lent, made_entry}
-use Rattle.guarded_entries.specs.inner.Guards.{IsArgument, Lending}
+use Rattle.guarded_entries.specs.inner.Guards.{Lending}
 use Rattle.guarded_entries.specs.inner.Kept.{ArePutRight}
 use Rattle.guarded_entries.specs.inner.LoansKept.{LendOn}
 use Rattle.guarded_entries.proofs.Following.{arguments_of_entry}

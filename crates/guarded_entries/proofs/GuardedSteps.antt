@@ -1,5 +1,5 @@
 -- A step of a guarded state leads to a guarded one, where open scopes keep what they lend.
-use Rattle.std.proofs.Common.{◌≡◌, ℕ, ◌+◌, List, [], ◌∷◌, refl, sym, ap, ◌∙◌, subst, Bool, true, ◌⊎◌, inl, inr, Some, Ok, arith}
+use Rattle.std.proofs.Common.{◌≡◌, ℕ, ◌+◌, List, [], ◌∷◌, refl, sym, ap, ◌∙◌, subst, true, ◌⊎◌, inl, inr, Some, Ok, arith}
 use Rattle.std.specs.Prelude.{slice_get}
 use Rattle.std.proofs.lemmas.Option.{same_Some}
 use Rattle.instruction_table.specs.Forms.{ending_of}
@@ -24,10 +24,10 @@ use Rattle.run_values.specs.Values.{Value}
 use Rattle.held_entries.specs.accepted_trails.ownership_kinds.Facts.{facts_in}
 use Rattle.held_entries.specs.accepted_trails.run_trails.inner.RunTrails.{ComesAt}
 use Rattle.accepted_values.specs.accepted_modules.inner.Checked.{IsVerified}
-use Rattle.accepted_values.specs.inner.Known.{IsAcceptedBody, kind_at}
+use Rattle.accepted_values.specs.inner.Known.{kind_at}
 use Rattle.accepted_values.proofs.Facts.{run_facts}
 use Rattle.typed_memory.specs.inner.Worlds.{World}
-use Rattle.typed_holders.specs.inner.TypedStates.{FrameIs, IsTypedState, TasksAre, WaitsTyped}
+use Rattle.typed_holders.specs.inner.TypedStates.{TasksAre, WaitsTyped}
 use Rattle.typed_holders.proofs.Data.{read_value}
 use Rattle.typed_holders.proofs.GoesOn.{Running}
 use Rattle.typed_holders.proofs.Returns.{returned}
@@ -37,7 +37,7 @@ use Rattle.accepted_values.specs.run_typing.Forms.{given_shape}
 use Rattle.tracked_frames.specs.inner.TrackedStates.{AreTasksTracked}
 use Rattle.tracked_frames.proofs.ConsumedValues.{owned_typed}
 use Rattle.tracked_frames.proofs.HowValuesEnd.{accepted_body}
-use Rattle.tracked_frames.proofs.NextItems.{chooses_on, chosen_within, edge_comes, exit_comes, one_edge}
+use Rattle.tracked_frames.proofs.NextItems.{chooses_on, chosen_within, edge_comes, one_edge}
 use Rattle.holder_counts.specs.holder_model.Calling.{value_count}
 use Rattle.holder_counts.specs.holder_model.Data.{Datum, ValueOf}
 use Rattle.holder_counts.specs.holder_model.Dropping.{deinits_of, in_phase}
@@ -50,7 +50,7 @@ use Rattle.holder_counts.specs.holder_model.Holders.{one_object}
 use Rattle.holder_counts.specs.holder_model.HolderStates.{HolderNext, HolderState}
 use Rattle.holder_counts.specs.holder_model.ModuleFacts.{ModuleFacts, facts_of}
 use Rattle.holder_counts.specs.holder_model.Standing.{stands_at}
-use Rattle.holder_counts.specs.holder_model.States.{Drops, Finishes, Goes, Runs, Task}
+use Rattle.holder_counts.specs.holder_model.States.{Drops, Finishes, Runs, Task}
 use Rattle.holder_counts.specs.holder_model.Steps as steps
 use Rattle.holder_counts.specs.holder_steps.inner.Ways.{Acts, DropsOne, Enters, FinishesOne, GoesBehind, Leaves, Performs, Reaches, StandsAtEnd, StepsBy, TakesEdge}
 use Rattle.holder_counts.specs.holder_steps.inner.Ways.{left_with, moved, operands_in, with_tasks}

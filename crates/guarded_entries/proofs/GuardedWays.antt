@@ -1,5 +1,5 @@
 -- The ways of the first frame of a guarded state: behind an instruction, along an edge, and into a function that is called.
-use Rattle.std.proofs.Common.{◌≡◌, ℕ, ◌+◌, List, [], ◌∷◌, map, refl, sym, ap, ◌∙◌, subst, true, false, Option, Some, Ok, arith}
+use Rattle.std.proofs.Common.{◌≡◌, ℕ, ◌+◌, List, ◌∷◌, map, refl, sym, ap, ◌∙◌, true, Some, Ok, arith}
 use Rattle.std.specs.Prelude.{drop, option_and_then, slice_get}
 use Rattle.instruction_table.specs.Forms.{ending_of}
 use Rattle.item_operands.specs.Items.{item_defined, item_taken}
@@ -13,16 +13,13 @@ use Rattle.sil_ast.specs.declared.place.EdgeId.{EdgeId}
 use Rattle.sil_ast.specs.declared.place.FuncId.{FuncId}
 use Rattle.sil_ast.specs.declared.place.ObjectId.{ObjectId}
 use Rattle.sil_ast.specs.declared.place.PointId.{PointId}
-use Rattle.sil_ast.specs.declared.place.ValueId.{ValueId}
 use Rattle.sil_cfg.specs.declared.item.Item.TheVariants as item
 use Rattle.type_definitions.specs.Declarations.{Declarations, declarations_of}
-use Rattle.type_definitions.specs.declared.kind.Kind.TheVariants as kind
-use Rattle.run_values.specs.Memory.{Memory, is_dead}
-use Rattle.run_values.specs.Places.{Home, Inside, OnStack}
-use Rattle.run_values.specs.Shapes.{Shape}
+use Rattle.run_values.specs.Memory.{is_dead}
+use Rattle.run_values.specs.Places.{Inside, OnStack}
 use Rattle.held_entries.specs.accepted_trails.ownership_kinds.Facts.{facts_in}
 use Rattle.held_entries.specs.accepted_trails.run_trails.inner.RunTrails.{ComesAt}
-use Rattle.accepted_values.specs.inner.Known.{IsAcceptedBody, kind_at}
+use Rattle.accepted_values.specs.inner.Known.{IsAcceptedBody}
 use Rattle.accepted_values.specs.accepted_modules.inner.Checked.{IsVerified}
 use Rattle.accepted_values.proofs.Facts.{run_facts}
 use Rattle.tracked_frames.proofs.HowValuesEnd.{accepted_body}
@@ -32,8 +29,8 @@ use Rattle.holder_counts.specs.holder_model.Data.{AddressOf, Datum}
 use Rattle.holder_counts.specs.holder_model.Edges.{carried_along, carried_by}
 use Rattle.holder_counts.specs.holder_model.Effects as effects
 use Rattle.holder_counts.specs.holder_model.Effects.{Change, unchanged}
-use Rattle.holder_counts.specs.holder_model.Frames.{Frame, Lent, LentPlace, Operands, datum_in, entry_at, has_any, made_entry, no_entries, operands_of, results_put}
-use Rattle.holder_counts.specs.holder_model.Holders.{in_memory, one_object}
+use Rattle.holder_counts.specs.holder_model.Frames.{Frame, Lent, LentPlace, Operands, datum_in, entry_at, has_any, no_entries, operands_of, results_put}
+use Rattle.holder_counts.specs.holder_model.Holders.{one_object}
 use Rattle.holder_counts.specs.holder_model.HolderStates.{HolderNext, HolderState}
 use Rattle.holder_counts.specs.holder_model.MemoryEffects.{effect}
 use Rattle.holder_counts.specs.holder_model.ModuleFacts.{ModuleFacts, facts_of}
@@ -45,7 +42,7 @@ use Rattle.holder_counts.specs.holder_steps.inner.Ways.{Enters, GoesBehind, left
 use Rattle.holder_counts.specs.inner.Naming.{LoadsStrongly, in_data, in_datum}
 use Rattle.holder_counts.proofs.Sums.{total_cons}
 use Rattle.guarded_entries.specs.inner.GuardedStates.{Loans}
-use Rattle.guarded_entries.specs.inner.LoansKept.{Calls, Does, IsPlacedState, LeadsTo, LoansAreKept}
+use Rattle.guarded_entries.specs.inner.LoansKept.{Calls, Does, LoansAreKept}
 use Rattle.guarded_entries.specs.inner.Rows.{HandsValues}
 use Rattle.guarded_entries.specs.inner.Stepping.{frame_behind}
 use Rattle.guarded_entries.proofs.CallRows.{IsCall, call_row}
@@ -56,7 +53,7 @@ use Rattle.guarded_entries.proofs.Given.{tracked_along}
 use Rattle.guarded_entries.proofs.GuardedCalls.{arguments_guarded}
 use Rattle.guarded_entries.proofs.GuardedItems.{Given, GuardedNext, IsFirst, alive, borrowed, current, goes_so, kinds, left, none_in_memory, stays_so, takes}
 use Rattle.guarded_entries.proofs.Handing.{arguments_name, handed_less, handed_phases}
-use Rattle.guarded_entries.proofs.LentArguments.{IsInObject, is_argument}
+use Rattle.guarded_entries.proofs.LentArguments.{is_argument}
 use Rattle.guarded_entries.proofs.Rows.{rows_guarded}
 use Rattle.guarded_entries.proofs.Stepping.{calls_guarded}
 

@@ -1,6 +1,6 @@
 -- Arguments of an entry that are lent: each is its own base, or the address of a place in an object.
-use Rattle.std.proofs.Common.{◌≡◌, ℕ, zero, suc, ◌<◌, List, [], ◌∷◌, length, map, refl, sym, ap, ◌∙◌, subst, Bool, true, false, cond, ◌||◌, ◌⊎◌, inl, inr, Option, Some}
-use Rattle.std.proofs.Common.{Ok, Err, eq-eqb}
+use Rattle.std.proofs.Common.{◌≡◌, ℕ, zero, suc, ◌<◌, List, [], ◌∷◌, length, map, refl, sym, ap, ◌∙◌, subst, Bool, true, false, ◌||◌, ◌⊎◌, inl, inr, Option, Some}
+use Rattle.std.proofs.Common.{Ok, eq-eqb}
 use Rattle.std.specs.Prelude.{slice_get}
 use Rattle.std.proofs.lemmas.Option.{same_Some, slice_get_within}
 use Rattle.item_operands.specs.Items.{arg_value, item_defined}
@@ -36,7 +36,7 @@ use Rattle.accepted_values.proofs.Places.{argument_is_value}
 use Rattle.accepted_values.proofs.TableRows.{argument_rows}
 use Rattle.holder_counts.specs.holder_model.Data.{AddressOf, Datum, FunctionOf, ValueOf}
 use Rattle.holder_counts.specs.holder_model.Faults.{WrongShape}
-use Rattle.holder_counts.specs.holder_model.Frames.{Entry, Held, Lent, Plain, has_any, made_entry, plain_address, plain_entry}
+use Rattle.holder_counts.specs.holder_model.Frames.{Lent, Plain, has_any, made_entry, plain_address, plain_entry}
 use Rattle.holder_counts.proofs.Entries.{chosen_ok}
 use Rattle.guarded_entries.specs.inner.Guards.{IsArgument}
 

@@ -16,8 +16,7 @@ pub mod Handing
 pub mod CallRows
 pub mod LentArguments
 pub mod CallOperands
-pub mod AddressRows
-pub mod AddressScopes
+pub mod FramesCurrent
 pub mod TypedLoads
 pub mod TypedGiven
 pub mod Begun

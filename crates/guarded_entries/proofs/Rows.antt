@@ -79,7 +79,7 @@ use Rattle.guarded_entries.specs.inner.Kept.{IsNewlyGuarded}
 use Rattle.guarded_entries.specs.inner.Kept as kept
 use Rattle.guarded_entries.specs.inner.Rows.{AreRowsGuarded, HandsValues, LendsLoaded}
 use Rattle.guarded_entries.proofs.Ended.{unended_stays}
-use Rattle.guarded_entries.proofs.Following.{own_scope}
+use Rattle.scoped_addresses.proofs.OwnScopes.{own_scope}
 use Rattle.guarded_entries.proofs.Named.{named_nowhere}
 use Rattle.guarded_entries.proofs.RowTables.{Gives, Opens}
 use Rattle.guarded_entries.proofs.RowTables as table

@@ -1,8 +1,8 @@
 -- The operands of an instruction are as its row asks, where entries and memory are typed; and what an edge carries are values.
-use Rattle.std.proofs.Common.{◌≡◌, ◌<◌, ◌⊎◌, inl, inr, ℕ, zero, suc, List, [], ◌∷◌, ◌++◌, drop, length, map, refl, sym, ap, ◌∙◌, subst, arith, Bool, true, false, Option, Some, None, Ok}
+use Rattle.std.proofs.Common.{◌≡◌, ◌<◌, ℕ, zero, suc, List, [], ◌∷◌, ◌++◌, drop, length, map, refl, sym, ap, ◌∙◌, subst, arith, Bool, true, false, Option, Some, None, Ok}
 use Rattle.std.specs.Prelude.{◌==◌, cond, option_and_then, option_map, slice_get, unwrap_or}
 use Rattle.std.specs.List.{AllZip, list_all}
-use Rattle.std.proofs.lemmas.Bool.{and_parts, eqb-true, false≢true}
+use Rattle.std.proofs.lemmas.Bool.{and_parts, eqb-true}
 use Rattle.std.proofs.lemmas.List.{length-map, map-append}
 use Rattle.std.proofs.lemmas.Option.{same_Some, slice_get_within}
 use Rattle.instruction_table.specs.Forms.{ending_of}
@@ -11,8 +11,6 @@ use Rattle.instruction_table.specs.declared.entries.Ending.TheVariants as ending
 use Rattle.item_operands.specs.Items.{item_taken, taken_along_in, taken_in}
 use Rattle.item_operands.specs.Parts.{args_behind, edge_at, edge_in, inst_at, item_operands, operands_in, terminator_of}
 use Rattle.item_operands.specs.Roles.{consumed, taken_along, taken_by}
-use Rattle.item_operands.specs.declared.taken.Taken.{Taken}
-use Rattle.numbered_form.specs.Lists.{Each}
 use Rattle.numbered_form.specs.inner.Parts.{are_edges_by, is_branch}
 use Rattle.sil_ast.specs.declared.function.Function.{Function}
 use Rattle.sil_ast.specs.declared.inst.Edge.{Edge}
@@ -42,7 +40,7 @@ use Rattle.typed_holders.proofs.Data.{DataAre, read_value}
 use Rattle.typed_holders.proofs.Entries.{FitEach, fit_data, operands_fit}
 use Rattle.typed_holders.proofs.GoesOn.{typed_module}
 use Rattle.holder_counts.specs.holder_model.Data.{Datum, ValueOf}
-use Rattle.holder_counts.specs.holder_model.Edges.{carried_along, carried_by, first_value_of, is_default, payload_data, switched_data}
+use Rattle.holder_counts.specs.holder_model.Edges.{carried_by, first_value_of, is_default, payload_data, switched_data}
 use Rattle.holder_counts.specs.holder_model.Frames.{Entry, Operands, operands_of}
 use Rattle.holder_counts.specs.inner.Naming.{LoadsStrongly}
 use Rattle.guarded_entries.specs.inner.EdgesLend.{CarriesValues}

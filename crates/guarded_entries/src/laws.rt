@@ -30,14 +30,10 @@ ghost use Rattle.guarded_entries.specs.inner.Kept.{
 };
 ghost use Rattle.guarded_entries.specs.inner.Laws.{AreStepsGuarded, NoDeadFaults};
 ghost use Rattle.guarded_entries.specs.inner.Premises.{
-  AreAddressesInScopes,
-  AreBorrowsScopes,
   AreFramesCurrent,
-  ArePlainInScopesNamed,
   AreTypedForRows,
   BeginGuarded,
   CarryTypedValues,
-  HaveSlotsNoBases,
   LoadTypedStrongly,
 };
 ghost use Rattle.guarded_entries.specs.inner.Rows.{AreRowsGuarded};
@@ -152,14 +148,9 @@ pub fn typed_are_of_kinds()
     ensures handed { HandTypedValues }
 {}
 
-/// The scopes of an address are open where the next item of a run takes it: a Plain value with bases names a place, and what it borrows from is a
-/// scope to memory too. A slot has no bases. So the operands of the item at which a tracked frame stands are current.
-pub fn addresses_are_in_scopes()
-    ensures borrows { AreBorrowsScopes }
-    ensures named { ArePlainInScopesNamed }
-    ensures slots { HaveSlotsNoBases }
-    ensures open { AreAddressesInScopes }
-    ensures current { AreFramesCurrent }
+/// The operands of the item at which a tracked frame stands are current.
+pub fn frames_are_current()
+    ensures { AreFramesCurrent }
 {}
 
 /// Where entries and memory are typed, the operands of an instruction are as its row asks, what is loaded is kept strongly, and what an edge carries

@@ -22,6 +22,7 @@ use Rattle.held_entries.specs.inner.Tracked.{AreTracked, IsOwnScope}
 use Rattle.accepted_values.specs.inner.Known.{IsAcceptedBody, kind_at}
 use Rattle.holder_counts.specs.holder_model.Data.{Datum}
 use Rattle.holder_counts.specs.holder_model.Frames.{Entry, Lent, entry_at, without_ended}
+use Rattle.scoped_addresses.specs.inner.Addresses.{TakesAddressesInScopes}
 use Rattle.guarded_entries.specs.inner.Guards.{IsArgument, IsCurrent, IsThere, Lending}
 
 -- a value that is neither Owned nor a scope is there once the trail has made it
@@ -32,11 +33,6 @@ OthersAreThere d f t entries = (v : ValueId) → (IsOwnedIn d f v → ⊥) → (
 pub record GoAlong (d : Declarations) (f : Function) (t : List Item) (entries : List Entry) : Type 0 where
   pub tracked : AreTracked d f t entries
   pub others : OthersAreThere d f t entries
-
--- scopes among the bases of an address are open where the next item takes the address
-abbrev pub TakesAddressesInScopes : Declarations → Function → List Item → Item → Type 0
-TakesAddressesInScopes d f t i = (x : Taken) (s : ValueId) → Contains (item_taken f i) x → kind_at d f x.value ≡ kind.Plain → IsBaseOf d f s x.value
-    → is_borrow f s ≡ true → is_open d f s t ≡ Some true
 
 -- each base of what the next item takes is there, and hasn't begun anew since
 abbrev pub AreOperandsCurrent : Type 0

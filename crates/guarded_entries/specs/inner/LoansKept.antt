@@ -1,6 +1,6 @@
 -- What steps keep of the loans of open scopes: the one thing that guards ask of places. A scope that is open behind an item lends the cells that it lent
 -- before, and these keep what they kept; a scope that opens over a place lends the cells of what it loads.
-use Rattle.std.specs.Prelude.{◌≡◌, ℕ, List, [], ◌∷◌, true, drop, Ok, Some, slice_get}
+use Rattle.std.specs.Prelude.{◌≡◌, ℕ, List, ◌∷◌, true, drop, Ok, Some, slice_get}
 use Rattle.item_operands.specs.Items.{item_defined, item_taken}
 use Rattle.item_operands.specs.Parts.{inst_at}
 use Rattle.sil_ast.specs.declared.function.Function.{Function}

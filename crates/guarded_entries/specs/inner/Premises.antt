@@ -45,26 +45,9 @@ use Rattle.guarded_entries.specs.inner.GuardedStates.{IsGuardedState, Loans}
 use Rattle.guarded_entries.specs.inner.Guards.{IsCurrent, Lending}
 use Rattle.guarded_entries.specs.inner.Rows.{HandsValues}
 
--- ---- scopes of addresses
+-- ---- operands
 
--- what borrows is a scope to memory too
-abbrev pub AreBorrowsScopes : Type 0
-AreBorrowsScopes = InAccepted (λ d f. (b : ValueId) → is_borrow f b ≡ true → is_scope (sources_of d f) b ≡ true)
-
--- a Plain value with bases names a place, and is no argument
-abbrev pub ArePlainInScopesNamed : Type 0
-ArePlainInScopesNamed = InAccepted (λ d f. (v b : ValueId) → kind_at d f v ≡ kind.Plain → IsBaseOf d f b v
-    → IsNamed (sources_of d f) v × ((row : AddressRow) (trivial : Bool) → source_at (sources_of d f) v ≡ Argument row trivial → ⊥))
-
--- a slot has none
-abbrev pub HaveSlotsNoBases : Type 0
-HaveSlotsNoBases = InAccepted (λ d f. (v b : ValueId) → is_slot (sources_of d f) v ≡ true → kind_at d f v ≡ kind.Plain → IsBaseOf d f b v → ⊥)
-
--- so the scopes of each address that the next item of a run takes are open
-abbrev pub AreAddressesInScopes : Type 0
-AreAddressesInScopes = InAccepted (λ d f. (t : List Item) (i : Item) → IsRunTrail f (i ∷ t) → TakesAddressesInScopes d f t i)
-
--- and the operands of the item at which a tracked frame stands are current
+-- the operands of the item at which a tracked frame stands are current
 abbrev pub AreFramesCurrent : Type 0
 AreFramesCurrent = (m : Module) (n : ℕ) (f : Function) → IsAcceptedBody m n f → (lends : Lending) (memory : Memory) (frame : Frame) (i : Item)
     → IsRunTrail f (i ∷ frame.trail) → GoesAlong (declarations_of m) f frame
@@ -74,20 +57,20 @@ AreFramesCurrent = (m : Module) (n : ℕ) (f : Function) → IsAcceptedBody m n 
 
 -- the cells of a typed place that is loaded are there, and keep strongly what they keep
 abbrev pub LoadTypedStrongly : Type 0
-LoadTypedStrongly = (m : Module) (w : World) (memory : Memory) (i : Inst) (ins outs : List Form) (xs : List Datum) → MemoryIs m w memory → OwnedRowForms m i ins outs
-    → AllZip (DatumIs m w) ins xs → Each (IsAlive memory) xs → LoadsStrongly memory i xs
+LoadTypedStrongly = (m : Module) (w : World) (memory : Memory) (i : Inst) (ins outs : List Form) (xs : List Datum)
+    → MemoryIs m w memory → OwnedRowForms m i ins outs → AllZip (DatumIs m w) ins xs → Each (IsAlive memory) xs → LoadsStrongly memory i xs
 
 -- the operands of an instruction are as its row asks, where entries and memory are typed
 abbrev pub AreTypedForRows : Type 0
-AreTypedForRows = (m : Module) (n : ℕ) (f : Function) → IsAcceptedBody m n f → (w : World) (memory : Memory) (p : PointId) (i : Inst) (entries : List Entry) (ops : Operands)
-    → inst_at f p ≡ Some i → MemoryIs m w memory → EntriesAre m w f entries
+AreTypedForRows = (m : Module) (n : ℕ) (f : Function) → IsAcceptedBody m n f → (w : World) (memory : Memory) (p : PointId) (i : Inst)
+    (entries : List Entry) (ops : Operands) → inst_at f p ≡ Some i → MemoryIs m w memory → EntriesAre m w f entries
     → operands_of (facts_in (declarations_of m) f) memory entries (item_taken f (item.Inst p)) ≡ Ok ops
     → HandsValues i ops.given × LoadsStrongly memory i ops.given
 
 -- what an edge carries are values, where entries are typed
 abbrev pub CarryTypedValues : Type 0
-CarryTypedValues = (m : Module) (n : ℕ) (f : Function) → IsAcceptedBody m n f → (w : World) (memory : Memory) (e : EdgeId) (entries : List Entry) (ops : Operands)
-    (carried : List Datum) → EntriesAre m w f entries
+CarryTypedValues = (m : Module) (n : ℕ) (f : Function) → IsAcceptedBody m n f → (w : World) (memory : Memory) (e : EdgeId)
+    (entries : List Entry) (ops : Operands) (carried : List Datum) → EntriesAre m w f entries
     → operands_of (facts_in (declarations_of m) f) memory entries (item_taken f (item.Edge e)) ≡ Ok ops
     → carried_along f e ops.given ≡ Some carried → CarriesValues carried
 

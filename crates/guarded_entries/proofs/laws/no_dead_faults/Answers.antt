@@ -1,4 +1,4 @@
-use Rattle.guarded_entries.proofs.AddressScopes.{frames_current}
+use Rattle.guarded_entries.proofs.FramesCurrent.{frames_current}
 use Rattle.guarded_entries.proofs.DeadFaults.{no_dead_faults}
 use Rattle.guarded_entries.proofs.laws.no_dead_faults.Goals as goal
 

@@ -1,4 +1,4 @@
-use Rattle.guarded_entries.proofs.AddressScopes.{frames_current}
+use Rattle.guarded_entries.proofs.FramesCurrent.{frames_current}
 use Rattle.guarded_entries.proofs.GuardedSteps.{steps_stay_guarded}
 use Rattle.guarded_entries.proofs.TypedGiven.{carry_typed_values, typed_for_rows}
 use Rattle.guarded_entries.proofs.laws.steps_stay_guarded.Goals as goal

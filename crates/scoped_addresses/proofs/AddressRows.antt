@@ -1,7 +1,8 @@
 -- Addresses by their rows: a Plain value with bases is what a row of addresses gives and names a place. What borrows is a scope to memory too.
-use Rattle.std.proofs.Common.{◌≡◌, ℕ, zero, suc, List, [], ◌∷◌, length, map, refl, sym, ap, ◌∙◌, subst, Bool, true, false, inl, inr, Option, Some, None}
+use Rattle.std.proofs.Common.{◌≡◌, ℕ, zero, suc, List, [], ◌∷◌, ◌++◌, length, map, refl, sym, ap, ◌∙◌, subst, Bool, true, false, inl, inr, Option, Some, None}
 use Rattle.std.specs.Prelude.{Contains, option_map, slice_get}
 use Rattle.std.proofs.lemmas.Bool.{false≢true, true≢false}
+use Rattle.std.proofs.lemmas.List.Elements.{Contains-append_left}
 use Rattle.std.proofs.lemmas.Option.{slice_get-map}
 use Rattle.argument_conventions.specs.declared.row.AddressRow.{AddressRow}
 use Rattle.instruction_table.specs.Forms.{result_kind_of}
@@ -10,7 +11,7 @@ use Rattle.instruction_table.specs.declared.entries.ResultKind.TheVariants.{Addr
 use Rattle.instruction_table.specs.declared.op.Op.{Op}
 use Rattle.instruction_table.specs.declared.op.Op.TheVariants as op
 use Rattle.item_operands.specs.Items.{item_defined}
-use Rattle.item_operands.specs.Parts.{inst_at}
+use Rattle.item_operands.specs.Parts.{inst_at, results_in}
 use Rattle.numbered_form.specs.inner.Parts.{has_operands, is_typed}
 use Rattle.ownership_chains.specs.Chains.{operands_at}
 use Rattle.ownership_chains.specs.Facts.{has, origin_at, told_by}
@@ -67,11 +68,10 @@ use Rattle.owned_run_typing.specs.inner.OwnedRows as owned
 use Rattle.owned_run_typing.specs.inner.OwnedRows.{OwnedRowForms}
 use Rattle.owned_run_typing.proofs.OwnedInsts.{owned_inst}
 use Rattle.run_values.specs.Shapes.{Shape}
-use Rattle.typed_holders.proofs.Performs.{defines_results}
-use Rattle.holder_counts.specs.holder_model.Effects.{effect_of}
-use Rattle.holder_counts.specs.holder_model.declared.row_effect.RowEffect.{RowEffect}
-use Rattle.holder_counts.specs.holder_model.declared.row_effect.RowEffect.TheVariants as row
-use Rattle.guarded_entries.specs.inner.Premises.{AreBorrowsScopes, ArePlainInScopesNamed, HaveSlotsNoBases}
+use Rattle.accepted_memory.specs.holder_model.Effects.{effect_of}
+use Rattle.accepted_memory.specs.holder_model.declared.row_effect.RowEffect.{RowEffect}
+use Rattle.accepted_memory.specs.holder_model.declared.row_effect.RowEffect.TheVariants as row
+use Rattle.scoped_addresses.specs.inner.Addresses.{AreBorrowsScopes, ArePlainInScopesNamed, HaveSlotsNoBases}
 
 -- ---- what borrows is a scope to memory
 
@@ -299,7 +299,7 @@ module _ (m : Module) (n : ℕ) (f : Function) (a : IsAcceptedBody m n f) where
     there = at_point_of_result m n f a v r.block r.index r.i r.here among_results
 
     defined_by : Contains (item_defined f (item.Inst p)) v
-    defined_by = subst (λ vs. Contains vs v) (sym (defines_results f p r.i there)) among_results
+    defined_by = subst (λ o. Contains (results_in o ++ []) v) (sym there) (Contains-append_left r.i.results [] v among_results)
 
     no_argument : (row : AddressRow) (trivial : Bool) → source_at sources v ≡ source.Argument row trivial → ⊥
     no_argument row trivial e =

@@ -37,7 +37,6 @@ use Rattle.accepted_memory.specs.memory_parts.declared.part.Part.TheVariants.{In
 use Rattle.accepted_memory.specs.run_trails.inner.RunTrails.{IsRunTrail}
 use Rattle.accepted_memory.specs.inner.PartTrails.{IsPartOf}
 use Rattle.accepted_memory.proofs.InScopes.{in_scopes}
-use Rattle.accepted_memory.proofs.run_trails.RunPaths.{are_trails}
 use Rattle.accepted_places.specs.inner.Located.{IsNamed, IsRoot, argument, field, member, root, slot}
 use Rattle.accepted_places.proofs.Fields.{has_among}
 use Rattle.accepted_places.proofs.ItemStacks.{accepted_in}
@@ -48,11 +47,9 @@ use Rattle.accepted_values.specs.inner.Known.{IsAcceptedBody, facts_at}
 use Rattle.accepted_values.proofs.Accepted.{typed}
 use Rattle.accepted_values.proofs.Counted.{nothing_in}
 use Rattle.accepted_values.proofs.run_typing_laws.EndFacts.{one_operand}
-use Rattle.guarded_entries.specs.inner.Following.{TakesAddressesInScopes}
-use Rattle.guarded_entries.specs.inner.Premises.{AreAddressesInScopes, AreFramesCurrent}
-use Rattle.guarded_entries.proofs.Following.{operands_current, own_scope}
-use Rattle.guarded_entries.proofs.Given.{tracked_along}
-use Rattle.guarded_entries.proofs.AddressRows.{borrows_scopes, plain_in_scopes_named, slots_no_bases}
+use Rattle.scoped_addresses.specs.inner.Addresses.{AreAddressesInScopes, TakesAddressesInScopes}
+use Rattle.scoped_addresses.proofs.OwnScopes.{own_scope}
+use Rattle.scoped_addresses.proofs.AddressRows.{borrows_scopes, plain_in_scopes_named, slots_no_bases}
 
 -- ---- an address in its scopes
 
@@ -169,8 +166,3 @@ module _ (m : Module) (n : ℕ) (f : Function) (a : IsAcceptedBody m n f) where
 
 pub addresses_in_scopes : AreAddressesInScopes
 addresses_in_scopes m n f a t i h = addresses_open m n f a t i h
-
-pub frames_current : AreFramesCurrent
-frames_current m n f a lends memory frame i h along =
-    operands_current m n f a lends memory frame.entries frame.trail i (are_trails f (accepted_in m n f a).once (i ∷ frame.trail) h)
-    (tracked_along (declarations_of m) f frame along) (addresses_open m n f a frame.trail i h)
