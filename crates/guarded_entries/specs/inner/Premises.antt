@@ -74,20 +74,20 @@ AreFramesCurrent = (m : Module) (n : ℕ) (f : Function) → IsAcceptedBody m n 
 
 -- the cells of a typed place that is loaded are there, and keep strongly what they keep
 abbrev pub LoadTypedStrongly : Type 0
-LoadTypedStrongly = (m : Module) (w : World) (memory : Memory) (i : Inst) (ins outs : List Form) (xs : List Datum) → MemoryIs m w memory → OwnedRowForms m i ins outs
-    → AllZip (DatumIs m w) ins xs → Each (IsAlive memory) xs → LoadsStrongly memory i xs
+LoadTypedStrongly = (m : Module) (w : World) (memory : Memory) (i : Inst) (ins outs : List Form) (xs : List Datum)
+    → MemoryIs m w memory → OwnedRowForms m i ins outs → AllZip (DatumIs m w) ins xs → Each (IsAlive memory) xs → LoadsStrongly memory i xs
 
 -- the operands of an instruction are as its row asks, where entries and memory are typed
 abbrev pub AreTypedForRows : Type 0
-AreTypedForRows = (m : Module) (n : ℕ) (f : Function) → IsAcceptedBody m n f → (w : World) (memory : Memory) (p : PointId) (i : Inst) (entries : List Entry) (ops : Operands)
-    → inst_at f p ≡ Some i → MemoryIs m w memory → EntriesAre m w f entries
+AreTypedForRows = (m : Module) (n : ℕ) (f : Function) → IsAcceptedBody m n f → (w : World) (memory : Memory) (p : PointId) (i : Inst)
+    (entries : List Entry) (ops : Operands) → inst_at f p ≡ Some i → MemoryIs m w memory → EntriesAre m w f entries
     → operands_of (facts_in (declarations_of m) f) memory entries (item_taken f (item.Inst p)) ≡ Ok ops
     → HandsValues i ops.given × LoadsStrongly memory i ops.given
 
 -- what an edge carries are values, where entries are typed
 abbrev pub CarryTypedValues : Type 0
-CarryTypedValues = (m : Module) (n : ℕ) (f : Function) → IsAcceptedBody m n f → (w : World) (memory : Memory) (e : EdgeId) (entries : List Entry) (ops : Operands)
-    (carried : List Datum) → EntriesAre m w f entries
+CarryTypedValues = (m : Module) (n : ℕ) (f : Function) → IsAcceptedBody m n f → (w : World) (memory : Memory) (e : EdgeId)
+    (entries : List Entry) (ops : Operands) (carried : List Datum) → EntriesAre m w f entries
     → operands_of (facts_in (declarations_of m) f) memory entries (item_taken f (item.Edge e)) ≡ Ok ops
     → carried_along f e ops.given ≡ Some carried → CarriesValues carried
 
