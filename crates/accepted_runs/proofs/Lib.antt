@@ -1,2 +1,3 @@
 pub mod KeptOnRuns
+pub mod GuardedRuns
 pub mod RightRuns
