@@ -13,16 +13,22 @@ use Rattle.tracked_frames.specs.inner.TrackedStates.{IsTrackedState}
 use Rattle.tracked_frames.proofs.Begun.{begin_tracked}
 use Rattle.tracked_frames.proofs.TrackedSteps.{entries_are_right, steps_are_tracked}
 use Rattle.held_places.specs.inner.Items.{is_place_fault}
+use Rattle.held_places.specs.inner.Laws.{ArePlacesKept, NoPlaceFaults}
 use Rattle.held_places.specs.inner.PlaceStates.{AreSlotsRight}
 use Rattle.held_places.proofs.ItemsPlaced.{items_placed}
 use Rattle.held_places.proofs.PlacedSteps.{begin_placed, no_place_faults, places_kept}
 use Rattle.held_places.proofs.TrailsSo.{trail_laws}
 use Rattle.held_places.proofs.TypingSo.{typing_laws}
 use Rattle.followed_objects.specs.inner.Said.{said}
-use Rattle.followed_objects.specs.held_objects.inner.ObjectStates.{AreObjectsRight}
+use Rattle.followed_objects.proofs.BuiltSteps.{begin_built, objects_kept}
+use Rattle.followed_objects.proofs.Found.{find_fields}
+use Rattle.held_objects.specs.inner.ObjectStates.{AreObjectsRight}
 use Rattle.guarded_entries.specs.inner.GuardedStates.{IsGuardedState}
 use Rattle.guarded_entries.specs.inner.Laws.{is_dead_fault}
 use Rattle.held_loans.specs.inner.Loans.{loans_of}
+use Rattle.held_loans.proofs.LoansKept.{loans_are_kept}
+use Rattle.accepted_runs.proofs.GuardedRuns.{guarded_kept}
+use Rattle.accepted_runs.proofs.PlacesServe.{places_serve}
 use Rattle.accepted_runs.specs.inner.Kept.{IsKept}
 use Rattle.accepted_runs.specs.inner.Laws.{AreStatesRight, AreStepsRight, NoOutcomeFaults, NoRunFaults}
 use Rattle.accepted_runs.specs.inner.RightStates.{IsRightState}
@@ -88,21 +94,15 @@ pub placed_kept : IsKept (And (And Nothing IsTypedState) IsTrackedState) (And Ar
 placed_kept = record {
   begin = λ m e f v there may. (begin_placed trail_laws m e f v there may, begin_built m e f v there may);
   goes = λ m bound s next v before then is by.
-      (places_kept_here m bound s next v before.0.1 before.1 is.0 by, objects_kept m bound s next v before.0.1 before.1 is.0 is.1 by);
+      (places_kept_here m bound s next v before.0.1 before.1 is.0 by, objects_kept m bound s next v before.0.1 before.1 (places_serve m s v before.0.1 is.0) is.1 by);
   faults = λ m bound s last x v before is by.
-      no_place_faults_here m bound s last x v before.0.1 before.1 is.0 (fields_found m bound s v before.0.1 is.1) by;
+      no_place_faults_here m bound s last x v before.0.1 before.1 is.0 (find_fields m bound s v before.0.1 is.1) by;
 }
 
 -- ---- dead objects
 
-pub guarded_kept : IsKept (And (And (And Nothing IsTypedState) IsTrackedState) (And AreSlotsRight IsBuiltState)) IsLentState is_dead_fault
-guarded_kept = record {
-  begin = λ m e f v there may. begin_guarded m (loans_of m) e f v there may;
-  goes = λ m bound s next v before then is by.
-      steps_guarded_here m (loans_of m) (AreSlotsRight m) bound s next v (loans_kept m v)
-      (record { typed = before.0.0.1; tracked = before.0.1; placed = before.1.0 }) (record { typed = then.0.0.1; tracked = then.0.1; placed = then.1.0 }) is by;
-  faults = λ m bound s last x v before is by. no_dead_faults_here m (loans_of m) bound s last x v before.0.0.1 before.0.1 is by;
-}
+guarded_kept_here : IsKept (And (And (And Nothing IsTypedState) IsTrackedState) (And AreSlotsRight IsBuiltState)) IsLentState is_dead_fault
+guarded_kept_here = guarded_kept loans_of (And AreSlotsRight IsBuiltState) loans_are_kept
 
 -- ---- all parts
 
@@ -118,7 +118,7 @@ parts_kept =
     (λ x. is_entry_fault x || (is_place_fault x || is_dead_fault x)) typed_kept
     (both_kept (And Nothing IsTypedState) IsTrackedState (And (And AreSlotsRight IsBuiltState) IsLentState) is_entry_fault
     (λ x. is_place_fault x || is_dead_fault x) tracked_kept
-    (both_kept (And (And Nothing IsTypedState) IsTrackedState) (And AreSlotsRight IsBuiltState) IsLentState is_place_fault is_dead_fault placed_kept guarded_kept))
+    (both_kept (And (And Nothing IsTypedState) IsTrackedState) (And AreSlotsRight IsBuiltState) IsLentState is_place_fault is_dead_fault placed_kept guarded_kept_here))
 
 parted : (m : Module) (s : HolderState) → IsRightState m s → Parts m s
 parted m s is = (is.typed, is.tracked, (is.placed, is.built), is.guarded)

@@ -69,19 +69,19 @@ module _ (laws : TrailLaws) (m : Module) (s : HolderState) (verified : IsVerifie
   abbrev point : PointId
   point = stands_at f frame.trail
 
-  are_typed : TasksAre m is_typed.world (Runs frame ∷ rest)
+  pub are_typed : TasksAre m is_typed.world (Runs frame ∷ rest)
   are_typed = subst (TasksAre m is_typed.world) is is_typed.tasks
 
-  frame_typed : FrameIs m is_typed.world f frame
+  pub frame_typed : FrameIs m is_typed.world f frame
   frame_typed = subst (λ g. FrameIs m is_typed.world g frame) (same_Some are_typed.0.0 f (sym are_typed.0.1.is ∙ there)) are_typed.0.1
 
-  are_placed : TasksPlaced m s.memory (Runs frame ∷ rest)
+  pub are_placed : TasksPlaced m s.memory (Runs frame ∷ rest)
   are_placed = subst (TasksPlaced m s.memory) is placed
 
-  holds : HoldsPlaces m s.memory f frame rest
+  pub holds : HoldsPlaces m s.memory f frame rest
   holds = subst (λ g. HoldsPlaces m s.memory g frame rest) (same_Some are_placed.0.f f (sym are_placed.0.is ∙ there)) are_placed.0.holds
 
-  body : IsAcceptedBody m frame.function.0 f
+  pub body : IsAcceptedBody m frame.function.0 f
   body = accepted_body m verified frame.function f frame_typed.is frame_typed.bodied
 
   module _ (o : Operated) (c : Contains (operations_of i) o) (own : (row : AddressRow) → o.operation ≡ Handed row → ⊥) (p : Place) (names : Names frame.entries o.address p) where

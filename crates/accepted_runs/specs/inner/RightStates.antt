@@ -5,7 +5,7 @@ use Rattle.typed_holders.specs.inner.TypedStates.{IsTypedState}
 use Rattle.tracked_frames.specs.inner.TrackedStates.{IsTrackedState}
 use Rattle.held_places.specs.inner.PlaceStates.{AreSlotsRight}
 use Rattle.followed_objects.specs.inner.Said.{said}
-use Rattle.followed_objects.specs.held_objects.inner.ObjectStates.{AreObjectsRight}
+use Rattle.held_objects.specs.inner.ObjectStates.{AreObjectsRight}
 use Rattle.guarded_entries.specs.inner.GuardedStates.{IsGuardedState}
 use Rattle.held_loans.specs.inner.Loans.{loans_of}
 
