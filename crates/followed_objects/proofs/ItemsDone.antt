@@ -1,8 +1,7 @@
 -- A frame goes on behind an item that neither makes a new object nor writes a field of an unfinished one.
-use Rattle.std.proofs.Common.{◌≡◌, ◌≤◌, ◌<◌, ◌⊎◌, inl, inr, ℕ, zero, suc, List, [], ◌∷◌, length, refl, sym, ap, ◌∙◌, subst, arith, Bool, true, false, Option, Some, None, Ok}
+use Rattle.std.proofs.Common.{◌≡◌, ◌≤◌, ◌⊎◌, inl, inr, ℕ, zero, suc, List, ◌∷◌, length, refl, sym, ap, ◌∙◌, subst, arith, Bool, true, false, Option, Some, None, Ok}
 use Rattle.std.specs.Prelude.{cond, slice_get, unwrap_or}
-use Rattle.std.proofs.lemmas.Bool.{false≢true, true≢false}
-use Rattle.std.proofs.lemmas.Option.{none-some, same_Some}
+use Rattle.std.proofs.lemmas.Bool.{true≢false}
 use Rattle.argument_conventions.specs.Arguments.{Told, arguments_of}
 use Rattle.argument_conventions.specs.Rows.{address_row}
 use Rattle.argument_conventions.specs.declared.row.AddressRow.{AddressRow}
@@ -27,13 +26,13 @@ use Rattle.accepted_places.proofs.Fields.{has_among}
 use Rattle.accepted_places.proofs.Made.{IsMadeBy, argument, made_so, result}
 use Rattle.accepted_values.specs.inner.Known.{IsAcceptedBody}
 use Rattle.accepted_values.specs.inner.Rows.{source_of_argument}
-use Rattle.built_objects.specs.inner.Building.{IsUnfinished, Progress}
+use Rattle.built_objects.specs.inner.Building.{Progress}
 use Rattle.built_objects.specs.inner.FrameObjects.{Holds, HoldsObjects, MayName, Names}
 use Rattle.built_objects.specs.inner.FrameObjects as frames
 use Rattle.built_objects.specs.inner.Laws.{Begins, MayBegin}
 use Rattle.built_objects.specs.inner.Laws as laws
 use Rattle.built_objects.proofs.Handing.{begin_whole}
-use Rattle.held_objects.specs.inner.Items.{LosesEntries, Stands, frame_behind, sources_in}
+use Rattle.held_objects.specs.inner.Items.{LosesEntries, Stands, frame_behind}
 use Rattle.held_objects.specs.inner.Laws.{StaysBelow}
 use Rattle.held_objects.specs.inner.ObjectStates.{TasksBuild}
 use Rattle.held_objects.proofs.Items.{quiet_right}
@@ -43,7 +42,7 @@ use Rattle.numbered_form.specs.Lists.{Each}
 use Rattle.ownership_chains.specs.Facts.{has}
 use Rattle.ownership_chains.specs.declared.facts.Facts.{Facts}
 use Rattle.point_checks.proofs.Among.{contained_among}
-use Rattle.run_values.specs.Memory.{Memory, no_object, object_at}
+use Rattle.run_values.specs.Memory.{Memory, no_object}
 use Rattle.run_values.specs.Places.{Place}
 use Rattle.sil_ast.specs.declared.function.Function.{Function}
 use Rattle.sil_ast.specs.declared.inst.Inst.{Inst}
