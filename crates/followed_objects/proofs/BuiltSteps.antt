@@ -216,9 +216,9 @@ module _ (m : Module) (bound : ℕ) (verified : IsVerified m) where
               (Runs (record frame_left { lent = lent_at m (facts_of m) bound f (item.Inst p) args }) ∷ rest) g callee (map as_argument args) next → BuiltNext m next
           enters_built _ (Enters.enters entries put deep turn) =
               let leads = calls_right m (said m) s.memory rest frame f ops.left (lent_at m (facts_of m) bound f (item.Inst p) args) g callee entries stands
-                  its_operands.doing.loses hands.lent there
-                  (entered m g callee (accepted_body m verified g callee there bodied) s.memory (facts_in (declarations_of m) callee) (map as_argument args) entries hands.whole
-                  (callee_entries m bound g callee there (map as_argument args) entries put)) in
+              its_operands.doing.loses hands.lent there
+              (entered m g callee (accepted_body m verified g callee there bodied) s.memory (facts_in (declarations_of m) callee) (map as_argument args) entries hands.whole
+              (callee_entries m bound g callee there (map as_argument args) entries put)) in
               record { memory = leads.0; tasks = leads.1 }
           enters_built _ (Enters.wrong_argument y put) = tt
           enters_built _ (Enters.too_deep deep) = tt
@@ -268,7 +268,8 @@ module _ (m : Module) (bound : ℕ) (verified : IsVerified m) where
         takes_built : (k : ℕ) → ComesAt f (stands_at f frame.trail) (item.Edge (edge_of (stands_at f frame.trail) k)) → (ending_of x.op ≡ ending.Unreachable → ⊥)
             → (next : HolderNext) → TakesEdge m (facts_of m) bound s rest frame f (edge_of (stands_at f frame.trail) k) next → BuiltNext m next
         takes_built k comes goes next (TakesEdge.takes ops carried n found along_it turn moves) =
-            behind_built m bound _ rest (left_with m (facts_of m) bound frame ops) f is (item.Edge (edge_of (stands_at f frame.trail) k)) (record (unchanged s.memory) { results = carried })
+            behind_built m bound _ rest (left_with m (facts_of m) bound frame ops) f is (item.Edge (edge_of (stands_at f frame.trail) k))
+            (record (unchanged s.memory) { results = carried })
             (λ slots entries closes put. given_built m bound s.memory rest frame f (item.Edge (edge_of (stands_at f frame.trail) k)) ops.left its.doing
             (edge_apart m frame.function.0 f a (edge_of (stands_at f frame.trail) k))
             (λ y so. ending_makes y.op ((typed m frame.function.0 f a).ends block y so).1.ends)
@@ -304,7 +305,8 @@ module _ (m : Module) (bound : ℕ) (verified : IsVerified m) where
               by (z ∷ []) e h = subst (λ u. NameWhole s.memory (references_in u)) (same_Some z y e) h.0
               by (z ∷ u ∷ ys) e h = absurd (cc)
 
-          leaves_built : (y : Datum) → only ops.given ≡ Some y → (next : HolderNext) → Leaves m (facts_of m) bound s rest (left_with m (facts_of m) bound frame ops) f y next → BuiltNext m next
+          leaves_built : (y : Datum) → only ops.given ≡ Some y → (next : HolderNext)
+              → Leaves m (facts_of m) bound s rest (left_with m (facts_of m) bound frame ops) f y next → BuiltNext m next
           leaves_built y one next (Leaves.leaves n held slots places reaches) = reaches_built frame y (returned_whole y one) rest first n reaches
           leaves_built y one _ (Leaves.holds held) = tt
           leaves_built y one _ (Leaves.has_slot slots) = tt

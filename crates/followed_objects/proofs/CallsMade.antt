@@ -6,10 +6,12 @@ use Rattle.argument_conventions.specs.declared.row.Content.TheVariants as conten
 use Rattle.holder_counts.specs.holder_model.Builtins.{builtin_value, is_set}
 use Rattle.holder_counts.specs.holder_model.Data.{AddressOf, Datum, FunctionOf, ValueOf, all_of, as_function, as_place, as_value, values_of}
 use Rattle.holder_counts.specs.holder_model.Effects as effects
-use Rattle.holder_counts.specs.holder_model.Effects.{Calls, Effect, Faults, Makes, Traps, Unfit, effect_by, effect_of, gives, gives_value, only, part_number, unchanged, with_some}
+use Rattle.holder_counts.specs.holder_model.Effects.{Calls, Effect, Faults, Makes, Traps, Unfit, effect_by, effect_of, gives, gives_value, only, part_number, unchanged}
+use Rattle.holder_counts.specs.holder_model.Effects.{with_some}
 use Rattle.holder_counts.specs.holder_model.Faults.{HolderFault, NotLastSlot}
 use Rattle.holder_counts.specs.holder_model.MemoryEffects as memory
-use Rattle.holder_counts.specs.holder_model.MemoryEffects.{after, all_live, asked_before, at_place, at_places, effect, fault_of, holds, loaded_name, named_again, operation_done, two, value_and_place, where_held}
+use Rattle.holder_counts.specs.holder_model.MemoryEffects.{after, all_live, asked_before, at_place, at_places, effect, fault_of, holds, loaded_name, named_again}
+use Rattle.holder_counts.specs.holder_model.MemoryEffects.{operation_done, two, value_and_place, where_held}
 use Rattle.holder_counts.specs.holder_model.ModuleShapes.{ModuleShapes, case_place}
 use Rattle.holder_counts.specs.holder_model.declared.row_effect.RowEffect.{RowEffect}
 use Rattle.holder_counts.specs.holder_model.declared.row_effect.RowEffect.TheVariants as row

@@ -73,9 +73,10 @@ entered m g callee a memory facts args entries whole put = record { none = none_
         at false none =
             absurd (none_there v x (ap datum_in (sym (put_other facts (item_defined callee item.Entry) args (no_entries (value_count callee)) entries put v none)) ∙ names))
         at true some =
-            let begun = put_named facts (item_defined callee item.Entry) args (no_entries (value_count callee)) entries put v some x names in
-            (each_at (λ y. NameWhole memory (references_in y)) args begun.place x whole begun.datum,
-            made_apart m g.0 callee a item.Entry v some (entry_apart m g.0 callee a))
+            let begun = put_named facts (item_defined callee item.Entry) args (no_entries (value_count callee)) entries put v some x names in (
+              each_at (λ y. NameWhole memory (references_in y)) args begun.place x whole begun.datum,
+              made_apart m g.0 callee a item.Entry v some (entry_apart m g.0 callee a),
+            )
 
 -- ---- what a call hands over
 

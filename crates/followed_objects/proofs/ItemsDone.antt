@@ -13,7 +13,8 @@ use Rattle.accepted_memory.specs.holder_model.ModuleShapes.{shapes_of}
 use Rattle.accepted_memory.specs.holder_model.States.{Runs, Task, dropping}
 use Rattle.accepted_memory.specs.memory_accesses.Locations.{is_object}
 use Rattle.accepted_memory.specs.memory_accesses.Operations.{access_kind_of}
-use Rattle.accepted_memory.specs.memory_accesses.Sources.{argument_source_or, borrow_source, element_place, field_source, handed_source, is_trivial_member, loan_source, member_place}
+use Rattle.accepted_memory.specs.memory_accesses.Sources.{argument_source_or, borrow_source, element_place, field_source, handed_source, is_trivial_member, loan_source}
+use Rattle.accepted_memory.specs.memory_accesses.Sources.{member_place}
 use Rattle.accepted_memory.specs.memory_accesses.Sources.{part_source, slot_source, source_at, source_by, sources_of, upcast_source}
 use Rattle.accepted_memory.specs.memory_accesses.declared.columns.AccessKind.{AccessKind}
 use Rattle.accepted_memory.specs.memory_accesses.declared.columns.AccessKind.TheVariants as access
@@ -197,14 +198,16 @@ module _ (m : Module) (memory : Memory) (rest : List (Task Frame)) (frame : Fram
     pub quietly_right : MakesNone → WritesNone → (c : Change) → IsQuietly c → (facts : ValueId → Option Facts) (behind : List Entry) (slots : List Place)
         → results_put facts (item_defined f i) c.results left ≡ Ok behind
         → IsWholeMemory c.memory × TasksBuild m (said m) c.memory (dropping c.dropped (Runs (frame_behind frame i behind slots) ∷ rest))
-    quietly_right none writes c quiet facts behind slots put = (quiet.whole,
-        quiet_right m (said m) memory c.memory rest frame f i left behind slots c.dropped doing.stands (record {
-          loses = doing.loses;
-          stays = quiet.stays;
-          unwritten = unwritten none writes;
-          begins = begins;
-          objects = λ object fields is. put_other facts (item_defined f i) c.results left behind put object (unmade none object fields is);
-        }) quiet.dropped)
+    quietly_right none writes c quiet facts behind slots put = (
+      quiet.whole,
+      quiet_right m (said m) memory c.memory rest frame f i left behind slots c.dropped doing.stands (record {
+        loses = doing.loses;
+        stays = quiet.stays;
+        unwritten = unwritten none writes;
+        begins = begins;
+        objects = λ object fields is. put_other facts (item_defined f i) c.results left behind put object (unmade none object fields is);
+      }) quiet.dropped,
+    )
       where
         begins : (v : ValueId) → Begins (shapes_of m) Sources was (said m f (i ∷ frame.trail)) c.memory left behind v
         begins v = at (has (item_defined f i) v.0) refl

@@ -140,9 +140,14 @@ module _ (m : Module) (n : ℕ) (f : Function) (a : IsAcceptedBody m n f) where
   module _ (v : ValueId) (l : Location) (of : ValueId) (k : ℕ) (at : IsFieldAddress sources v l of k) where
     at_row : (p : PointId) (x : Inst) → inst_at f p ≡ Some x → makes f v (item.Inst p) ≡ true → HowRow x.op → IsAddress d f v
     at_row p x is made (apart keeps) =
-        absurd ((made_apart m n f a (item.Inst p) v made (λ y so. subst (λ (z : Inst). keeps_apart (access_kind_of z.op) ≡ true) (same_Some x y (sym is ∙ so)) keeps)).address l of k at)
-    at_row p x is made (lends e) = absurd (unlocated v l (borrow_source (first_value x)) (length sources) (made_row p x is v made ∙ ap (λ q. source_by q d x) e) (borrow_nowhere v (first_value x)) at.at)
-    at_row p x is made (upcasts e) = absurd (unlocated v l (upcast_source (first_value x)) (length sources) (made_row p x is v made ∙ ap (λ q. source_by q d x) e) (upcast_nowhere v (first_value x)) at.at)
+        absurd ((made_apart m n f a (item.Inst p) v made
+        (λ y so. subst (λ (z : Inst). keeps_apart (access_kind_of z.op) ≡ true) (same_Some x y (sym is ∙ so)) keeps)).address l of k at)
+    at_row p x is made (lends e) =
+        absurd (unlocated v l (borrow_source (first_value x)) (length sources) (made_row p x is v made ∙ ap (λ q. source_by q d x) e)
+        (borrow_nowhere v (first_value x)) at.at)
+    at_row p x is made (upcasts e) =
+        absurd (unlocated v l (upcast_source (first_value x)) (length sources) (made_row p x is v made ∙ ap (λ q. source_by q d x) e)
+        (upcast_nowhere v (first_value x)) at.at)
     at_row p x is made (names gives) = result_place p x is gives v made
 
     made_at : (p : PointId) (o : Option Inst) → inst_at f p ≡ o → makes f v (item.Inst p) ≡ true → IsAddress d f v

@@ -117,9 +117,9 @@ module _ (d : Declarations) (shapes : ModuleShapes) (values : List Shape) (m : M
     pub class : Name
     pub shape : class_in (effects.result_shape d shapes values m i) ≡ Some class
     pub is : c ≡ record (unchanged m) {
-          results = ValueOf (value.Object (new_object m)) ∷ [];
-          memory = record m { objects = m.objects ++ record { class = class; phase = Live; cells = empty_fields (field_shapes shapes class) } ∷ [] };
-        }
+      results = ValueOf (value.Object (new_object m)) ∷ [];
+      memory = record m { objects = m.objects ++ record { class = class; phase = Live; cells = empty_fields (field_shapes shapes class) } ∷ [] };
+    }
 
   pub made_object : effect_of i.op ≡ row.MakesObject → MakesObject
   made_object e =

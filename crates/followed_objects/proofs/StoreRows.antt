@@ -87,7 +87,8 @@ use Rattle.followed_objects.proofs.RowChanges.{Stores, stored}
 use Rattle.followed_objects.proofs.RowsSay.{says_by}
 use Rattle.followed_objects.proofs.StillRows.{stack_objects}
 use Rattle.followed_objects.proofs.Steps.{built_told, fields_filled, new_field_told, there, told}
-use Rattle.followed_objects.proofs.Stored.{Fills, StoringRow, filled_other, leaves_full, none_put, number_or_not, part_was_full, same_object, same_or_not, store_fills, storing_row}
+use Rattle.followed_objects.proofs.Stored.{Fills, StoringRow, filled_other, leaves_full, none_put, number_or_not, part_was_full, same_object, same_or_not, store_fills}
+use Rattle.followed_objects.proofs.Stored.{storing_row}
 use Rattle.followed_objects.proofs.WholeOperands.{Ready, holds_objects, whole_value}
 
 module _ (m : Module) (memory : Memory) (rest : List (Task Frame)) (frame : Frame) (f : Function) (p : PointId) (ops : Operands)
@@ -313,7 +314,7 @@ module _ (m : Module) (memory : Memory) (rest : List (Task Frame)) (frame : Fram
       on =
           let new = new_field_told sources object k field_new in
           let b = parts_followed (declarations_of m) f (accepted_in m frame.function.0 f ready.doing.body) (Building object k)
-              (there m frame.function.0 f ready.doing.body object k new) frame.trail ready.doing.trail.1 in
+          (there m frame.function.0 f ready.doing.body object k new) frame.trail ready.doing.trail.1 in
           (b.0, told m frame.function.0 f ready.doing.body object k frame.trail new ∙ b.1)
 
       defined : IsDefinedOn f frame.trail object
