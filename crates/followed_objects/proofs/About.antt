@@ -1,5 +1,6 @@
 -- What makes a value that is about a new object takes another one that is about it, so the object is as it was when the value was made.
-use Rattle.std.proofs.Common.{◌≡◌, ◌⊎◌, inl, inr, ℕ, zero, suc, List, [], ◌∷◌, ◌++◌, length, map, reverse, refl, sym, ap, ap₂, ◌∙◌, subst, Bool, true, false, not, ◌&&◌, ◌||◌, Option, Some, None, eq-eqb}
+use Rattle.std.proofs.Common.{◌≡◌, ◌⊎◌, inl, inr, ℕ, zero, suc, List, [], ◌∷◌, ◌++◌, length, map, reverse, refl, sym, ap, ap₂, ◌∙◌, subst, Bool, true, false, not, ◌&&◌, ◌||◌}
+use Rattle.std.proofs.Common.{Option, Some, None, eq-eqb}
 use Rattle.std.specs.Prelude.{◌==◌, Contains, cond, option_map, slice_get}
 use Rattle.std.specs.List.{list_any}
 use Rattle.std.proofs.lemmas.Bool.{eqb-true, false≢true, true≢false}
@@ -16,7 +17,8 @@ use Rattle.accepted_memory.specs.accepted_trails.inner.Defined.{IsDefinedOn, mak
 use Rattle.accepted_memory.specs.memory_accesses.Locations.{below, below_by, is_object, locate, located_by, object_lent, upcast_from, whole}
 use Rattle.accepted_memory.specs.memory_accesses.Operations.{access_kind_of}
 use Rattle.accepted_memory.specs.memory_accesses.Sources.{argument_source_or, borrow_source, element_place, field_source, handed_source, is_trivial_member}
-use Rattle.accepted_memory.specs.memory_accesses.Sources.{loan_source, member_place, object_source, part_source, result_source, slot_source, source_at, source_by, sources_of, upcast_source}
+use Rattle.accepted_memory.specs.memory_accesses.Sources.{loan_source, member_place, object_source, part_source, result_source, slot_source, source_at, source_by, sources_of}
+use Rattle.accepted_memory.specs.memory_accesses.Sources.{upcast_source}
 use Rattle.accepted_memory.specs.memory_accesses.declared.columns.AccessKind.{AccessKind}
 use Rattle.accepted_memory.specs.memory_accesses.declared.columns.AccessKind.TheVariants as access
 use Rattle.accepted_memory.specs.memory_accesses.declared.location.Location.{Location}

@@ -1,6 +1,6 @@
 -- What an item makes is about no new object, unless its row hands an object or an address on.
-use Rattle.std.proofs.Common.{◌≡◌, ◌⊎◌, inl, inr, ℕ, zero, suc, List, length, refl, sym, ap, ◌∙◌, subst, Bool, true, false, Option, Some, None}
-use Rattle.std.specs.Prelude.{Contains, slice_get}
+use Rattle.std.proofs.Common.{◌≡◌, ◌⊎◌, inl, inr, ℕ, zero, suc, List, length, refl, sym, ap, ◌∙◌, Bool, true, false, Option, Some, None}
+use Rattle.std.specs.Prelude.{slice_get}
 use Rattle.std.proofs.lemmas.Bool.{false≢true}
 use Rattle.std.proofs.lemmas.Option.{none-some, same_Some}
 use Rattle.argument_conventions.specs.Arguments.{Told, arguments_of}
@@ -10,7 +10,7 @@ use Rattle.instruction_table.specs.Forms.{is_terminator}
 use Rattle.instruction_table.specs.declared.op.Op.{Op}
 use Rattle.instruction_table.specs.declared.op.Op.TheVariants as op
 use Rattle.accepted_memory.specs.accepted_trails.inner.Defined.{makes}
-use Rattle.accepted_memory.specs.memory_accesses.Locations.{locate, located_by, location_of, whole}
+use Rattle.accepted_memory.specs.memory_accesses.Locations.{locate, located_by, whole}
 use Rattle.accepted_memory.specs.memory_accesses.Operations.{access_kind_of}
 use Rattle.accepted_memory.specs.memory_accesses.Sources.{argument_source_or, handed_source, loan_source, object_source, slot_source, source_at, source_by, sources_of}
 use Rattle.accepted_memory.specs.memory_accesses.declared.columns.AccessKind.{AccessKind}
@@ -27,7 +27,7 @@ use Rattle.accepted_values.proofs.Accepted.{typed}
 use Rattle.built_objects.specs.inner.Building.{IsAbout, IsFieldAddress, address, borrow, itself}
 use Rattle.built_objects.specs.inner.Laws.{IsOutside}
 use Rattle.item_operands.specs.Items.{item_defined}
-use Rattle.item_operands.specs.Parts.{inst_at, item_inst}
+use Rattle.item_operands.specs.Parts.{item_inst}
 use Rattle.point_checks.proofs.Among.{contained_among}
 use Rattle.sil_ast.specs.declared.function.Function.{Function}
 use Rattle.sil_ast.specs.declared.inst.Inst.{Inst}

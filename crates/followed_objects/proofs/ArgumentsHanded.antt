@@ -1,10 +1,8 @@
 -- What a call takes behind its callee: an address is handed over by the convention of its argument.
-use Rattle.std.proofs.Common.{◌≡◌, inl, inr, ℕ, zero, suc, List, [], ◌∷◌, ◌++◌, append-nil, length, map, refl, sym, ap, ap₂, ◌∙◌, subst, Bool, true, false, ◌&&◌, not, Option, Some, None}
-use Rattle.std.specs.Prelude.{slice_get}
+use Rattle.std.proofs.Common.{◌≡◌, inl, inr, ℕ, List, [], ◌∷◌, append-nil, length, map, refl, sym, ap, ap₂, ◌∙◌, subst, Bool, true, false, not, Some}
 use Rattle.std.specs.List.{AllZip}
-use Rattle.std.proofs.lemmas.Bool.{and_parts, false≢true, true≢false}
-use Rattle.std.proofs.lemmas.Option.{none-some, same_Some}
-use Rattle.argument_conventions.specs.Arguments.{Told, argument_type, arguments_of, conventions_of, handed_type}
+use Rattle.std.proofs.lemmas.Bool.{and_parts, false≢true}
+use Rattle.argument_conventions.specs.Arguments.{Told, arguments_of, conventions_of, handed_type}
 use Rattle.argument_conventions.specs.Rows.{address_row, row_of}
 use Rattle.argument_conventions.specs.declared.convention.ArgumentConvention.{ArgumentConvention}
 use Rattle.argument_conventions.specs.declared.convention.ArgumentConvention.TheVariants as convention
@@ -16,7 +14,7 @@ use Rattle.instruction_table.specs.declared.op.Op.TheVariants as op
 use Rattle.accepted_memory.specs.holder_model.Effects.{effect_of}
 use Rattle.accepted_memory.specs.holder_model.declared.row_effect.RowEffect.{RowEffect}
 use Rattle.accepted_memory.specs.holder_model.declared.row_effect.RowEffect.TheVariants as row
-use Rattle.accepted_memory.specs.sil_types.Typing.Shapes.{is_object, target}
+use Rattle.accepted_memory.specs.sil_types.Typing.Shapes.{is_object}
 use Rattle.accepted_memory.specs.sil_types.Typing.SignatureRules.{fits_by}
 use Rattle.accepted_memory.specs.sil_types.Typing.Values.{function_at, value_functions}
 use Rattle.accepted_places.proofs.OperationsRight.{stands_somewhere}
@@ -33,17 +31,15 @@ use Rattle.accepted_values.proofs.run_typing_laws.Rows.Layers.{object_target}
 use Rattle.item_operands.specs.Parts.{inst_at}
 use Rattle.item_operands.specs.Roles.{by_convention, by_row, conventions_by, conventions_in, roles_for, taken_as, taken_by, taken_each}
 use Rattle.item_operands.specs.declared.taken.Taken.{Taken}
-use Rattle.item_operands.specs.declared.taken.Treatment.{Treatment}
 use Rattle.numbered_form.specs.Lists.{Each}
 use Rattle.point_checks.proofs.Among.{Among}
-use Rattle.run_values.specs.Shapes.{Shape, shape_of}
+use Rattle.run_values.specs.Shapes.{shape_of}
 use Rattle.sil_ast.specs.declared.function.Function.{Function}
 use Rattle.sil_ast.specs.declared.inst.Inst.{Inst}
 use Rattle.sil_ast.specs.declared.module.Module.{Module}
 use Rattle.sil_ast.specs.declared.operands.Operand.{Operand}
 use Rattle.sil_ast.specs.declared.place.PointId.{PointId}
 use Rattle.sil_ast.specs.declared.place.ValueId.{ValueId}
-use Rattle.sil_ast.specs.declared.signature.Signature.{Signature}
 use Rattle.sil_ast.specs.declared.type_name.TypeName.{TypeName}
 use Rattle.sil_cfg.specs.declared.item.Item.TheVariants as item
 use Rattle.type_definitions.specs.Declarations.{Declarations, declarations_of}

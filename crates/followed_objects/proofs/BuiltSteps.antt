@@ -1,32 +1,27 @@
 -- A step from a state whose objects are right leads to one whose objects are right.
-use Rattle.std.proofs.Common.{◌≡◌, inl, ℕ, List, [], ◌∷◌, length, map, refl, sym, ap, ◌∙◌, subst, Bool, true, false, not, ◌&&◌, Option, Some, None, Ok, Err}
-use Rattle.std.specs.Prelude.{Contains, slice_get}
+use Rattle.std.proofs.Common.{◌≡◌, inl, ℕ, List, [], ◌∷◌, length, map, refl, sym, ap, ◌∙◌, subst, true, false, not, Some, Ok}
+use Rattle.std.specs.Prelude.{slice_get}
 use Rattle.std.proofs.lemmas.Bool.{and_parts, true≢false}
 use Rattle.std.proofs.lemmas.Option.{same_Some}
 use Rattle.argument_conventions.specs.Arguments.{arguments_of}
 use Rattle.instruction_table.specs.Forms.{ending_of}
 use Rattle.instruction_table.specs.declared.entries.Ending.TheVariants as ending
 use Rattle.accepted_memory.specs.accepted_modules.inner.Checked.{IsVerified}
-use Rattle.accepted_memory.specs.holder_model.Calling.{as_argument, handed_over, value_count}
-use Rattle.accepted_memory.specs.holder_model.Data.{AddressOf, Datum, ValueOf, references_in}
-use Rattle.accepted_memory.specs.holder_model.Edges.{carried_along, edge_of}
+use Rattle.accepted_memory.specs.holder_model.Calling.{as_argument, handed_over}
+use Rattle.accepted_memory.specs.holder_model.Data.{Datum, ValueOf, references_in}
+use Rattle.accepted_memory.specs.holder_model.Edges.{edge_of}
 use Rattle.accepted_memory.specs.holder_model.Effects as effects
 use Rattle.accepted_memory.specs.holder_model.Effects.{Change, effect_of, only, unchanged}
 use Rattle.accepted_memory.specs.holder_model.Faults.{HolderFault}
-use Rattle.accepted_memory.specs.holder_model.Frames.{Entry, Frame, LentPlace, Operands, has_any, no_entries, operands_of, results_put}
+use Rattle.accepted_memory.specs.holder_model.Frames.{Entry, Frame, Operands, has_any, operands_of, results_put}
 use Rattle.accepted_memory.specs.holder_model.HolderStates.{HolderNext, HolderState}
-use Rattle.accepted_memory.specs.holder_model.ModuleFacts.{ModuleFacts, facts_of, facts_told}
+use Rattle.accepted_memory.specs.holder_model.ModuleFacts.{facts_of}
 use Rattle.accepted_memory.specs.holder_model.ModuleShapes.{shapes_in, shapes_of}
-use Rattle.accepted_memory.specs.holder_model.Outcomes.{begins, may_start}
 use Rattle.accepted_memory.specs.holder_model.Standing.{stands_at}
-use Rattle.accepted_memory.specs.holder_model.StepParts.{new_frame, slots_behind}
-use Rattle.accepted_memory.specs.holder_model.States.{Drops, Ends, Finishes, Goes, Runs, Task, dropping}
+use Rattle.accepted_memory.specs.holder_model.States.{Finishes, Runs, Task}
 use Rattle.accepted_memory.specs.holder_model.Steps as steps
-use Rattle.accepted_memory.specs.holder_model.declared.row_effect.RowEffect.TheVariants as row
-use Rattle.accepted_memory.specs.memory_accesses.Locations.{location_of}
 use Rattle.accepted_memory.specs.memory_accesses.Operations.{access_kind_of}
-use Rattle.accepted_memory.specs.memory_accesses.Sources.{source_at, sources_of}
-use Rattle.accepted_memory.specs.memory_accesses.declared.source.Source.TheVariants as source
+use Rattle.accepted_memory.specs.memory_accesses.Sources.{sources_of}
 use Rattle.accepted_memory.specs.ownership_kinds.Facts.{facts_in}
 use Rattle.accepted_memory.specs.run_trails.inner.RunTrails.{ComesAt, IsRunTrail, IsTurnedTrail}
 use Rattle.accepted_memory.proofs.run_trails.RunPaths.{are_trails}
@@ -36,26 +31,21 @@ use Rattle.accepted_values.specs.inner.Known.{IsAcceptedBody}
 use Rattle.accepted_values.proofs.Accepted.{typed}
 use Rattle.accepted_values.proofs.Facts.{run_facts}
 use Rattle.held_entries.specs.inner.Entries.{End}
-use Rattle.held_objects.specs.inner.Items.{LosesEntries, Stands, frame_behind}
-use Rattle.held_objects.specs.inner.ObjectStates.{AreObjectsRight, BelowBuild, FrameBuilds, TasksBuild}
+use Rattle.held_objects.specs.inner.Items.{LosesEntries, Stands}
+use Rattle.held_objects.specs.inner.ObjectStates.{AreObjectsRight, BelowBuild, TasksBuild}
 use Rattle.held_objects.proofs.Drops.{drops_right, finishes_right}
 use Rattle.held_objects.proofs.Entering.{begin_right, calls_right, deinits_right}
 use Rattle.item_operands.specs.Items.{item_defined, item_taken}
-use Rattle.item_operands.specs.Parts.{inst_at, item_inst, terminator_of}
-use Rattle.item_operands.specs.declared.taken.Taken.{Taken}
+use Rattle.item_operands.specs.Parts.{inst_at}
 use Rattle.numbered_form.specs.Lists.{Each}
-use Rattle.ownership_chains.specs.declared.facts.Facts.{Facts}
-use Rattle.run_values.specs.Memory.{Memory}
 use Rattle.run_values.specs.Places.{Place}
 use Rattle.run_values.specs.Values as value
 use Rattle.sil_ast.specs.declared.function.Function.{Function}
 use Rattle.sil_ast.specs.declared.inst.Inst.{Inst}
 use Rattle.sil_ast.specs.declared.module.Module.{Module}
-use Rattle.sil_ast.specs.declared.place.EdgeId.{EdgeId}
 use Rattle.sil_ast.specs.declared.place.FuncId.{FuncId}
 use Rattle.sil_ast.specs.declared.place.ObjectId.{ObjectId}
 use Rattle.sil_ast.specs.declared.place.PointId.{PointId}
-use Rattle.sil_ast.specs.declared.place.ValueId.{ValueId}
 use Rattle.sil_cfg.specs.Items.{leaves_function}
 use Rattle.sil_cfg.specs.declared.item.Item.{Item}
 use Rattle.sil_cfg.specs.declared.item.Item.TheVariants as item
@@ -63,24 +53,24 @@ use Rattle.type_definitions.specs.Declarations.{declarations_of}
 use Rattle.tracked_frames.specs.inner.TrackedStates.{AreTasksTracked, GoesAlong, IsTrackedState}
 use Rattle.tracked_frames.proofs.NextItems.{chooses_on, chosen_within, edge_comes, exit_comes, inst_comes, one_edge}
 use Rattle.tracked_frames.proofs.OperandsFound.{ended, operands_left, size_left}
-use Rattle.typed_holders.specs.holder_steps.inner.Ways.{Acts, DropsOne, Enters, FinishesOne, GoesBehind, Leaves, Performs, Reaches, StandsAtEnd, StepsBy, TakesEdge, left_with}
+use Rattle.typed_holders.specs.holder_steps.inner.Ways.{Acts, DropsOne, Enters, FinishesOne, Leaves, Performs, Reaches, StandsAtEnd, StepsBy, TakesEdge, left_with}
 use Rattle.typed_holders.specs.holder_steps.inner.Ways.{lent_at, operands_in}
 use Rattle.typed_holders.specs.inner.TypedStates.{FrameIs, IsTypedState, TasksAre, WaitsTyped}
 use Rattle.typed_holders.proofs.GoesOn.{accepted_body, typed_module}
-use Rattle.typed_holders.proofs.Stacks.{BelowTyped}
 use Rattle.typed_holders.proofs.holder_steps.StepsTold.{steps_told}
 use Rattle.whole_objects.specs.inner.Whole.{IsWhole, IsWholeMemory, NameWhole}
 use Rattle.followed_objects.specs.inner.BuiltStates.{AreObjectsKept, BeginBuilt, DoPlacesServe}
 use Rattle.followed_objects.specs.inner.Said.{said}
 use Rattle.followed_objects.proofs.Apart.{KeepsApart, edge_apart, keeps_apart}
+use Rattle.followed_objects.proofs.BuiltBehind.{BuiltNext, LeadsBy, behind_built, callee_entries, given_built}
 use Rattle.followed_objects.proofs.CallsMade.{is_call}
 use Rattle.followed_objects.proofs.EdgeValues.{ending_makes, terminator_whole}
 use Rattle.followed_objects.proofs.Ends.{lose_others}
 use Rattle.followed_objects.proofs.Entered.{HandsSo, entered, hands_so}
 use Rattle.followed_objects.proofs.EntriesNamed.{operands_named}
-use Rattle.followed_objects.proofs.Filling.{ending_still, fills_none, is_field, stores}
+use Rattle.followed_objects.proofs.Filling.{ending_still, is_field, stores}
 use Rattle.followed_objects.proofs.Found.{body, frame_is}
-use Rattle.followed_objects.proofs.ItemsDone.{Doing, MakesNone, WritesNone, apart_quietly, makes_object, quietly_right, stack_stays}
+use Rattle.followed_objects.proofs.ItemsDone.{Doing, MakesNone, makes_object}
 use Rattle.followed_objects.proofs.OperandPlaces.{OthersOnStack}
 use Rattle.followed_objects.proofs.RowsRight.{row_right}
 use Rattle.followed_objects.proofs.StillRows.{is_special, still_row}
@@ -88,65 +78,18 @@ use Rattle.followed_objects.proofs.Steps.{none_at_entry}
 use Rattle.followed_objects.proofs.WholeOperands.{Ready}
 use Rattle.followed_objects.proofs.WholeValues.{carried_names}
 
-abbrev BuiltNext : Module → HolderNext → Type 0
-BuiltNext m (Goes s) = AreObjectsRight m (said m) s
-BuiltNext m (Ends e s) = Unit {0}
-
 module _ (m : Module) (bound : ℕ) (verified : IsVerified m) where
-  abbrev told : ModuleFacts
-  told = facts_of m
-
-  -- ---- behind an item
-
-  -- what holds of memory and tasks behind the item, with these slots and entries
-  abbrev LeadsBy : List (Task Frame) → Frame → Item → Change → List Place → List Entry → Type 0
-  LeadsBy rest frame i c slots entries =
-      IsWholeMemory c.memory × TasksBuild m (said m) c.memory (dropping c.dropped (Runs (frame_behind frame i entries slots) ∷ rest))
-
-  behind_built : (s : HolderState) (rest : List (Task Frame)) (frame : Frame) (f : Function) → slice_get m.functions frame.function.0 ≡ Some f → (i : Item) (c : Change)
-      → ((slots : List Place) (entries : List Entry) → slots_behind c.slots frame.slots ≡ Ok slots
-      → results_put (facts_in (declarations_of m) f) (item_defined f i) c.results frame.entries ≡ Ok entries → LeadsBy rest frame i c slots entries)
-      → (next : HolderNext) → GoesBehind m told bound s rest frame f i c next → BuiltNext m next
-  behind_built s rest frame f is i c leads _ (GoesBehind.goes slots entries so put) =
-      let right = leads slots entries so (ap (λ facts. results_put facts (item_defined f i) c.results frame.entries) (sym (run_facts m frame.function f is)) ∙ put) in
-      record { memory = right.0; tasks = right.1 }
-  behind_built s rest frame f is i c leads _ (GoesBehind.wrong_slot x e) = tt
-  behind_built s rest frame f is i c leads _ (GoesBehind.wrong_result slots x so put) = tt
-
-  -- what an item leaves whose instruction keeps its results apart, writes nothing and makes nothing
-  module _ (memory : Memory) (rest : List (Task Frame)) (frame : Frame) (f : Function) (i : Item) (left : List Entry) (doing : Doing m memory rest frame f i left)
-      (apart : KeepsApart f i) (makes : MakesNone m memory rest frame f i left)
-      (writes : (x : Inst) → item_inst f i ≡ Some x → stores (access_kind_of x.op) ≡ false) where
-    given_built : (xs : List Datum) → Each (λ y. NameWhole memory (references_in y)) xs → (slots : List Place) (entries : List Entry)
-        → results_put (facts_in (declarations_of m) f) (item_defined f i) xs left ≡ Ok entries
-        → LeadsBy rest frame i (record (unchanged memory) { results = xs }) slots entries
-    given_built xs whole slots entries put =
-        quietly_right m memory rest frame f i left doing makes (λ object k. inl (fills_none m frame.function.0 f doing.body i object k writes))
-        (record (unchanged memory) { results = xs })
-        (apart_quietly m memory rest frame f i left doing apart (record (unchanged memory) { results = xs }) (doing.stands.whole, λ o is. is)
-        (stack_stays m memory memory (Runs frame ∷ rest) (doing.stands.whole, λ o is. is) refl) tt whole)
-        (facts_in (declarations_of m) f) entries slots put
-
-  -- ---- a function is entered
-
-  -- the entries of the callee
-  callee_entries : (g : FuncId) (callee : Function) → slice_get m.functions g.0 ≡ Some callee → (args : List Datum) (entries : List Entry)
-      → results_put (facts_told told g) (item_defined callee item.Entry) args (no_entries (value_count callee)) ≡ Ok entries
-      → results_put (facts_in (declarations_of m) callee) (item_defined callee item.Entry) args (no_entries (value_count callee)) ≡ Ok entries
-  callee_entries g callee there args entries put =
-      ap (λ facts. results_put facts (item_defined callee item.Entry) args (no_entries (value_count callee))) (sym (run_facts m g callee there)) ∙ put
-
   -- ---- a state
 
   module _ (s : HolderState) (is_typed : IsTypedState m s) (tracked : IsTrackedState m s) (serve : DoPlacesServe m s) (right : AreObjectsRight m (said m) s) where
     -- ---- what is returned
 
     module _ (callee : Frame) (x : Datum) (whole : NameWhole s.memory (references_in x)) where
-      reaches_built : (rest : List (Task Frame)) → s.tasks ≡ Runs callee ∷ rest → (next : HolderNext) → Reaches m told bound s x rest next → BuiltNext m next
+      reaches_built : (rest : List (Task Frame)) → s.tasks ≡ Runs callee ∷ rest → (next : HolderNext) → Reaches m (facts_of m) bound s x rest next → BuiltNext m next
       reaches_built _ first _ (Reaches.ends v is) = tt
       reaches_built _ first next (Reaches.resumes frame rest f n there moves) =
-          behind_built s rest frame f there (item.Inst (stands_at f frame.trail)) (record (unchanged s.memory) { results = x ∷ [] })
-          (λ slots entries so put. given_built s.memory rest frame f (item.Inst (stands_at f frame.trail)) frame.entries doing apart makes writes (x ∷ []) (whole, tt) slots entries put)
+          behind_built m bound s rest frame f there (item.Inst (stands_at f frame.trail)) (record (unchanged s.memory) { results = x ∷ [] })
+          (λ slots entries so put. given_built m bound s.memory rest frame f (item.Inst (stands_at f frame.trail)) frame.entries doing apart makes writes (x ∷ []) (whole, tt) slots entries put)
           n moves
         where
           waits : WaitsTyped m is_typed.world callee frame rest
@@ -209,7 +152,7 @@ module _ (m : Module) (bound : ℕ) (verified : IsVerified m) where
 
       -- ---- an item that it does
 
-      module _ (i : Item) (comes : ComesAt f (stands_at f frame.trail) i) (ops : Operands) (found : operands_in m told bound s frame f i ≡ Ok ops) where
+      module _ (i : Item) (comes : ComesAt f (stands_at f frame.trail) i) (ops : Operands) (found : operands_in m (facts_of m) bound s frame f i ≡ Ok ops) where
         trail : IsRunTrail f (i ∷ frame.trail)
         trail = (are_next f frame.trail i own.goes comes, own.trail)
 
@@ -246,12 +189,12 @@ module _ (m : Module) (bound : ℕ) (verified : IsVerified m) where
       -- ---- an instruction
 
       module _ (x : Inst) (here : inst_at f (stands_at f frame.trail) ≡ Some x) (ops : Operands)
-          (found : operands_in m told bound s frame f (item.Inst (stands_at f frame.trail)) ≡ Ok ops) where
+          (found : operands_in m (facts_of m) bound s frame f (item.Inst (stands_at f frame.trail)) ≡ Ok ops) where
         abbrev p : PointId
         p = stands_at f frame.trail
 
         abbrev frame_left : Frame
-        frame_left = left_with m told bound frame ops
+        frame_left = left_with m (facts_of m) bound frame ops
 
         its_operands : Ready m s.memory rest frame f (item.Inst p) ops
         its_operands = ready (item.Inst p) (inst_comes f p x here) ops found
@@ -262,27 +205,27 @@ module _ (m : Module) (bound : ℕ) (verified : IsVerified m) where
 
         -- a function with a body is called
         module _ (g : FuncId) (args : List Datum) (callee : Function) (there : slice_get m.functions g.0 ≡ Some callee) (bodied : has_any callee.blocks ≡ true)
-            (so : steps.effect_in m told bound s frame x ops.given ≡ effects.Calls g args) where
+            (so : steps.effect_in m (facts_of m) bound s frame x ops.given ≡ effects.Calls g args) where
           hands : HandsSo m s.memory rest frame f p ops its_operands x here others
               (is_call (declarations_of m) (shapes_of m) (shapes_in (shapes_of m) frame.function) s.memory x ops.given g args so).calls args
           hands =
               let call = is_call (declarations_of m) (shapes_of m) (shapes_in (shapes_of m) frame.function) s.memory x ops.given g args so in
               hands_so m s.memory rest frame f p ops its_operands x here others call.calls call.callee args call.given
 
-          enters_built : (next : HolderNext) → Enters m told bound (record s { memory = handed_over s.memory (lent_at m told bound f (item.Inst p) args) })
-              (Runs (record frame_left { lent = lent_at m told bound f (item.Inst p) args }) ∷ rest) g callee (map as_argument args) next → BuiltNext m next
+          enters_built : (next : HolderNext) → Enters m (facts_of m) bound (record s { memory = handed_over s.memory (lent_at m (facts_of m) bound f (item.Inst p) args) })
+              (Runs (record frame_left { lent = lent_at m (facts_of m) bound f (item.Inst p) args }) ∷ rest) g callee (map as_argument args) next → BuiltNext m next
           enters_built _ (Enters.enters entries put deep turn) =
-              let leads = calls_right m (said m) s.memory rest frame f ops.left (lent_at m told bound f (item.Inst p) args) g callee entries stands
-                  its_operands.doing.loses hands.lent there
-                  (entered m g callee (accepted_body m verified g callee there bodied) s.memory (facts_in (declarations_of m) callee) (map as_argument args) entries hands.whole
-                  (callee_entries g callee there (map as_argument args) entries put)) in
+              let leads = calls_right m (said m) s.memory rest frame f ops.left (lent_at m (facts_of m) bound f (item.Inst p) args) g callee entries stands
+              its_operands.doing.loses hands.lent there
+              (entered m g callee (accepted_body m verified g callee there bodied) s.memory (facts_in (declarations_of m) callee) (map as_argument args) entries hands.whole
+              (callee_entries m bound g callee there (map as_argument args) entries put)) in
               record { memory = leads.0; tasks = leads.1 }
           enters_built _ (Enters.wrong_argument y put) = tt
           enters_built _ (Enters.too_deep deep) = tt
           enters_built _ (Enters.no_turn deep turn) = tt
 
         -- one without a body is called
-        module _ (g : FuncId) (args : List Datum) (so : steps.effect_in m told bound s frame x ops.given ≡ effects.Calls g args) where
+        module _ (g : FuncId) (args : List Datum) (so : steps.effect_in m (facts_of m) bound s frame x ops.given ≡ effects.Calls g args) where
           usual : is_special (effect_of x.op) ≡ false
           usual = ap is_special (is_call (declarations_of m) (shapes_of m) (shapes_in (shapes_of m) frame.function) s.memory x ops.given g args so).calls
 
@@ -291,22 +234,22 @@ module _ (m : Module) (bound : ℕ) (verified : IsVerified m) where
 
           called_out : (slots : List Place) (entries : List Entry)
               → results_put (facts_in (declarations_of m) f) (item_defined f (item.Inst p)) (ValueOf (value.Group value.NoValue) ∷ []) ops.left ≡ Ok entries
-              → LeadsBy rest frame (item.Inst p) (record (unchanged s.memory) { results = ValueOf (value.Group value.NoValue) ∷ [] }) slots entries
+              → LeadsBy m bound rest frame (item.Inst p) (record (unchanged s.memory) { results = ValueOf (value.Group value.NoValue) ∷ [] }) slots entries
           called_out slots entries put =
-              given_built s.memory rest frame f (item.Inst p) ops.left its_operands.doing
+              given_built m bound s.memory rest frame f (item.Inst p) ops.left its_operands.doing
               (λ y at. subst (λ (z : Inst). keeps_apart (access_kind_of z.op) ≡ true) (its y at) (still_row x.op usual).apart)
               (λ y at. subst (λ (z : Inst). makes_object (access_kind_of z.op) ≡ false) (its y at) (still_row x.op usual).makes)
               (λ y at. subst (λ (z : Inst). stores (access_kind_of z.op) ≡ false) (its y at) (still_row x.op usual).writes)
               (ValueOf (value.Group value.NoValue) ∷ []) (tt, tt) slots entries put
 
-        performs_built : (e : effects.Effect HolderFault) → steps.effect_in m told bound s frame x ops.given ≡ e → (next : HolderNext)
-            → Performs m told bound s rest frame_left f (item.Inst p) e next → BuiltNext m next
+        performs_built : (e : effects.Effect HolderFault) → steps.effect_in m (facts_of m) bound s frame x ops.given ≡ e → (next : HolderNext)
+            → Performs m (facts_of m) bound s rest frame_left f (item.Inst p) e next → BuiltNext m next
         performs_built _ so next (Performs.makes c n moves) =
-            behind_built s rest frame_left f is (item.Inst p) c
+            behind_built m bound s rest frame_left f is (item.Inst p) c
             (λ slots entries closes put. row_right m s.memory rest frame f p ops its_operands x here others c so frame.slots slots closes entries put) n moves
         performs_built _ so next (Performs.calls g args callee n there bodied before entering) = enters_built g args callee there bodied so n entering
         performs_built _ so next (Performs.calls_out g args callee numbers n there bare is_numbers turn moves) =
-            behind_built _ rest frame_left f is (item.Inst p) (record (unchanged s.memory) { results = ValueOf (value.Group value.NoValue) ∷ [] })
+            behind_built m bound _ rest frame_left f is (item.Inst p) (record (unchanged s.memory) { results = ValueOf (value.Group value.NoValue) ∷ [] })
             (λ slots entries closes put. called_out g args so slots entries put) n moves
         performs_built _ so _ (Performs.no_turn g args callee numbers there bare is_numbers turn) = tt
         performs_built _ so _ (Performs.traps t) = tt
@@ -318,15 +261,16 @@ module _ (m : Module) (bound : ℕ) (verified : IsVerified m) where
 
       -- ---- a terminator
 
-      module _ (x : Inst) (at_end : StandsAtEnd m told bound frame f x) where
+      module _ (x : Inst) (at_end : StandsAtEnd m (facts_of m) bound frame f x) where
         abbrev block : ℕ
         block = (stands_at f frame.trail).block.0
 
         takes_built : (k : ℕ) → ComesAt f (stands_at f frame.trail) (item.Edge (edge_of (stands_at f frame.trail) k)) → (ending_of x.op ≡ ending.Unreachable → ⊥)
-            → (next : HolderNext) → TakesEdge m told bound s rest frame f (edge_of (stands_at f frame.trail) k) next → BuiltNext m next
+            → (next : HolderNext) → TakesEdge m (facts_of m) bound s rest frame f (edge_of (stands_at f frame.trail) k) next → BuiltNext m next
         takes_built k comes goes next (TakesEdge.takes ops carried n found along_it turn moves) =
-            behind_built _ rest (left_with m told bound frame ops) f is (item.Edge (edge_of (stands_at f frame.trail) k)) (record (unchanged s.memory) { results = carried })
-            (λ slots entries closes put. given_built s.memory rest frame f (item.Edge (edge_of (stands_at f frame.trail) k)) ops.left its.doing
+            behind_built m bound _ rest (left_with m (facts_of m) bound frame ops) f is (item.Edge (edge_of (stands_at f frame.trail) k))
+            (record (unchanged s.memory) { results = carried })
+            (λ slots entries closes put. given_built m bound s.memory rest frame f (item.Edge (edge_of (stands_at f frame.trail) k)) ops.left its.doing
             (edge_apart m frame.function.0 f a (edge_of (stands_at f frame.trail) k))
             (λ y so. ending_makes y.op ((typed m frame.function.0 f a).ends block y so).1.ends)
             (λ y so. ending_still y.op ((typed m frame.function.0 f a).ends block y so).1.ends)
@@ -343,10 +287,10 @@ module _ (m : Module) (bound : ℕ) (verified : IsVerified m) where
 
         -- a `return`
         module _ (returns : ending_of x.op ≡ ending.Return) (ops : Operands)
-            (found : operands_in m told bound s frame f (item.Exit (stands_at f frame.trail)) ≡ Ok ops) where
+            (found : operands_in m (facts_of m) bound s frame f (item.Exit (stands_at f frame.trail)) ≡ Ok ops) where
           its_operands_at_exit : Ready m s.memory rest frame f (item.Exit (stands_at f frame.trail)) ops
           its_operands_at_exit =
-              ready (item.Exit (stands_at f frame.trail)) (exit_comes m told bound frame.function.0 f a frame x at_end returns) ops found
+              ready (item.Exit (stands_at f frame.trail)) (exit_comes m (facts_of m) bound frame.function.0 f a frame x at_end returns) ops found
 
           not_unreachable : ending_of x.op ≡ ending.Unreachable → ⊥
           not_unreachable e = let two : ending.Return ≡ ending.Unreachable = sym returns ∙ e in cc
@@ -361,7 +305,8 @@ module _ (m : Module) (bound : ℕ) (verified : IsVerified m) where
               by (z ∷ []) e h = subst (λ u. NameWhole s.memory (references_in u)) (same_Some z y e) h.0
               by (z ∷ u ∷ ys) e h = absurd (cc)
 
-          leaves_built : (y : Datum) → only ops.given ≡ Some y → (next : HolderNext) → Leaves m told bound s rest (left_with m told bound frame ops) f y next → BuiltNext m next
+          leaves_built : (y : Datum) → only ops.given ≡ Some y → (next : HolderNext)
+              → Leaves m (facts_of m) bound s rest (left_with m (facts_of m) bound frame ops) f y next → BuiltNext m next
           leaves_built y one next (Leaves.leaves n held slots places reaches) = reaches_built frame y (returned_whole y one) rest first n reaches
           leaves_built y one _ (Leaves.holds held) = tt
           leaves_built y one _ (Leaves.has_slot slots) = tt
@@ -369,19 +314,19 @@ module _ (m : Module) (bound : ℕ) (verified : IsVerified m) where
 
       -- ---- what the frame does
 
-      acts_built : (next : HolderNext) → Acts m told bound s rest frame f next → BuiltNext m next
+      acts_built : (next : HolderNext) → Acts m (facts_of m) bound s rest frame f next → BuiltNext m next
       acts_built next (Acts.does x ops n here found performed) =
-          performs_built x here ops found (steps.effect_in m told bound s frame x ops.given) refl n performed
+          performs_built x here ops found (steps.effect_in m (facts_of m) bound s frame x ops.given) refl n performed
       acts_built next (Acts.branches x n at_end one along_edge) =
           takes_built x at_end 0
-          (edge_comes m told bound frame.function.0 f a frame x at_end 0 (ap leaves_function one)
+          (edge_comes m (facts_of m) bound frame.function.0 f a frame x at_end 0 (ap leaves_function one)
           (one_edge m frame.function.0 f a (stands_at f frame.trail).block.0 x at_end.terminator one))
           (λ e. let two : ending.OneBranch ≡ ending.Unreachable = sym one ∙ e in cc) n along_edge
       acts_built next (Acts.chooses x choose y v k n at_end how by worth chosen along_edge) =
           takes_built x at_end k
-          (edge_comes m told bound frame.function.0 f a frame x at_end k (chooses_on m told bound frame.function.0 f a frame x at_end choose how)
-          (chosen_within m told bound frame.function.0 f a frame x at_end choose how v k chosen))
-          (λ e. true≢false (sym (ap leaves_function e) ∙ chooses_on m told bound frame.function.0 f a frame x at_end choose how)) n along_edge
+          (edge_comes m (facts_of m) bound frame.function.0 f a frame x at_end k (chooses_on m (facts_of m) bound frame.function.0 f a frame x at_end choose how)
+          (chosen_within m (facts_of m) bound frame.function.0 f a frame x at_end choose how v k chosen))
+          (λ e. true≢false (sym (ap leaves_function e) ∙ chooses_on m (facts_of m) bound frame.function.0 f a frame x at_end choose how)) n along_edge
       acts_built next (Acts.returns x ops y n at_end return found one leaving) = leaves_built x at_end return ops found y one n leaving
       acts_built _ (Acts.unreachable x at_end e) = tt
       acts_built _ (Acts.wrong_operand x y here found) = tt
@@ -402,14 +347,14 @@ module _ (m : Module) (bound : ℕ) (verified : IsVerified m) where
       tasks = subst (λ memory. TasksBuild m (said m) memory t.tasks) (sym same) tasks;
     }
 
-    drops_built : (t : HolderState) (o : ObjectId) → AreObjectsRight m (said m) t → IsWhole t.memory o → (next : HolderNext) → DropsOne m told bound t o next → BuiltNext m next
+    drops_built : (t : HolderState) (o : ObjectId) → AreObjectsRight m (said m) t → IsWhole t.memory o → (next : HolderNext) → DropsOne m (facts_of m) bound t o next → BuiltNext m next
     drops_built t o so whole _ (DropsOne.held_still left is) = so
     drops_built t o so whole _ (DropsOne.not_live none dead) = so
-    drops_built t o so whole _ (DropsOne.deinitialises none live turn) = drops_right m (said m) told bound t _ o so whole (DropsOne.deinitialises none live turn)
+    drops_built t o so whole _ (DropsOne.deinitialises none live turn) = drops_right m (said m) (facts_of m) bound t _ o so whole (DropsOne.deinitialises none live turn)
     drops_built t o so whole _ (DropsOne.no_turn none live turn) = tt
 
-    finishes_built : (t : HolderState) (o : ObjectId) → AreObjectsRight m (said m) t → IsWhole t.memory o → (next : HolderNext) → FinishesOne m told bound t o next → BuiltNext m next
-    finishes_built t o so whole _ (FinishesOne.finishes none) = finishes_right m (said m) told bound t _ o so whole (FinishesOne.finishes none)
+    finishes_built : (t : HolderState) (o : ObjectId) → AreObjectsRight m (said m) t → IsWhole t.memory o → (next : HolderNext) → FinishesOne m (facts_of m) bound t o next → BuiltNext m next
+    finishes_built t o so whole _ (FinishesOne.finishes none) = finishes_right m (said m) (facts_of m) bound t _ o so whole (FinishesOne.finishes none)
     finishes_built t o so whole _ (FinishesOne.escapes left is) = tt
 
     -- a deinitialiser is called
@@ -424,13 +369,13 @@ module _ (m : Module) (bound : ℕ) (verified : IsVerified m) where
           let deinit_body = (typed_module m verified).deinits deinit.class g deinit.is in
           subst (λ x. has_any x.blocks ≡ true) (same_Some deinit_body.body callee (sym deinit_body.there ∙ there)) deinit_body.bodied
 
-      deinit_built : (next : HolderNext) → Enters m told bound (record s { tasks = Finishes gs o ∷ rest }) (Finishes gs o ∷ rest) g callee (ValueOf (value.Object o) ∷ []) next
+      deinit_built : (next : HolderNext) → Enters m (facts_of m) bound (record s { tasks = Finishes gs o ∷ rest }) (Finishes gs o ∷ rest) g callee (ValueOf (value.Object o) ∷ []) next
           → BuiltNext m next
       deinit_built _ (Enters.enters entries put deep turn) = record {
         memory = right.memory;
         tasks = deinits_right m (said m) s.memory rest gs o g g callee entries tasks there
             (entered m g callee (accepted_body m verified g callee there bodied) s.memory (facts_in (declarations_of m) callee) (ValueOf (value.Object o) ∷ []) entries ((tasks.0, tt), tt)
-            (callee_entries g callee there (ValueOf (value.Object o) ∷ []) entries put));
+            (callee_entries m bound g callee there (ValueOf (value.Object o) ∷ []) entries put));
       }
       deinit_built _ (Enters.wrong_argument y put) = tt
       deinit_built _ (Enters.too_deep deep) = tt
@@ -438,7 +383,7 @@ module _ (m : Module) (bound : ℕ) (verified : IsVerified m) where
 
     -- ---- a step
 
-    steps_built : (next : HolderNext) → StepsBy m told bound s next → BuiltNext m next
+    steps_built : (next : HolderNext) → StepsBy m (facts_of m) bound s next → BuiltNext m next
     steps_built next (StepsBy.runs frame rest f n first there acts) = acts_built rest frame f first there n acts
     steps_built _ (StepsBy.dropped rest first) = right_with _ refl (subst (TasksBuild m (said m) s.memory) first right.tasks).1
     steps_built next (StepsBy.drops o os rest n first dropping_one) =

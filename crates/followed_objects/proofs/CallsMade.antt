@@ -1,16 +1,17 @@
 -- What an instruction calls: its row is one of calls, and its operands are the callee and the arguments.
-use Rattle.std.proofs.Common.{◌≡◌, ℕ, List, [], ◌∷◌, map, refl, sym, ap, ◌∙◌, subst, Bool, true, false, Option, Some, None}
+use Rattle.std.proofs.Common.{◌≡◌, ℕ, List, [], ◌∷◌, map, refl, ap, ◌∙◌, subst, Bool, true, false, Option, Some, None}
 use Rattle.std.specs.Prelude.{cond, option_and_then, unwrap_or}
-use Rattle.std.proofs.lemmas.Option.{same_Some}
 use Rattle.argument_conventions.specs.declared.row.Content.{Content}
 use Rattle.argument_conventions.specs.declared.row.Content.TheVariants as content
 use Rattle.holder_counts.specs.holder_model.Builtins.{builtin_value, is_set}
 use Rattle.holder_counts.specs.holder_model.Data.{AddressOf, Datum, FunctionOf, ValueOf, all_of, as_function, as_place, as_value, values_of}
 use Rattle.holder_counts.specs.holder_model.Effects as effects
-use Rattle.holder_counts.specs.holder_model.Effects.{Calls, Effect, Faults, Makes, Traps, Unfit, effect_by, effect_of, gives, gives_value, only, part_number, unchanged, with_some}
+use Rattle.holder_counts.specs.holder_model.Effects.{Calls, Effect, Faults, Makes, Traps, Unfit, effect_by, effect_of, gives, gives_value, only, part_number, unchanged}
+use Rattle.holder_counts.specs.holder_model.Effects.{with_some}
 use Rattle.holder_counts.specs.holder_model.Faults.{HolderFault, NotLastSlot}
 use Rattle.holder_counts.specs.holder_model.MemoryEffects as memory
-use Rattle.holder_counts.specs.holder_model.MemoryEffects.{after, all_live, asked_before, at_place, at_places, effect, fault_of, holds, loaded_name, named_again, operation_done, two, value_and_place, where_held}
+use Rattle.holder_counts.specs.holder_model.MemoryEffects.{after, all_live, asked_before, at_place, at_places, effect, fault_of, holds, loaded_name, named_again}
+use Rattle.holder_counts.specs.holder_model.MemoryEffects.{operation_done, two, value_and_place, where_held}
 use Rattle.holder_counts.specs.holder_model.ModuleShapes.{ModuleShapes, case_place}
 use Rattle.holder_counts.specs.holder_model.declared.row_effect.RowEffect.{RowEffect}
 use Rattle.holder_counts.specs.holder_model.declared.row_effect.RowEffect.TheVariants as row

@@ -1,41 +1,35 @@
 -- What a terminator's item takes are values, which name whole objects alone.
-use Rattle.std.proofs.Common.{◌≡◌, ◌⊎◌, inl, inr, ℕ, List, [], ◌∷◌, ◌++◌, map, refl, sym, ap, ◌∙◌, subst, Bool, true, false, Option, Some, None}
+use Rattle.std.proofs.Common.{◌≡◌, ◌⊎◌, inl, inr, ℕ, List, [], ◌∷◌, map, refl, sym, ap, subst, true, false, Option, Some, None}
 use Rattle.std.specs.Prelude.{Contains}
-use Rattle.std.proofs.lemmas.Bool.{true≢false, false≢true}
+use Rattle.std.proofs.lemmas.Bool.{false≢true}
 use Rattle.std.proofs.lemmas.List.Elements.{Contains-append_cases}
-use Rattle.std.proofs.lemmas.Option.{none-some, same_Some}
 use Rattle.instruction_table.specs.Forms.{ending_of, is_terminator}
 use Rattle.instruction_table.specs.declared.entries.Ending.TheVariants as ending
-use Rattle.instruction_table.specs.declared.entries.Role.TheVariants as role
 use Rattle.instruction_table.specs.declared.op.Op.{Op}
 use Rattle.instruction_table.specs.declared.op.Op.TheVariants as op
 use Rattle.accepted_memory.specs.holder_model.Data.{Datum, references_in}
-use Rattle.accepted_memory.specs.holder_model.Frames.{Entry, Frame, Operands}
+use Rattle.accepted_memory.specs.holder_model.Frames.{Frame, Operands}
 use Rattle.accepted_memory.specs.holder_model.States.{Task}
 use Rattle.accepted_memory.specs.memory_accesses.Operations.{access_kind_of}
 use Rattle.accepted_values.specs.inner.Known.{IsAcceptedBody}
 use Rattle.accepted_values.specs.run_typing.EndForms.{EndForms, operand_forms, value_in}
-use Rattle.accepted_values.specs.run_typing.Forms.{Form, OfValue, form_of, forms_of, given_shape}
+use Rattle.accepted_values.specs.run_typing.Forms.{form_of, forms_of, given_shape}
 use Rattle.accepted_values.specs.run_typing.RowForms.{bit}
 use Rattle.accepted_values.proofs.Accepted.{typed}
 use Rattle.accepted_values.proofs.Counted.{nothing_in}
 use Rattle.item_operands.specs.Items.{item_taken, taken_along_in, taken_in}
-use Rattle.item_operands.specs.Parts.{edge_at, item_edge, item_inst, terminator_of}
+use Rattle.item_operands.specs.Parts.{item_edge, item_inst, terminator_of}
 use Rattle.item_operands.specs.Roles.{consumed, taken_along, taken_by}
 use Rattle.item_operands.specs.declared.taken.Taken.{Taken}
 use Rattle.numbered_form.specs.Lists.{Each}
 use Rattle.owned_run_typing.specs.inner.OwnedEnds.{OwnedEndForms}
 use Rattle.point_checks.proofs.Among.{Among, among_contained, contained_among, map_among}
 use Rattle.run_values.specs.Memory.{Memory}
-use Rattle.run_values.specs.Shapes.{Shape}
 use Rattle.sil_ast.specs.declared.function.Function.{Function}
 use Rattle.sil_ast.specs.declared.inst.Edge.{Edge}
 use Rattle.sil_ast.specs.declared.inst.Inst.{Inst}
 use Rattle.sil_ast.specs.declared.module.Module.{Module}
-use Rattle.sil_ast.specs.declared.operands.Operand.{Operand}
-use Rattle.sil_ast.specs.declared.place.ValueId.{ValueId}
 use Rattle.sil_cfg.specs.declared.item.Item.{Item}
-use Rattle.sil_cfg.specs.declared.item.Item.TheVariants as item
 use Rattle.tracked_frames.proofs.ConsumedValues.{IsValueForm, consumed_value, owned_typed}
 use Rattle.type_definitions.specs.Declarations.{Declarations, declarations_of}
 use Rattle.typed_holders.proofs.Data.{read_value}

@@ -1,5 +1,5 @@
 -- A function is entered, by a call or to deinitialise an object: what it is handed names whole objects alone, and places on the stack.
-use Rattle.std.proofs.Common.{◌≡◌, inl, inr, ℕ, zero, suc, List, [], ◌∷◌, ◌++◌, drop, map, refl, sym, ap, ◌∙◌, subst, Bool, true, false, Option, Some, None, Ok}
+use Rattle.std.proofs.Common.{◌≡◌, inl, inr, ℕ, zero, suc, List, [], ◌∷◌, drop, map, refl, sym, ap, ◌∙◌, subst, Bool, true, false, Option, Some, None, Ok}
 use Rattle.std.specs.Prelude.{Contains, cond, option_map, slice_get, unwrap_or}
 use Rattle.std.specs.Option.{option_or}
 use Rattle.std.proofs.lemmas.Option.{none-some, same_Some}
@@ -7,7 +7,7 @@ use Rattle.argument_conventions.specs.declared.row.AddressRow.{AddressRow}
 use Rattle.accepted_memory.specs.holder_model.Calling.{as_argument, lent_places, lent_with, value_count}
 use Rattle.accepted_memory.specs.holder_model.Data.{AddressOf, Datum, FunctionOf, ValueOf, as_place, home_references, references_in}
 use Rattle.accepted_memory.specs.holder_model.Effects.{effect_of}
-use Rattle.accepted_memory.specs.holder_model.Frames.{Entry, Frame, Gone, LentPlace, Operands, any_dead, datum_in, entry_at, no_entries, results_put}
+use Rattle.accepted_memory.specs.holder_model.Frames.{Entry, Frame, Gone, Operands, any_dead, datum_in, entry_at, no_entries, results_put}
 use Rattle.accepted_memory.specs.holder_model.States.{Task}
 use Rattle.accepted_memory.specs.holder_model.declared.row_effect.RowEffect.TheVariants as row
 use Rattle.accepted_memory.specs.memory_accesses.Operations.{access_kind_of, is_address_role, operated, operated_at, operation_at, operation_by, operations_of}
@@ -73,9 +73,10 @@ entered m g callee a memory facts args entries whole put = record { none = none_
         at false none =
             absurd (none_there v x (ap datum_in (sym (put_other facts (item_defined callee item.Entry) args (no_entries (value_count callee)) entries put v none)) ∙ names))
         at true some =
-            let begun = put_named facts (item_defined callee item.Entry) args (no_entries (value_count callee)) entries put v some x names in
-            (each_at (λ y. NameWhole memory (references_in y)) args begun.place x whole begun.datum,
-            made_apart m g.0 callee a item.Entry v some (entry_apart m g.0 callee a))
+            let begun = put_named facts (item_defined callee item.Entry) args (no_entries (value_count callee)) entries put v some x names in (
+              each_at (λ y. NameWhole memory (references_in y)) args begun.place x whole begun.datum,
+              made_apart m g.0 callee a item.Entry v some (entry_apart m g.0 callee a),
+            )
 
 -- ---- what a call hands over
 

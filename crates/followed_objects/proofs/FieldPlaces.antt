@@ -10,7 +10,8 @@ use Rattle.accepted_memory.specs.holder_model.declared.row_effect.RowEffect.TheV
 use Rattle.accepted_memory.specs.memory_accesses.Locations.{whole}
 use Rattle.accepted_memory.specs.memory_accesses.Operations.{access_kind_of}
 use Rattle.accepted_memory.specs.memory_accesses.Rows.{has_steps, is_part}
-use Rattle.accepted_memory.specs.memory_accesses.Sources.{element_place, field_source, is_trivial_member, member_place, part_source, result_source, source_at, source_by, sources_of}
+use Rattle.accepted_memory.specs.memory_accesses.Sources.{element_place, field_source, is_trivial_member, member_place, part_source, result_source, source_at, source_by}
+use Rattle.accepted_memory.specs.memory_accesses.Sources.{sources_of}
 use Rattle.accepted_memory.specs.memory_accesses.declared.location.Location.{Location}
 use Rattle.accepted_memory.specs.memory_accesses.declared.source.Source.{Source}
 use Rattle.accepted_memory.specs.memory_accesses.declared.source.Source.TheVariants as source

@@ -1,10 +1,9 @@
 -- Items that fill no field of a new object: those that store nothing, and a store at a place that is no field.
-use Rattle.std.proofs.Common.{◌≡◌, inl, inr, ℕ, List, [], ◌∷◌, refl, sym, ap, ◌∙◌, subst, Bool, true, false, ◌&&◌, Option, Some, None}
-use Rattle.std.specs.Prelude.{Contains, unwrap_or}
+use Rattle.std.proofs.Common.{◌≡◌, ℕ, List, refl, sym, ap, ◌∙◌, subst, Bool, true, false, ◌&&◌, Option, Some, None}
 use Rattle.std.proofs.lemmas.Bool.{false≢true, true≢false}
 use Rattle.std.proofs.lemmas.Option.{none-some, same_Some}
 use Rattle.accepted_memory.specs.memory_accesses.Locations.{cell_by, cell_of, location_of}
-use Rattle.accepted_memory.specs.memory_accesses.Operations.{access_kind_of, load_operation, operation_by, operations_of}
+use Rattle.accepted_memory.specs.memory_accesses.Operations.{access_kind_of, load_operation, operation_by}
 use Rattle.accepted_memory.specs.memory_accesses.Rows.{has_by, has_operation, is_part}
 use Rattle.accepted_memory.specs.memory_accesses.Sources.{is_trivial_at, source_at, sources_of}
 use Rattle.accepted_memory.specs.memory_accesses.declared.access.Operated.{Operated}
@@ -17,7 +16,7 @@ use Rattle.accepted_memory.specs.memory_accesses.declared.location.Location.{Loc
 use Rattle.accepted_memory.specs.memory_accesses.declared.source.Source.{Source}
 use Rattle.accepted_memory.specs.memory_accesses.declared.source.Source.TheVariants as source
 use Rattle.accepted_memory.specs.memory_parts.Building.{fills}
-use Rattle.accepted_memory.specs.memory_parts.Contents.{at_location, counts_at_part, operation_mark, same_cell}
+use Rattle.accepted_memory.specs.memory_parts.Contents.{counts_at_part, operation_mark, same_cell}
 use Rattle.accepted_memory.specs.memory_parts.Switches.{is_same, is_turned_on, when}
 use Rattle.accepted_places.proofs.Done.{IsDoneBy, done_by, of_call, of_row}
 use Rattle.accepted_places.proofs.ItemStacks.{accepted_in}
@@ -29,7 +28,6 @@ use Rattle.instruction_table.specs.declared.op.Op.{Op}
 use Rattle.instruction_table.specs.declared.op.Op.TheVariants as op
 use Rattle.item_operands.specs.Parts.{item_inst}
 use Rattle.path_patterns.specs.declared.mark.Mark.{Mark}
-use Rattle.point_checks.proofs.Among.{among_contained}
 use Rattle.sil_ast.specs.declared.function.Function.{Function}
 use Rattle.sil_ast.specs.declared.inst.Inst.{Inst}
 use Rattle.sil_ast.specs.declared.module.Module.{Module}

@@ -1,18 +1,16 @@
 -- Rows whose operands are values, and which take no unfinished object: so their operands name whole objects alone.
-use Rattle.std.proofs.Common.{◌≡◌, inl, ℕ, List, [], ◌∷◌, map, refl, sym, ap, ◌∙◌, subst, Bool, true, false, Option, Some}
-use Rattle.std.specs.Prelude.{Contains}
-use Rattle.std.proofs.lemmas.Bool.{false≢true, true≢false}
-use Rattle.instruction_table.specs.Forms.{ending_of, is_terminator}
+use Rattle.std.proofs.Common.{◌≡◌, ℕ, List, [], ◌∷◌, map, refl, sym, ap, ◌∙◌, Bool, true, false, Some}
+use Rattle.std.proofs.lemmas.Bool.{false≢true}
+use Rattle.instruction_table.specs.Forms.{is_terminator}
 use Rattle.instruction_table.specs.declared.op.Op.{Op}
 use Rattle.instruction_table.specs.declared.op.Op.TheVariants as op
-use Rattle.accepted_memory.specs.holder_model.Data.{Datum, ValueOf}
+use Rattle.accepted_memory.specs.holder_model.Data.{Datum}
 use Rattle.accepted_memory.specs.holder_model.Effects.{effect_of}
 use Rattle.accepted_memory.specs.holder_model.Frames.{Entry}
 use Rattle.accepted_memory.specs.holder_model.declared.row_effect.RowEffect.{RowEffect}
 use Rattle.accepted_memory.specs.holder_model.declared.row_effect.RowEffect.TheVariants as row
 use Rattle.accepted_values.specs.inner.Known.{IsAcceptedBody}
-use Rattle.accepted_values.specs.run_typing.EndForms.{value_in}
-use Rattle.accepted_values.specs.run_typing.Forms.{Form, OfValue, form_of, forms_of}
+use Rattle.accepted_values.specs.run_typing.Forms.{Form, OfValue, form_of}
 use Rattle.accepted_values.proofs.Accepted.{in_ownership_form, well_typed}
 use Rattle.built_objects.specs.inner.FrameObjects.{Names}
 use Rattle.item_operands.specs.Items.{item_taken}
@@ -21,7 +19,6 @@ use Rattle.item_operands.specs.declared.taken.Taken.{Taken}
 use Rattle.owned_run_typing.specs.inner.OwnedRows.{OwnedRowForms}
 use Rattle.owned_run_typing.proofs.OwnedInsts.{owned_inst}
 use Rattle.run_values.specs.Memory.{Memory}
-use Rattle.run_values.specs.Shapes.{Shape}
 use Rattle.sil_ast.specs.declared.function.Function.{Function}
 use Rattle.sil_ast.specs.declared.inst.Inst.{Inst}
 use Rattle.sil_ast.specs.declared.module.Module.{Module}

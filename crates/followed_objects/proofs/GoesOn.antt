@@ -1,9 +1,9 @@
 -- What an instruction hands on from its one operand: an object by a borrow or an upcast of it, the address of a field, or that of a member.
-use Rattle.std.proofs.Common.{◌≡◌, inl, inr, ℕ, List, [], ◌∷◌, length, map, refl, sym, ap, ◌∙◌, subst, Bool, true, false, Option, Some, None}
+use Rattle.std.proofs.Common.{◌≡◌, inl, inr, ℕ, List, [], ◌∷◌, map, refl, sym, ap, ◌∙◌, subst, Bool, true, false, Some}
 use Rattle.std.specs.Prelude.{Contains, ◌||◌, option_map, slice_get}
 use Rattle.std.specs.List.{list_any}
 use Rattle.std.proofs.lemmas.Bool.{false≢true, true≢false}
-use Rattle.std.proofs.lemmas.Option.{none-some, same_Some}
+use Rattle.std.proofs.lemmas.Option.{same_Some}
 use Rattle.instruction_table.specs.Forms.{detail_of}
 use Rattle.instruction_table.specs.declared.entries.Detail.TheVariants as detail
 use Rattle.instruction_table.specs.declared.op.Op.{Op}
@@ -13,8 +13,8 @@ use Rattle.accepted_memory.specs.holder_model.Effects.{effect_of, part_number, p
 use Rattle.accepted_memory.specs.holder_model.declared.row_effect.RowEffect.{RowEffect}
 use Rattle.accepted_memory.specs.holder_model.declared.row_effect.RowEffect.TheVariants as row
 use Rattle.accepted_memory.specs.memory_accesses.Accesses.{allowance_of}
-use Rattle.accepted_memory.specs.memory_accesses.Locations.{extended, is_object, location_of, whole}
-use Rattle.accepted_memory.specs.memory_accesses.Operations.{access_kind_of, deallocates, deallocates_by}
+use Rattle.accepted_memory.specs.memory_accesses.Locations.{extended, is_object, whole}
+use Rattle.accepted_memory.specs.memory_accesses.Operations.{access_kind_of, deallocates_by}
 use Rattle.accepted_memory.specs.memory_accesses.Sources as memory_accesses
 use Rattle.accepted_memory.specs.memory_accesses.Sources.{borrow_source, result_source, source_at, source_by, sources_of, upcast_source}
 use Rattle.accepted_memory.specs.memory_accesses.declared.columns.AccessKind.TheVariants as access
@@ -34,7 +34,7 @@ use Rattle.accepted_values.proofs.Accepted.{in_ownership_form, well_typed}
 use Rattle.built_objects.specs.inner.Building.{IsAbout, IsFieldAddress, address, borrow, itself}
 use Rattle.built_objects.specs.inner.Laws.{GoesOn}
 use Rattle.item_operands.specs.Items.{item_taken}
-use Rattle.item_operands.specs.Parts.{inst_at, item_inst}
+use Rattle.item_operands.specs.Parts.{inst_at}
 use Rattle.item_operands.specs.declared.taken.Taken.{Taken}
 use Rattle.owned_run_typing.proofs.OwnedInsts.{owned_inst}
 use Rattle.point_checks.proofs.Among.{Among, among_contained, contained_among}

@@ -1,24 +1,22 @@
 -- Rows that hand on their operand, or name a field or a member: what the result names, the operand named, or what the operand is about it is about.
-use Rattle.std.proofs.Common.{◌≡◌, inl, inr, ℕ, zero, suc, List, [], ◌∷◌, refl, sym, ap, ◌∙◌, subst, Bool, true, false, Option, Some, None}
+use Rattle.std.proofs.Common.{◌≡◌, inl, ℕ, zero, suc, List, [], ◌∷◌, refl, sym, ap, ◌∙◌, subst, true, false, Some}
 use Rattle.std.specs.Prelude.{Contains, slice_get}
-use Rattle.std.proofs.lemmas.Bool.{true≢false, false≢true}
+use Rattle.std.proofs.lemmas.Bool.{false≢true}
 use Rattle.std.proofs.lemmas.Option.{none-some, same_Some}
 use Rattle.instruction_table.specs.declared.op.Op.{Op}
 use Rattle.instruction_table.specs.declared.op.Op.TheVariants as op
 use Rattle.accepted_memory.specs.accepted_trails.inner.Defined.{makes}
-use Rattle.accepted_memory.specs.holder_model.Data.{AddressOf, Datum, ValueOf, references_in}
+use Rattle.accepted_memory.specs.holder_model.Data.{AddressOf, Datum, ValueOf}
 use Rattle.accepted_memory.specs.holder_model.Effects as effects
 use Rattle.accepted_memory.specs.holder_model.Effects.{Change, effect_of, unchanged}
 use Rattle.accepted_memory.specs.holder_model.Frames.{Frame, Operands}
 use Rattle.accepted_memory.specs.holder_model.MemoryEffects.{effect}
-use Rattle.accepted_memory.specs.holder_model.ModuleShapes.{field_shapes, shapes_of}
+use Rattle.accepted_memory.specs.holder_model.ModuleShapes.{shapes_of}
 use Rattle.accepted_memory.specs.holder_model.States.{Runs, Task}
 use Rattle.accepted_memory.specs.holder_model.declared.row_effect.RowEffect.TheVariants as row
-use Rattle.accepted_memory.specs.memory_accesses.Locations.{location_of}
 use Rattle.accepted_memory.specs.memory_accesses.Operations.{access_kind_of}
-use Rattle.accepted_memory.specs.memory_accesses.Sources.{is_trivial_member, source_at, sources_of}
+use Rattle.accepted_memory.specs.memory_accesses.Sources.{is_trivial_member, sources_of}
 use Rattle.accepted_memory.specs.memory_accesses.declared.location.Location.{Location}
-use Rattle.accepted_memory.specs.memory_accesses.declared.source.Source.TheVariants as source
 use Rattle.accepted_places.proofs.Fields.{has_among}
 use Rattle.built_objects.specs.inner.Building.{IsFieldAddress}
 use Rattle.built_objects.specs.inner.FrameObjects.{IsInField, Names}
@@ -29,7 +27,7 @@ use Rattle.item_operands.specs.Parts.{inst_at}
 use Rattle.item_operands.specs.declared.taken.Taken.{Taken}
 use Rattle.point_checks.proofs.Among.{contained_among}
 use Rattle.run_values.specs.Memory.{Memory, object_at}
-use Rattle.run_values.specs.Places.{Inside, Place, field_in}
+use Rattle.run_values.specs.Places.{Place}
 use Rattle.run_values.specs.Shapes.{Shape}
 use Rattle.run_values.specs.Values as value
 use Rattle.run_values.specs.Values.{Value, object_of}
@@ -43,12 +41,12 @@ use Rattle.sil_cfg.specs.declared.item.Item.TheVariants as item
 use Rattle.type_definitions.specs.Declarations.{declarations_of}
 use Rattle.value_tables.specs.FirstValue.{first_value}
 use Rattle.followed_objects.specs.inner.Said.{said}
-use Rattle.followed_objects.proofs.Apart.{KeepsApart, keeps_apart}
-use Rattle.followed_objects.proofs.EntriesNamed.{AreNamed, Begun}
+use Rattle.followed_objects.proofs.Apart.{keeps_apart}
+use Rattle.followed_objects.proofs.EntriesNamed.{AreNamed}
 use Rattle.followed_objects.proofs.FieldPlaces.{fields_placed, members_placed}
 use Rattle.followed_objects.proofs.Filling.{fills_none, stores}
 use Rattle.followed_objects.proofs.GivenValues.{TakesOne, has_value, one_given, takes_one}
-use Rattle.followed_objects.proofs.GoesOn.{GivesOn, TakesWhole, borrow_goes, field_goes, field_source_is, first_is, gives_on, lends, member_goes, moves}
+use Rattle.followed_objects.proofs.GoesOn.{GivesOn, borrow_goes, field_goes, field_source_is, first_is, gives_on, lends, member_goes, moves}
 use Rattle.followed_objects.proofs.GoesOn.{names_field, names_member, part_source_is, upcast_goes, upcasts}
 use Rattle.followed_objects.proofs.ItemsDone.{IsQuietly, MakesNone, WritesNone, makes_object, may_behind, stack_stays, whole_may}
 use Rattle.followed_objects.proofs.PlaceForms.{gives_place, is_handing, made_row}

@@ -1,8 +1,7 @@
 -- A frame goes on behind an item that neither makes a new object nor writes a field of an unfinished one.
-use Rattle.std.proofs.Common.{◌≡◌, ◌≤◌, ◌<◌, ◌⊎◌, inl, inr, ℕ, zero, suc, List, [], ◌∷◌, length, refl, sym, ap, ◌∙◌, subst, arith, Bool, true, false, Option, Some, None, Ok}
+use Rattle.std.proofs.Common.{◌≡◌, ◌≤◌, ◌⊎◌, inl, inr, ℕ, zero, suc, List, ◌∷◌, length, refl, sym, ap, ◌∙◌, subst, arith, Bool, true, false, Option, Some, None, Ok}
 use Rattle.std.specs.Prelude.{cond, slice_get, unwrap_or}
-use Rattle.std.proofs.lemmas.Bool.{false≢true, true≢false}
-use Rattle.std.proofs.lemmas.Option.{none-some, same_Some}
+use Rattle.std.proofs.lemmas.Bool.{true≢false}
 use Rattle.argument_conventions.specs.Arguments.{Told, arguments_of}
 use Rattle.argument_conventions.specs.Rows.{address_row}
 use Rattle.argument_conventions.specs.declared.row.AddressRow.{AddressRow}
@@ -14,7 +13,8 @@ use Rattle.accepted_memory.specs.holder_model.ModuleShapes.{shapes_of}
 use Rattle.accepted_memory.specs.holder_model.States.{Runs, Task, dropping}
 use Rattle.accepted_memory.specs.memory_accesses.Locations.{is_object}
 use Rattle.accepted_memory.specs.memory_accesses.Operations.{access_kind_of}
-use Rattle.accepted_memory.specs.memory_accesses.Sources.{argument_source_or, borrow_source, element_place, field_source, handed_source, is_trivial_member, loan_source, member_place}
+use Rattle.accepted_memory.specs.memory_accesses.Sources.{argument_source_or, borrow_source, element_place, field_source, handed_source, is_trivial_member, loan_source}
+use Rattle.accepted_memory.specs.memory_accesses.Sources.{member_place}
 use Rattle.accepted_memory.specs.memory_accesses.Sources.{part_source, slot_source, source_at, source_by, sources_of, upcast_source}
 use Rattle.accepted_memory.specs.memory_accesses.declared.columns.AccessKind.{AccessKind}
 use Rattle.accepted_memory.specs.memory_accesses.declared.columns.AccessKind.TheVariants as access
@@ -27,13 +27,13 @@ use Rattle.accepted_places.proofs.Fields.{has_among}
 use Rattle.accepted_places.proofs.Made.{IsMadeBy, argument, made_so, result}
 use Rattle.accepted_values.specs.inner.Known.{IsAcceptedBody}
 use Rattle.accepted_values.specs.inner.Rows.{source_of_argument}
-use Rattle.built_objects.specs.inner.Building.{IsUnfinished, Progress}
+use Rattle.built_objects.specs.inner.Building.{Progress}
 use Rattle.built_objects.specs.inner.FrameObjects.{Holds, HoldsObjects, MayName, Names}
 use Rattle.built_objects.specs.inner.FrameObjects as frames
 use Rattle.built_objects.specs.inner.Laws.{Begins, MayBegin}
 use Rattle.built_objects.specs.inner.Laws as laws
 use Rattle.built_objects.proofs.Handing.{begin_whole}
-use Rattle.held_objects.specs.inner.Items.{LosesEntries, Stands, frame_behind, sources_in}
+use Rattle.held_objects.specs.inner.Items.{LosesEntries, Stands, frame_behind}
 use Rattle.held_objects.specs.inner.Laws.{StaysBelow}
 use Rattle.held_objects.specs.inner.ObjectStates.{TasksBuild}
 use Rattle.held_objects.proofs.Items.{quiet_right}
@@ -43,7 +43,7 @@ use Rattle.numbered_form.specs.Lists.{Each}
 use Rattle.ownership_chains.specs.Facts.{has}
 use Rattle.ownership_chains.specs.declared.facts.Facts.{Facts}
 use Rattle.point_checks.proofs.Among.{contained_among}
-use Rattle.run_values.specs.Memory.{Memory, no_object, object_at}
+use Rattle.run_values.specs.Memory.{Memory, no_object}
 use Rattle.run_values.specs.Places.{Place}
 use Rattle.sil_ast.specs.declared.function.Function.{Function}
 use Rattle.sil_ast.specs.declared.inst.Inst.{Inst}
@@ -198,14 +198,16 @@ module _ (m : Module) (memory : Memory) (rest : List (Task Frame)) (frame : Fram
     pub quietly_right : MakesNone → WritesNone → (c : Change) → IsQuietly c → (facts : ValueId → Option Facts) (behind : List Entry) (slots : List Place)
         → results_put facts (item_defined f i) c.results left ≡ Ok behind
         → IsWholeMemory c.memory × TasksBuild m (said m) c.memory (dropping c.dropped (Runs (frame_behind frame i behind slots) ∷ rest))
-    quietly_right none writes c quiet facts behind slots put = (quiet.whole,
-        quiet_right m (said m) memory c.memory rest frame f i left behind slots c.dropped doing.stands (record {
-          loses = doing.loses;
-          stays = quiet.stays;
-          unwritten = unwritten none writes;
-          begins = begins;
-          objects = λ object fields is. put_other facts (item_defined f i) c.results left behind put object (unmade none object fields is);
-        }) quiet.dropped)
+    quietly_right none writes c quiet facts behind slots put = (
+      quiet.whole,
+      quiet_right m (said m) memory c.memory rest frame f i left behind slots c.dropped doing.stands (record {
+        loses = doing.loses;
+        stays = quiet.stays;
+        unwritten = unwritten none writes;
+        begins = begins;
+        objects = λ object fields is. put_other facts (item_defined f i) c.results left behind put object (unmade none object fields is);
+      }) quiet.dropped,
+    )
       where
         begins : (v : ValueId) → Begins (shapes_of m) Sources was (said m f (i ∷ frame.trail)) c.memory left behind v
         begins v = at (has (item_defined f i) v.0) refl

@@ -27,10 +27,12 @@ pub mod OperandPlaces
 pub mod StillRows
 pub mod HandedRows
 pub mod Makings
+pub mod Stored
 pub mod StoreRows
 pub mod CallsMade
 pub mod ArgumentsHanded
 pub mod Entered
 pub mod EdgeValues
 pub mod RowsRight
+pub mod BuiltBehind
 pub mod BuiltSteps

@@ -1,26 +1,22 @@
 -- The row that makes an object: its entry holds the object, all of whose fields are to be written now.
-use Rattle.std.proofs.Common.{◌≡◌, ◌<◌, ℕ, zero, suc, List, [], ◌∷◌, ◌++◌, append-nil, length, set, map, refl, sym, ap, ◌∙◌, subst, arith, Bool, true, false, ◌||◌, Option, Some, None, Ok, Err, eq-eqb}
-use Rattle.std.specs.Prelude.{◌==◌, Contains, cond, is_some, slice_get, unwrap_or}
-use Rattle.std.specs.declared.result.Result.{Result}
-use Rattle.std.proofs.lemmas.Bool.{eqb-true, false≢true, true≢false}
-use Rattle.std.proofs.lemmas.Option.{none-some, same_Some}
+use Rattle.std.proofs.Common.{◌≡◌, ◌<◌, List, [], ◌∷◌, ◌++◌, append-nil, length, refl, sym, ap, ◌∙◌, subst, Bool, true, false, ◌||◌, Option, Some, None, Ok, eq-eqb}
+use Rattle.std.specs.Prelude.{◌==◌, cond, is_some, slice_get}
+use Rattle.std.proofs.lemmas.Bool.{eqb-true, false≢true}
+use Rattle.std.proofs.lemmas.Option.{same_Some}
 use Rattle.instruction_table.specs.Forms.{result_kind_of}
-use Rattle.instruction_table.specs.declared.entries.ResultKind.TheVariants.{OwnedResult}
 use Rattle.instruction_table.specs.declared.op.Op.{Op}
 use Rattle.instruction_table.specs.declared.op.Op.TheVariants as op
-use Rattle.accepted_memory.specs.holder_model.Calling.{value_count}
 use Rattle.accepted_memory.specs.holder_model.Data.{Datum, ValueOf}
 use Rattle.accepted_memory.specs.holder_model.Effects as effects
 use Rattle.accepted_memory.specs.holder_model.Effects.{Change, effect_of, result_shape_of}
-use Rattle.accepted_memory.specs.holder_model.Faults.{HolderFault, WrongShape}
-use Rattle.accepted_memory.specs.holder_model.Frames.{Entry, Frame, Gone, Held, Operands, entry_at, is_held, made_entry, results_put}
+use Rattle.accepted_memory.specs.holder_model.Frames.{Entry, Frame, Held, Operands, entry_at, made_entry, results_put}
 use Rattle.accepted_memory.specs.holder_model.MemoryEffects.{effect}
 use Rattle.accepted_memory.specs.holder_model.ModuleShapes.{field_shapes, shapes_in, shapes_of}
 use Rattle.accepted_memory.specs.holder_model.States.{Runs, Task, dropping}
 use Rattle.accepted_memory.specs.holder_model.declared.row_effect.RowEffect.{RowEffect}
 use Rattle.accepted_memory.specs.holder_model.declared.row_effect.RowEffect.TheVariants as row
-use Rattle.accepted_memory.specs.memory_accesses.Operations.{access_kind_of, operations_of}
-use Rattle.accepted_memory.specs.memory_accesses.Sources.{field_count_in, object_source, result_source, source_at, source_by, sources_of}
+use Rattle.accepted_memory.specs.memory_accesses.Operations.{access_kind_of}
+use Rattle.accepted_memory.specs.memory_accesses.Sources.{field_count_in, object_source, source_at, source_by, sources_of}
 use Rattle.accepted_memory.specs.memory_accesses.declared.source.Source.TheVariants as source
 use Rattle.accepted_memory.specs.ownership_kinds.Facts.{facts_in}
 use Rattle.accepted_memory.specs.sil_types.Typing.RowTypes.{given_by, gives}
@@ -28,15 +24,14 @@ use Rattle.accepted_memory.specs.sil_types.Typing.Shapes.{where_it}
 use Rattle.accepted_memory.specs.ownership_origins.Origins.{is_trivial_or_untyped}
 use Rattle.accepted_places.proofs.Done.{none_done, operates, passes}
 use Rattle.accepted_places.proofs.OperationsRight.{stands_somewhere}
-use Rattle.accepted_values.specs.inner.Known.{IsAcceptedBody, kind_at, type_in}
-use Rattle.accepted_values.specs.inner.Operands.{kind_by_row, kind_of_result, kind_together}
+use Rattle.accepted_values.specs.inner.Known.{kind_at, type_in}
+use Rattle.accepted_values.specs.inner.Operands.{kind_by_row, kind_together}
 use Rattle.accepted_values.specs.run_typing.CallForms.{IsOf}
-use Rattle.accepted_values.specs.run_typing.Forms.{OfValue, form_of, forms_of}
+use Rattle.accepted_values.specs.run_typing.Forms.{forms_of}
 use Rattle.accepted_values.proofs.Accepted.{typed}
 use Rattle.accepted_values.proofs.Made.{items_of}
 use Rattle.accepted_values.proofs.Suited.{results_of_kinds}
 use Rattle.built_objects.specs.inner.FrameObjects.{Holds}
-use Rattle.built_objects.specs.inner.Laws.{with_object_of}
 use Rattle.held_entries.proofs.EntriesEnded.{entry_set_same}
 use Rattle.held_objects.specs.inner.Items.{frame_behind}
 use Rattle.held_objects.specs.inner.ObjectStates.{TasksBuild}
@@ -44,13 +39,12 @@ use Rattle.held_objects.proofs.Items.{making_right}
 use Rattle.item_operands.specs.Items.{item_defined}
 use Rattle.item_operands.specs.Parts.{inst_at, results_in}
 use Rattle.numbered_form.specs.Lists.{Each}
-use Rattle.numbered_form.specs.Names.{Name}
 use Rattle.owned_run_typing.proofs.run_typing_laws.ValueForms.{row_kept}
 use Rattle.ownership_chains.specs.Facts.{has, known_or, value_of}
 use Rattle.ownership_chains.specs.declared.facts.Facts.{Facts}
 use Rattle.run_values.specs.Memory.{Memory, new_object}
 use Rattle.run_values.specs.Places.{Place}
-use Rattle.run_values.specs.Shapes.{Reference, Shape, class_in}
+use Rattle.run_values.specs.Shapes.{Shape, class_in}
 use Rattle.run_values.specs.Values as value
 use Rattle.sil_ast.specs.declared.function.Function.{Function}
 use Rattle.sil_ast.specs.declared.inst.Inst.{Inst}

@@ -1,10 +1,9 @@
 -- The places of an instruction's operands: each has its cells, and is on the stack but where it is a field of an object or lies in one.
-use Rattle.std.proofs.Common.{◌≡◌, ◌⊎◌, inl, inr, ℕ, List, [], ◌∷◌, refl, sym, ap, ◌∙◌, subst, Bool, true, false, ◌||◌, Option, Some, None}
+use Rattle.std.proofs.Common.{◌≡◌, List, sym, ap, ◌∙◌, true, false, Some}
 use Rattle.std.specs.Prelude.{Contains}
-use Rattle.std.proofs.lemmas.Bool.{or_parts, true≢false}
-use Rattle.std.proofs.lemmas.Option.{same_Some}
+use Rattle.std.proofs.lemmas.Bool.{or_parts}
 use Rattle.accepted_memory.specs.holder_model.Data.{AddressOf, home_references, references_in}
-use Rattle.accepted_memory.specs.holder_model.Frames.{Entry, Frame, Operands, any_dead}
+use Rattle.accepted_memory.specs.holder_model.Frames.{Frame, Operands, any_dead}
 use Rattle.accepted_memory.specs.holder_model.States.{Task}
 use Rattle.accepted_memory.specs.memory_accesses.Locations.{location_of}
 use Rattle.accepted_memory.specs.memory_accesses.Operations.{operated, operations_of}
@@ -16,7 +15,7 @@ use Rattle.accepted_memory.specs.memory_accesses.declared.location.Location.{Loc
 use Rattle.accepted_places.proofs.ItemStacks.{accepted_in}
 use Rattle.accepted_places.proofs.OperationsRight.{rows_right}
 use Rattle.accepted_places.proofs.RootsMade.{operands_located}
-use Rattle.accepted_places.specs.inner.Located.{IsAddress, IsLocated}
+use Rattle.accepted_places.specs.inner.Located.{IsLocated}
 use Rattle.argument_conventions.specs.declared.row.AddressRow.{AddressRow}
 use Rattle.built_objects.specs.inner.FrameObjects.{Names}
 use Rattle.item_operands.specs.Items.{item_taken}
@@ -24,11 +23,10 @@ use Rattle.item_operands.specs.Parts.{inst_at}
 use Rattle.item_operands.specs.declared.taken.Taken.{Taken}
 use Rattle.memory_cells.specs.inner.Cells.{IsInside}
 use Rattle.run_values.specs.Memory.{Memory, is_dead}
-use Rattle.run_values.specs.Places.{Home, Inside, OnStack, Place}
+use Rattle.run_values.specs.Places.{OnStack, Place}
 use Rattle.sil_ast.specs.declared.function.Function.{Function}
 use Rattle.sil_ast.specs.declared.inst.Inst.{Inst}
 use Rattle.sil_ast.specs.declared.module.Module.{Module}
-use Rattle.sil_ast.specs.declared.place.ObjectId.{ObjectId}
 use Rattle.sil_ast.specs.declared.place.PointId.{PointId}
 use Rattle.sil_ast.specs.declared.place.ValueId.{ValueId}
 use Rattle.sil_cfg.specs.declared.item.Item.TheVariants as item

@@ -1,8 +1,7 @@
 -- The address of a field, or of what lies in one, has the form of a place: no value is at it.
-use Rattle.std.proofs.Common.{◌≡◌, ◌⊎◌, inl, inr, ℕ, zero, suc, List, [], ◌∷◌, ◌++◌, append-nil, length, map, refl, sym, ap, ◌∙◌, subst, Bool, true, false, Option, Some, None}
+use Rattle.std.proofs.Common.{◌≡◌, ℕ, zero, suc, List, [], ◌∷◌, ◌++◌, append-nil, length, refl, sym, ap, ◌∙◌, subst, Bool, true, false, Option, Some, None}
 use Rattle.std.specs.Prelude.{Contains, option_map, slice_get}
-use Rattle.std.specs.List.{list_any}
-use Rattle.std.proofs.lemmas.Bool.{cases_Bool, false≢true, true≢false}
+use Rattle.std.proofs.lemmas.Bool.{false≢true, true≢false}
 use Rattle.std.proofs.lemmas.Option.{none-some, same_Some, slice_get-map}
 use Rattle.instruction_table.specs.declared.op.Op.{Op}
 use Rattle.instruction_table.specs.declared.op.Op.TheVariants as op
@@ -13,7 +12,6 @@ use Rattle.accepted_memory.specs.holder_model.declared.row_effect.RowEffect.TheV
 use Rattle.accepted_memory.specs.memory_accesses.Operations.{access_kind_of}
 use Rattle.accepted_memory.specs.memory_accesses.Locations.{locate, located_by}
 use Rattle.accepted_memory.specs.memory_accesses.Sources.{borrow_source, result_source, source_at, source_by, sources_of, upcast_source}
-use Rattle.accepted_memory.specs.memory_accesses.declared.columns.AccessKind.{AccessKind}
 use Rattle.accepted_memory.specs.memory_accesses.declared.columns.AccessKind.TheVariants as access
 use Rattle.accepted_memory.specs.memory_accesses.declared.location.Location.{Location}
 use Rattle.accepted_memory.specs.memory_accesses.declared.source.Source.{Source}
@@ -25,13 +23,12 @@ use Rattle.accepted_places.proofs.Made.{results_so}
 use Rattle.accepted_places.proofs.PartsThere.{each_where_among}
 use Rattle.accepted_places.specs.inner.Located.{IsAddress}
 use Rattle.accepted_values.specs.inner.Known.{IsAcceptedBody}
-use Rattle.accepted_values.specs.run_typing.EndForms.{value_in}
 use Rattle.accepted_values.specs.run_typing.Forms.{Form, OfPlace, OfValue, form_of, forms_of}
 use Rattle.accepted_values.proofs.Accepted.{in_ownership_form, well_typed}
 use Rattle.accepted_values.proofs.Counted.{stands}
 use Rattle.built_objects.specs.inner.Building.{IsFieldAddress}
 use Rattle.item_operands.specs.Items.{item_defined}
-use Rattle.item_operands.specs.Parts.{inst_at, item_inst, results_in}
+use Rattle.item_operands.specs.Parts.{inst_at, results_in}
 use Rattle.owned_run_typing.specs.inner.OwnedRows.{OwnedRowForms}
 use Rattle.owned_run_typing.proofs.OwnedInsts.{owned_inst}
 use Rattle.ownership_chains.specs.Facts.{has}
@@ -143,9 +140,14 @@ module _ (m : Module) (n : ℕ) (f : Function) (a : IsAcceptedBody m n f) where
   module _ (v : ValueId) (l : Location) (of : ValueId) (k : ℕ) (at : IsFieldAddress sources v l of k) where
     at_row : (p : PointId) (x : Inst) → inst_at f p ≡ Some x → makes f v (item.Inst p) ≡ true → HowRow x.op → IsAddress d f v
     at_row p x is made (apart keeps) =
-        absurd ((made_apart m n f a (item.Inst p) v made (λ y so. subst (λ (z : Inst). keeps_apart (access_kind_of z.op) ≡ true) (same_Some x y (sym is ∙ so)) keeps)).address l of k at)
-    at_row p x is made (lends e) = absurd (unlocated v l (borrow_source (first_value x)) (length sources) (made_row p x is v made ∙ ap (λ q. source_by q d x) e) (borrow_nowhere v (first_value x)) at.at)
-    at_row p x is made (upcasts e) = absurd (unlocated v l (upcast_source (first_value x)) (length sources) (made_row p x is v made ∙ ap (λ q. source_by q d x) e) (upcast_nowhere v (first_value x)) at.at)
+        absurd ((made_apart m n f a (item.Inst p) v made
+        (λ y so. subst (λ (z : Inst). keeps_apart (access_kind_of z.op) ≡ true) (same_Some x y (sym is ∙ so)) keeps)).address l of k at)
+    at_row p x is made (lends e) =
+        absurd (unlocated v l (borrow_source (first_value x)) (length sources) (made_row p x is v made ∙ ap (λ q. source_by q d x) e)
+        (borrow_nowhere v (first_value x)) at.at)
+    at_row p x is made (upcasts e) =
+        absurd (unlocated v l (upcast_source (first_value x)) (length sources) (made_row p x is v made ∙ ap (λ q. source_by q d x) e)
+        (upcast_nowhere v (first_value x)) at.at)
     at_row p x is made (names gives) = result_place p x is gives v made
 
     made_at : (p : PointId) (o : Option Inst) → inst_at f p ≡ o → makes f v (item.Inst p) ≡ true → IsAddress d f v

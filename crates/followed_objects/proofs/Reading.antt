@@ -7,7 +7,8 @@ use Rattle.std.proofs.lemmas.Bool.{or_parts}
 use Rattle.std.proofs.lemmas.Option.{none-some, same_Some, slice_get_within}
 use Rattle.accepted_memory.specs.holder_model.Data.{AddressOf, Datum, home_references, references_in}
 use Rattle.accepted_memory.specs.holder_model.Faults.{HolderFault, NamesDead}
-use Rattle.accepted_memory.specs.holder_model.Frames.{Entry, Gone, Held, Lent, Operands, Plain, and_more, any_dead, datum_in, datum_or_fault, ends, entry_at, operand, operand_data}
+use Rattle.accepted_memory.specs.holder_model.Frames.{Entry, Gone, Held, Lent, Operands, Plain, and_more, any_dead, datum_in, datum_or_fault, ends, entry_at, operand}
+use Rattle.accepted_memory.specs.holder_model.Frames.{operand_data}
 use Rattle.accepted_memory.specs.holder_model.Frames.{operands_of, unless_dead, used_datum}
 use Rattle.accepted_values.specs.run_typing.CallForms.{IsOf}
 use Rattle.accepted_values.specs.run_typing.Forms.{Form, OfPlace, form_of}

@@ -3,7 +3,6 @@ use Rattle.std.proofs.Common.{◌≡◌, ℕ, List, [], ◌∷◌, ◌++◌, ref
 use Rattle.std.specs.Prelude.{cond, option_and_then, option_map, slice_get}
 use Rattle.std.proofs.lemmas.Option.{same_Some}
 use Rattle.argument_conventions.specs.declared.row.Content.{Content}
-use Rattle.argument_conventions.specs.declared.row.Content.TheVariants as content
 use Rattle.holder_counts.specs.holder_model.Data.{AddressOf, Datum, ValueOf, as_place, as_value}
 use Rattle.holder_counts.specs.holder_model.Effects as effects
 use Rattle.holder_counts.specs.holder_model.Effects.{Change, Effect, Faults, Makes, effect_by, effect_of, only, part_number, unchanged, with_some}
@@ -118,9 +117,9 @@ module _ (d : Declarations) (shapes : ModuleShapes) (values : List Shape) (m : M
     pub class : Name
     pub shape : class_in (effects.result_shape d shapes values m i) ≡ Some class
     pub is : c ≡ record (unchanged m) {
-          results = ValueOf (value.Object (new_object m)) ∷ [];
-          memory = record m { objects = m.objects ++ record { class = class; phase = Live; cells = empty_fields (field_shapes shapes class) } ∷ [] };
-        }
+      results = ValueOf (value.Object (new_object m)) ∷ [];
+      memory = record m { objects = m.objects ++ record { class = class; phase = Live; cells = empty_fields (field_shapes shapes class) } ∷ [] };
+    }
 
   pub made_object : effect_of i.op ≡ row.MakesObject → MakesObject
   made_object e =

@@ -1,8 +1,8 @@
 -- An instruction that leaves a change, by its row: the frame's objects are right behind it, and so are those below.
-use Rattle.std.proofs.Common.{◌≡◌, ℕ, List, [], ◌∷◌, refl, sym, ap, ◌∙◌, subst, Bool, true, false, ◌&&◌, Option, Some, Ok, Err}
+use Rattle.std.proofs.Common.{◌≡◌, List, [], ◌∷◌, refl, sym, ap, ◌∙◌, Bool, true, false, ◌&&◌, Some, Ok, Err}
 use Rattle.std.specs.Prelude.{cond}
 use Rattle.std.specs.declared.result.Result.{Result}
-use Rattle.std.proofs.lemmas.Bool.{false≢true, true≢false}
+use Rattle.std.proofs.lemmas.Bool.{false≢true}
 use Rattle.accepted_memory.specs.holder_model.Effects as effects
 use Rattle.accepted_memory.specs.holder_model.Effects.{Change, ClosesSlot, SlotChange, effect_of}
 use Rattle.accepted_memory.specs.holder_model.Faults.{HolderFault, NotLastSlot}

@@ -1,5 +1,6 @@
 -- How each item leaves what a trail says of new objects.
-use Rattle.std.proofs.Common.{◌≡◌, ◌⊎◌, inl, inr, ℕ, zero, suc, ◌<◌, List, [], ◌∷◌, map, refl, sym, ap, ◌∙◌, subst, arith, Bool, true, false, not, ◌&&◌, ◌||◌, Option, Some, None, eq-eqb}
+use Rattle.std.proofs.Common.{◌≡◌, ◌⊎◌, inl, inr, ℕ, zero, suc, ◌<◌, List, [], ◌∷◌, map, refl, sym, ap, ◌∙◌, subst, arith, Bool, true, false, not, ◌&&◌, ◌||◌, Option, Some}
+use Rattle.std.proofs.Common.{None, eq-eqb}
 use Rattle.std.specs.Prelude.{◌==◌, Contains, cond, nat_lt, option_and_then, slice_get, unwrap_or}
 use Rattle.std.specs.List.{list_any}
 use Rattle.std.proofs.lemmas.Bool.{and_parts, eqb-true, false≢true, true≢false}
@@ -276,7 +277,8 @@ module _ (m : Module) (n : ℕ) (f : Function) (a : IsAcceptedBody m n f) (t : L
       (subst (λ c. IsPartOf decls f (Contents c false None)) (sym at_cell) (held_there m n f a object k is_new))
 
   abbrev mark : Mark
-  mark = operation_mark (is_trivial_at (sources_of (declarations_of m) f) filled.location.root) (counts_at_part (sources_of (declarations_of m) f) filled.location filled.does.operation) filled.does.operation
+  mark = operation_mark (is_trivial_at (sources_of (declarations_of m) f) filled.location.root)
+      (counts_at_part (sources_of (declarations_of m) f) filled.location filled.does.operation) filled.does.operation
 
   both : (on : Bool) × (is_on decls f (Building object k) (item.Inst p ∷ t) ≡ Some on) × (is_on decls f (Contents cell false None) (item.Inst p ∷ t) ≡ Some (not on))
   both =

@@ -1,5 +1,5 @@
 -- Rows that neither store a value nor make an object, nor hand on an object or an address: they leave the frame's objects as they are.
-use Rattle.std.proofs.Common.{◌≡◌, ◌⊎◌, inl, inr, ℕ, List, [], ◌∷◌, map, refl, sym, ap, ◌∙◌, subst, Bool, true, false, Option, Some, None}
+use Rattle.std.proofs.Common.{◌≡◌, inl, ℕ, List, [], ◌∷◌, map, refl, sym, ap, ◌∙◌, subst, Bool, true, false, Option, Some, None}
 use Rattle.std.specs.Prelude.{Contains, cond, option_and_then, slice_get}
 use Rattle.std.proofs.lemmas.Bool.{false≢true, true≢false}
 use Rattle.std.proofs.lemmas.Option.{none-some, same_Some}
@@ -9,15 +9,14 @@ use Rattle.accepted_memory.specs.holder_model.Data.{AddressOf, Datum, ValueOf, h
 use Rattle.accepted_memory.specs.holder_model.Effects as effects
 use Rattle.accepted_memory.specs.holder_model.Effects.{Change, ClosesSlot, OpensSlot, effect_of, member_of, unchanged}
 use Rattle.accepted_memory.specs.holder_model.Frames.{Frame, Operands, any_dead}
-use Rattle.accepted_memory.specs.holder_model.MemoryEffects.{after, copies_with, effect, operation_done, references_at, takes}
+use Rattle.accepted_memory.specs.holder_model.MemoryEffects.{after, effect, references_at, takes}
 use Rattle.accepted_memory.specs.holder_model.ModuleShapes.{ModuleShapes}
 use Rattle.accepted_memory.specs.holder_model.States.{Runs, Task}
 use Rattle.accepted_memory.specs.holder_model.declared.row_effect.RowEffect.{RowEffect}
 use Rattle.accepted_memory.specs.holder_model.declared.row_effect.RowEffect.TheVariants as row
-use Rattle.accepted_memory.specs.memory_accesses.Operations.{access_kind_of, operated, operation_by, operations_of}
+use Rattle.accepted_memory.specs.memory_accesses.Operations.{access_kind_of, operation_by}
 use Rattle.accepted_memory.specs.memory_accesses.declared.access.Operation.{Operation}
 use Rattle.accepted_memory.specs.memory_accesses.declared.access.Operation.TheVariants as operation
-use Rattle.built_objects.specs.inner.FrameObjects.{Names}
 use Rattle.holder_counts.specs.inner.Doing.{Leaves, giving}
 use Rattle.holder_counts.specs.inner.Doing as doing
 use Rattle.holder_counts.specs.inner.Keeping.{with_new_slot}
@@ -29,7 +28,7 @@ use Rattle.item_operands.specs.declared.taken.Taken.{Taken}
 use Rattle.memory_cells.specs.inner.Cells.{IsInside}
 use Rattle.numbered_form.specs.Lists.{Each}
 use Rattle.point_checks.proofs.Among.{Among, contained_among}
-use Rattle.run_values.specs.Cells.{Cell, Empty, Gone, cell_count}
+use Rattle.run_values.specs.Cells.{Cell}
 use Rattle.run_values.specs.Memory.{Memory, put_cells}
 use Rattle.run_values.specs.Places.{OnStack, Place, emptied, home_cells, removed, value_at, with_cells, with_home_cells}
 use Rattle.run_values.specs.Shapes.{Shape}
@@ -43,7 +42,7 @@ use Rattle.sil_ast.specs.declared.place.PointId.{PointId}
 use Rattle.sil_cfg.specs.declared.item.Item.TheVariants as item
 use Rattle.type_definitions.specs.Declarations.{declarations_of}
 use Rattle.whole_objects.specs.inner.Laws.{KeepsWhole}
-use Rattle.whole_objects.specs.inner.Whole.{IsWhole, IsWholeMemory, NameWhole, StayWhole}
+use Rattle.whole_objects.specs.inner.Whole.{IsWhole, IsWholeMemory, NameWhole}
 use Rattle.whole_objects.proofs.Keeping.{made_whole, read_whole, taken_whole}
 use Rattle.whole_objects.proofs.Lists.{each_at, each_of}
 use Rattle.followed_objects.proofs.Apart.{KeepsApart, keeps_apart}

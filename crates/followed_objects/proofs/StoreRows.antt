@@ -1,31 +1,23 @@
 -- A row that stores a value: on the stack, in a field of a whole object, or in a field of one that the frame is building.
-use Rattle.std.proofs.Common.{◌≡◌, ◌⊎◌, inl, inr, ℕ, zero, suc, List, [], ◌∷◌, length, map, refl, sym, ap, ◌∙◌, subst, arith, Bool, true, false, not, ◌&&◌, ◌||◌, Option, Some, None, Ok, eq-eqb}
-use Rattle.std.specs.Prelude.{◌==◌, Contains, cond, is_some, unwrap_or}
+use Rattle.std.proofs.Common.{◌≡◌, ◌⊎◌, inl, inr, ℕ, List, [], ◌∷◌, map, refl, sym, ap, ◌∙◌, subst, arith, Bool, true, false, ◌&&◌, Option, Some, None, Ok}
+use Rattle.std.specs.Prelude.{◌==◌, Contains, is_some}
 use Rattle.std.proofs.lemmas.Bool.{and_parts, eqb-true, false≢true, true≢false}
 use Rattle.std.proofs.lemmas.Option.{none-some, same_Some}
-use Rattle.argument_conventions.specs.declared.row.Content.{Content}
 use Rattle.argument_conventions.specs.declared.row.Content.TheVariants as content
-use Rattle.instruction_table.specs.declared.op.Op.{Op}
-use Rattle.instruction_table.specs.declared.op.Op.TheVariants as op
 use Rattle.accepted_memory.specs.accepted_trails.inner.Defined.{IsDefinedOn}
-use Rattle.accepted_memory.specs.holder_model.Data.{AddressOf, Datum, ValueOf, references_in}
+use Rattle.accepted_memory.specs.holder_model.Data.{AddressOf, ValueOf, references_in}
 use Rattle.accepted_memory.specs.holder_model.Effects as effects
 use Rattle.accepted_memory.specs.holder_model.Effects.{Change, effect_of, unchanged}
-use Rattle.accepted_memory.specs.holder_model.Frames.{Entry, Frame, Operands, any_dead, entry_at, results_put}
+use Rattle.accepted_memory.specs.holder_model.Frames.{Entry, Frame, Operands, any_dead, results_put}
 use Rattle.accepted_memory.specs.holder_model.MemoryEffects.{asked_before, effect, references_at}
 use Rattle.accepted_memory.specs.holder_model.ModuleShapes.{shapes_of}
 use Rattle.accepted_memory.specs.holder_model.States.{Runs, Task, dropping}
-use Rattle.accepted_memory.specs.holder_model.declared.row_effect.RowEffect.{RowEffect}
 use Rattle.accepted_memory.specs.holder_model.declared.row_effect.RowEffect.TheVariants as row
 use Rattle.accepted_memory.specs.memory_accesses.Locations.{cell_by, cell_of, field_cell, location_of, object_built}
 use Rattle.accepted_memory.specs.memory_accesses.Operations.{access_kind_of, operated, operation_by, operations_of, store_operation}
 use Rattle.accepted_memory.specs.memory_accesses.Rows.{field_has, has_by, has_operation, is_part}
 use Rattle.accepted_memory.specs.memory_accesses.Sources.{is_trivial_at, source_at, sources_of}
 use Rattle.accepted_memory.specs.memory_accesses.declared.access.Operated.{Operated}
-use Rattle.accepted_memory.specs.memory_accesses.declared.access.Operation.{Operation}
-use Rattle.accepted_memory.specs.memory_accesses.declared.access.Operation.TheVariants as operation
-use Rattle.accepted_memory.specs.memory_accesses.declared.columns.AccessKind.TheVariants as access
-use Rattle.accepted_memory.specs.memory_accesses.declared.location.Cell.{Cell}
 use Rattle.accepted_memory.specs.memory_accesses.declared.location.Location.{Location}
 use Rattle.accepted_memory.specs.memory_accesses.declared.source.Source.{Source}
 use Rattle.accepted_memory.specs.memory_accesses.declared.source.Source.TheVariants as source
@@ -33,50 +25,41 @@ use Rattle.accepted_memory.specs.memory_parts.Building.{builds, fills, is_object
 use Rattle.accepted_memory.specs.memory_parts.Contents.{counts_at_part, operation_mark, same_cell}
 use Rattle.accepted_memory.specs.memory_parts.Switches.{is_turned_on, when}
 use Rattle.accepted_memory.specs.memory_parts.declared.part.Part.TheVariants.{Building}
-use Rattle.accepted_memory.specs.run_trails.inner.RunTrails.{IsRunTrail}
-use Rattle.accepted_memory.specs.run_trails.inner.Switched.{finds}
-use Rattle.accepted_memory.specs.inner.PartTrails.{is_on}
 use Rattle.accepted_memory.proofs.PartsFollowed.{parts_followed}
 use Rattle.accepted_places.proofs.ItemStacks.{accepted_in}
 use Rattle.accepted_places.proofs.OperationsRight.{rows_right}
-use Rattle.accepted_places.specs.inner.Cells.{IsDoneAt, mark_at}
+use Rattle.accepted_places.specs.inner.Cells.{IsDoneAt}
 use Rattle.accepted_places.specs.inner.Located.{IsLocated}
-use Rattle.accepted_values.specs.run_typing.EndForms.{value_in}
-use Rattle.accepted_values.specs.run_typing.Forms.{Form, OfPlace, OfValue, form_of, forms_of}
+use Rattle.accepted_values.specs.run_typing.Forms.{OfPlace, OfValue, form_of}
 use Rattle.accepted_values.proofs.Accepted.{in_ownership_form, well_typed}
-use Rattle.built_objects.specs.inner.Building.{IsFieldAddress, IsNewField, IsUnfinished, Progress, address, borrow}
+use Rattle.built_objects.specs.inner.Building.{IsFieldAddress, IsNewField, IsUnfinished, Progress, address}
 use Rattle.built_objects.specs.inner.FrameObjects.{Holds, Names}
 use Rattle.built_objects.specs.inner.Laws.{IsRightAt, WhoseField, WritesField}
 use Rattle.built_objects.specs.inner.Laws as laws
 use Rattle.built_objects.proofs.About.{builds_it}
 use Rattle.built_objects.proofs.Asked.{fields_of}
-use Rattle.held_objects.specs.inner.Items.{IsFieldWrite, frame_behind}
+use Rattle.held_objects.specs.inner.Items.{frame_behind}
 use Rattle.held_objects.specs.inner.Laws.{StaysBelow}
 use Rattle.held_objects.specs.inner.ObjectStates.{BuildsNone, TasksBuild}
 use Rattle.held_objects.proofs.Below.{others_built}
 use Rattle.held_objects.proofs.Items.{first_right}
 use Rattle.item_operands.specs.Items.{item_defined, item_taken}
-use Rattle.item_operands.specs.Parts.{inst_at, item_inst}
+use Rattle.item_operands.specs.Parts.{inst_at}
 use Rattle.item_operands.specs.Roles.{taken_by}
 use Rattle.item_operands.specs.declared.taken.Taken.{Taken}
 use Rattle.memory_cells.specs.inner.Cells.{IsInside}
-use Rattle.memory_cells.proofs.Writes.{filled_changes, object_other}
-use Rattle.numbered_form.specs.Lists.{Each}
+use Rattle.memory_cells.proofs.Writes.{filled_changes}
 use Rattle.owned_run_typing.proofs.OwnedInsts.{owned_inst}
 use Rattle.ownership_chains.specs.Facts.{value_of}
 use Rattle.ownership_chains.specs.declared.facts.Facts.{Facts}
-use Rattle.path_patterns.specs.declared.mark.Mark.{Mark}
 use Rattle.point_checks.proofs.Among.{Among, among_contained, contained_among}
-use Rattle.run_values.specs.Cells.{in_cells}
 use Rattle.run_values.specs.Fits.{fits}
-use Rattle.run_values.specs.Memory.{Memory, object_at, put_cells}
-use Rattle.run_values.specs.Places.{Inside, OnStack, Place, filled, home_cells, with_home_cells}
+use Rattle.run_values.specs.Memory.{Memory}
+use Rattle.run_values.specs.Places.{Inside, Place, filled}
 use Rattle.run_values.specs.Shapes.{Shape}
 use Rattle.run_values.specs.Values.{Value, references_of}
 use Rattle.sil_ast.specs.declared.function.Function.{Function}
 use Rattle.sil_ast.specs.declared.inst.Inst.{Inst}
-use Rattle.sil_ast.specs.declared.inst.Qualifier.{Qualifier}
-use Rattle.sil_ast.specs.declared.inst.Qualifier.TheVariants as word
 use Rattle.sil_ast.specs.declared.module.Module.{Module}
 use Rattle.sil_ast.specs.declared.place.ObjectId.{ObjectId}
 use Rattle.sil_ast.specs.declared.place.PointId.{PointId}
@@ -89,100 +72,24 @@ use Rattle.whole_objects.specs.inner.Laws.{KeepsWhole}
 use Rattle.whole_objects.specs.inner.Whole.{IsWhole, IsWholeMemory, NameWhole}
 use Rattle.whole_objects.proofs.Keeping.{filled_whole, read_whole}
 use Rattle.whole_objects.proofs.Lists.{each_of}
-use Rattle.followed_objects.specs.inner.Laws.{FillsField, FillsNone, LeavesFull}
+use Rattle.followed_objects.specs.inner.Laws.{FillsNone}
 use Rattle.followed_objects.specs.inner.Said.{said}
 use Rattle.followed_objects.proofs.About.{about_as_made}
 use Rattle.followed_objects.proofs.EntriesNamed.{AreNamed}
 use Rattle.followed_objects.proofs.Filling.{is_field, other_place}
 use Rattle.followed_objects.proofs.GivenValues.{takes_whole, whole_row}
-use Rattle.followed_objects.proofs.ItemsDone.{Doing, IsQuietly, MakesNone, WritesNone, apart_quietly, makes_object, quietly_right, stack_stays}
+use Rattle.followed_objects.proofs.ItemsDone.{MakesNone, WritesNone, makes_object, quietly_right, stack_stays}
 use Rattle.followed_objects.proofs.OperandPlaces.{OthersOnStack, inside, located}
 use Rattle.followed_objects.proofs.Operands.{fields_right}
-use Rattle.followed_objects.proofs.PlaceRows.{inst_taken, is_store, operates_at, store_alone, store_operand}
+use Rattle.followed_objects.proofs.PlaceRows.{inst_taken, is_store, store_alone, store_operand}
 use Rattle.followed_objects.proofs.Reading.{named_datum}
 use Rattle.followed_objects.proofs.RowChanges.{Stores, stored}
-use Rattle.followed_objects.proofs.RowsSay.{StoresForms, says_by}
+use Rattle.followed_objects.proofs.RowsSay.{says_by}
 use Rattle.followed_objects.proofs.StillRows.{stack_objects}
 use Rattle.followed_objects.proofs.Steps.{built_told, fields_filled, new_field_told, there, told}
+use Rattle.followed_objects.proofs.Stored.{Fills, StoringRow, filled_other, leaves_full, none_put, number_or_not, part_was_full, same_object, same_or_not, store_fills}
+use Rattle.followed_objects.proofs.Stored.{storing_row}
 use Rattle.followed_objects.proofs.WholeOperands.{Ready, holds_objects, whole_value}
-
--- ---- the row
-
-pub record StoringRow (o : Op) : Type 0 where
-  pub kind : access_kind_of o ≡ access.Stores
-  pub makes : makes_object (access_kind_of o) ≡ false
-
-storing_row : (o : Op) → is_store (effect_of o) ≡ true → StoringRow o
-storing_row op.Store e = record { kind = refl; makes = refl }
-storing_row op.StoreWeak e = record { kind = refl; makes = refl }
-storing_row op.StoreUnowned e = record { kind = refl; makes = refl }
-storing_row _ e = absurd (false≢true e)
-
--- an operation that puts a value at its place
-pub data Fills : Operation → Type 0 where
-  first : Fills operation.FirstWrite
-  write : Fills operation.Write
-  trivial : Fills operation.TrivialStore
-
-store_fills : (q : Qualifier) → Fills (store_operation q)
-store_fills word.Plain = write
-store_fills word.Copy = write
-store_fills word.Take = write
-store_fills word.Trivial = trivial
-store_fills word.Init = first
-store_fills word.Assign = write
-
--- it leaves its cell full
-leaves_full : (t part : Bool) (o : Operation) → Fills o → LeavesFull (operation_mark t part o)
-leaves_full t part _ first on found = refl
-leaves_full t part _ write on found = at on found
-  where
-    at : (on : Bool) → finds (operation_mark t part operation.Write).needs on ≡ true → on ≡ true
-    at true e = refl
-    at false e = absurd (false≢true e)
-leaves_full t true _ trivial on found = at on found
-  where
-    at : (on : Bool) → finds (operation_mark t true operation.TrivialStore).needs on ≡ true → on ≡ true
-    at true e = refl
-    at false e = absurd (false≢true e)
-leaves_full t false _ trivial on found = refl
-
--- a part is written where its field was written before
-part_was_full : (o : Operation) → Fills o → (building : Bool) → field_has true building o ≡ true → asked_before true o ≡ Some content.Full
-part_was_full _ first building has = absurd (false≢true has)
-part_was_full _ write building has = refl
-part_was_full _ trivial building has = refl
-
--- nothing is put
-pub none_put : (facts : ValueId → Option Facts) (vs : List ValueId) (left behind : List Entry) → results_put facts vs [] left ≡ Ok behind → (vs ≡ []) × (left ≡ behind)
-none_put facts [] left behind is = let same : left ≡ behind = cc in (refl, same)
-none_put facts (v ∷ vs) left behind is = absurd (cc)
-
-same_object : (p q : ObjectId) → p.0 ≡ q.0 → p ≡ q
-same_object p q e = ap (λ (n : ℕ). record { 0 = n }) e
-
--- no other object changes where a place in one is filled
-filled_other : (memory : Memory) (q : Place) (x : Value) (o other : ObjectId) → q.home ≡ Inside o → (other.0 ≡ o.0 → ⊥)
-    → object_at (filled memory q x) other ≡ object_at memory other
-filled_other memory q x o other home differ =
-    subst (λ h. object_at (with_home_cells memory h (put_cells (home_cells memory h) q.first ((in_cells q.shape).cells x))) other ≡ object_at memory other) (sym home)
-    (object_other memory o other _ differ)
-
--- two values are the same or not
-same_or_not : (v w : ValueId) → (v ≡ w) ⊎ (v ≡ w → ⊥)
-same_or_not v w = at (v.0 == w.0) refl
-  where
-    at : (b : Bool) → (v.0 == w.0) ≡ b → (v ≡ w) ⊎ (v ≡ w → ⊥)
-    at true e = inl (ap value_of (eqb-true v.0 w.0 e))
-    at false e = inr (λ same. true≢false (sym (eq-eqb v.0 w.0 (ap (λ (u : ValueId). u.0) same)) ∙ e))
-
--- two numbers are the same or not
-number_or_not : (j k : ℕ) → (j ≡ k) ⊎ (j ≡ k → ⊥)
-number_or_not j k = at (j == k) refl
-  where
-    at : (b : Bool) → (j == k) ≡ b → (j ≡ k) ⊎ (j ≡ k → ⊥)
-    at true e = inl (eqb-true j k e)
-    at false e = inr (λ same. true≢false (sym (eq-eqb j k same) ∙ e))
 
 module _ (m : Module) (memory : Memory) (rest : List (Task Frame)) (frame : Frame) (f : Function) (p : PointId) (ops : Operands)
     (ready : Ready m memory rest frame f (item.Inst p) ops) (x : Inst) (is : inst_at f p ≡ Some x) (others : OthersOnStack m frame f p)
@@ -407,7 +314,7 @@ module _ (m : Module) (memory : Memory) (rest : List (Task Frame)) (frame : Fram
       on =
           let new = new_field_told sources object k field_new in
           let b = parts_followed (declarations_of m) f (accepted_in m frame.function.0 f ready.doing.body) (Building object k)
-              (there m frame.function.0 f ready.doing.body object k new) frame.trail ready.doing.trail.1 in
+          (there m frame.function.0 f ready.doing.body object k new) frame.trail ready.doing.trail.1 in
           (b.0, told m frame.function.0 f ready.doing.body object k frame.trail new ∙ b.1)
 
       defined : IsDefinedOn f frame.trail object

@@ -1,6 +1,7 @@
 -- What upcasts a building borrow is a building borrow: as many steps as there are values lead to the borrow, since each value on the way was made before.
-use Rattle.std.proofs.Common.{◌≡◌, ◌⊎◌, inl, inr, ℕ, zero, suc, ◌+◌, ◌-◌, ◌<◌, ◌≤◌, List, [], ◌∷◌, length, refl, sym, ap, ◌∙◌, subst, arith, Bool, true, false, ◌||◌, Some, None, eq-eqb}
-use Rattle.std.specs.Prelude.{Contains, cond}
+use Rattle.std.proofs.Common.{◌≡◌, ◌⊎◌, inl, inr, ℕ, zero, suc, ◌+◌, ◌-◌, ◌<◌, ◌≤◌, List, [], ◌∷◌, length, refl, sym, ap, ◌∙◌, subst, arith, Bool, true, false, ◌||◌, Some}
+use Rattle.std.proofs.Common.{None, eq-eqb}
+use Rattle.std.specs.Prelude.{cond}
 use Rattle.std.specs.List.{list_any}
 use Rattle.std.proofs.lemmas.Bool.{cases_lt, false≢true, true≢false}
 use Rattle.accepted_memory.specs.accepted_trails.inner.Defined.{IsDefinedOn, makes}
@@ -13,8 +14,6 @@ use Rattle.accepted_memory.specs.run_trails.inner.RunTrails.{IsTurnedTrail}
 use Rattle.accepted_memory.proofs.accepted_trails.Tests.{or_right}
 use Rattle.accepted_memory.proofs.run_trails.TurnedTrails.{turned_older}
 use Rattle.accepted_values.specs.inner.Known.{IsAcceptedBody}
-use Rattle.item_operands.specs.Items.{item_taken}
-use Rattle.item_operands.specs.declared.taken.Taken.{Taken}
 use Rattle.ownership_chains.specs.Facts.{value_of}
 use Rattle.sil_ast.specs.declared.function.Function.{Function}
 use Rattle.sil_ast.specs.declared.module.Module.{Module}

@@ -1,12 +1,11 @@
 -- Operands of an item whose row takes no unfinished object: as values they name whole objects alone.
-use Rattle.std.proofs.Common.{◌≡◌, ◌⊎◌, inl, inr, ℕ, List, [], ◌∷◌, length, map, refl, sym, ap, ◌∙◌, subst, Bool, true, false, Option, Some, None}
-use Rattle.std.specs.Prelude.{Contains, slice_get}
+use Rattle.std.proofs.Common.{◌≡◌, inl, inr, ℕ, List, [], ◌∷◌, length, refl, sym, ap, ◌∙◌, subst, true, Option, Some, None}
+use Rattle.std.specs.Prelude.{Contains}
 use Rattle.std.proofs.lemmas.Bool.{true≢false}
 use Rattle.std.proofs.lemmas.Option.{none-some, same_Some}
-use Rattle.accepted_memory.specs.accepted_trails.inner.Defined.{IsDefinedOn}
 use Rattle.accepted_memory.specs.holder_model.Calling.{value_count}
-use Rattle.accepted_memory.specs.holder_model.Data.{AddressOf, Datum, FunctionOf, ValueOf, as_value, references_in, values_of, with_first}
-use Rattle.accepted_memory.specs.holder_model.Frames.{Frame, Operands, any_dead}
+use Rattle.accepted_memory.specs.holder_model.Data.{AddressOf, Datum, FunctionOf, ValueOf, references_in, values_of, with_first}
+use Rattle.accepted_memory.specs.holder_model.Frames.{Frame, Operands}
 use Rattle.accepted_memory.specs.holder_model.ModuleShapes.{shapes_of}
 use Rattle.accepted_memory.specs.holder_model.States.{Task}
 use Rattle.accepted_memory.specs.memory_accesses.Accesses.{allowance_of}
@@ -28,7 +27,6 @@ use Rattle.item_operands.specs.declared.taken.Taken.{Taken}
 use Rattle.numbered_form.specs.Lists.{Each}
 use Rattle.point_checks.proofs.Among.{Among, contained_among}
 use Rattle.run_values.specs.Memory.{Memory}
-use Rattle.run_values.specs.Places.{Place}
 use Rattle.run_values.specs.Shapes.{Shape}
 use Rattle.run_values.specs.Values.{Value, references_of}
 use Rattle.sil_ast.specs.declared.function.Function.{Function}

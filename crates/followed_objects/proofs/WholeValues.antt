@@ -1,6 +1,6 @@
 -- What a value names, its members and its payload name, and what an edge carries: where all names are of one sort, so are these.
-use Rattle.std.proofs.Common.{◌≡◌, ℕ, List, [], ◌∷◌, drop, length, refl, sym, ap, ◌∙◌, subst, Bool, true, false, Option, Some, None}
-use Rattle.std.specs.Prelude.{◌==◌, cond, option_and_then, option_map, slice_get}
+use Rattle.std.proofs.Common.{◌≡◌, ℕ, List, [], ◌∷◌, drop, length, refl, subst, Bool, true, false, Option, Some, None}
+use Rattle.std.specs.Prelude.{◌==◌, cond, option_and_then, option_map}
 use Rattle.std.proofs.lemmas.Option.{none-some, same_Some}
 use Rattle.accepted_memory.specs.holder_model.Data.{AddressOf, Datum, FunctionOf, ValueOf, references_in}
 use Rattle.accepted_memory.specs.holder_model.Edges.{carried_along, carried_by, first_value_of, is_default, payload_data, switched_data}
