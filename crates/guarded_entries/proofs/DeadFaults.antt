@@ -38,7 +38,7 @@ use Rattle.tracked_frames.proofs.HowValuesEnd.{accepted_body}
 use Rattle.tracked_frames.proofs.NextItems.{chooses_on, chosen_within, edge_comes, exit_comes, inst_comes, one_edge}
 use Rattle.guarded_entries.specs.inner.GuardedStates.{IsGuardedState, Loans}
 use Rattle.guarded_entries.specs.inner.Laws.{NoDeadFaults, is_dead_fault}
-use Rattle.guarded_entries.specs.inner.Premises.{AreFramesCurrent}
+use Rattle.guarded_entries.proofs.FramesCurrent.{frames_current}
 use Rattle.guarded_entries.proofs.Alive.{operands_alive}
 use Rattle.guarded_entries.proofs.FirstFrames.{frame_of}
 
@@ -125,7 +125,7 @@ module _ (m : Module) (bound : ℕ) where
 
   -- ---- a frame goes on
 
-  module _ (current : AreFramesCurrent) (verified : IsVerified m) (loans : Loans) (w : World) (s : HolderState) (guarded : IsGuardedState m loans s)
+  module _ (verified : IsVerified m) (loans : Loans) (w : World) (s : HolderState) (guarded : IsGuardedState m loans s)
       (rest : List (Task Frame)) (frame : Frame) (f : Function) (tasks : s.tasks ≡ Runs frame ∷ rest) (is : FrameIs m w f frame) (along : GoesAlong d f frame) where
     a : IsAcceptedBody m frame.function.0 f
     a = accepted_body m frame.function.0 f verified is.is is.bodied
@@ -138,7 +138,7 @@ module _ (m : Module) (bound : ℕ) where
 
         alive : operands_of (facts_in d f) s.memory frame.entries (item_taken f i) ≡ Err NamesDead → ⊥
         alive = operands_alive m loans s frame rest f (item_taken f i) guarded tasks is.is
-            (current m frame.function.0 f a (loans f frame) s.memory frame i (are_next f frame.trail i is.goes comes, is.trail) along)
+            (frames_current m frame.function.0 f a (loans f frame) s.memory frame i (are_next f frame.trail i is.goes comes, is.trail) along)
 
     takes_dead : (e : EdgeId) → ComesAt f (stands_at f frame.trail) (item.Edge e) → (next : HolderNext) → TakesEdge m told bound s rest frame f e next → DeadNext next
     takes_dead e comes next (TakesEdge.takes ops carried n found is turn moves) = behind_dead _ rest _ f (item.Edge e) _ next moves
@@ -172,13 +172,13 @@ module _ (m : Module) (bound : ℕ) where
 
   -- ---- a step
 
-  module _ (current : AreFramesCurrent) (verified : IsVerified m) (loans : Loans) (w : World) (s : HolderState) (typed : TasksAre m w s.tasks) (tracked : IsTrackedState m s)
+  module _ (verified : IsVerified m) (loans : Loans) (w : World) (s : HolderState) (typed : TasksAre m w s.tasks) (tracked : IsTrackedState m s)
       (guarded : IsGuardedState m loans s) where
     steps_dead : (next : HolderNext) → StepsBy m told bound s next → DeadNext next
     steps_dead next (StepsBy.runs frame rest f n is there acts) =
         let h = subst (TasksAre m w) is typed in
         let k = subst (AreTasksTracked m) is tracked in
-        acts_dead current verified loans w s guarded rest frame f is (frame_of m w frame h.0.0 f h.0.1 there) (k.0 f there) next acts
+        acts_dead verified loans w s guarded rest frame f is (frame_of m w frame h.0.0 f h.0.1 there) (k.0 f there) next acts
     steps_dead _ (StepsBy.dropped rest is) = tt
     steps_dead next (StepsBy.drops o os rest n is dropping_one) = drops_dead _ o next dropping_one
     steps_dead next (StepsBy.finishes o rest n is finishing) = finishes_dead _ o next finishing
@@ -187,6 +187,6 @@ module _ (m : Module) (bound : ℕ) where
     steps_dead _ (StepsBy.no_function frame rest is there) = refl
     steps_dead _ (StepsBy.no_deinit g gs o rest is there) = refl
 
-pub no_dead_faults : AreFramesCurrent → NoDeadFaults
-no_dead_faults current m loans bound s last x verified typed tracked guarded e =
-    subst DeadNext e (steps_dead m bound current verified loans typed.world s typed.tasks tracked guarded (steps.step m (facts_of m) bound s) (steps_told m (facts_of m) bound s))
+pub no_dead_faults : NoDeadFaults
+no_dead_faults m loans bound s last x verified typed tracked guarded e =
+    subst DeadNext e (steps_dead m bound verified loans typed.world s typed.tasks tracked guarded (steps.step m (facts_of m) bound s) (steps_told m (facts_of m) bound s))

@@ -60,6 +60,7 @@ use Rattle.guarded_entries.specs.inner.GuardedStates.{IsGuardedRun, IsGuardedSta
 use Rattle.guarded_entries.specs.inner.Laws.{AreStepsGuarded, AreStepsGuardedWhere, IsEither}
 use Rattle.guarded_entries.specs.inner.LoansKept.{IsPlacedState, LoansAreKept}
 use Rattle.guarded_entries.specs.inner.Stepping.{frame_behind}
+use Rattle.guarded_entries.proofs.FramesCurrent.{frames_current}
 use Rattle.guarded_entries.proofs.Changing.{dead_unnamed, given_alive}
 use Rattle.guarded_entries.proofs.FirstFrames.{frame_of}
 use Rattle.guarded_entries.proofs.Following.{arguments_of_entry}
@@ -68,6 +69,7 @@ use Rattle.guarded_entries.proofs.GuardedItems.{Given, GuardedNext, IsFirst, cal
 use Rattle.guarded_entries.proofs.GuardedReturns.{returned_right}
 use Rattle.guarded_entries.proofs.GuardedWays.{called, done, taken_edge}
 use Rattle.guarded_entries.proofs.Stepping.{deaths_guarded, deinit_returns_guarded, deinits_guarded, drops_guarded, returns_guarded}
+use Rattle.guarded_entries.proofs.TypedGiven.{carry_typed_values, typed_for_rows}
 
 only_one : {A : Type 0} (xs : List A) (x : A) → only xs ≡ Some x → xs ≡ x ∷ []
 only_one [] x e = absurd (cc)
@@ -276,12 +278,15 @@ module _ (m : Module) (loans : Loans) (Placed : HolderState → Type 0) (given :
   steps_guarded s state guarded _ (StepsBy.no_function frame rest is there) = tt
   steps_guarded s state guarded _ (StepsBy.no_deinit g gs o rest is there) = tt
 
-pub steps_stay_guarded_where : Given → AreStepsGuardedWhere
-steps_stay_guarded_where given m loans Placed bound s next verified kept state placed guarded e =
-    subst (GuardedNext m loans Placed) e
-    (steps_guarded m loans Placed given kept bound verified s state guarded (steps.step m (facts_of m) bound s) (steps_told m (facts_of m) bound s)) placed
+modules_give : Given
+modules_give = record { current = frames_current; rows = typed_for_rows; edges = carry_typed_values }
 
-pub steps_stay_guarded : Given → AreStepsGuarded
-steps_stay_guarded given m loans bound s next verified kept typed tracked typed_next tracked_next guarded e =
-    steps_stay_guarded_where given m loans (IsEither s next) bound s next verified kept (record { typed = typed; tracked = tracked; placed = inl refl })
+pub steps_stay_guarded_where : AreStepsGuardedWhere
+steps_stay_guarded_where m loans Placed bound s next verified kept state placed guarded e =
+    subst (GuardedNext m loans Placed) e
+    (steps_guarded m loans Placed modules_give kept bound verified s state guarded (steps.step m (facts_of m) bound s) (steps_told m (facts_of m) bound s)) placed
+
+pub steps_stay_guarded : AreStepsGuarded
+steps_stay_guarded m loans bound s next verified kept typed tracked typed_next tracked_next guarded e =
+    steps_stay_guarded_where m loans (IsEither s next) bound s next verified kept (record { typed = typed; tracked = tracked; placed = inl refl })
     (record { typed = typed_next; tracked = tracked_next; placed = inr refl }) guarded e
