@@ -45,7 +45,7 @@ use Rattle.accepted_values.specs.inner.Bases.{IsLender}
 use Rattle.accepted_values.specs.inner.Known.{IsAcceptedBody, kind_at}
 use Rattle.accepted_values.specs.inner.Operands.{SuitsRole}
 use Rattle.accepted_values.proofs.Addresses.{addresses_of_lenders}
-use Rattle.accepted_values.proofs.Based.{guaranteed_value, lenders_own_bases, lent_by_lenders, owned_own_bases, owned_value}
+use Rattle.accepted_values.proofs.Based.{lenders_own_bases, lent_by_lenders, owned_own_bases, owned_value}
 use Rattle.accepted_values.proofs.Borrowed.{number_of_parameter}
 use Rattle.accepted_values.proofs.Made.{parameters_of_entry}
 use Rattle.accepted_values.proofs.Suited.{suited}

@@ -1,6 +1,6 @@
 -- What an accepted function's trails say of guards: operands are current where entries go along with the trail, what open scopes borrow doesn't end,
 -- and neither an open scope nor an argument begins anew.
-use Rattle.std.specs.Prelude.{◌≡◌, ℕ, List, ◌∷◌, true, false, Contains, Ok, Some}
+use Rattle.std.specs.Prelude.{◌≡◌, ℕ, List, ◌∷◌, true, false, Ok}
 use Rattle.item_operands.specs.Items.{item_taken}
 use Rattle.item_operands.specs.declared.taken.Taken.{Taken}
 use Rattle.numbered_form.specs.Lists.{Each}
@@ -10,16 +10,14 @@ use Rattle.sil_ast.specs.declared.place.ValueId.{ValueId}
 use Rattle.sil_cfg.specs.declared.item.Item.{Item}
 use Rattle.sil_cfg.specs.declared.item.Item.TheVariants as item
 use Rattle.type_definitions.specs.Declarations.{Declarations, declarations_of}
-use Rattle.type_definitions.specs.declared.kind.Kind.TheVariants as kind
 use Rattle.run_values.specs.Memory.{Memory}
 use Rattle.value_tables.specs.Borrows.{is_borrow}
-use Rattle.held_entries.specs.accepted_trails.inner.Bases.{IsBaseOf}
 use Rattle.held_entries.specs.accepted_trails.inner.Defined.{IsDefinedOn, makes}
-use Rattle.held_entries.specs.accepted_trails.inner.Lives.{BorrowsFrom, IsOwnedIn, is_open}
+use Rattle.held_entries.specs.accepted_trails.inner.Lives.{BorrowsFrom, IsOwnedIn}
 use Rattle.held_entries.specs.accepted_trails.ownership_kinds.Facts.{facts_in}
 use Rattle.held_entries.specs.accepted_trails.run_trails.inner.RunTrails.{IsTurnedTrail}
 use Rattle.held_entries.specs.inner.Tracked.{AreTracked, IsOwnScope}
-use Rattle.accepted_values.specs.inner.Known.{IsAcceptedBody, kind_at}
+use Rattle.accepted_values.specs.inner.Known.{IsAcceptedBody}
 use Rattle.holder_counts.specs.holder_model.Data.{Datum}
 use Rattle.holder_counts.specs.holder_model.Frames.{Entry, Lent, entry_at, without_ended}
 use Rattle.scoped_addresses.specs.inner.Addresses.{TakesAddressesInScopes}

@@ -1,8 +1,7 @@
--- What an accepted module gives to the guards of its runs: scopes of addresses are open where these are taken, typed operands are as rows and edges ask,
--- and a run begins guarded.
-use Rattle.std.specs.Prelude.{◌≡◌, ℕ, List, ◌∷◌, Bool, true, Ok, Some, slice_get}
+-- What an accepted module gives to the guards of its runs: the operands of tracked frames are current, typed ones are as rows and edges ask, and a run
+-- begins guarded.
+use Rattle.std.specs.Prelude.{◌≡◌, ℕ, List, ◌∷◌, true, Ok, Some, slice_get}
 use Rattle.std.specs.List.{AllZip}
-use Rattle.argument_conventions.specs.declared.row.AddressRow.{AddressRow}
 use Rattle.item_operands.specs.Items.{item_taken}
 use Rattle.item_operands.specs.Parts.{inst_at}
 use Rattle.item_operands.specs.declared.taken.Taken.{Taken}
@@ -13,22 +12,14 @@ use Rattle.sil_ast.specs.declared.module.Module.{Module}
 use Rattle.sil_ast.specs.declared.place.EdgeId.{EdgeId}
 use Rattle.sil_ast.specs.declared.place.FuncId.{FuncId}
 use Rattle.sil_ast.specs.declared.place.PointId.{PointId}
-use Rattle.sil_ast.specs.declared.place.ValueId.{ValueId}
 use Rattle.sil_cfg.specs.declared.item.Item.{Item}
 use Rattle.sil_cfg.specs.declared.item.Item.TheVariants as item
 use Rattle.type_definitions.specs.Declarations.{declarations_of}
-use Rattle.type_definitions.specs.declared.kind.Kind.TheVariants as kind
 use Rattle.run_values.specs.Memory.{Memory}
-use Rattle.value_tables.specs.Borrows.{is_borrow}
-use Rattle.held_entries.specs.accepted_trails.inner.Bases.{IsBaseOf}
-use Rattle.held_entries.specs.accepted_trails.memory_accesses.Sources.{is_slot, source_at, sources_of}
-use Rattle.held_entries.specs.accepted_trails.memory_accesses.declared.source.Source.TheVariants.{Argument}
-use Rattle.held_entries.specs.accepted_trails.memory_parts.Parts.{is_scope}
 use Rattle.held_entries.specs.accepted_trails.ownership_kinds.Facts.{facts_in}
 use Rattle.held_entries.specs.accepted_trails.run_trails.inner.RunTrails.{IsRunTrail}
-use Rattle.accepted_places.specs.inner.Located.{IsNamed}
 use Rattle.accepted_values.specs.accepted_modules.inner.Checked.{IsVerified}
-use Rattle.accepted_values.specs.inner.Known.{InAccepted, IsAcceptedBody, kind_at}
+use Rattle.accepted_values.specs.inner.Known.{IsAcceptedBody}
 use Rattle.accepted_values.specs.run_typing.Forms.{Form}
 use Rattle.owned_run_typing.specs.inner.OwnedRows.{OwnedRowForms}
 use Rattle.typed_memory.specs.inner.Worlds.{DatumIs, MemoryIs, World}
@@ -40,7 +31,6 @@ use Rattle.holder_counts.specs.holder_model.Frames.{Entry, Frame, Operands, oper
 use Rattle.holder_counts.specs.holder_model.Outcomes.{begins, may_start}
 use Rattle.holder_counts.specs.inner.Naming.{IsAlive, LoadsStrongly}
 use Rattle.guarded_entries.specs.inner.EdgesLend.{CarriesValues}
-use Rattle.guarded_entries.specs.inner.Following.{TakesAddressesInScopes}
 use Rattle.guarded_entries.specs.inner.GuardedStates.{IsGuardedState, Loans}
 use Rattle.guarded_entries.specs.inner.Guards.{IsCurrent, Lending}
 use Rattle.guarded_entries.specs.inner.Rows.{HandsValues}
