@@ -4,12 +4,12 @@ use Rattle.std.specs.Prelude.{map, slice_get, sum}
 use Rattle.std.proofs.lemmas.Bool.{false≢true}
 use Rattle.std.proofs.lemmas.List.{length-append, length-replicate}
 use Rattle.std.proofs.lemmas.Option.{same_Some}
-use Rattle.holder_model.specs.Data.{AddressOf, Datum, ValueOf, references_in}
-use Rattle.holder_model.specs.Frames.{Entry, datum_in, entry_at, is_held}
-use Rattle.holder_model.specs.ModuleShapes.{ModuleShapes, field_shapes}
-use Rattle.holder_model.specs.memory_accesses.Sources.{source_at}
-use Rattle.holder_model.specs.memory_accesses.declared.source.Source.{Source}
-use Rattle.holder_model.specs.memory_accesses.declared.source.Source.TheVariants as source
+use Rattle.whole_objects.specs.holder_model.Data.{AddressOf, Datum, ValueOf, references_in}
+use Rattle.whole_objects.specs.holder_model.Frames.{Entry, datum_in, entry_at, is_held}
+use Rattle.whole_objects.specs.holder_model.ModuleShapes.{ModuleShapes, field_shapes}
+use Rattle.whole_objects.specs.holder_model.memory_accesses.Sources.{source_at}
+use Rattle.whole_objects.specs.holder_model.memory_accesses.declared.source.Source.{Source}
+use Rattle.whole_objects.specs.holder_model.memory_accesses.declared.source.Source.TheVariants as source
 use Rattle.memory_cells.proofs.Lists.{get_replicate}
 use Rattle.memory_cells.proofs.PlaceCells.{cell_within}
 use Rattle.numbered_form.specs.Lists.{Each}

@@ -3,11 +3,11 @@ use Rattle.std.proofs.Common.{◌≡◌, ℕ, List, [], ◌∷◌, true, Option,
 use Rattle.std.specs.Prelude.{option_map, slice_get}
 use Rattle.std.proofs.lemmas.Bool.{false≢true}
 use Rattle.std.proofs.lemmas.Option.{none-some, same_Some}
-use Rattle.holder_model.specs.Data.{AddressOf, Datum, ValueOf, home_references, references_in}
-use Rattle.holder_model.specs.Frames.{Entry}
-use Rattle.holder_model.specs.ModuleShapes.{ModuleShapes}
-use Rattle.holder_model.specs.memory_accesses.declared.location.Location.{Location}
-use Rattle.holder_model.specs.memory_accesses.declared.source.Source.{Source}
+use Rattle.whole_objects.specs.holder_model.Data.{AddressOf, Datum, ValueOf, home_references, references_in}
+use Rattle.whole_objects.specs.holder_model.Frames.{Entry}
+use Rattle.whole_objects.specs.holder_model.ModuleShapes.{ModuleShapes}
+use Rattle.whole_objects.specs.holder_model.memory_accesses.declared.location.Location.{Location}
+use Rattle.whole_objects.specs.holder_model.memory_accesses.declared.source.Source.{Source}
 use Rattle.memory_cells.specs.inner.Cells.{has_cell}
 use Rattle.memory_cells.proofs.PlaceCells.{cell_from, cell_within}
 use Rattle.numbered_form.specs.Lists.{Each}

@@ -8,12 +8,12 @@ use Rattle.built_objects.specs.inner.Building.{Progress}
 use Rattle.built_objects.specs.inner.FrameObjects.{Holds, HoldsObjects, MayName}
 use Rattle.built_objects.proofs.FieldWrites.{which_value}
 use Rattle.built_objects.proofs.Results.{holds_names}
-use Rattle.holder_model.specs.Calling.{emptied_for, handed_over, value_count}
-use Rattle.holder_model.specs.Data.{AddressOf, references_in}
-use Rattle.holder_model.specs.Frames.{Entry, Frame, Gone, LentPlace, datum_in, no_entries}
-use Rattle.holder_model.specs.ModuleShapes.{shapes_of}
-use Rattle.holder_model.specs.StepParts.{new_frame}
-use Rattle.holder_model.specs.States.{Finishes, Runs, Task}
+use Rattle.holder_steps.specs.holder_model.Calling.{emptied_for, handed_over, value_count}
+use Rattle.holder_steps.specs.holder_model.Data.{AddressOf, references_in}
+use Rattle.holder_steps.specs.holder_model.Frames.{Entry, Frame, Gone, LentPlace, datum_in, no_entries}
+use Rattle.holder_steps.specs.holder_model.ModuleShapes.{shapes_of}
+use Rattle.holder_steps.specs.holder_model.StepParts.{new_frame}
+use Rattle.holder_steps.specs.holder_model.States.{Finishes, Runs, Task}
 use Rattle.memory_cells.specs.inner.Cells.{IsInside}
 use Rattle.memory_cells.proofs.Writes.{emptied_changes}
 use Rattle.numbered_form.specs.Lists.{Each}
@@ -26,10 +26,10 @@ use Rattle.sil_ast.specs.declared.place.FuncId.{FuncId}
 use Rattle.sil_ast.specs.declared.place.ObjectId.{ObjectId}
 use Rattle.sil_cfg.specs.declared.item.Item.{Item}
 use Rattle.sil_cfg.specs.declared.item.Item.TheVariants as item
-use Rattle.whole_objects.specs.inner.Whole.{IsWhole, IsWholeMemory, NameWhole, cell_references}
-use Rattle.whole_objects.specs.inner.Laws.{KeepsWhole}
-use Rattle.whole_objects.proofs.Keeping.{taken_whole}
-use Rattle.whole_objects.proofs.Lists.{each_of}
+use Rattle.built_objects.specs.whole_objects.inner.Whole.{IsWhole, IsWholeMemory, NameWhole, cell_references}
+use Rattle.built_objects.specs.whole_objects.inner.Laws.{KeepsWhole}
+use Rattle.built_objects.proofs.whole_objects.Keeping.{taken_whole}
+use Rattle.built_objects.proofs.whole_objects.Lists.{each_of}
 use Rattle.held_objects.specs.inner.ObjectStates.{FrameBuilds, TasksBuild}
 use Rattle.held_objects.specs.inner.Items.{AreCallsRight, AreDeinitsRight, AreEntered, BeginRight, IsOnStack, LosesEntries, Stands, sources_in}
 use Rattle.held_objects.proofs.Below.{below_stays}

@@ -10,9 +10,9 @@ use Rattle.built_objects.proofs.Beginning.{objects_begun}
 use Rattle.built_objects.proofs.FieldWrites.{field_written, held_same, unfinished_earlier, which_value}
 use Rattle.built_objects.proofs.Results.{results_held}
 use Rattle.built_objects.proofs.Staying.{stay_in_memory, stay_where_ended}
-use Rattle.holder_model.specs.Frames.{Entry, Frame}
-use Rattle.holder_model.specs.ModuleShapes.{field_shapes, shapes_of}
-use Rattle.holder_model.specs.States.{Runs, Task, dropping}
+use Rattle.holder_steps.specs.holder_model.Frames.{Entry, Frame}
+use Rattle.holder_steps.specs.holder_model.ModuleShapes.{field_shapes, shapes_of}
+use Rattle.holder_steps.specs.holder_model.States.{Runs, Task, dropping}
 use Rattle.holder_steps.proofs.TaskStacks.{below_another, going_dropping}
 use Rattle.memory_cells.specs.inner.Cells.{ChangesAt}
 use Rattle.memory_cells.proofs.Writes.{filled_changes}
@@ -26,9 +26,9 @@ use Rattle.sil_ast.specs.declared.module.Module.{Module}
 use Rattle.sil_ast.specs.declared.place.ObjectId.{ObjectId}
 use Rattle.sil_ast.specs.declared.place.ValueId.{ValueId}
 use Rattle.sil_cfg.specs.declared.item.Item.{Item}
-use Rattle.whole_objects.specs.inner.Whole.{IsWholeMemory, NameWhole}
-use Rattle.whole_objects.specs.inner.Laws.{KeepsWhole}
-use Rattle.whole_objects.proofs.Keeping.{filled_whole, made_whole}
+use Rattle.built_objects.specs.whole_objects.inner.Whole.{IsWholeMemory, NameWhole}
+use Rattle.built_objects.specs.whole_objects.inner.Laws.{KeepsWhole}
+use Rattle.built_objects.proofs.whole_objects.Keeping.{filled_whole, made_whole}
 use Rattle.held_objects.specs.inner.ObjectStates.{BelowBuild, BuildsNone, DeinitsBuilding, FinishedWhole, FrameBuilds, IsBuilding, TasksBuild, WaitsBuilding}
 use Rattle.held_objects.specs.inner.Items.{AreFieldWritesRight, AreMakingsRight, AreQuietRight, IsFieldWrite, IsMaking, LosesEntries, Stands, frame_behind, sources_in}
 use Rattle.held_objects.proofs.Below.{below_other, below_stays, building_of}

@@ -16,12 +16,12 @@ use Rattle.type_definitions.specs.declared.kind.Kind.{Kind}
 use Rattle.type_definitions.specs.declared.kind.Kind.TheVariants as kind
 use Rattle.run_values.specs.Places.{Home, Inside, OnStack}
 use Rattle.run_values.specs.Values.{references_of}
-use Rattle.holder_model.specs.Data.{AddressOf, Datum, FunctionOf, ValueOf}
-use Rattle.holder_model.specs.Faults.{HolderFault, OverwritesHeld, WrongShape}
-use Rattle.holder_model.specs.Frames.{Entry, Gone, Held, Lent, Plain, ended_entry, ends, entry_at, has_any, held_references, is_held, made_entry, plain_address}
-use Rattle.holder_model.specs.Frames.{plain_entry, put_entry, result_put, results_put, with_ok, without_ended}
-use Rattle.holder_model.specs.HolderStates.{in_entry}
-use Rattle.holder_model.specs.Holders.{of_references}
+use Rattle.holder_steps.specs.holder_model.Data.{AddressOf, Datum, FunctionOf, ValueOf}
+use Rattle.holder_steps.specs.holder_model.Faults.{HolderFault, OverwritesHeld, WrongShape}
+use Rattle.holder_steps.specs.holder_model.Frames.{Entry, Gone, Held, Lent, Plain, ended_entry, ends, entry_at, has_any, held_references, is_held, made_entry, plain_address}
+use Rattle.holder_steps.specs.holder_model.Frames.{plain_entry, put_entry, result_put, results_put, with_ok, without_ended}
+use Rattle.holder_steps.specs.holder_model.HolderStates.{in_entry}
+use Rattle.holder_steps.specs.holder_model.Holders.{of_references}
 use Rattle.holder_counts.specs.inner.Taking.{AreBeginsCounted, AreEndsCounted, IsBelow, in_entries, owned_references, references_begun, references_ended}
 use Rattle.holder_counts.specs.inner.Taking.{references_ended_by}
 use Rattle.holder_counts.proofs.Sums.{total_append, total_set}

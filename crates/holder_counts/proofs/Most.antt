@@ -9,7 +9,7 @@ use Rattle.run_values.specs.declared.phase.Phase.{Phase}
 use Rattle.run_values.specs.declared.phase.Phase.TheVariants.{Dead, Live}
 use Rattle.run_values.specs.Memory.{Memory, Object, is_dead_phase, no_object, object_at, phase_of, put_cells, with_object}
 use Rattle.run_values.specs.Places.{Home, Inside, OnStack, Place, cells_at, emptied, home_cells, removed, with_cells, with_home_cells}
-use Rattle.holder_model.specs.Holders.{in_cell, in_cells, in_memory, in_object}
+use Rattle.holder_steps.specs.holder_model.Holders.{in_cell, in_cells, in_memory, in_object}
 use Rattle.holder_counts.specs.inner.Keeping.{IsAliveAt}
 use Rattle.holder_counts.proofs.Sums.{total, total_cons, total_cut, total_none}
 

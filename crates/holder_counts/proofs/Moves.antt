@@ -13,16 +13,16 @@ use Rattle.sil_cfg.specs.declared.item.Item.TheVariants as item
 use Rattle.run_values.specs.declared.phase.Phase.TheVariants.{Deiniting}
 use Rattle.run_values.specs.Memory.{Memory, object_at}
 use Rattle.std.specs.Prelude.{Option}
-use Rattle.holder_model.specs.Calling.{value_count}
-use Rattle.holder_model.specs.Data.{Datum}
-use Rattle.holder_model.specs.Dropping.{deinits_of, ended, field_references, in_phase}
-use Rattle.holder_model.specs.Faults.{HolderFault}
-use Rattle.holder_model.specs.Frames.{Entry, Frame, Gone, Operands, no_entries, operand_data, operands_of, with_ok, without_ended}
-use Rattle.holder_model.specs.Holders.{in_cells, in_memory, of_references}
-use Rattle.holder_model.specs.HolderStates.{HolderState, in_entry, in_state, in_task}
-use Rattle.holder_model.specs.ModuleFacts.{facts_told}
-use Rattle.holder_model.specs.StepParts.{new_frame}
-use Rattle.holder_model.specs.States.{Drops, Finishes, Runs, Task, dropping}
+use Rattle.holder_steps.specs.holder_model.Calling.{value_count}
+use Rattle.holder_steps.specs.holder_model.Data.{Datum}
+use Rattle.holder_steps.specs.holder_model.Dropping.{deinits_of, ended, field_references, in_phase}
+use Rattle.holder_steps.specs.holder_model.Faults.{HolderFault}
+use Rattle.holder_steps.specs.holder_model.Frames.{Entry, Frame, Gone, Operands, no_entries, operand_data, operands_of, with_ok, without_ended}
+use Rattle.holder_steps.specs.holder_model.Holders.{in_cells, in_memory, of_references}
+use Rattle.holder_steps.specs.holder_model.HolderStates.{HolderState, in_entry, in_state, in_task}
+use Rattle.holder_steps.specs.holder_model.ModuleFacts.{facts_told}
+use Rattle.holder_steps.specs.holder_model.StepParts.{new_frame}
+use Rattle.holder_steps.specs.holder_model.States.{Drops, Finishes, Runs, Task, dropping}
 use Rattle.holder_steps.specs.inner.Ways.{left_with, moved}
 use Rattle.type_definitions.specs.Declarations.{declarations_of}
 use Rattle.holder_counts.specs.inner.Moving.{AreDeinitsCounted, AreDropsCounted, AreEntriesCounted, AreFinishesCounted, AreItemsCounted, AreMovesCounted}

@@ -14,8 +14,8 @@ use Rattle.run_values.specs.Shapes.{Shape, Shapes, NoMember, Member, Integer, Re
 use Rattle.run_values.specs.Values.{Value, Int, Object, Group, Case, Full, Values, NoValue, More, grouped, references_in_each, references_of, values_of}
 use Rattle.run_values.specs.Values as value
 use Rattle.value_parts.proofs.Inductions.{InParts, by_parts}
-use Rattle.holder_model.specs.Holders.{in_cell, of_references}
-use Rattle.holder_model.specs.Holders as holders
+use Rattle.holder_steps.specs.holder_model.Holders.{in_cell, of_references}
+use Rattle.holder_steps.specs.holder_model.Holders as holders
 use Rattle.holder_counts.specs.inner.Keeping.{AreReadCounted, AreWrittenCounted, KeepsStrongly}
 use Rattle.holder_counts.proofs.Sums.{total_append, total_cons, total_cut}
 

@@ -8,20 +8,20 @@ use Rattle.argument_conventions.specs.Rows.{address_row}
 use Rattle.argument_conventions.specs.declared.convention.ArgumentConvention.{ArgumentConvention}
 use Rattle.argument_conventions.specs.declared.convention.ArgumentConvention.TheVariants as convention
 use Rattle.argument_conventions.specs.declared.row.AddressRow.{AddressRow}
-use Rattle.accepted_memory.specs.memory_accesses.Operations.{access_kind_of}
-use Rattle.accepted_memory.specs.memory_accesses.Sources.{is_slot_source, result_source, slot_source, source_at, source_by, sources_of}
-use Rattle.accepted_memory.specs.memory_accesses.declared.source.Source.{Source}
-use Rattle.accepted_memory.specs.memory_accesses.declared.source.Source.TheVariants as source
-use Rattle.accepted_values.specs.accepted_modules.sil_types.Typing.RowTypes.{address_of, given_by, made_types}
-use Rattle.accepted_values.specs.accepted_modules.sil_types.Typing.Shapes.{is_trivial_object, target}
-use Rattle.accepted_values.specs.accepted_modules.sil_types.Typing.SignatureRules.{is_argument_for}
-use Rattle.accepted_values.specs.inner.Known.{IsAcceptedBody, type_in}
-use Rattle.accepted_values.specs.inner.Making.{IsMadeAt}
-use Rattle.owned_run_typing.proofs.run_typing_laws.Rows.Layers.{target-Address}
-use Rattle.accepted_values.proofs.Counted.{nothing_in, stands}
-use Rattle.accepted_values.proofs.Made.{made_somewhere, parameters_of_entry}
-use Rattle.accepted_values.proofs.Parameters.{entry_pairs, pair_at, told_of}
-use Rattle.accepted_values.proofs.TableRows.{argument_rows, result_rows}
+use Rattle.accepted_places.specs.accepted_memory.memory_accesses.Operations.{access_kind_of}
+use Rattle.accepted_places.specs.accepted_memory.memory_accesses.Sources.{is_slot_source, result_source, slot_source, source_at, source_by, sources_of}
+use Rattle.accepted_places.specs.accepted_memory.memory_accesses.declared.source.Source.{Source}
+use Rattle.accepted_places.specs.accepted_memory.memory_accesses.declared.source.Source.TheVariants as source
+use Rattle.accepted_places.specs.accepted_values.accepted_modules.sil_types.Typing.RowTypes.{address_of, given_by, made_types}
+use Rattle.accepted_places.specs.accepted_values.accepted_modules.sil_types.Typing.Shapes.{is_trivial_object, target}
+use Rattle.accepted_places.specs.accepted_values.accepted_modules.sil_types.Typing.SignatureRules.{is_argument_for}
+use Rattle.accepted_places.specs.accepted_values.inner.Known.{IsAcceptedBody, type_in}
+use Rattle.accepted_places.specs.accepted_values.inner.Making.{IsMadeAt}
+use Rattle.accepted_places.proofs.owned_run_typing.run_typing_laws.Rows.Layers.{target-Address}
+use Rattle.accepted_places.proofs.accepted_values.Counted.{nothing_in, stands}
+use Rattle.accepted_places.proofs.accepted_values.Made.{made_somewhere, parameters_of_entry}
+use Rattle.accepted_places.proofs.accepted_values.Parameters.{entry_pairs, pair_at, told_of}
+use Rattle.accepted_places.proofs.accepted_values.TableRows.{argument_rows, result_rows}
 use Rattle.instruction_table.specs.declared.op.Op.{Op}
 use Rattle.instruction_table.specs.declared.op.Op.TheVariants as op
 use Rattle.item_operands.specs.Items.{arg_value, item_defined}

@@ -2,16 +2,16 @@
 use Rattle.std.specs.Prelude.{◌≡◌, ◌<◌, ◌≤◌, ◌⊎◌, ◌++◌, ℕ, List, [], ◌∷◌, Bool, true, false, length, Some}
 use Rattle.argument_conventions.specs.declared.row.Content.{Content}
 use Rattle.argument_conventions.specs.declared.row.Content.TheVariants.{Empty, Full}
-use Rattle.holder_model.specs.Data.{AddressOf, Datum, ValueOf, references_in}
-use Rattle.holder_model.specs.Frames.{Entry, Gone, entry_at, is_held}
-use Rattle.holder_model.specs.MemoryEffects.{asked_before, holds}
-use Rattle.holder_model.specs.ModuleShapes.{ModuleShapes, field_shapes}
-use Rattle.holder_model.specs.memory_accesses.Rows.{has_operation, is_part}
-use Rattle.holder_model.specs.memory_accesses.Sources.{source_at}
-use Rattle.holder_model.specs.memory_accesses.declared.access.Operation.{Operation}
-use Rattle.holder_model.specs.memory_accesses.declared.location.Location.{Location}
-use Rattle.holder_model.specs.memory_accesses.declared.source.Source.{Source}
-use Rattle.holder_model.specs.memory_accesses.declared.source.Source.TheVariants as source
+use Rattle.whole_objects.specs.holder_model.Data.{AddressOf, Datum, ValueOf, references_in}
+use Rattle.whole_objects.specs.holder_model.Frames.{Entry, Gone, entry_at, is_held}
+use Rattle.whole_objects.specs.holder_model.MemoryEffects.{asked_before, holds}
+use Rattle.whole_objects.specs.holder_model.ModuleShapes.{ModuleShapes, field_shapes}
+use Rattle.whole_objects.specs.holder_model.memory_accesses.Rows.{has_operation, is_part}
+use Rattle.whole_objects.specs.holder_model.memory_accesses.Sources.{source_at}
+use Rattle.whole_objects.specs.holder_model.memory_accesses.declared.access.Operation.{Operation}
+use Rattle.whole_objects.specs.holder_model.memory_accesses.declared.location.Location.{Location}
+use Rattle.whole_objects.specs.holder_model.memory_accesses.declared.source.Source.{Source}
+use Rattle.whole_objects.specs.holder_model.memory_accesses.declared.source.Source.TheVariants as source
 use Rattle.memory_cells.specs.inner.Cells.{IsInside}
 use Rattle.numbered_form.specs.Lists.{Each}
 use Rattle.numbered_form.specs.Names.{Name}

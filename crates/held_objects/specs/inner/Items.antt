@@ -3,16 +3,16 @@ use Rattle.std.specs.Prelude.{◌≡◌, ◌⊎◌, ℕ, List, [], ◌∷◌, tr
 use Rattle.built_objects.specs.inner.Building.{IsUnfinished, Progress}
 use Rattle.built_objects.specs.inner.FrameObjects.{Names}
 use Rattle.built_objects.specs.inner.Laws.{Begins, HoldsNew, IsMadeNow, IsOutside, IsWrittenNow, WritesField, with_object_of}
-use Rattle.holder_model.specs.Calling.{handed_over}
-use Rattle.holder_model.specs.Data.{Datum, references_in}
-use Rattle.holder_model.specs.Frames.{Entry, Frame, Gone, LentPlace, entry_at}
-use Rattle.holder_model.specs.ModuleShapes.{field_shapes, shapes_of}
-use Rattle.holder_model.specs.Outcomes.{begins}
-use Rattle.holder_model.specs.StepParts.{new_frame}
-use Rattle.holder_model.specs.States.{Finishes, Runs, Task, dropping}
-use Rattle.holder_model.specs.memory_accesses.Sources.{source_at, sources_of}
-use Rattle.holder_model.specs.memory_accesses.declared.source.Source.{Source}
-use Rattle.holder_model.specs.memory_accesses.declared.source.Source.TheVariants as source
+use Rattle.holder_steps.specs.holder_model.Calling.{handed_over}
+use Rattle.holder_steps.specs.holder_model.Data.{Datum, references_in}
+use Rattle.holder_steps.specs.holder_model.Frames.{Entry, Frame, Gone, LentPlace, entry_at}
+use Rattle.holder_steps.specs.holder_model.ModuleShapes.{field_shapes, shapes_of}
+use Rattle.holder_steps.specs.holder_model.Outcomes.{begins}
+use Rattle.holder_steps.specs.holder_model.StepParts.{new_frame}
+use Rattle.holder_steps.specs.holder_model.States.{Finishes, Runs, Task, dropping}
+use Rattle.holder_steps.specs.holder_model.memory_accesses.Sources.{source_at, sources_of}
+use Rattle.holder_steps.specs.holder_model.memory_accesses.declared.source.Source.{Source}
+use Rattle.holder_steps.specs.holder_model.memory_accesses.declared.source.Source.TheVariants as source
 use Rattle.memory_cells.specs.inner.Cells.{IsInside}
 use Rattle.numbered_form.specs.Lists.{Each}
 use Rattle.numbered_form.specs.Names.{Name}
@@ -28,7 +28,7 @@ use Rattle.sil_ast.specs.declared.place.ValueId.{ValueId}
 use Rattle.sil_cfg.specs.declared.item.Item.{Item}
 use Rattle.sil_cfg.specs.declared.item.Item.TheVariants as item
 use Rattle.type_definitions.specs.Declarations.{declarations_of}
-use Rattle.whole_objects.specs.inner.Whole.{IsWholeMemory, NameWhole}
+use Rattle.built_objects.specs.whole_objects.inner.Whole.{IsWholeMemory, NameWhole}
 use Rattle.held_objects.specs.inner.ObjectStates.{AreObjectsRight, BelowBuild, FrameBuilds, TasksBuild}
 use Rattle.held_objects.specs.inner.Laws.{StaysBelow}
 

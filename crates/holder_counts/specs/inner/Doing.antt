@@ -13,15 +13,15 @@ use Rattle.run_values.specs.Places.{Inside, OnStack, Place, emptied, filled, mem
 use Rattle.run_values.specs.Shapes.{Shape, storage_in}
 use Rattle.run_values.specs.Values as value
 use Rattle.run_values.specs.Values.{Value, grouped, members_of, object_of, references_of}
-use Rattle.holder_model.specs.memory_accesses.declared.access.Operation.{Operation}
-use Rattle.holder_model.specs.declared.row_effect.RowEffect.TheVariants as row
-use Rattle.holder_model.specs.Builtins.{builtin_value}
-use Rattle.holder_model.specs.Data.{AddressOf, Datum, FunctionOf, ValueOf, references_in, values_of}
-use Rattle.holder_model.specs.Effects as effects
-use Rattle.holder_model.specs.Effects.{Change, ClosesSlot, OpensSlot, effect_of, member_of, new_slot, result_shape, unchanged}
-use Rattle.holder_model.specs.Faults.{HolderFault}
-use Rattle.holder_model.specs.MemoryEffects.{after, all_live, copies_with, effect, operation_done, references_at}
-use Rattle.holder_model.specs.ModuleShapes.{ModuleShapes, field_shapes}
+use Rattle.holder_steps.specs.holder_model.memory_accesses.declared.access.Operation.{Operation}
+use Rattle.holder_steps.specs.holder_model.declared.row_effect.RowEffect.TheVariants as row
+use Rattle.holder_steps.specs.holder_model.Builtins.{builtin_value}
+use Rattle.holder_steps.specs.holder_model.Data.{AddressOf, Datum, FunctionOf, ValueOf, references_in, values_of}
+use Rattle.holder_steps.specs.holder_model.Effects as effects
+use Rattle.holder_steps.specs.holder_model.Effects.{Change, ClosesSlot, OpensSlot, effect_of, member_of, new_slot, result_shape, unchanged}
+use Rattle.holder_steps.specs.holder_model.Faults.{HolderFault}
+use Rattle.holder_steps.specs.holder_model.MemoryEffects.{after, all_live, copies_with, effect, operation_done, references_at}
+use Rattle.holder_steps.specs.holder_model.ModuleShapes.{ModuleShapes, field_shapes}
 use Rattle.holder_counts.specs.inner.Keeping.{with_new_object, with_new_slot}
 
 -- results, and nothing else

@@ -11,15 +11,15 @@ use Rattle.item_operands.specs.Items.{item_defined, item_taken}
 use Rattle.numbered_form.specs.Lists.{Each}
 use Rattle.run_values.specs.Memory.{is_dead, is_live}
 use Rattle.run_values.specs.Places.{Place}
-use Rattle.holder_model.specs.Calling.{value_count}
-use Rattle.holder_model.specs.Data.{Datum}
-use Rattle.holder_model.specs.Effects.{Change}
-use Rattle.holder_model.specs.Frames.{Entry, Frame, Operands, no_entries, operands_of, results_put}
-use Rattle.holder_model.specs.Holders.{in_memory, of_references}
-use Rattle.holder_model.specs.HolderStates.{HolderState, in_state, in_task}
-use Rattle.holder_model.specs.ModuleFacts.{ModuleFacts, facts_told}
-use Rattle.holder_model.specs.StepParts.{new_frame}
-use Rattle.holder_model.specs.States.{Drops, Runs, Task, dropping}
+use Rattle.holder_steps.specs.holder_model.Calling.{value_count}
+use Rattle.holder_steps.specs.holder_model.Data.{Datum}
+use Rattle.holder_steps.specs.holder_model.Effects.{Change}
+use Rattle.holder_steps.specs.holder_model.Frames.{Entry, Frame, Operands, no_entries, operands_of, results_put}
+use Rattle.holder_steps.specs.holder_model.Holders.{in_memory, of_references}
+use Rattle.holder_steps.specs.holder_model.HolderStates.{HolderState, in_state, in_task}
+use Rattle.holder_steps.specs.holder_model.ModuleFacts.{ModuleFacts, facts_told}
+use Rattle.holder_steps.specs.holder_model.StepParts.{new_frame}
+use Rattle.holder_steps.specs.holder_model.States.{Drops, Runs, Task, dropping}
 use Rattle.holder_steps.specs.inner.Ways.{deinitialising, finished, left_with, moved, operands_in, turned, with_tasks}
 use Rattle.holder_counts.specs.inner.Taking.{IsBelow, in_entries, references_begun, references_ended}
 
