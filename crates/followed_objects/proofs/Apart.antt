@@ -9,23 +9,23 @@ use Rattle.argument_conventions.specs.declared.row.AddressRow.{AddressRow}
 use Rattle.instruction_table.specs.Forms.{is_terminator}
 use Rattle.instruction_table.specs.declared.op.Op.{Op}
 use Rattle.instruction_table.specs.declared.op.Op.TheVariants as op
-use Rattle.accepted_memory.specs.accepted_trails.inner.Defined.{makes}
-use Rattle.accepted_memory.specs.memory_accesses.Locations.{locate, located_by, whole}
-use Rattle.accepted_memory.specs.memory_accesses.Operations.{access_kind_of}
-use Rattle.accepted_memory.specs.memory_accesses.Sources.{argument_source_or, handed_source, loan_source, object_source, slot_source, source_at, source_by, sources_of}
-use Rattle.accepted_memory.specs.memory_accesses.declared.columns.AccessKind.{AccessKind}
-use Rattle.accepted_memory.specs.memory_accesses.declared.columns.AccessKind.TheVariants as access
-use Rattle.accepted_memory.specs.memory_accesses.declared.location.Location.{Location}
-use Rattle.accepted_memory.specs.memory_accesses.declared.source.Source.{Source}
-use Rattle.accepted_memory.specs.memory_accesses.declared.source.Source.TheVariants as source
-use Rattle.accepted_memory.specs.memory_parts.Building.{builds}
+use Rattle.accepted_places.specs.accepted_memory.accepted_trails.inner.Defined.{makes}
+use Rattle.accepted_places.specs.accepted_memory.memory_accesses.Locations.{locate, located_by, whole}
+use Rattle.accepted_places.specs.accepted_memory.memory_accesses.Operations.{access_kind_of}
+use Rattle.accepted_places.specs.accepted_memory.memory_accesses.Sources.{argument_source_or, handed_source, loan_source, object_source, slot_source, source_at, source_by, sources_of}
+use Rattle.accepted_places.specs.accepted_memory.memory_accesses.declared.columns.AccessKind.{AccessKind}
+use Rattle.accepted_places.specs.accepted_memory.memory_accesses.declared.columns.AccessKind.TheVariants as access
+use Rattle.accepted_places.specs.accepted_memory.memory_accesses.declared.location.Location.{Location}
+use Rattle.accepted_places.specs.accepted_memory.memory_accesses.declared.source.Source.{Source}
+use Rattle.accepted_places.specs.accepted_memory.memory_accesses.declared.source.Source.TheVariants as source
+use Rattle.accepted_places.specs.accepted_memory.memory_parts.Building.{builds}
 use Rattle.accepted_places.proofs.Fields.{has_among}
 use Rattle.accepted_places.proofs.Made.{IsMadeBy, argument, made_so, result}
-use Rattle.accepted_values.specs.inner.Known.{IsAcceptedBody}
-use Rattle.accepted_values.specs.inner.Rows.{source_of_argument}
-use Rattle.accepted_values.proofs.Accepted.{typed}
-use Rattle.built_objects.specs.inner.Building.{IsAbout, IsFieldAddress, address, borrow, itself}
-use Rattle.built_objects.specs.inner.Laws.{IsOutside}
+use Rattle.accepted_places.specs.accepted_values.inner.Known.{IsAcceptedBody}
+use Rattle.accepted_places.specs.accepted_values.inner.Rows.{source_of_argument}
+use Rattle.accepted_places.proofs.accepted_values.Accepted.{typed}
+use Rattle.held_objects.specs.built_objects.inner.Building.{IsAbout, IsFieldAddress, address, borrow, itself}
+use Rattle.held_objects.specs.built_objects.inner.Laws.{IsOutside}
 use Rattle.item_operands.specs.Items.{item_defined}
 use Rattle.item_operands.specs.Parts.{item_inst}
 use Rattle.point_checks.proofs.Among.{contained_among}

@@ -6,31 +6,31 @@ use Rattle.std.proofs.lemmas.Option.{same_Some}
 use Rattle.argument_conventions.specs.Arguments.{arguments_of}
 use Rattle.instruction_table.specs.Forms.{ending_of}
 use Rattle.instruction_table.specs.declared.entries.Ending.TheVariants as ending
-use Rattle.accepted_memory.specs.accepted_modules.inner.Checked.{IsVerified}
-use Rattle.accepted_memory.specs.holder_model.Calling.{as_argument, handed_over}
-use Rattle.accepted_memory.specs.holder_model.Data.{Datum, ValueOf, references_in}
-use Rattle.accepted_memory.specs.holder_model.Edges.{edge_of}
-use Rattle.accepted_memory.specs.holder_model.Effects as effects
-use Rattle.accepted_memory.specs.holder_model.Effects.{Change, effect_of, only, unchanged}
-use Rattle.accepted_memory.specs.holder_model.Faults.{HolderFault}
-use Rattle.accepted_memory.specs.holder_model.Frames.{Entry, Frame, Operands, has_any, operands_of, results_put}
-use Rattle.accepted_memory.specs.holder_model.HolderStates.{HolderNext, HolderState}
-use Rattle.accepted_memory.specs.holder_model.ModuleFacts.{facts_of}
-use Rattle.accepted_memory.specs.holder_model.ModuleShapes.{shapes_in, shapes_of}
-use Rattle.accepted_memory.specs.holder_model.Standing.{stands_at}
-use Rattle.accepted_memory.specs.holder_model.States.{Finishes, Runs, Task}
-use Rattle.accepted_memory.specs.holder_model.Steps as steps
-use Rattle.accepted_memory.specs.memory_accesses.Operations.{access_kind_of}
-use Rattle.accepted_memory.specs.memory_accesses.Sources.{sources_of}
-use Rattle.accepted_memory.specs.ownership_kinds.Facts.{facts_in}
-use Rattle.accepted_memory.specs.run_trails.inner.RunTrails.{ComesAt, IsRunTrail, IsTurnedTrail}
-use Rattle.accepted_memory.proofs.run_trails.RunPaths.{are_trails}
-use Rattle.accepted_memory.proofs.run_trails.WalkEdges.{are_next}
+use Rattle.accepted_places.specs.accepted_memory.accepted_modules.inner.Checked.{IsVerified}
+use Rattle.accepted_places.specs.accepted_memory.holder_model.Calling.{as_argument, handed_over}
+use Rattle.accepted_places.specs.accepted_memory.holder_model.Data.{Datum, ValueOf, references_in}
+use Rattle.accepted_places.specs.accepted_memory.holder_model.Edges.{edge_of}
+use Rattle.accepted_places.specs.accepted_memory.holder_model.Effects as effects
+use Rattle.accepted_places.specs.accepted_memory.holder_model.Effects.{Change, effect_of, only, unchanged}
+use Rattle.accepted_places.specs.accepted_memory.holder_model.Faults.{HolderFault}
+use Rattle.accepted_places.specs.accepted_memory.holder_model.Frames.{Entry, Frame, Operands, has_any, operands_of, results_put}
+use Rattle.accepted_places.specs.accepted_memory.holder_model.HolderStates.{HolderNext, HolderState}
+use Rattle.accepted_places.specs.accepted_memory.holder_model.ModuleFacts.{facts_of}
+use Rattle.accepted_places.specs.accepted_memory.holder_model.ModuleShapes.{shapes_in, shapes_of}
+use Rattle.accepted_places.specs.accepted_memory.holder_model.Standing.{stands_at}
+use Rattle.accepted_places.specs.accepted_memory.holder_model.States.{Finishes, Runs, Task}
+use Rattle.accepted_places.specs.accepted_memory.holder_model.Steps as steps
+use Rattle.accepted_places.specs.accepted_memory.memory_accesses.Operations.{access_kind_of}
+use Rattle.accepted_places.specs.accepted_memory.memory_accesses.Sources.{sources_of}
+use Rattle.accepted_places.specs.accepted_memory.ownership_kinds.Facts.{facts_in}
+use Rattle.accepted_places.specs.accepted_memory.run_trails.inner.RunTrails.{ComesAt, IsRunTrail, IsTurnedTrail}
+use Rattle.accepted_places.proofs.accepted_memory.run_trails.RunPaths.{are_trails}
+use Rattle.accepted_places.proofs.accepted_memory.run_trails.WalkEdges.{are_next}
 use Rattle.accepted_places.proofs.ItemStacks.{accepted_in}
-use Rattle.accepted_values.specs.inner.Known.{IsAcceptedBody}
-use Rattle.accepted_values.proofs.Accepted.{typed}
-use Rattle.accepted_values.proofs.Facts.{run_facts}
-use Rattle.held_entries.specs.inner.Entries.{End}
+use Rattle.accepted_places.specs.accepted_values.inner.Known.{IsAcceptedBody}
+use Rattle.accepted_places.proofs.accepted_values.Accepted.{typed}
+use Rattle.accepted_places.proofs.accepted_values.Facts.{run_facts}
+use Rattle.accepted_places.specs.held_entries.inner.Entries.{End}
 use Rattle.held_objects.specs.inner.Items.{LosesEntries, Stands}
 use Rattle.held_objects.specs.inner.ObjectStates.{AreObjectsRight, BelowBuild, TasksBuild}
 use Rattle.held_objects.proofs.Drops.{drops_right, finishes_right}
@@ -53,12 +53,12 @@ use Rattle.type_definitions.specs.Declarations.{declarations_of}
 use Rattle.tracked_frames.specs.inner.TrackedStates.{AreTasksTracked, GoesAlong, IsTrackedState}
 use Rattle.tracked_frames.proofs.NextItems.{chooses_on, chosen_within, edge_comes, exit_comes, inst_comes, one_edge}
 use Rattle.tracked_frames.proofs.OperandsFound.{ended, operands_left, size_left}
-use Rattle.typed_holders.specs.holder_steps.inner.Ways.{Acts, DropsOne, Enters, FinishesOne, Leaves, Performs, Reaches, StandsAtEnd, StepsBy, TakesEdge, left_with}
-use Rattle.typed_holders.specs.holder_steps.inner.Ways.{lent_at, operands_in}
-use Rattle.typed_holders.specs.inner.TypedStates.{FrameIs, IsTypedState, TasksAre, WaitsTyped}
-use Rattle.typed_holders.proofs.GoesOn.{accepted_body, typed_module}
-use Rattle.typed_holders.proofs.holder_steps.StepsTold.{steps_told}
-use Rattle.whole_objects.specs.inner.Whole.{IsWhole, IsWholeMemory, NameWhole}
+use Rattle.tracked_frames.specs.typed_holders.holder_steps.inner.Ways.{Acts, DropsOne, Enters, FinishesOne, Leaves, Performs, Reaches, StandsAtEnd, StepsBy, TakesEdge, left_with}
+use Rattle.tracked_frames.specs.typed_holders.holder_steps.inner.Ways.{lent_at, operands_in}
+use Rattle.tracked_frames.specs.typed_holders.inner.TypedStates.{FrameIs, IsTypedState, TasksAre, WaitsTyped}
+use Rattle.tracked_frames.proofs.typed_holders.GoesOn.{accepted_body, typed_module}
+use Rattle.tracked_frames.proofs.typed_holders.holder_steps.StepsTold.{steps_told}
+use Rattle.held_objects.specs.whole_objects.inner.Whole.{IsWhole, IsWholeMemory, NameWhole}
 use Rattle.followed_objects.specs.inner.BuiltStates.{AreObjectsKept, BeginBuilt, DoPlacesServe}
 use Rattle.followed_objects.specs.inner.Said.{said}
 use Rattle.followed_objects.proofs.Apart.{KeepsApart, edge_apart, keeps_apart}

@@ -7,22 +7,22 @@ use Rattle.instruction_table.specs.Forms.{ending_of, is_terminator}
 use Rattle.instruction_table.specs.declared.entries.Ending.TheVariants as ending
 use Rattle.instruction_table.specs.declared.op.Op.{Op}
 use Rattle.instruction_table.specs.declared.op.Op.TheVariants as op
-use Rattle.accepted_memory.specs.holder_model.Data.{Datum, references_in}
-use Rattle.accepted_memory.specs.holder_model.Frames.{Frame, Operands}
-use Rattle.accepted_memory.specs.holder_model.States.{Task}
-use Rattle.accepted_memory.specs.memory_accesses.Operations.{access_kind_of}
-use Rattle.accepted_values.specs.inner.Known.{IsAcceptedBody}
-use Rattle.accepted_values.specs.run_typing.EndForms.{EndForms, operand_forms, value_in}
-use Rattle.accepted_values.specs.run_typing.Forms.{form_of, forms_of, given_shape}
-use Rattle.accepted_values.specs.run_typing.RowForms.{bit}
-use Rattle.accepted_values.proofs.Accepted.{typed}
-use Rattle.accepted_values.proofs.Counted.{nothing_in}
+use Rattle.accepted_places.specs.accepted_memory.holder_model.Data.{Datum, references_in}
+use Rattle.accepted_places.specs.accepted_memory.holder_model.Frames.{Frame, Operands}
+use Rattle.accepted_places.specs.accepted_memory.holder_model.States.{Task}
+use Rattle.accepted_places.specs.accepted_memory.memory_accesses.Operations.{access_kind_of}
+use Rattle.accepted_places.specs.accepted_values.inner.Known.{IsAcceptedBody}
+use Rattle.accepted_places.specs.accepted_values.run_typing.EndForms.{EndForms, operand_forms, value_in}
+use Rattle.accepted_places.specs.accepted_values.run_typing.Forms.{form_of, forms_of, given_shape}
+use Rattle.accepted_places.specs.accepted_values.run_typing.RowForms.{bit}
+use Rattle.accepted_places.proofs.accepted_values.Accepted.{typed}
+use Rattle.accepted_places.proofs.accepted_values.Counted.{nothing_in}
 use Rattle.item_operands.specs.Items.{item_taken, taken_along_in, taken_in}
 use Rattle.item_operands.specs.Parts.{item_edge, item_inst, terminator_of}
 use Rattle.item_operands.specs.Roles.{consumed, taken_along, taken_by}
 use Rattle.item_operands.specs.declared.taken.Taken.{Taken}
 use Rattle.numbered_form.specs.Lists.{Each}
-use Rattle.owned_run_typing.specs.inner.OwnedEnds.{OwnedEndForms}
+use Rattle.accepted_places.specs.owned_run_typing.inner.OwnedEnds.{OwnedEndForms}
 use Rattle.point_checks.proofs.Among.{Among, among_contained, contained_among, map_among}
 use Rattle.run_values.specs.Memory.{Memory}
 use Rattle.sil_ast.specs.declared.function.Function.{Function}
@@ -32,8 +32,8 @@ use Rattle.sil_ast.specs.declared.module.Module.{Module}
 use Rattle.sil_cfg.specs.declared.item.Item.{Item}
 use Rattle.tracked_frames.proofs.ConsumedValues.{IsValueForm, consumed_value, owned_typed}
 use Rattle.type_definitions.specs.Declarations.{Declarations, declarations_of}
-use Rattle.typed_holders.proofs.Data.{read_value}
-use Rattle.whole_objects.specs.inner.Whole.{NameWhole}
+use Rattle.tracked_frames.proofs.typed_holders.Data.{read_value}
+use Rattle.held_objects.specs.whole_objects.inner.Whole.{NameWhole}
 use Rattle.followed_objects.proofs.EntriesNamed.{AreNamed}
 use Rattle.followed_objects.proofs.GivenValues.{ending_whole}
 use Rattle.followed_objects.proofs.ItemsDone.{makes_object}

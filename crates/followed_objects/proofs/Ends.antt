@@ -10,21 +10,21 @@ use Rattle.instruction_table.specs.declared.entries.Role.{Role}
 use Rattle.instruction_table.specs.declared.entries.Role.TheVariants as role
 use Rattle.instruction_table.specs.declared.op.Op.{Op}
 use Rattle.instruction_table.specs.declared.op.Op.TheVariants as op
-use Rattle.accepted_memory.specs.accepted_trails.inner.Passing.{is_end}
-use Rattle.accepted_memory.specs.holder_model.Frames.{Gone, entry_at, ends, has_any}
-use Rattle.accepted_memory.specs.memory_accesses.Accesses.{allowance_of}
-use Rattle.accepted_memory.specs.memory_accesses.Operations.{access_kind_of, deallocates, deallocates_by}
-use Rattle.accepted_memory.specs.memory_accesses.Sources.{sources_of}
-use Rattle.accepted_memory.specs.memory_parts.Building.{goes_by_borrow, builds, takes_borrow, takes_object}
-use Rattle.accepted_memory.specs.memory_parts.Switches.{is_same}
-use Rattle.accepted_memory.specs.memory_parts.declared.part.Part.TheVariants.{Building}
-use Rattle.accepted_memory.specs.ownership_kinds.Facts.{facts_in}
-use Rattle.accepted_memory.specs.run_trails.inner.RunTrails.{IsRunTrail}
-use Rattle.accepted_memory.specs.inner.PartTrails.{is_on}
+use Rattle.accepted_places.specs.accepted_memory.accepted_trails.inner.Passing.{is_end}
+use Rattle.accepted_places.specs.accepted_memory.holder_model.Frames.{Gone, entry_at, ends, has_any}
+use Rattle.accepted_places.specs.accepted_memory.memory_accesses.Accesses.{allowance_of}
+use Rattle.accepted_places.specs.accepted_memory.memory_accesses.Operations.{access_kind_of, deallocates, deallocates_by}
+use Rattle.accepted_places.specs.accepted_memory.memory_accesses.Sources.{sources_of}
+use Rattle.accepted_places.specs.accepted_memory.memory_parts.Building.{goes_by_borrow, builds, takes_borrow, takes_object}
+use Rattle.accepted_places.specs.accepted_memory.memory_parts.Switches.{is_same}
+use Rattle.accepted_places.specs.accepted_memory.memory_parts.declared.part.Part.TheVariants.{Building}
+use Rattle.accepted_places.specs.accepted_memory.ownership_kinds.Facts.{facts_in}
+use Rattle.accepted_places.specs.accepted_memory.run_trails.inner.RunTrails.{IsRunTrail}
+use Rattle.accepted_places.specs.accepted_memory.inner.PartTrails.{is_on}
 use Rattle.accepted_places.proofs.Fields.{unfinished_allowed}
-use Rattle.accepted_values.specs.inner.Known.{IsAcceptedBody}
-use Rattle.accepted_values.proofs.Accepted.{typed}
-use Rattle.accepted_values.proofs.Counted.{nothing_in}
+use Rattle.accepted_places.specs.accepted_values.inner.Known.{IsAcceptedBody}
+use Rattle.accepted_places.proofs.accepted_values.Accepted.{typed}
+use Rattle.accepted_places.proofs.accepted_values.Counted.{nothing_in}
 use Rattle.item_operands.specs.Items.{item_taken, taken_along_in, taken_in}
 use Rattle.item_operands.specs.Parts.{edge_in, item_edge, item_inst}
 use Rattle.item_operands.specs.Roles.{by_row, conventions_in, last_roles, roles_for, taken_as, taken_by, taken_each}

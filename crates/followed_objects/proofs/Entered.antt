@@ -4,18 +4,18 @@ use Rattle.std.specs.Prelude.{Contains, cond, option_map, slice_get, unwrap_or}
 use Rattle.std.specs.Option.{option_or}
 use Rattle.std.proofs.lemmas.Option.{none-some, same_Some}
 use Rattle.argument_conventions.specs.declared.row.AddressRow.{AddressRow}
-use Rattle.accepted_memory.specs.holder_model.Calling.{as_argument, lent_places, lent_with, value_count}
-use Rattle.accepted_memory.specs.holder_model.Data.{AddressOf, Datum, FunctionOf, ValueOf, as_place, home_references, references_in}
-use Rattle.accepted_memory.specs.holder_model.Effects.{effect_of}
-use Rattle.accepted_memory.specs.holder_model.Frames.{Entry, Frame, Gone, Operands, any_dead, datum_in, entry_at, no_entries, results_put}
-use Rattle.accepted_memory.specs.holder_model.States.{Task}
-use Rattle.accepted_memory.specs.holder_model.declared.row_effect.RowEffect.TheVariants as row
-use Rattle.accepted_memory.specs.memory_accesses.Operations.{access_kind_of, is_address_role, operated, operated_at, operation_at, operation_by, operations_of}
-use Rattle.accepted_memory.specs.memory_accesses.Sources.{sources_of}
-use Rattle.accepted_memory.specs.memory_accesses.declared.access.Operation.TheVariants as operation
-use Rattle.accepted_values.specs.inner.Known.{IsAcceptedBody}
-use Rattle.built_objects.specs.inner.FrameObjects.{Names}
-use Rattle.built_objects.specs.inner.Laws.{IsOutside}
+use Rattle.accepted_places.specs.accepted_memory.holder_model.Calling.{as_argument, lent_places, lent_with, value_count}
+use Rattle.accepted_places.specs.accepted_memory.holder_model.Data.{AddressOf, Datum, FunctionOf, ValueOf, as_place, home_references, references_in}
+use Rattle.accepted_places.specs.accepted_memory.holder_model.Effects.{effect_of}
+use Rattle.accepted_places.specs.accepted_memory.holder_model.Frames.{Entry, Frame, Gone, Operands, any_dead, datum_in, entry_at, no_entries, results_put}
+use Rattle.accepted_places.specs.accepted_memory.holder_model.States.{Task}
+use Rattle.accepted_places.specs.accepted_memory.holder_model.declared.row_effect.RowEffect.TheVariants as row
+use Rattle.accepted_places.specs.accepted_memory.memory_accesses.Operations.{access_kind_of, is_address_role, operated, operated_at, operation_at, operation_by, operations_of}
+use Rattle.accepted_places.specs.accepted_memory.memory_accesses.Sources.{sources_of}
+use Rattle.accepted_places.specs.accepted_memory.memory_accesses.declared.access.Operation.TheVariants as operation
+use Rattle.accepted_places.specs.accepted_values.inner.Known.{IsAcceptedBody}
+use Rattle.held_objects.specs.built_objects.inner.FrameObjects.{Names}
+use Rattle.held_objects.specs.built_objects.inner.Laws.{IsOutside}
 use Rattle.held_objects.specs.inner.Items.{AreEntered, IsOnStack}
 use Rattle.item_operands.specs.Items.{item_defined, item_taken}
 use Rattle.item_operands.specs.Parts.{inst_at}
@@ -36,8 +36,8 @@ use Rattle.sil_ast.specs.declared.place.PointId.{PointId}
 use Rattle.sil_ast.specs.declared.place.ValueId.{ValueId}
 use Rattle.sil_cfg.specs.declared.item.Item.TheVariants as item
 use Rattle.type_definitions.specs.Declarations.{declarations_of}
-use Rattle.whole_objects.specs.inner.Whole.{NameWhole}
-use Rattle.whole_objects.proofs.Lists.{each_append, each_at}
+use Rattle.held_objects.specs.whole_objects.inner.Whole.{NameWhole}
+use Rattle.held_objects.proofs.whole_objects.Lists.{each_append, each_at}
 use Rattle.followed_objects.specs.inner.Said.{said}
 use Rattle.followed_objects.proofs.Apart.{entry_apart, made_apart}
 use Rattle.followed_objects.proofs.ArgumentsHanded.{handed_addresses}

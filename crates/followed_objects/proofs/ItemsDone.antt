@@ -5,34 +5,34 @@ use Rattle.std.proofs.lemmas.Bool.{true≢false}
 use Rattle.argument_conventions.specs.Arguments.{Told, arguments_of}
 use Rattle.argument_conventions.specs.Rows.{address_row}
 use Rattle.argument_conventions.specs.declared.row.AddressRow.{AddressRow}
-use Rattle.accepted_memory.specs.accepted_trails.inner.Defined.{makes}
-use Rattle.accepted_memory.specs.holder_model.Data.{Datum, references_in}
-use Rattle.accepted_memory.specs.holder_model.Effects.{Change}
-use Rattle.accepted_memory.specs.holder_model.Frames.{Entry, Frame, Gone, entry_at, results_put}
-use Rattle.accepted_memory.specs.holder_model.ModuleShapes.{shapes_of}
-use Rattle.accepted_memory.specs.holder_model.States.{Runs, Task, dropping}
-use Rattle.accepted_memory.specs.memory_accesses.Locations.{is_object}
-use Rattle.accepted_memory.specs.memory_accesses.Operations.{access_kind_of}
-use Rattle.accepted_memory.specs.memory_accesses.Sources.{argument_source_or, borrow_source, element_place, field_source, handed_source, is_trivial_member, loan_source}
-use Rattle.accepted_memory.specs.memory_accesses.Sources.{member_place}
-use Rattle.accepted_memory.specs.memory_accesses.Sources.{part_source, slot_source, source_at, source_by, sources_of, upcast_source}
-use Rattle.accepted_memory.specs.memory_accesses.declared.columns.AccessKind.{AccessKind}
-use Rattle.accepted_memory.specs.memory_accesses.declared.columns.AccessKind.TheVariants as access
-use Rattle.accepted_memory.specs.memory_accesses.declared.source.Source.{Source}
-use Rattle.accepted_memory.specs.memory_accesses.declared.source.Source.TheVariants as source
-use Rattle.accepted_memory.specs.memory_parts.declared.part.Part.TheVariants.{Building}
-use Rattle.accepted_memory.specs.run_trails.inner.RunTrails.{IsRunTrail}
-use Rattle.accepted_memory.specs.inner.PartTrails.{is_on}
+use Rattle.accepted_places.specs.accepted_memory.accepted_trails.inner.Defined.{makes}
+use Rattle.accepted_places.specs.accepted_memory.holder_model.Data.{Datum, references_in}
+use Rattle.accepted_places.specs.accepted_memory.holder_model.Effects.{Change}
+use Rattle.accepted_places.specs.accepted_memory.holder_model.Frames.{Entry, Frame, Gone, entry_at, results_put}
+use Rattle.accepted_places.specs.accepted_memory.holder_model.ModuleShapes.{shapes_of}
+use Rattle.accepted_places.specs.accepted_memory.holder_model.States.{Runs, Task, dropping}
+use Rattle.accepted_places.specs.accepted_memory.memory_accesses.Locations.{is_object}
+use Rattle.accepted_places.specs.accepted_memory.memory_accesses.Operations.{access_kind_of}
+use Rattle.accepted_places.specs.accepted_memory.memory_accesses.Sources.{argument_source_or, borrow_source, element_place, field_source, handed_source, is_trivial_member, loan_source}
+use Rattle.accepted_places.specs.accepted_memory.memory_accesses.Sources.{member_place}
+use Rattle.accepted_places.specs.accepted_memory.memory_accesses.Sources.{part_source, slot_source, source_at, source_by, sources_of, upcast_source}
+use Rattle.accepted_places.specs.accepted_memory.memory_accesses.declared.columns.AccessKind.{AccessKind}
+use Rattle.accepted_places.specs.accepted_memory.memory_accesses.declared.columns.AccessKind.TheVariants as access
+use Rattle.accepted_places.specs.accepted_memory.memory_accesses.declared.source.Source.{Source}
+use Rattle.accepted_places.specs.accepted_memory.memory_accesses.declared.source.Source.TheVariants as source
+use Rattle.accepted_places.specs.accepted_memory.memory_parts.declared.part.Part.TheVariants.{Building}
+use Rattle.accepted_places.specs.accepted_memory.run_trails.inner.RunTrails.{IsRunTrail}
+use Rattle.accepted_places.specs.accepted_memory.inner.PartTrails.{is_on}
 use Rattle.accepted_places.proofs.Fields.{has_among}
 use Rattle.accepted_places.proofs.Made.{IsMadeBy, argument, made_so, result}
-use Rattle.accepted_values.specs.inner.Known.{IsAcceptedBody}
-use Rattle.accepted_values.specs.inner.Rows.{source_of_argument}
-use Rattle.built_objects.specs.inner.Building.{Progress}
-use Rattle.built_objects.specs.inner.FrameObjects.{Holds, HoldsObjects, MayName, Names}
-use Rattle.built_objects.specs.inner.FrameObjects as frames
-use Rattle.built_objects.specs.inner.Laws.{Begins, MayBegin}
-use Rattle.built_objects.specs.inner.Laws as laws
-use Rattle.built_objects.proofs.Handing.{begin_whole}
+use Rattle.accepted_places.specs.accepted_values.inner.Known.{IsAcceptedBody}
+use Rattle.accepted_places.specs.accepted_values.inner.Rows.{source_of_argument}
+use Rattle.held_objects.specs.built_objects.inner.Building.{Progress}
+use Rattle.held_objects.specs.built_objects.inner.FrameObjects.{Holds, HoldsObjects, MayName, Names}
+use Rattle.held_objects.specs.built_objects.inner.FrameObjects as frames
+use Rattle.held_objects.specs.built_objects.inner.Laws.{Begins, MayBegin}
+use Rattle.held_objects.specs.built_objects.inner.Laws as laws
+use Rattle.held_objects.proofs.built_objects.Handing.{begin_whole}
 use Rattle.held_objects.specs.inner.Items.{LosesEntries, Stands, frame_behind}
 use Rattle.held_objects.specs.inner.Laws.{StaysBelow}
 use Rattle.held_objects.specs.inner.ObjectStates.{TasksBuild}
@@ -54,9 +54,9 @@ use Rattle.sil_ast.specs.declared.type_name.TypeName.{TypeName}
 use Rattle.sil_cfg.specs.declared.item.Item.{Item}
 use Rattle.type_definitions.specs.Declarations.{Declarations, declarations_of}
 use Rattle.value_tables.specs.FirstValue.{first_value}
-use Rattle.whole_objects.specs.inner.Laws.{KeepsWhole}
-use Rattle.whole_objects.specs.inner.Whole.{IsWholeMemory, NameWhole}
-use Rattle.whole_objects.proofs.Lists.{each_at, each_of}
+use Rattle.held_objects.specs.whole_objects.inner.Laws.{KeepsWhole}
+use Rattle.held_objects.specs.whole_objects.inner.Whole.{IsWholeMemory, NameWhole}
+use Rattle.held_objects.proofs.whole_objects.Lists.{each_at, each_of}
 use Rattle.followed_objects.specs.inner.Laws.{FillsNone}
 use Rattle.followed_objects.specs.inner.Said.{has_new_field, said}
 use Rattle.followed_objects.proofs.Apart.{KeepsApart, made_apart}

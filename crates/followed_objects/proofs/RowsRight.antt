@@ -3,18 +3,18 @@ use Rattle.std.proofs.Common.{◌≡◌, List, [], ◌∷◌, refl, sym, ap, ◌
 use Rattle.std.specs.Prelude.{cond}
 use Rattle.std.specs.declared.result.Result.{Result}
 use Rattle.std.proofs.lemmas.Bool.{false≢true}
-use Rattle.accepted_memory.specs.holder_model.Effects as effects
-use Rattle.accepted_memory.specs.holder_model.Effects.{Change, ClosesSlot, SlotChange, effect_of}
-use Rattle.accepted_memory.specs.holder_model.Faults.{HolderFault, NotLastSlot}
-use Rattle.accepted_memory.specs.holder_model.Frames.{Entry, Frame, Operands, results_put}
-use Rattle.accepted_memory.specs.holder_model.MemoryEffects.{effect}
-use Rattle.accepted_memory.specs.holder_model.ModuleShapes.{shapes_in, shapes_of}
-use Rattle.accepted_memory.specs.holder_model.StepParts.{slots_behind}
-use Rattle.accepted_memory.specs.holder_model.Standing.{is_slot, on_stack}
-use Rattle.accepted_memory.specs.holder_model.States.{Runs, Task, dropping}
-use Rattle.accepted_memory.specs.holder_model.declared.row_effect.RowEffect.{RowEffect}
-use Rattle.accepted_memory.specs.holder_model.declared.row_effect.RowEffect.TheVariants as row
-use Rattle.accepted_memory.specs.ownership_kinds.Facts.{facts_in}
+use Rattle.accepted_places.specs.accepted_memory.holder_model.Effects as effects
+use Rattle.accepted_places.specs.accepted_memory.holder_model.Effects.{Change, ClosesSlot, SlotChange, effect_of}
+use Rattle.accepted_places.specs.accepted_memory.holder_model.Faults.{HolderFault, NotLastSlot}
+use Rattle.accepted_places.specs.accepted_memory.holder_model.Frames.{Entry, Frame, Operands, results_put}
+use Rattle.accepted_places.specs.accepted_memory.holder_model.MemoryEffects.{effect}
+use Rattle.accepted_places.specs.accepted_memory.holder_model.ModuleShapes.{shapes_in, shapes_of}
+use Rattle.accepted_places.specs.accepted_memory.holder_model.StepParts.{slots_behind}
+use Rattle.accepted_places.specs.accepted_memory.holder_model.Standing.{is_slot, on_stack}
+use Rattle.accepted_places.specs.accepted_memory.holder_model.States.{Runs, Task, dropping}
+use Rattle.accepted_places.specs.accepted_memory.holder_model.declared.row_effect.RowEffect.{RowEffect}
+use Rattle.accepted_places.specs.accepted_memory.holder_model.declared.row_effect.RowEffect.TheVariants as row
+use Rattle.accepted_places.specs.accepted_memory.ownership_kinds.Facts.{facts_in}
 use Rattle.held_objects.specs.inner.Items.{frame_behind}
 use Rattle.held_objects.specs.inner.ObjectStates.{TasksBuild}
 use Rattle.item_operands.specs.Items.{item_defined}
@@ -28,7 +28,7 @@ use Rattle.sil_ast.specs.declared.module.Module.{Module}
 use Rattle.sil_ast.specs.declared.place.PointId.{PointId}
 use Rattle.sil_cfg.specs.declared.item.Item.TheVariants as item
 use Rattle.type_definitions.specs.Declarations.{declarations_of}
-use Rattle.whole_objects.specs.inner.Whole.{IsWholeMemory}
+use Rattle.held_objects.specs.whole_objects.inner.Whole.{IsWholeMemory}
 use Rattle.followed_objects.specs.inner.Said.{said}
 use Rattle.followed_objects.proofs.HandedRows as handed
 use Rattle.followed_objects.proofs.HandedRows.{field_quietly, gives_quietly, handing_row, member_quietly}

@@ -5,18 +5,18 @@ use Rattle.std.proofs.lemmas.Bool.{false≢true, true≢false}
 use Rattle.std.proofs.lemmas.Option.{none-some, same_Some}
 use Rattle.instruction_table.specs.declared.op.Op.{Op}
 use Rattle.instruction_table.specs.declared.op.Op.TheVariants as op
-use Rattle.accepted_memory.specs.holder_model.Data.{AddressOf, Datum, ValueOf, home_references, references_in, values_of}
-use Rattle.accepted_memory.specs.holder_model.Effects as effects
-use Rattle.accepted_memory.specs.holder_model.Effects.{Change, ClosesSlot, OpensSlot, effect_of, member_of, unchanged}
-use Rattle.accepted_memory.specs.holder_model.Frames.{Frame, Operands, any_dead}
-use Rattle.accepted_memory.specs.holder_model.MemoryEffects.{after, effect, references_at, takes}
-use Rattle.accepted_memory.specs.holder_model.ModuleShapes.{ModuleShapes}
-use Rattle.accepted_memory.specs.holder_model.States.{Runs, Task}
-use Rattle.accepted_memory.specs.holder_model.declared.row_effect.RowEffect.{RowEffect}
-use Rattle.accepted_memory.specs.holder_model.declared.row_effect.RowEffect.TheVariants as row
-use Rattle.accepted_memory.specs.memory_accesses.Operations.{access_kind_of, operation_by}
-use Rattle.accepted_memory.specs.memory_accesses.declared.access.Operation.{Operation}
-use Rattle.accepted_memory.specs.memory_accesses.declared.access.Operation.TheVariants as operation
+use Rattle.accepted_places.specs.accepted_memory.holder_model.Data.{AddressOf, Datum, ValueOf, home_references, references_in, values_of}
+use Rattle.accepted_places.specs.accepted_memory.holder_model.Effects as effects
+use Rattle.accepted_places.specs.accepted_memory.holder_model.Effects.{Change, ClosesSlot, OpensSlot, effect_of, member_of, unchanged}
+use Rattle.accepted_places.specs.accepted_memory.holder_model.Frames.{Frame, Operands, any_dead}
+use Rattle.accepted_places.specs.accepted_memory.holder_model.MemoryEffects.{after, effect, references_at, takes}
+use Rattle.accepted_places.specs.accepted_memory.holder_model.ModuleShapes.{ModuleShapes}
+use Rattle.accepted_places.specs.accepted_memory.holder_model.States.{Runs, Task}
+use Rattle.accepted_places.specs.accepted_memory.holder_model.declared.row_effect.RowEffect.{RowEffect}
+use Rattle.accepted_places.specs.accepted_memory.holder_model.declared.row_effect.RowEffect.TheVariants as row
+use Rattle.accepted_places.specs.accepted_memory.memory_accesses.Operations.{access_kind_of, operation_by}
+use Rattle.accepted_places.specs.accepted_memory.memory_accesses.declared.access.Operation.{Operation}
+use Rattle.accepted_places.specs.accepted_memory.memory_accesses.declared.access.Operation.TheVariants as operation
 use Rattle.holder_counts.specs.inner.Doing.{Leaves, giving}
 use Rattle.holder_counts.specs.inner.Doing as doing
 use Rattle.holder_counts.specs.inner.Keeping.{with_new_slot}
@@ -41,10 +41,10 @@ use Rattle.sil_ast.specs.declared.place.ObjectId.{ObjectId}
 use Rattle.sil_ast.specs.declared.place.PointId.{PointId}
 use Rattle.sil_cfg.specs.declared.item.Item.TheVariants as item
 use Rattle.type_definitions.specs.Declarations.{declarations_of}
-use Rattle.whole_objects.specs.inner.Laws.{KeepsWhole}
-use Rattle.whole_objects.specs.inner.Whole.{IsWhole, IsWholeMemory, NameWhole}
-use Rattle.whole_objects.proofs.Keeping.{made_whole, read_whole, taken_whole}
-use Rattle.whole_objects.proofs.Lists.{each_at, each_of}
+use Rattle.held_objects.specs.whole_objects.inner.Laws.{KeepsWhole}
+use Rattle.held_objects.specs.whole_objects.inner.Whole.{IsWhole, IsWholeMemory, NameWhole}
+use Rattle.held_objects.proofs.whole_objects.Keeping.{made_whole, read_whole, taken_whole}
+use Rattle.held_objects.proofs.whole_objects.Lists.{each_at, each_of}
 use Rattle.followed_objects.proofs.Apart.{KeepsApart, keeps_apart}
 use Rattle.followed_objects.proofs.EntriesNamed.{AreNamed}
 use Rattle.followed_objects.proofs.Filling.{fills_none, stores}

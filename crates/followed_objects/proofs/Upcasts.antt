@@ -4,16 +4,16 @@ use Rattle.std.proofs.Common.{None, eq-eqb}
 use Rattle.std.specs.Prelude.{cond}
 use Rattle.std.specs.List.{list_any}
 use Rattle.std.proofs.lemmas.Bool.{cases_lt, false≢true, true≢false}
-use Rattle.accepted_memory.specs.accepted_trails.inner.Defined.{IsDefinedOn, makes}
-use Rattle.accepted_memory.specs.memory_accesses.Locations.{below, below_by, is_object, upcast_from}
-use Rattle.accepted_memory.specs.memory_accesses.Sources.{source_at, sources_of}
-use Rattle.accepted_memory.specs.memory_accesses.declared.source.Source.{Source}
-use Rattle.accepted_memory.specs.memory_accesses.declared.source.Source.TheVariants as source
-use Rattle.accepted_memory.specs.memory_parts.Building.{builds, is_object_of}
-use Rattle.accepted_memory.specs.run_trails.inner.RunTrails.{IsTurnedTrail}
-use Rattle.accepted_memory.proofs.accepted_trails.Tests.{or_right}
-use Rattle.accepted_memory.proofs.run_trails.TurnedTrails.{turned_older}
-use Rattle.accepted_values.specs.inner.Known.{IsAcceptedBody}
+use Rattle.accepted_places.specs.accepted_memory.accepted_trails.inner.Defined.{IsDefinedOn, makes}
+use Rattle.accepted_places.specs.accepted_memory.memory_accesses.Locations.{below, below_by, is_object, upcast_from}
+use Rattle.accepted_places.specs.accepted_memory.memory_accesses.Sources.{source_at, sources_of}
+use Rattle.accepted_places.specs.accepted_memory.memory_accesses.declared.source.Source.{Source}
+use Rattle.accepted_places.specs.accepted_memory.memory_accesses.declared.source.Source.TheVariants as source
+use Rattle.accepted_places.specs.accepted_memory.memory_parts.Building.{builds, is_object_of}
+use Rattle.accepted_places.specs.accepted_memory.run_trails.inner.RunTrails.{IsTurnedTrail}
+use Rattle.accepted_places.proofs.accepted_memory.accepted_trails.Tests.{or_right}
+use Rattle.accepted_places.proofs.accepted_memory.run_trails.TurnedTrails.{turned_older}
+use Rattle.accepted_places.specs.accepted_values.inner.Known.{IsAcceptedBody}
 use Rattle.ownership_chains.specs.Facts.{value_of}
 use Rattle.sil_ast.specs.declared.function.Function.{Function}
 use Rattle.sil_ast.specs.declared.module.Module.{Module}

@@ -2,8 +2,8 @@
 use Rattle.std.proofs.Common.{◌≡◌, ℕ, List, [], ◌∷◌, drop, length, refl, subst, Bool, true, false, Option, Some, None}
 use Rattle.std.specs.Prelude.{◌==◌, cond, option_and_then, option_map}
 use Rattle.std.proofs.lemmas.Option.{none-some, same_Some}
-use Rattle.accepted_memory.specs.holder_model.Data.{AddressOf, Datum, FunctionOf, ValueOf, references_in}
-use Rattle.accepted_memory.specs.holder_model.Edges.{carried_along, carried_by, first_value_of, is_default, payload_data, switched_data}
+use Rattle.accepted_places.specs.accepted_memory.holder_model.Data.{AddressOf, Datum, FunctionOf, ValueOf, references_in}
+use Rattle.accepted_places.specs.accepted_memory.holder_model.Edges.{carried_along, carried_by, first_value_of, is_default, payload_data, switched_data}
 use Rattle.instruction_table.specs.Forms.{ending_of}
 use Rattle.instruction_table.specs.declared.entries.Ending.{Ending}
 use Rattle.instruction_table.specs.declared.entries.Ending.TheVariants as ending
@@ -17,7 +17,7 @@ use Rattle.sil_ast.specs.declared.inst.Inst.{Inst}
 use Rattle.sil_ast.specs.declared.place.EdgeId.{EdgeId}
 use Rattle.sil_ast.specs.declared.place.ObjectId.{ObjectId}
 use Rattle.sil_cfg.specs.declared.item.Item.TheVariants as item
-use Rattle.whole_objects.proofs.Lists.{each_append, each_cut, each_parts}
+use Rattle.held_objects.proofs.whole_objects.Lists.{each_append, each_cut, each_parts}
 
 module _ (P : ObjectId → Type 0) where
   abbrev pub ValueNames : Value → Type 0

@@ -16,7 +16,7 @@ use Rattle.type_definitions.specs.Declarations.{Declarations, declarations_of}
 use Rattle.run_values.specs.declared.phase.Phase.{Phase}
 use Rattle.run_values.specs.declared.phase.Phase.TheVariants.{Dead, Deiniting, Live}
 use Rattle.run_values.specs.Memory.{Memory, is_dead, is_dead_phase, phase_of}
-use Rattle.held_entries.specs.accepted_trails.ownership_kinds.Facts.{facts_in}
+use Rattle.scoped_addresses.specs.held_entries.accepted_trails.ownership_kinds.Facts.{facts_in}
 use Rattle.holder_counts.specs.holder_model.Data.{Datum, references_in}
 use Rattle.holder_counts.specs.holder_model.Faults.{HolderFault, ConsumesLent, NamesDead}
 use Rattle.holder_counts.specs.holder_model.Frames.{Entry, Frame, Gone, Held, Lent, Plain, and_more, any_dead, datum_in, datum_or_fault, ended_entry, ends}

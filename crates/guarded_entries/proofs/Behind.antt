@@ -1,13 +1,13 @@
 -- Lent entries are guarded behind the ends of an item, and behind its results.
 use Rattle.std.proofs.Common.{◌≡◌, ◌∷◌, refl, sym, ap, ◌∙◌, subst, Bool, true, false, not, ◌&&◌, ◌||◌, inl, inr, ⊎_elim, Some, Ok}
 use Rattle.std.proofs.lemmas.Bool.{cases_Bool, false≢true, true≢false}
-use Rattle.held_entries.specs.accepted_trails.inner.Defined.{makes}
-use Rattle.held_entries.specs.accepted_trails.ownership_kinds.Facts.{facts_in}
-use Rattle.held_entries.specs.accepted_trails.run_trails.inner.Since.{is_none_since}
+use Rattle.scoped_addresses.specs.held_entries.accepted_trails.inner.Defined.{makes}
+use Rattle.scoped_addresses.specs.held_entries.accepted_trails.ownership_kinds.Facts.{facts_in}
+use Rattle.scoped_addresses.specs.held_entries.accepted_trails.run_trails.inner.Since.{is_none_since}
 use Rattle.item_operands.specs.Items.{item_defined}
 use Rattle.sil_ast.specs.declared.place.ObjectId.{ObjectId}
 use Rattle.sil_ast.specs.declared.place.ValueId.{ValueId}
-use Rattle.accepted_values.specs.inner.Known.{kind_at}
+use Rattle.scoped_addresses.specs.accepted_values.inner.Known.{kind_at}
 use Rattle.holder_counts.specs.holder_model.Data.{Datum, references_in}
 use Rattle.holder_counts.specs.holder_model.Frames.{Entry, Held, Lent, entry_at, made_entry}
 use Rattle.holder_counts.proofs.Entries.{IsLeftOf, left_of, was_there}

@@ -32,12 +32,12 @@ use Rattle.type_definitions.specs.Declarations.{Declarations, declarations_of}
 use Rattle.type_definitions.specs.declared.kind.Kind.{Kind}
 use Rattle.type_definitions.specs.declared.kind.Kind.TheVariants as kind
 use Rattle.run_values.specs.Memory.{Memory}
-use Rattle.accepted_values.specs.inner.Handed.{IsToldOf, kind_told}
-use Rattle.accepted_values.specs.inner.Known.{IsAcceptedBody, kind_at}
-use Rattle.accepted_values.proofs.Accepted.{well_typed}
-use Rattle.accepted_values.proofs.Parameters.{entry_told}
-use Rattle.accepted_values.proofs.run_typing_laws.CallFacts.{Called, called}
-use Rattle.accepted_values.proofs.run_typing_laws.Rows.Points.{is_at}
+use Rattle.scoped_addresses.specs.accepted_values.inner.Handed.{IsToldOf, kind_told}
+use Rattle.scoped_addresses.specs.accepted_values.inner.Known.{IsAcceptedBody, kind_at}
+use Rattle.scoped_addresses.proofs.accepted_values.Accepted.{well_typed}
+use Rattle.scoped_addresses.proofs.accepted_values.Parameters.{entry_told}
+use Rattle.scoped_addresses.proofs.accepted_values.run_typing_laws.CallFacts.{Called, called}
+use Rattle.scoped_addresses.proofs.accepted_values.run_typing_laws.Rows.Points.{is_at}
 use Rattle.holder_counts.specs.holder_model.Data.{Datum, references_in}
 use Rattle.holder_counts.specs.holder_model.Faults.{ConsumesLent, HolderFault, NamesDead}
 use Rattle.holder_counts.specs.holder_model.Frames.{Entry, Gone, Held, Lent, Plain, and_more, any_dead, datum_in, datum_or_fault, ends, entry_at, has_any, is_consumed}

@@ -10,12 +10,12 @@ use Rattle.sil_cfg.specs.Items.{leaves_function}
 use Rattle.sil_cfg.specs.declared.item.Item.{Item}
 use Rattle.sil_cfg.specs.declared.item.Item.TheVariants as item
 use Rattle.type_definitions.specs.Declarations.{Declarations, declarations_of}
-use Rattle.accepted_values.specs.accepted_modules.inner.Checked.{IsVerified}
-use Rattle.accepted_values.specs.inner.Known.{IsAcceptedBody}
-use Rattle.accepted_values.proofs.Facts.{run_facts}
-use Rattle.held_entries.specs.accepted_trails.ownership_kinds.Facts.{facts_in}
-use Rattle.held_entries.specs.accepted_trails.run_trails.inner.RunTrails.{ComesAt}
-use Rattle.held_entries.proofs.accepted_trails.run_trails.WalkEdges.{are_next}
+use Rattle.scoped_addresses.specs.accepted_values.accepted_modules.inner.Checked.{IsVerified}
+use Rattle.scoped_addresses.specs.accepted_values.inner.Known.{IsAcceptedBody}
+use Rattle.scoped_addresses.proofs.accepted_values.Facts.{run_facts}
+use Rattle.scoped_addresses.specs.held_entries.accepted_trails.ownership_kinds.Facts.{facts_in}
+use Rattle.scoped_addresses.specs.held_entries.accepted_trails.run_trails.inner.RunTrails.{ComesAt}
+use Rattle.scoped_addresses.proofs.held_entries.accepted_trails.run_trails.WalkEdges.{are_next}
 use Rattle.holder_counts.specs.holder_model.Calling.{value_count}
 use Rattle.holder_counts.specs.holder_model.Data.{Datum}
 use Rattle.holder_counts.specs.holder_model.Edges.{edge_of}
@@ -29,10 +29,10 @@ use Rattle.holder_counts.specs.holder_model.Standing.{stands_at}
 use Rattle.holder_counts.specs.holder_model.States.{Ends, Faulted, Goes, OutOfTurns, Returned, Runs, Task, Trapped}
 use Rattle.holder_counts.specs.holder_model.Steps as steps
 use Rattle.holder_counts.specs.holder_steps.inner.Ways.{Acts, DropsOne, Enters, FinishesOne, GoesBehind, Leaves, Performs, Reaches, StepsBy, TakesEdge, operands_in}
-use Rattle.typed_holders.proofs.holder_steps.StepsTold.{steps_told}
-use Rattle.typed_holders.proofs.holder_steps.WhichFaults.{IsOperandFault, IsPlaceFault, IsResultFault, effect_faults, operands_err, results_err, slots_err}
-use Rattle.typed_holders.specs.typed_memory.inner.Worlds.{World}
-use Rattle.typed_holders.specs.inner.TypedStates.{FrameIs, TasksAre}
+use Rattle.tracked_frames.proofs.typed_holders.holder_steps.StepsTold.{steps_told}
+use Rattle.tracked_frames.proofs.typed_holders.holder_steps.WhichFaults.{IsOperandFault, IsPlaceFault, IsResultFault, effect_faults, operands_err, results_err, slots_err}
+use Rattle.tracked_frames.specs.typed_holders.typed_memory.inner.Worlds.{World}
+use Rattle.tracked_frames.specs.typed_holders.inner.TypedStates.{FrameIs, TasksAre}
 use Rattle.tracked_frames.specs.inner.TrackedStates.{AreTasksTracked, GoesAlong, IsTrackedState}
 use Rattle.tracked_frames.proofs.HowValuesEnd.{accepted_body}
 use Rattle.tracked_frames.proofs.NextItems.{chooses_on, chosen_within, edge_comes, exit_comes, inst_comes, one_edge}

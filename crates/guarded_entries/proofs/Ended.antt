@@ -4,7 +4,7 @@ use Rattle.std.specs.Prelude.{◌==◌, slice_get, unwrap_or}
 use Rattle.std.specs.List.{list_any}
 use Rattle.std.proofs.lemmas.Bool.{and_parts, cases_Bool, eqb-true, false≢true, or_cases, true≢false}
 use Rattle.item_operands.specs.declared.taken.Taken.{Taken}
-use Rattle.held_entries.specs.accepted_trails.inner.Passing.{is_end}
+use Rattle.scoped_addresses.specs.held_entries.accepted_trails.inner.Passing.{is_end}
 use Rattle.ownership_chains.specs.declared.facts.Facts.{Facts}
 use Rattle.sil_ast.specs.declared.place.ValueId.{ValueId}
 use Rattle.holder_counts.specs.holder_model.Data.{Datum}

@@ -12,12 +12,12 @@ use Rattle.sil_cfg.specs.declared.item.Item.TheVariants as item
 use Rattle.type_definitions.specs.Declarations.{Declarations, declarations_of}
 use Rattle.type_definitions.specs.declared.kind.Kind.TheVariants as kind
 use Rattle.value_tables.specs.Borrows.{is_borrow}
-use Rattle.held_entries.specs.accepted_trails.inner.Defined.{makes}
-use Rattle.held_entries.specs.accepted_trails.inner.Lives.{IsOwnedIn}
-use Rattle.held_entries.specs.accepted_trails.ownership_kinds.Facts.{facts_in}
-use Rattle.held_entries.specs.inner.Tracked.{IsOwnScope}
-use Rattle.accepted_values.specs.inner.Known.{IsAcceptedBody, kind_at}
-use Rattle.accepted_values.proofs.Made.{distinct}
+use Rattle.scoped_addresses.specs.held_entries.accepted_trails.inner.Defined.{makes}
+use Rattle.scoped_addresses.specs.held_entries.accepted_trails.inner.Lives.{IsOwnedIn}
+use Rattle.scoped_addresses.specs.held_entries.accepted_trails.ownership_kinds.Facts.{facts_in}
+use Rattle.scoped_addresses.specs.held_entries.inner.Tracked.{IsOwnScope}
+use Rattle.scoped_addresses.specs.accepted_values.inner.Known.{IsAcceptedBody, kind_at}
+use Rattle.scoped_addresses.proofs.accepted_values.Made.{distinct}
 use Rattle.holder_counts.specs.holder_model.Calling.{value_count}
 use Rattle.holder_counts.specs.holder_model.Data.{Datum}
 use Rattle.holder_counts.specs.holder_model.Frames.{Entry, entry_at, made_entry, no_entries, results_put}

@@ -13,7 +13,7 @@ use Rattle.type_definitions.specs.declared.kind.Kind.{Kind}
 use Rattle.type_definitions.specs.declared.kind.Kind.TheVariants as kind
 use Rattle.run_values.specs.Places.{Home, Inside, OnStack}
 use Rattle.run_values.specs.Values.{references_of}
-use Rattle.accepted_values.specs.inner.Known.{kind_at}
+use Rattle.scoped_addresses.specs.accepted_values.inner.Known.{kind_at}
 use Rattle.holder_counts.specs.holder_model.Data.{AddressOf, Datum, FunctionOf, ValueOf, home_references, references_in}
 use Rattle.holder_counts.specs.holder_model.Faults.{OverwritesHeld, WrongShape}
 use Rattle.holder_counts.specs.holder_model.Frames.{Entry, Gone, Held, Lent, Plain, entry_at, has_any, is_held, made_entry, plain_address, plain_entry, put_entry, result_put}

@@ -7,9 +7,9 @@ use Rattle.sil_ast.specs.declared.function.Function.{Function}
 use Rattle.sil_ast.specs.declared.module.Module.{Module}
 use Rattle.type_definitions.specs.Declarations.{Declarations, declarations_of}
 use Rattle.run_values.specs.Memory.{Memory}
-use Rattle.held_entries.specs.accepted_trails.ownership_kinds.Facts.{facts_in}
-use Rattle.typed_memory.specs.inner.Worlds.{World}
-use Rattle.typed_holders.specs.inner.TypedStates.{FrameIs}
+use Rattle.scoped_addresses.specs.held_entries.accepted_trails.ownership_kinds.Facts.{facts_in}
+use Rattle.tracked_frames.specs.typed_memory.inner.Worlds.{World}
+use Rattle.tracked_frames.specs.typed_holders.inner.TypedStates.{FrameIs}
 use Rattle.holder_counts.specs.holder_model.Frames.{Entry, Frame, without_ended}
 use Rattle.holder_counts.specs.holder_model.States.{Runs, Task}
 use Rattle.guarded_entries.specs.inner.Guards.{AreLentGuarded, AreOfKinds}

@@ -25,31 +25,31 @@ use Rattle.type_definitions.specs.declared.kind.Kind.{Kind}
 use Rattle.type_definitions.specs.declared.kind.Kind.TheVariants as kind
 use Rattle.run_values.specs.Memory.{Memory}
 use Rattle.value_tables.specs.Borrows.{is_borrow}
-use Rattle.held_entries.specs.accepted_trails.inner.Accepted.{IsAcceptedIn}
-use Rattle.held_entries.specs.accepted_trails.inner.Bases.{HasBasesAsMade, IsAsMade, IsBaseOf}
-use Rattle.held_entries.specs.accepted_trails.inner.Defined.{IsDefinedOn, makes}
-use Rattle.held_entries.specs.accepted_trails.inner.Lives.{BorrowsFrom, IsOwnedIn, is_open}
-use Rattle.held_entries.specs.accepted_trails.inner.Passing.{IsFoundRight, is_begin, is_end, is_use, left_by, on_behind}
-use Rattle.held_entries.specs.accepted_trails.ownership_kinds.Facts.{facts_in}
-use Rattle.held_entries.specs.accepted_trails.run_trails.inner.RunTrails.{IsTurnedTrail}
-use Rattle.held_entries.proofs.accepted_trails.BasesMade.{bases_as_made}
-use Rattle.held_entries.proofs.accepted_trails.BasesOpen.{begins_where_made, scope_begins}
-use Rattle.held_entries.proofs.accepted_trails.LivesPassed.{lives_passed}
-use Rattle.held_entries.proofs.accepted_trails.ScopesPassed.{bases_kept, scopes_passed}
-use Rattle.held_entries.proofs.accepted_trails.Tests.{first_of}
-use Rattle.held_entries.proofs.accepted_trails.Unbroken.{are_accepted}
-use Rattle.held_entries.specs.inner.Tracked.{AreTracked, IsOwnScope, IsWhile}
-use Rattle.accepted_premises.proofs.BasesOfTaken.{bases_of_taken}
-use Rattle.accepted_premises.proofs.MadeAtStops.{made_at_stops, makes_so}
-use Rattle.accepted_values.specs.inner.Bases.{IsLender}
-use Rattle.accepted_values.specs.inner.Known.{IsAcceptedBody, kind_at}
-use Rattle.accepted_values.specs.inner.Operands.{SuitsRole}
-use Rattle.accepted_values.proofs.Addresses.{addresses_of_lenders}
-use Rattle.accepted_values.proofs.Based.{lenders_own_bases, lent_by_lenders, owned_own_bases, owned_value}
-use Rattle.accepted_values.proofs.Borrowed.{number_of_parameter}
-use Rattle.accepted_values.proofs.Made.{parameters_of_entry}
-use Rattle.accepted_values.proofs.Suited.{suited}
-use Rattle.accepted_values.proofs.lowering_laws.Lowerable.{contained}
+use Rattle.scoped_addresses.specs.held_entries.accepted_trails.inner.Accepted.{IsAcceptedIn}
+use Rattle.scoped_addresses.specs.held_entries.accepted_trails.inner.Bases.{HasBasesAsMade, IsAsMade, IsBaseOf}
+use Rattle.scoped_addresses.specs.held_entries.accepted_trails.inner.Defined.{IsDefinedOn, makes}
+use Rattle.scoped_addresses.specs.held_entries.accepted_trails.inner.Lives.{BorrowsFrom, IsOwnedIn, is_open}
+use Rattle.scoped_addresses.specs.held_entries.accepted_trails.inner.Passing.{IsFoundRight, is_begin, is_end, is_use, left_by, on_behind}
+use Rattle.scoped_addresses.specs.held_entries.accepted_trails.ownership_kinds.Facts.{facts_in}
+use Rattle.scoped_addresses.specs.held_entries.accepted_trails.run_trails.inner.RunTrails.{IsTurnedTrail}
+use Rattle.scoped_addresses.proofs.held_entries.accepted_trails.BasesMade.{bases_as_made}
+use Rattle.scoped_addresses.proofs.held_entries.accepted_trails.BasesOpen.{begins_where_made, scope_begins}
+use Rattle.scoped_addresses.proofs.held_entries.accepted_trails.LivesPassed.{lives_passed}
+use Rattle.scoped_addresses.proofs.held_entries.accepted_trails.ScopesPassed.{bases_kept, scopes_passed}
+use Rattle.scoped_addresses.proofs.held_entries.accepted_trails.Tests.{first_of}
+use Rattle.scoped_addresses.proofs.held_entries.accepted_trails.Unbroken.{are_accepted}
+use Rattle.scoped_addresses.specs.held_entries.inner.Tracked.{AreTracked, IsOwnScope, IsWhile}
+use Rattle.tracked_frames.proofs.accepted_premises.BasesOfTaken.{bases_of_taken}
+use Rattle.tracked_frames.proofs.accepted_premises.MadeAtStops.{made_at_stops, makes_so}
+use Rattle.scoped_addresses.specs.accepted_values.inner.Bases.{IsLender}
+use Rattle.scoped_addresses.specs.accepted_values.inner.Known.{IsAcceptedBody, kind_at}
+use Rattle.scoped_addresses.specs.accepted_values.inner.Operands.{SuitsRole}
+use Rattle.scoped_addresses.proofs.accepted_values.Addresses.{addresses_of_lenders}
+use Rattle.scoped_addresses.proofs.accepted_values.Based.{lenders_own_bases, lent_by_lenders, owned_own_bases, owned_value}
+use Rattle.scoped_addresses.proofs.accepted_values.Borrowed.{number_of_parameter}
+use Rattle.scoped_addresses.proofs.accepted_values.Made.{parameters_of_entry}
+use Rattle.scoped_addresses.proofs.accepted_values.Suited.{suited}
+use Rattle.scoped_addresses.proofs.accepted_values.lowering_laws.Lowerable.{contained}
 use Rattle.holder_counts.specs.holder_model.Data.{Datum}
 use Rattle.holder_counts.specs.holder_model.Frames.{Entry, Gone, Held, Lent, entry_at, has_any, without_ended}
 use Rattle.holder_counts.proofs.Entries.{left_of, was_there}

@@ -8,15 +8,15 @@ use Rattle.sil_ast.specs.declared.inst.Inst.{Inst}
 use Rattle.sil_ast.specs.declared.module.Module.{Module}
 use Rattle.type_definitions.specs.Declarations.{declarations_of}
 use Rattle.run_values.specs.Shapes.{Shape, Reference}
-use Rattle.accepted_values.specs.inner.Known.{kind_at}
-use Rattle.accepted_values.specs.run_typing.Forms.{Form, OfValue, form_of}
-use Rattle.accepted_values.specs.run_typing.RowForms as lowered
-use Rattle.accepted_values.specs.run_typing.RowForms.{RowForms}
-use Rattle.owned_run_typing.specs.inner.OwnedRows as owned
-use Rattle.owned_run_typing.specs.inner.OwnedRows.{OwnedRowForms}
-use Rattle.typed_memory.specs.inner.Worlds.{DatumIs, World}
-use Rattle.typed_holders.specs.inner.TypedStates.{EntryIs}
-use Rattle.typed_holders.proofs.Data.{read_value}
+use Rattle.scoped_addresses.specs.accepted_values.inner.Known.{kind_at}
+use Rattle.scoped_addresses.specs.accepted_values.run_typing.Forms.{Form, OfValue, form_of}
+use Rattle.scoped_addresses.specs.accepted_values.run_typing.RowForms as lowered
+use Rattle.scoped_addresses.specs.accepted_values.run_typing.RowForms.{RowForms}
+use Rattle.scoped_addresses.specs.owned_run_typing.inner.OwnedRows as owned
+use Rattle.scoped_addresses.specs.owned_run_typing.inner.OwnedRows.{OwnedRowForms}
+use Rattle.tracked_frames.specs.typed_memory.inner.Worlds.{DatumIs, World}
+use Rattle.tracked_frames.specs.typed_holders.inner.TypedStates.{EntryIs}
+use Rattle.tracked_frames.proofs.typed_holders.Data.{read_value}
 use Rattle.tracked_frames.specs.inner.TrackedStates.{GoesAlong}
 use Rattle.tracked_frames.specs.inner.TrackedStates as tracked
 use Rattle.holder_counts.specs.holder_model.Data.{Datum}

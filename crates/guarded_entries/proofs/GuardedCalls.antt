@@ -18,19 +18,19 @@ use Rattle.type_definitions.specs.Declarations.{Declarations, declarations_of}
 use Rattle.type_definitions.specs.declared.kind.Kind.TheVariants as kind
 use Rattle.run_values.specs.Memory.{Memory}
 use Rattle.run_values.specs.Shapes.{Shape}
-use Rattle.held_entries.specs.accepted_trails.ownership_kinds.Facts.{facts_in}
-use Rattle.owned_run_typing.specs.inner.OwnedTyped.{OwnedFunction, OwnedInst}
-use Rattle.accepted_values.specs.inner.Known.{IsAcceptedBody, kind_at}
-use Rattle.accepted_values.specs.run_typing.EndForms.{value_in}
-use Rattle.accepted_values.specs.run_typing.Forms.{OfFunction, form_by, form_of}
-use Rattle.accepted_values.proofs.Accepted.{typed, well_typed}
-use Rattle.accepted_values.proofs.run_typing_laws.CallFacts.{Called, function_only}
-use Rattle.accepted_values.proofs.run_typing_laws.Rows.Points.{is_at}
-use Rattle.typed_memory.specs.inner.Worlds.{World}
-use Rattle.typed_holders.specs.inner.TypedStates.{EntriesAre}
-use Rattle.typed_holders.proofs.Data.{read_function}
-use Rattle.typed_holders.proofs.Entries.{FitEach, Fits, operands_fit}
-use Rattle.typed_holders.proofs.GoesOn.{typed_module}
+use Rattle.scoped_addresses.specs.held_entries.accepted_trails.ownership_kinds.Facts.{facts_in}
+use Rattle.scoped_addresses.specs.owned_run_typing.inner.OwnedTyped.{OwnedFunction, OwnedInst}
+use Rattle.scoped_addresses.specs.accepted_values.inner.Known.{IsAcceptedBody, kind_at}
+use Rattle.scoped_addresses.specs.accepted_values.run_typing.EndForms.{value_in}
+use Rattle.scoped_addresses.specs.accepted_values.run_typing.Forms.{OfFunction, form_by, form_of}
+use Rattle.scoped_addresses.proofs.accepted_values.Accepted.{typed, well_typed}
+use Rattle.scoped_addresses.proofs.accepted_values.run_typing_laws.CallFacts.{Called, function_only}
+use Rattle.scoped_addresses.proofs.accepted_values.run_typing_laws.Rows.Points.{is_at}
+use Rattle.tracked_frames.specs.typed_memory.inner.Worlds.{World}
+use Rattle.tracked_frames.specs.typed_holders.inner.TypedStates.{EntriesAre}
+use Rattle.tracked_frames.proofs.typed_holders.Data.{read_function}
+use Rattle.tracked_frames.proofs.typed_holders.Entries.{FitEach, Fits, operands_fit}
+use Rattle.tracked_frames.proofs.typed_holders.GoesOn.{typed_module}
 use Rattle.holder_counts.specs.holder_model.Calling.{as_argument}
 use Rattle.holder_counts.specs.holder_model.Data.{Datum, FunctionOf, as_function, references_in}
 use Rattle.holder_counts.specs.holder_model.Effects as effects

@@ -15,14 +15,14 @@ use Rattle.type_definitions.specs.Declarations.{Declarations, declarations_of}
 use Rattle.run_values.specs.Memory.{Memory, is_dead}
 use Rattle.run_values.specs.Places.{Place}
 use Rattle.run_values.specs.Values as value
-use Rattle.held_entries.specs.accepted_trails.inner.Defined.{makes}
-use Rattle.held_entries.specs.accepted_trails.ownership_kinds.Facts.{facts_in}
-use Rattle.held_entries.specs.accepted_trails.run_trails.inner.RunTrails.{ComesAt, IsTurnedTrail}
-use Rattle.held_entries.proofs.accepted_trails.run_trails.WalkEdges.{are_next}
-use Rattle.accepted_values.specs.inner.Known.{IsAcceptedBody, kind_at}
-use Rattle.accepted_values.proofs.Facts.{run_facts}
-use Rattle.typed_memory.specs.inner.Worlds.{MemoryIs, World}
-use Rattle.typed_holders.specs.inner.TypedStates.{FrameIs}
+use Rattle.scoped_addresses.specs.held_entries.accepted_trails.inner.Defined.{makes}
+use Rattle.scoped_addresses.specs.held_entries.accepted_trails.ownership_kinds.Facts.{facts_in}
+use Rattle.scoped_addresses.specs.held_entries.accepted_trails.run_trails.inner.RunTrails.{ComesAt, IsTurnedTrail}
+use Rattle.scoped_addresses.proofs.held_entries.accepted_trails.run_trails.WalkEdges.{are_next}
+use Rattle.scoped_addresses.specs.accepted_values.inner.Known.{IsAcceptedBody, kind_at}
+use Rattle.scoped_addresses.proofs.accepted_values.Facts.{run_facts}
+use Rattle.tracked_frames.specs.typed_memory.inner.Worlds.{MemoryIs, World}
+use Rattle.tracked_frames.specs.typed_holders.inner.TypedStates.{FrameIs}
 use Rattle.tracked_frames.specs.inner.TrackedStates.{GoesAlong}
 use Rattle.tracked_frames.proofs.NextItems.{turned_next}
 use Rattle.holder_counts.specs.holder_model.Data.{Datum, ValueOf, references_in}

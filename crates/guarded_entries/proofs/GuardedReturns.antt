@@ -18,10 +18,10 @@ use Rattle.type_definitions.specs.declared.kind.Kind.TheVariants as kind
 use Rattle.run_values.specs.Memory.{Memory}
 use Rattle.run_values.specs.Values.{Value}
 use Rattle.value_tables.specs.Borrows.{is_borrow}
-use Rattle.held_entries.specs.accepted_trails.inner.Defined.{makes}
-use Rattle.accepted_values.specs.inner.Known.{IsAcceptedBody, kind_at}
-use Rattle.accepted_values.proofs.Based.{lenders_own_bases}
-use Rattle.typed_holders.proofs.Performs.{defines_results}
+use Rattle.scoped_addresses.specs.held_entries.accepted_trails.inner.Defined.{makes}
+use Rattle.scoped_addresses.specs.accepted_values.inner.Known.{IsAcceptedBody, kind_at}
+use Rattle.scoped_addresses.proofs.accepted_values.Based.{lenders_own_bases}
+use Rattle.tracked_frames.proofs.typed_holders.Performs.{defines_results}
 use Rattle.holder_counts.specs.holder_model.Data.{Datum, ValueOf}
 use Rattle.holder_counts.specs.holder_model.Frames.{Entry, Lent, made_entry}
 use Rattle.guarded_entries.specs.inner.Guards.{Lending}

@@ -21,19 +21,19 @@ use Rattle.run_values.specs.declared.phase.Phase.TheVariants.{Deiniting}
 use Rattle.run_values.specs.Memory.{is_dead, object_at}
 use Rattle.run_values.specs.Values as value
 use Rattle.run_values.specs.Values.{Value}
-use Rattle.held_entries.specs.accepted_trails.ownership_kinds.Facts.{facts_in}
-use Rattle.held_entries.specs.accepted_trails.run_trails.inner.RunTrails.{ComesAt}
-use Rattle.accepted_values.specs.accepted_modules.inner.Checked.{IsVerified}
-use Rattle.accepted_values.specs.inner.Known.{kind_at}
-use Rattle.accepted_values.proofs.Facts.{run_facts}
-use Rattle.typed_memory.specs.inner.Worlds.{World}
-use Rattle.typed_holders.specs.inner.TypedStates.{TasksAre, WaitsTyped}
-use Rattle.typed_holders.proofs.Data.{read_value}
-use Rattle.typed_holders.proofs.GoesOn.{Running}
-use Rattle.typed_holders.proofs.Returns.{returned}
-use Rattle.typed_holders.proofs.Stacks.{BelowTyped}
-use Rattle.typed_holders.proofs.holder_steps.StepsTold.{steps_told}
-use Rattle.accepted_values.specs.run_typing.Forms.{given_shape}
+use Rattle.scoped_addresses.specs.held_entries.accepted_trails.ownership_kinds.Facts.{facts_in}
+use Rattle.scoped_addresses.specs.held_entries.accepted_trails.run_trails.inner.RunTrails.{ComesAt}
+use Rattle.scoped_addresses.specs.accepted_values.accepted_modules.inner.Checked.{IsVerified}
+use Rattle.scoped_addresses.specs.accepted_values.inner.Known.{kind_at}
+use Rattle.scoped_addresses.proofs.accepted_values.Facts.{run_facts}
+use Rattle.tracked_frames.specs.typed_memory.inner.Worlds.{World}
+use Rattle.tracked_frames.specs.typed_holders.inner.TypedStates.{TasksAre, WaitsTyped}
+use Rattle.tracked_frames.proofs.typed_holders.Data.{read_value}
+use Rattle.tracked_frames.proofs.typed_holders.GoesOn.{Running}
+use Rattle.tracked_frames.proofs.typed_holders.Returns.{returned}
+use Rattle.tracked_frames.proofs.typed_holders.Stacks.{BelowTyped}
+use Rattle.tracked_frames.proofs.typed_holders.holder_steps.StepsTold.{steps_told}
+use Rattle.scoped_addresses.specs.accepted_values.run_typing.Forms.{given_shape}
 use Rattle.tracked_frames.specs.inner.TrackedStates.{AreTasksTracked}
 use Rattle.tracked_frames.proofs.ConsumedValues.{owned_typed}
 use Rattle.tracked_frames.proofs.HowValuesEnd.{accepted_body}

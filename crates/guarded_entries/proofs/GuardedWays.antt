@@ -17,11 +17,11 @@ use Rattle.sil_cfg.specs.declared.item.Item.TheVariants as item
 use Rattle.type_definitions.specs.Declarations.{Declarations, declarations_of}
 use Rattle.run_values.specs.Memory.{is_dead}
 use Rattle.run_values.specs.Places.{Inside, OnStack}
-use Rattle.held_entries.specs.accepted_trails.ownership_kinds.Facts.{facts_in}
-use Rattle.held_entries.specs.accepted_trails.run_trails.inner.RunTrails.{ComesAt}
-use Rattle.accepted_values.specs.inner.Known.{IsAcceptedBody}
-use Rattle.accepted_values.specs.accepted_modules.inner.Checked.{IsVerified}
-use Rattle.accepted_values.proofs.Facts.{run_facts}
+use Rattle.scoped_addresses.specs.held_entries.accepted_trails.ownership_kinds.Facts.{facts_in}
+use Rattle.scoped_addresses.specs.held_entries.accepted_trails.run_trails.inner.RunTrails.{ComesAt}
+use Rattle.scoped_addresses.specs.accepted_values.inner.Known.{IsAcceptedBody}
+use Rattle.scoped_addresses.specs.accepted_values.accepted_modules.inner.Checked.{IsVerified}
+use Rattle.scoped_addresses.proofs.accepted_values.Facts.{run_facts}
 use Rattle.tracked_frames.proofs.HowValuesEnd.{accepted_body}
 use Rattle.tracked_frames.proofs.NextItems.{inst_comes}
 use Rattle.holder_counts.specs.holder_model.Calling.{are_as_before, as_argument, handed_over, lent_places, value_count}

@@ -39,26 +39,26 @@ use Rattle.run_values.specs.Memory.{new_object}
 use Rattle.run_values.specs.Values.{Case, Full, Object, Value, grouped, references_of}
 use Rattle.value_tables.specs.Borrows.{borrow_at, borrow_by, borrow_in, borrows, borrows_of, is_borrow, lends, takes_address}
 use Rattle.value_tables.specs.FirstValue.{first_value, value_of}
-use Rattle.held_entries.specs.accepted_trails.inner.Bases.{IsBaseOf}
-use Rattle.held_entries.specs.accepted_trails.inner.Lives.{BorrowsFrom}
-use Rattle.held_entries.specs.accepted_trails.inner.Passing.{is_end}
-use Rattle.held_entries.specs.accepted_trails.borrow_scopes.Scopes.{bases_in}
-use Rattle.held_entries.specs.sil_types.Typing.RowTypes.{made_types}
-use Rattle.accepted_values.specs.run_typing.CallForms.{IsOf}
+use Rattle.scoped_addresses.specs.held_entries.accepted_trails.inner.Bases.{IsBaseOf}
+use Rattle.scoped_addresses.specs.held_entries.accepted_trails.inner.Lives.{BorrowsFrom}
+use Rattle.scoped_addresses.specs.held_entries.accepted_trails.inner.Passing.{is_end}
+use Rattle.scoped_addresses.specs.held_entries.accepted_trails.borrow_scopes.Scopes.{bases_in}
+use Rattle.scoped_addresses.specs.held_entries.sil_types.Typing.RowTypes.{made_types}
+use Rattle.scoped_addresses.specs.accepted_values.run_typing.CallForms.{IsOf}
 use Rattle.point_checks.specs.Points.{IsAt}
-use Rattle.held_entries.specs.accepted_trails.ownership_kinds.Facts.{facts_in}
-use Rattle.held_entries.specs.ownership_origins.Origins.{chain_operands, definitions_of, is_trivial_or_untyped, result_origin}
-use Rattle.accepted_values.specs.inner.Known.{IsAcceptedBody, IsValue, facts_at, kind_at, type_in}
-use Rattle.accepted_values.specs.inner.Operands.{kind_by_row, kind_of_result, kind_together}
-use Rattle.accepted_values.specs.inner.Rows.{IsResult}
-use Rattle.accepted_values.proofs.Accepted.{typed}
-use Rattle.accepted_values.proofs.Addresses.{addresses_of_lenders}
-use Rattle.accepted_values.proofs.Based.{bases_of_addresses, handed_on, owned_own_bases}
-use Rattle.accepted_values.proofs.Made.{items_of}
-use Rattle.accepted_values.proofs.Suited.{results_of_kinds}
-use Rattle.accepted_values.proofs.TableRows.{result_rows}
-use Rattle.accepted_values.proofs.lowering_laws.Lowerable.{contained}
-use Rattle.accepted_values.proofs.run_typing_laws.ItemFacts.{values_counted}
+use Rattle.scoped_addresses.specs.held_entries.accepted_trails.ownership_kinds.Facts.{facts_in}
+use Rattle.scoped_addresses.specs.held_entries.ownership_origins.Origins.{chain_operands, definitions_of, is_trivial_or_untyped, result_origin}
+use Rattle.scoped_addresses.specs.accepted_values.inner.Known.{IsAcceptedBody, IsValue, facts_at, kind_at, type_in}
+use Rattle.scoped_addresses.specs.accepted_values.inner.Operands.{kind_by_row, kind_of_result, kind_together}
+use Rattle.scoped_addresses.specs.accepted_values.inner.Rows.{IsResult}
+use Rattle.scoped_addresses.proofs.accepted_values.Accepted.{typed}
+use Rattle.scoped_addresses.proofs.accepted_values.Addresses.{addresses_of_lenders}
+use Rattle.scoped_addresses.proofs.accepted_values.Based.{bases_of_addresses, handed_on, owned_own_bases}
+use Rattle.scoped_addresses.proofs.accepted_values.Made.{items_of}
+use Rattle.scoped_addresses.proofs.accepted_values.Suited.{results_of_kinds}
+use Rattle.scoped_addresses.proofs.accepted_values.TableRows.{result_rows}
+use Rattle.scoped_addresses.proofs.accepted_values.lowering_laws.Lowerable.{contained}
+use Rattle.scoped_addresses.proofs.accepted_values.run_typing_laws.ItemFacts.{values_counted}
 use Rattle.holder_counts.specs.holder_model.declared.row_effect.RowEffect.{RowEffect}
 use Rattle.holder_counts.specs.holder_model.declared.row_effect.RowEffect.TheVariants as row
 use Rattle.holder_counts.specs.holder_model.Data as given

@@ -24,14 +24,14 @@ use Rattle.type_definitions.specs.declared.kind.Kind.TheVariants as kind
 use Rattle.run_values.specs.Memory.{Memory}
 use Rattle.run_values.specs.Places.{Home, Inside, OnStack}
 use Rattle.run_values.specs.Values.{Value, references_of}
-use Rattle.held_entries.specs.accepted_trails.inner.Bases.{IsBaseOf}
-use Rattle.held_entries.specs.accepted_trails.inner.Passing.{is_end}
-use Rattle.held_entries.proofs.accepted_trails.Tests.{first_of}
-use Rattle.held_entries.specs.accepted_trails.ownership_kinds.Facts.{facts_in}
-use Rattle.accepted_values.specs.inner.Bases.{IsLender}
-use Rattle.accepted_values.specs.inner.Known.{IsAcceptedBody, kind_at}
-use Rattle.accepted_values.proofs.Addresses.{addresses_of_lenders}
-use Rattle.accepted_values.proofs.Based.{lent_by_lenders}
+use Rattle.scoped_addresses.specs.held_entries.accepted_trails.inner.Bases.{IsBaseOf}
+use Rattle.scoped_addresses.specs.held_entries.accepted_trails.inner.Passing.{is_end}
+use Rattle.scoped_addresses.proofs.held_entries.accepted_trails.Tests.{first_of}
+use Rattle.scoped_addresses.specs.held_entries.accepted_trails.ownership_kinds.Facts.{facts_in}
+use Rattle.scoped_addresses.specs.accepted_values.inner.Bases.{IsLender}
+use Rattle.scoped_addresses.specs.accepted_values.inner.Known.{IsAcceptedBody, kind_at}
+use Rattle.scoped_addresses.proofs.accepted_values.Addresses.{addresses_of_lenders}
+use Rattle.scoped_addresses.proofs.accepted_values.Based.{lent_by_lenders}
 use Rattle.holder_counts.specs.holder_model.Data.{AddressOf, Datum, FunctionOf, ValueOf, references_in}
 use Rattle.holder_counts.specs.holder_model.Faults.{HolderFault, NamesDead, WrongShape}
 use Rattle.holder_counts.specs.holder_model.Frames.{Entry, Gone, Held, Lent, Operands, Plain, and_more, any_dead, datum_in, datum_or_fault, ends, entry_at, has_any}

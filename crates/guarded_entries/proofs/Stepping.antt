@@ -16,10 +16,10 @@ use Rattle.run_values.specs.Places.{Place}
 use Rattle.sil_cfg.specs.declared.item.Item.{Item}
 use Rattle.sil_cfg.specs.declared.item.Item.TheVariants as item
 use Rattle.sil_ast.specs.declared.place.FuncId.{FuncId}
-use Rattle.accepted_values.specs.inner.Known.{kind_at}
+use Rattle.scoped_addresses.specs.accepted_values.inner.Known.{kind_at}
 use Rattle.item_operands.specs.Items.{item_defined, item_taken}
-use Rattle.held_entries.specs.accepted_trails.inner.Defined.{makes}
-use Rattle.held_entries.specs.accepted_trails.ownership_kinds.Facts.{facts_in}
+use Rattle.scoped_addresses.specs.held_entries.accepted_trails.inner.Defined.{makes}
+use Rattle.scoped_addresses.specs.held_entries.accepted_trails.ownership_kinds.Facts.{facts_in}
 use Rattle.holder_counts.specs.holder_model.Data.{Datum, references_in}
 use Rattle.holder_counts.specs.holder_model.Dropping.{ended, field_references, in_phase}
 use Rattle.holder_counts.specs.holder_model.Effects.{Change, SameSlots, unchanged}

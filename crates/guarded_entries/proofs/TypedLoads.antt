@@ -17,17 +17,17 @@ use Rattle.run_values.specs.Shapes.{Shape, Shapes, NoMember, Member, Integer, Re
 use Rattle.run_values.specs.Trivial.{itself}
 use Rattle.value_parts.specs.inner.Storages.{holds_no_storage, no_storage_layer}
 use Rattle.value_parts.proofs.Inductions.{InParts, by_parts}
-use Rattle.held_entries.proofs.accepted_trails.Tests.{each_of_both}
-use Rattle.accepted_values.specs.run_typing.Forms.{Form, OfPlace, has_no_storage}
-use Rattle.accepted_values.specs.run_typing.RowForms as lowered
-use Rattle.accepted_values.specs.run_typing.RowForms.{RowForms}
-use Rattle.owned_run_typing.specs.inner.OwnedRows as owned
-use Rattle.owned_run_typing.specs.inner.OwnedRows.{OwnedRowForms}
-use Rattle.typed_memory.specs.inner.Worlds.{CellIs, DatumIs, IsIn, MemoryIs, PlaceIs, World, cell_shapes, each_cell_shapes, fields_of_class}
-use Rattle.typed_memory.proofs.CellShapes.{place_within, shape_count}
-use Rattle.typed_memory.proofs.Homes.{object_is, place_cells}
-use Rattle.typed_memory.proofs.Zips.{Within}
-use Rattle.typed_holders.proofs.Data.{read_place}
+use Rattle.scoped_addresses.proofs.held_entries.accepted_trails.Tests.{each_of_both}
+use Rattle.scoped_addresses.specs.accepted_values.run_typing.Forms.{Form, OfPlace, has_no_storage}
+use Rattle.scoped_addresses.specs.accepted_values.run_typing.RowForms as lowered
+use Rattle.scoped_addresses.specs.accepted_values.run_typing.RowForms.{RowForms}
+use Rattle.scoped_addresses.specs.owned_run_typing.inner.OwnedRows as owned
+use Rattle.scoped_addresses.specs.owned_run_typing.inner.OwnedRows.{OwnedRowForms}
+use Rattle.tracked_frames.specs.typed_memory.inner.Worlds.{CellIs, DatumIs, IsIn, MemoryIs, PlaceIs, World, cell_shapes, each_cell_shapes, fields_of_class}
+use Rattle.tracked_frames.proofs.typed_memory.CellShapes.{place_within, shape_count}
+use Rattle.tracked_frames.proofs.typed_memory.Homes.{object_is, place_cells}
+use Rattle.tracked_frames.proofs.typed_memory.Zips.{Within}
+use Rattle.tracked_frames.proofs.typed_holders.Data.{read_place}
 use Rattle.holder_counts.specs.holder_model.Data.{AddressOf, Datum, home_references}
 use Rattle.holder_counts.specs.holder_model.Effects.{effect_of}
 use Rattle.holder_counts.specs.holder_model.Frames.{any_dead}

@@ -1,28 +1,28 @@
 -- A frame that stands at an instruction whose operands are found: behind those that end it holds its places, and all that typing says of the instruction is there.
 use Rattle.std.proofs.Common.{◌≡◌, ℕ, List, [], ◌∷◌, map, length, ◌<◌, Option, Ok, refl, sym, ap, ◌∙◌, subst}
 use Rattle.std.proofs.lemmas.Option.{same_Some}
-use Rattle.accepted_memory.specs.holder_model.Data.{AddressOf, Datum}
-use Rattle.accepted_memory.specs.holder_model.Effects as effects
-use Rattle.accepted_memory.specs.holder_model.Effects.{Change, Makes, effect_by, effect_of}
-use Rattle.accepted_memory.specs.holder_model.Faults.{HolderFault}
-use Rattle.accepted_memory.specs.holder_model.Frames.{Entry, Frame, Operands, results_put}
-use Rattle.accepted_memory.specs.holder_model.HolderStates.{HolderState}
-use Rattle.accepted_memory.specs.holder_model.MemoryEffects.{at_places}
-use Rattle.accepted_memory.specs.holder_model.ModuleFacts.{facts_of, facts_told}
-use Rattle.accepted_memory.specs.holder_model.ModuleShapes.{shapes_in, shapes_of}
-use Rattle.accepted_memory.specs.holder_model.Standing.{stands_at}
-use Rattle.accepted_memory.specs.holder_model.StepParts.{slots_behind}
-use Rattle.accepted_memory.specs.holder_model.States.{Runs, Task}
-use Rattle.accepted_memory.specs.holder_model.declared.row_effect.RowEffect.TheVariants as row
-use Rattle.accepted_memory.specs.memory_accesses.Sources.{sources_of}
-use Rattle.accepted_memory.specs.run_trails.inner.RunTrails.{IsRunTrail}
-use Rattle.accepted_places.specs.inner.Located.{IsAddress}
-use Rattle.accepted_values.specs.inner.Known.{IsAcceptedBody}
-use Rattle.accepted_values.specs.owned_run_typing.inner.OwnedTyped.{OwnedFunction, OwnedInst}
-use Rattle.accepted_values.specs.run_typing.EndForms.{value_in}
-use Rattle.accepted_values.specs.run_typing.Forms.{Form, OfPlace, form_of, forms_of}
-use Rattle.held_entries.proofs.accepted_trails.run_trails.WalkEdges.{are_next}
-use Rattle.holder_steps.specs.inner.Ways.{left_with}
+use Rattle.placed_values.specs.accepted_memory.holder_model.Data.{AddressOf, Datum}
+use Rattle.placed_values.specs.accepted_memory.holder_model.Effects as effects
+use Rattle.placed_values.specs.accepted_memory.holder_model.Effects.{Change, Makes, effect_by, effect_of}
+use Rattle.placed_values.specs.accepted_memory.holder_model.Faults.{HolderFault}
+use Rattle.placed_values.specs.accepted_memory.holder_model.Frames.{Entry, Frame, Operands, results_put}
+use Rattle.placed_values.specs.accepted_memory.holder_model.HolderStates.{HolderState}
+use Rattle.placed_values.specs.accepted_memory.holder_model.MemoryEffects.{at_places}
+use Rattle.placed_values.specs.accepted_memory.holder_model.ModuleFacts.{facts_of, facts_told}
+use Rattle.placed_values.specs.accepted_memory.holder_model.ModuleShapes.{shapes_in, shapes_of}
+use Rattle.placed_values.specs.accepted_memory.holder_model.Standing.{stands_at}
+use Rattle.placed_values.specs.accepted_memory.holder_model.StepParts.{slots_behind}
+use Rattle.placed_values.specs.accepted_memory.holder_model.States.{Runs, Task}
+use Rattle.placed_values.specs.accepted_memory.holder_model.declared.row_effect.RowEffect.TheVariants as row
+use Rattle.placed_values.specs.accepted_memory.memory_accesses.Sources.{sources_of}
+use Rattle.placed_values.specs.accepted_memory.run_trails.inner.RunTrails.{IsRunTrail}
+use Rattle.placed_values.specs.accepted_places.inner.Located.{IsAddress}
+use Rattle.placed_values.specs.accepted_values.inner.Known.{IsAcceptedBody}
+use Rattle.placed_values.specs.accepted_values.owned_run_typing.inner.OwnedTyped.{OwnedFunction, OwnedInst}
+use Rattle.placed_values.specs.accepted_values.run_typing.EndForms.{value_in}
+use Rattle.placed_values.specs.accepted_values.run_typing.Forms.{Form, OfPlace, form_of, forms_of}
+use Rattle.placed_values.proofs.held_entries.accepted_trails.run_trails.WalkEdges.{are_next}
+use Rattle.tracked_frames.specs.holder_steps.inner.Ways.{left_with}
 use Rattle.item_operands.specs.Items.{item_defined, item_taken}
 use Rattle.numbered_form.specs.Lists.{Each}
 use Rattle.ownership_chains.specs.declared.facts.Facts.{Facts}
@@ -35,16 +35,16 @@ use Rattle.sil_ast.specs.declared.place.PointId.{PointId}
 use Rattle.sil_ast.specs.declared.place.ValueId.{ValueId}
 use Rattle.sil_cfg.specs.declared.item.Item.TheVariants as item
 use Rattle.type_definitions.specs.Declarations.{declarations_of}
-use Rattle.typed_holders.specs.inner.TypedStates.{FrameIs, TasksAre}
-use Rattle.typed_holders.proofs.Data.{DataAre}
-use Rattle.typed_holders.proofs.Effects.{Changed, EffectFits}
-use Rattle.typed_holders.proofs.Entries.{FitEach, fit_data, operands_fit}
-use Rattle.typed_holders.proofs.GoesOn.{typed_module}
-use Rattle.typed_holders.proofs.Operands.{operands_read}
-use Rattle.typed_holders.proofs.Performs.{defines_results}
-use Rattle.typed_holders.proofs.RowForms.{row_fits}
-use Rattle.typed_holders.proofs.ShapesTold.{result_told}
-use Rattle.typed_memory.specs.inner.Worlds.{World}
+use Rattle.tracked_frames.specs.typed_holders.inner.TypedStates.{FrameIs, TasksAre}
+use Rattle.tracked_frames.proofs.typed_holders.Data.{DataAre}
+use Rattle.tracked_frames.proofs.typed_holders.Effects.{Changed, EffectFits}
+use Rattle.tracked_frames.proofs.typed_holders.Entries.{FitEach, fit_data, operands_fit}
+use Rattle.tracked_frames.proofs.typed_holders.GoesOn.{typed_module}
+use Rattle.tracked_frames.proofs.typed_holders.Operands.{operands_read}
+use Rattle.tracked_frames.proofs.typed_holders.Performs.{defines_results}
+use Rattle.tracked_frames.proofs.typed_holders.RowForms.{row_fits}
+use Rattle.tracked_frames.proofs.typed_holders.ShapesTold.{result_told}
+use Rattle.tracked_frames.specs.typed_memory.inner.Worlds.{World}
 use Rattle.held_places.specs.inner.FramePlaces.{HoldsPlaces, Names}
 use Rattle.held_places.specs.inner.Items.{StandsAtItem, effect_here}
 use Rattle.held_places.specs.inner.PartsNamed.{AreNewNamed}

@@ -1,26 +1,26 @@
 -- A function with a body is called: the places that are lent are as their rows ask, and the callee begins with its places.
 use Rattle.std.proofs.Common.{◌≡◌, ⊎_elim, ℕ, List, ◌∷◌, drop, map, true, false, Option, Ok, Some, sym, ap, ◌∙◌, slice_get}
 use Rattle.std.proofs.lemmas.Bool.{true≢false}
-use Rattle.accepted_memory.specs.holder_model.Calling.{are_as_before, as_argument, handed_over, lent_places, value_count}
-use Rattle.accepted_memory.specs.holder_model.Data.{Datum}
-use Rattle.accepted_memory.specs.holder_model.Effects.{Calls}
-use Rattle.accepted_memory.specs.holder_model.Frames.{Entry, Frame, LentPlace, Operands, has_any, no_entries, results_put}
-use Rattle.accepted_memory.specs.holder_model.HolderStates.{HolderNext, HolderState}
-use Rattle.accepted_memory.specs.holder_model.MemoryEffects.{effect}
-use Rattle.accepted_memory.specs.holder_model.ModuleFacts.{ModuleFacts, facts_told}
-use Rattle.accepted_memory.specs.holder_model.ModuleShapes.{ModuleShapes}
-use Rattle.accepted_memory.specs.holder_model.Standing.{stands_at}
-use Rattle.accepted_memory.specs.holder_model.StepParts.{new_frame}
-use Rattle.accepted_memory.specs.holder_model.States.{Runs, Task}
-use Rattle.accepted_memory.specs.memory_accesses.Operations.{operations_of}
-use Rattle.accepted_memory.specs.memory_accesses.Rows.{is_part}
-use Rattle.accepted_memory.specs.memory_accesses.Sources.{is_trivial_at, sources_of}
-use Rattle.accepted_memory.specs.memory_accesses.declared.access.Operated.{Operated}
-use Rattle.accepted_memory.specs.run_trails.inner.RunTrails.{IsRunTrail}
-use Rattle.accepted_values.specs.accepted_modules.inner.Checked.{IsVerified}
-use Rattle.accepted_values.specs.inner.Known.{IsAcceptedBody}
-use Rattle.holder_steps.specs.inner.Ways.{Enters}
-use Rattle.holder_steps.proofs.WhichFaults.{results_err}
+use Rattle.placed_values.specs.accepted_memory.holder_model.Calling.{are_as_before, as_argument, handed_over, lent_places, value_count}
+use Rattle.placed_values.specs.accepted_memory.holder_model.Data.{Datum}
+use Rattle.placed_values.specs.accepted_memory.holder_model.Effects.{Calls}
+use Rattle.placed_values.specs.accepted_memory.holder_model.Frames.{Entry, Frame, LentPlace, Operands, has_any, no_entries, results_put}
+use Rattle.placed_values.specs.accepted_memory.holder_model.HolderStates.{HolderNext, HolderState}
+use Rattle.placed_values.specs.accepted_memory.holder_model.MemoryEffects.{effect}
+use Rattle.placed_values.specs.accepted_memory.holder_model.ModuleFacts.{ModuleFacts, facts_told}
+use Rattle.placed_values.specs.accepted_memory.holder_model.ModuleShapes.{ModuleShapes}
+use Rattle.placed_values.specs.accepted_memory.holder_model.Standing.{stands_at}
+use Rattle.placed_values.specs.accepted_memory.holder_model.StepParts.{new_frame}
+use Rattle.placed_values.specs.accepted_memory.holder_model.States.{Runs, Task}
+use Rattle.placed_values.specs.accepted_memory.memory_accesses.Operations.{operations_of}
+use Rattle.placed_values.specs.accepted_memory.memory_accesses.Rows.{is_part}
+use Rattle.placed_values.specs.accepted_memory.memory_accesses.Sources.{is_trivial_at, sources_of}
+use Rattle.placed_values.specs.accepted_memory.memory_accesses.declared.access.Operated.{Operated}
+use Rattle.placed_values.specs.accepted_memory.run_trails.inner.RunTrails.{IsRunTrail}
+use Rattle.placed_values.specs.accepted_values.accepted_modules.inner.Checked.{IsVerified}
+use Rattle.placed_values.specs.accepted_values.inner.Known.{IsAcceptedBody}
+use Rattle.tracked_frames.specs.holder_steps.inner.Ways.{Enters}
+use Rattle.tracked_frames.proofs.holder_steps.WhichFaults.{results_err}
 use Rattle.item_operands.specs.Items.{item_defined, item_taken}
 use Rattle.item_operands.specs.Parts.{inst_at}
 use Rattle.ownership_chains.specs.declared.facts.Facts.{Facts}
@@ -36,8 +36,8 @@ use Rattle.sil_ast.specs.declared.place.PointId.{PointId}
 use Rattle.sil_ast.specs.declared.place.ValueId.{ValueId}
 use Rattle.sil_cfg.specs.declared.item.Item.TheVariants as item
 use Rattle.type_definitions.specs.Declarations.{declarations_of}
-use Rattle.typed_holders.specs.typed_memory.inner.Worlds.{World}
-use Rattle.typed_holders.proofs.GoesOn.{accepted_body}
+use Rattle.tracked_frames.specs.typed_holders.typed_memory.inner.Worlds.{World}
+use Rattle.tracked_frames.proofs.typed_holders.GoesOn.{accepted_body}
 use Rattle.held_places.specs.inner.FramePlaces.{Names}
 use Rattle.held_places.specs.inner.Items.{PlacedNext}
 use Rattle.held_places.specs.inner.PlaceStates.{TasksPlaced}

@@ -1,13 +1,13 @@
 -- A typed frame that has come to a call of which these places are lent: where its operations are.
 use Rattle.std.proofs.Common.{◌≡◌, ℕ, List, ◌∷◌, Some, sym, ap, subst}
-use Rattle.accepted_memory.specs.holder_model.Effects.{effect_of}
-use Rattle.accepted_memory.specs.holder_model.Frames.{Entry, LentPlace}
-use Rattle.accepted_memory.specs.holder_model.declared.row_effect.RowEffect.TheVariants.{CallsFunction}
-use Rattle.accepted_memory.specs.memory_accesses.Operations.{operations_of}
-use Rattle.accepted_memory.specs.memory_accesses.declared.access.Operated.{Operated}
-use Rattle.accepted_memory.specs.run_trails.inner.RunTrails.{GoesOn, IsRunTrail}
-use Rattle.accepted_places.specs.inner.Located.{IsAddress}
-use Rattle.accepted_values.specs.inner.Known.{IsAcceptedBody}
+use Rattle.placed_values.specs.accepted_memory.holder_model.Effects.{effect_of}
+use Rattle.placed_values.specs.accepted_memory.holder_model.Frames.{Entry, LentPlace}
+use Rattle.placed_values.specs.accepted_memory.holder_model.declared.row_effect.RowEffect.TheVariants.{CallsFunction}
+use Rattle.placed_values.specs.accepted_memory.memory_accesses.Operations.{operations_of}
+use Rattle.placed_values.specs.accepted_memory.memory_accesses.declared.access.Operated.{Operated}
+use Rattle.placed_values.specs.accepted_memory.run_trails.inner.RunTrails.{GoesOn, IsRunTrail}
+use Rattle.placed_values.specs.accepted_places.inner.Located.{IsAddress}
+use Rattle.placed_values.specs.accepted_values.inner.Known.{IsAcceptedBody}
 use Rattle.item_operands.specs.Parts.{inst_at}
 use Rattle.point_checks.proofs.Among.{Among}
 use Rattle.sil_ast.specs.declared.function.Function.{Function}
@@ -17,8 +17,8 @@ use Rattle.sil_ast.specs.declared.place.PointId.{PointId}
 use Rattle.sil_cfg.specs.declared.item.Item.{Item}
 use Rattle.sil_cfg.specs.declared.item.Item.TheVariants as item
 use Rattle.type_definitions.specs.Declarations.{declarations_of}
-use Rattle.typed_holders.specs.inner.TypedStates.{EntriesAre}
-use Rattle.typed_holders.specs.typed_memory.inner.Worlds.{World}
+use Rattle.tracked_frames.specs.typed_holders.inner.TypedStates.{EntriesAre}
+use Rattle.tracked_frames.specs.typed_holders.typed_memory.inner.Worlds.{World}
 use Rattle.held_places.specs.inner.PlaceStates.{AreLentBy}
 use Rattle.held_places.specs.inner.TrailLaws.{TrailLaws}
 use Rattle.held_places.proofs.Applying.{handed_by, no_slot_goes, rows_by_table, takes_it}

@@ -1,20 +1,20 @@
 -- A deinitialiser begins with the object alone, which it owns: it was given no place.
 use Rattle.std.proofs.Common.{◌≡◌, ℕ, zero, suc, List, [], ◌∷◌, ◌++◌, map, true, Option, Ok, Some, None, refl, sym, ap, ◌∙◌, subst, slice_get}
 use Rattle.std.proofs.lemmas.Option.{none-some, same_Some}
-use Rattle.accepted_memory.specs.holder_model.Calling.{argument_data, given_places, lent_with, place_in, places_given, value_count}
-use Rattle.accepted_memory.specs.holder_model.Data.{Datum}
-use Rattle.accepted_memory.specs.holder_model.Frames.{Entry, Frame, LentPlace, has_any, no_entries, results_put}
-use Rattle.accepted_memory.specs.holder_model.StepParts.{new_frame}
-use Rattle.accepted_memory.specs.holder_model.States.{Finishes, Runs, Task}
-use Rattle.accepted_values.specs.accepted_modules.inner.Checked.{IsVerified}
-use Rattle.accepted_values.specs.inner.Known.{IsAcceptedBody}
-use Rattle.accepted_values.specs.run_typing.CallForms.{IsDeinitOf}
-use Rattle.accepted_values.specs.run_typing.Forms.{OfValue, entry_forms, form_with}
-use Rattle.accepted_values.proofs.Accepted.{well_typed}
-use Rattle.accepted_values.proofs.run_typing_laws.FunctionFacts.{typed_function}
-use Rattle.accepted_values.proofs.run_typing_laws.Rows.Forms.{typed_form}
-use Rattle.accepted_values.proofs.run_typing_laws.Rows.Layers.{target-Address}
-use Rattle.accepted_values.proofs.run_typing_laws.SignatureFacts.{entry_forms_are}
+use Rattle.placed_values.specs.accepted_memory.holder_model.Calling.{argument_data, given_places, lent_with, place_in, places_given, value_count}
+use Rattle.placed_values.specs.accepted_memory.holder_model.Data.{Datum}
+use Rattle.placed_values.specs.accepted_memory.holder_model.Frames.{Entry, Frame, LentPlace, has_any, no_entries, results_put}
+use Rattle.placed_values.specs.accepted_memory.holder_model.StepParts.{new_frame}
+use Rattle.placed_values.specs.accepted_memory.holder_model.States.{Finishes, Runs, Task}
+use Rattle.placed_values.specs.accepted_values.accepted_modules.inner.Checked.{IsVerified}
+use Rattle.placed_values.specs.accepted_values.inner.Known.{IsAcceptedBody}
+use Rattle.placed_values.specs.accepted_values.run_typing.CallForms.{IsDeinitOf}
+use Rattle.placed_values.specs.accepted_values.run_typing.Forms.{OfValue, entry_forms, form_with}
+use Rattle.placed_values.proofs.accepted_values.Accepted.{well_typed}
+use Rattle.placed_values.proofs.accepted_values.run_typing_laws.FunctionFacts.{typed_function}
+use Rattle.placed_values.proofs.accepted_values.run_typing_laws.Rows.Forms.{typed_form}
+use Rattle.placed_values.proofs.accepted_values.run_typing_laws.Rows.Layers.{target-Address}
+use Rattle.placed_values.proofs.accepted_values.run_typing_laws.SignatureFacts.{entry_forms_are}
 use Rattle.argument_conventions.specs.Arguments.{Told, argument_type, arguments_of, handed_type}
 use Rattle.argument_conventions.specs.Rows.{address_row}
 use Rattle.argument_conventions.specs.declared.convention.ArgumentConvention.{ArgumentConvention}
@@ -34,7 +34,7 @@ use Rattle.sil_ast.specs.declared.type_name.TypeName.{TypeName}
 use Rattle.sil_ast.specs.declared.type_name.TypeName.TheVariants as type
 use Rattle.sil_cfg.specs.declared.item.Item.TheVariants as item
 use Rattle.type_definitions.specs.Declarations.{Declarations, declarations_of}
-use Rattle.typed_holders.proofs.GoesOn.{accepted_body}
+use Rattle.tracked_frames.proofs.typed_holders.GoesOn.{accepted_body}
 use Rattle.held_places.specs.inner.PlaceStates.{TasksPlaced}
 use Rattle.held_places.specs.inner.TrailLaws.{TrailLaws}
 use Rattle.held_places.proofs.CalleesBegin.{others_gone}

@@ -1,11 +1,11 @@
 -- Drops and finishes touch no place on the stack.
 use Rattle.std.proofs.Common.{◌≡◌, inr, ℕ, List, length, refl, sym, ap, slice_get, arith}
-use Rattle.accepted_memory.specs.holder_model.Frames.{Frame}
-use Rattle.accepted_memory.specs.holder_model.HolderStates.{HolderNext, HolderState}
-use Rattle.accepted_memory.specs.holder_model.ModuleFacts.{ModuleFacts}
-use Rattle.accepted_memory.specs.holder_model.States.{Task}
-use Rattle.accepted_memory.specs.holder_model.Dropping.{ended, field_references, in_phase}
-use Rattle.holder_steps.specs.inner.Ways.{DropsOne, FinishesOne}
+use Rattle.placed_values.specs.accepted_memory.holder_model.Frames.{Frame}
+use Rattle.placed_values.specs.accepted_memory.holder_model.HolderStates.{HolderNext, HolderState}
+use Rattle.placed_values.specs.accepted_memory.holder_model.ModuleFacts.{ModuleFacts}
+use Rattle.placed_values.specs.accepted_memory.holder_model.States.{Task}
+use Rattle.placed_values.specs.accepted_memory.holder_model.Dropping.{ended, field_references, in_phase}
+use Rattle.tracked_frames.specs.holder_steps.inner.Ways.{DropsOne, FinishesOne}
 use Rattle.run_values.specs.Memory.{Memory, object_at, with_object}
 use Rattle.run_values.specs.declared.phase.Phase.TheVariants.{Deiniting}
 use Rattle.sil_ast.specs.declared.module.Module.{Module}

@@ -1,23 +1,23 @@
 -- An edge is taken: nothing is done to places.
 use Rattle.std.proofs.Common.{◌≡◌, ℕ, List, [], ◌∷◌, Bool, true, false, Option, Some, refl, sym, ap, ◌∙◌}
 use Rattle.std.specs.List.{list_any}
-use Rattle.accepted_memory.specs.holder_model.Data.{Datum}
-use Rattle.accepted_memory.specs.holder_model.Effects.{effect_of, unchanged}
-use Rattle.accepted_memory.specs.holder_model.Frames.{Frame}
-use Rattle.accepted_memory.specs.holder_model.HolderStates.{HolderNext, HolderState}
-use Rattle.accepted_memory.specs.holder_model.ModuleFacts.{ModuleFacts, facts_told}
-use Rattle.accepted_memory.specs.holder_model.States.{Task}
-use Rattle.accepted_memory.specs.holder_model.declared.row_effect.RowEffect.TheVariants.{NoEffect}
-use Rattle.accepted_memory.specs.memory_accesses.Operations.{deallocates, operations_of}
-use Rattle.accepted_memory.specs.memory_accesses.Sources.{sources_of}
-use Rattle.accepted_memory.specs.memory_parts.Parts.{whole_cell}
-use Rattle.accepted_memory.specs.run_trails.inner.RunTrails.{IsRunTrail}
-use Rattle.accepted_places.specs.inner.Cells.{operates_on, touches}
-use Rattle.accepted_places.specs.inner.Stacks.{keeps_slots}
-use Rattle.accepted_values.specs.accepted_modules.inner.Checked.{IsVerified}
-use Rattle.accepted_values.specs.inner.Known.{IsAcceptedBody}
-use Rattle.holder_steps.specs.inner.Ways.{GoesBehind}
-use Rattle.holder_steps.proofs.WhichFaults.{results_err}
+use Rattle.placed_values.specs.accepted_memory.holder_model.Data.{Datum}
+use Rattle.placed_values.specs.accepted_memory.holder_model.Effects.{effect_of, unchanged}
+use Rattle.placed_values.specs.accepted_memory.holder_model.Frames.{Frame}
+use Rattle.placed_values.specs.accepted_memory.holder_model.HolderStates.{HolderNext, HolderState}
+use Rattle.placed_values.specs.accepted_memory.holder_model.ModuleFacts.{ModuleFacts, facts_told}
+use Rattle.placed_values.specs.accepted_memory.holder_model.States.{Task}
+use Rattle.placed_values.specs.accepted_memory.holder_model.declared.row_effect.RowEffect.TheVariants.{NoEffect}
+use Rattle.placed_values.specs.accepted_memory.memory_accesses.Operations.{deallocates, operations_of}
+use Rattle.placed_values.specs.accepted_memory.memory_accesses.Sources.{sources_of}
+use Rattle.placed_values.specs.accepted_memory.memory_parts.Parts.{whole_cell}
+use Rattle.placed_values.specs.accepted_memory.run_trails.inner.RunTrails.{IsRunTrail}
+use Rattle.placed_values.specs.accepted_places.inner.Cells.{operates_on, touches}
+use Rattle.placed_values.specs.accepted_places.inner.Stacks.{keeps_slots}
+use Rattle.placed_values.specs.accepted_values.accepted_modules.inner.Checked.{IsVerified}
+use Rattle.placed_values.specs.accepted_values.inner.Known.{IsAcceptedBody}
+use Rattle.tracked_frames.specs.holder_steps.inner.Ways.{GoesBehind}
+use Rattle.tracked_frames.proofs.holder_steps.WhichFaults.{results_err}
 use Rattle.instruction_table.specs.Forms.{ending_of}
 use Rattle.instruction_table.specs.declared.entries.Ending.{Ending}
 use Rattle.instruction_table.specs.declared.entries.Ending.TheVariants as ending
@@ -33,7 +33,7 @@ use Rattle.sil_ast.specs.declared.place.EdgeId.{EdgeId}
 use Rattle.sil_ast.specs.declared.place.ValueId.{ValueId}
 use Rattle.sil_cfg.specs.declared.item.Item.TheVariants as item
 use Rattle.type_definitions.specs.Declarations.{declarations_of}
-use Rattle.typed_holders.specs.typed_memory.inner.Worlds.{World}
+use Rattle.tracked_frames.specs.typed_holders.typed_memory.inner.Worlds.{World}
 use Rattle.held_places.specs.inner.Items.{PlacedNext}
 use Rattle.held_places.specs.inner.TrailLaws.{TrailLaws}
 use Rattle.held_places.proofs.Contents.{untouched_by}

@@ -1,11 +1,11 @@
 -- The frame that goes on: it is typed and holds its places, also without the operands that ended.
 use Rattle.std.proofs.Common.{◌≡◌, List, [], Option, Ok, refl, sym, ◌∙◌, subst}
 use Rattle.std.proofs.lemmas.Option.{same_Some}
-use Rattle.accepted_memory.specs.holder_model.Calling.{places_given}
-use Rattle.accepted_memory.specs.holder_model.Frames.{Frame, Operands, without_ended}
-use Rattle.accepted_memory.specs.holder_model.States.{Task}
-use Rattle.accepted_values.specs.accepted_modules.inner.Checked.{IsVerified}
-use Rattle.accepted_values.specs.inner.Known.{IsAcceptedBody}
+use Rattle.placed_values.specs.accepted_memory.holder_model.Calling.{places_given}
+use Rattle.placed_values.specs.accepted_memory.holder_model.Frames.{Frame, Operands, without_ended}
+use Rattle.placed_values.specs.accepted_memory.holder_model.States.{Task}
+use Rattle.placed_values.specs.accepted_values.accepted_modules.inner.Checked.{IsVerified}
+use Rattle.placed_values.specs.accepted_values.inner.Known.{IsAcceptedBody}
 use Rattle.item_operands.specs.Items.{item_taken}
 use Rattle.ownership_chains.specs.declared.facts.Facts.{Facts}
 use Rattle.run_values.specs.Memory.{Memory}
@@ -13,10 +13,10 @@ use Rattle.sil_ast.specs.declared.function.Function.{Function}
 use Rattle.sil_ast.specs.declared.module.Module.{Module}
 use Rattle.sil_ast.specs.declared.place.ValueId.{ValueId}
 use Rattle.sil_cfg.specs.declared.item.Item.{Item}
-use Rattle.typed_holders.specs.inner.TypedStates.{FrameIs}
-use Rattle.typed_holders.specs.typed_memory.inner.Worlds.{World}
-use Rattle.typed_holders.proofs.GoesOn.{accepted_body}
-use Rattle.typed_holders.proofs.Operands.{operands_read}
+use Rattle.tracked_frames.specs.typed_holders.inner.TypedStates.{FrameIs}
+use Rattle.tracked_frames.specs.typed_holders.typed_memory.inner.Worlds.{World}
+use Rattle.tracked_frames.proofs.typed_holders.GoesOn.{accepted_body}
+use Rattle.tracked_frames.proofs.typed_holders.Operands.{operands_read}
 use Rattle.held_places.specs.inner.FramePlaces.{HoldsPlaces}
 use Rattle.held_places.specs.inner.PlaceStates.{BelowPlaced}
 use Rattle.held_places.specs.inner.Premises.{AreCallsHandingOver, AreCallsNamed, AreChangesNamed, AreEdgesNamed, AreEntriesPlain, AreLeftTyped}

@@ -3,27 +3,27 @@ use Rattle.std.proofs.Common.{◌≡◌, ◌++◌, append-nil, ℕ, List, [], �
 use Rattle.std.specs.Prelude.{drop, flat_map, slice_get}
 use Rattle.std.specs.List.{AllZip}
 use Rattle.std.proofs.lemmas.Option.{none-some, same_Some}
-use Rattle.accepted_memory.specs.holder_model.Calling.{lent_places}
-use Rattle.accepted_memory.specs.holder_model.Data.{AddressOf, Datum, FunctionOf, ValueOf, as_function}
-use Rattle.accepted_memory.specs.holder_model.Effects.{Calls, Effect, Unfit, calls, effect_by, effect_of, with_some}
-use Rattle.accepted_memory.specs.holder_model.Faults.{HolderFault}
-use Rattle.accepted_memory.specs.holder_model.Frames.{Entry, Operands}
-use Rattle.accepted_memory.specs.holder_model.MemoryEffects.{at_places}
-use Rattle.accepted_memory.specs.holder_model.ModuleShapes.{ModuleShapes}
-use Rattle.accepted_memory.specs.holder_model.declared.row_effect.RowEffect.TheVariants as row
-use Rattle.accepted_memory.specs.memory_accesses.Operations.{access_kind_of, operated_at, operations_of}
-use Rattle.accepted_memory.specs.memory_accesses.declared.columns.AccessKind.TheVariants as access
-use Rattle.accepted_values.proofs.Accepted.{well_typed}
-use Rattle.accepted_values.proofs.Calls.{calls_handed}
-use Rattle.accepted_values.proofs.run_typing_laws.CallFacts.{Called, called}
-use Rattle.accepted_values.proofs.run_typing_laws.Rows.Layers.{target-Address}
-use Rattle.accepted_values.proofs.run_typing_laws.Rows.Points.{is_at}
-use Rattle.accepted_values.specs.accepted_modules.sil_types.Typing.Shapes.{target}
-use Rattle.accepted_values.specs.accepted_modules.sil_types.Typing.Values.{function_at, value_functions}
-use Rattle.accepted_values.specs.inner.Handed.{IsHanded}
-use Rattle.accepted_values.specs.inner.Known.{IsAcceptedBody, type_in}
-use Rattle.accepted_values.specs.run_typing.Forms.{Form, OfFunction, OfPlace, form_by, form_of, form_with}
-use Rattle.accepted_values.specs.run_typing.lowered_run.LowStepParts.{taken_value}
+use Rattle.placed_values.specs.accepted_memory.holder_model.Calling.{lent_places}
+use Rattle.placed_values.specs.accepted_memory.holder_model.Data.{AddressOf, Datum, FunctionOf, ValueOf, as_function}
+use Rattle.placed_values.specs.accepted_memory.holder_model.Effects.{Calls, Effect, Unfit, calls, effect_by, effect_of, with_some}
+use Rattle.placed_values.specs.accepted_memory.holder_model.Faults.{HolderFault}
+use Rattle.placed_values.specs.accepted_memory.holder_model.Frames.{Entry, Operands}
+use Rattle.placed_values.specs.accepted_memory.holder_model.MemoryEffects.{at_places}
+use Rattle.placed_values.specs.accepted_memory.holder_model.ModuleShapes.{ModuleShapes}
+use Rattle.placed_values.specs.accepted_memory.holder_model.declared.row_effect.RowEffect.TheVariants as row
+use Rattle.placed_values.specs.accepted_memory.memory_accesses.Operations.{access_kind_of, operated_at, operations_of}
+use Rattle.placed_values.specs.accepted_memory.memory_accesses.declared.columns.AccessKind.TheVariants as access
+use Rattle.placed_values.proofs.accepted_values.Accepted.{well_typed}
+use Rattle.placed_values.proofs.accepted_values.Calls.{calls_handed}
+use Rattle.placed_values.proofs.accepted_values.run_typing_laws.CallFacts.{Called, called}
+use Rattle.placed_values.proofs.accepted_values.run_typing_laws.Rows.Layers.{target-Address}
+use Rattle.placed_values.proofs.accepted_values.run_typing_laws.Rows.Points.{is_at}
+use Rattle.placed_values.specs.accepted_values.accepted_modules.sil_types.Typing.Shapes.{target}
+use Rattle.placed_values.specs.accepted_values.accepted_modules.sil_types.Typing.Values.{function_at, value_functions}
+use Rattle.placed_values.specs.accepted_values.inner.Handed.{IsHanded}
+use Rattle.placed_values.specs.accepted_values.inner.Known.{IsAcceptedBody, type_in}
+use Rattle.placed_values.specs.accepted_values.run_typing.Forms.{Form, OfFunction, OfPlace, form_by, form_of, form_with}
+use Rattle.placed_values.specs.accepted_values.run_typing.lowered_run.LowStepParts.{taken_value}
 use Rattle.argument_conventions.specs.Arguments.{Told, arguments_of, conventions_of, handed_type}
 use Rattle.argument_conventions.specs.Rows.{address_row}
 use Rattle.argument_conventions.specs.declared.convention.ArgumentConvention.{ArgumentConvention}
@@ -52,11 +52,11 @@ use Rattle.sil_ast.specs.declared.place.ValueId.{ValueId}
 use Rattle.sil_ast.specs.declared.type_name.TypeName.{TypeName}
 use Rattle.sil_cfg.specs.declared.item.Item.TheVariants as item
 use Rattle.type_definitions.specs.Declarations.{Declarations, declarations_of}
-use Rattle.typed_holders.proofs.Data.{read_place}
-use Rattle.typed_holders.proofs.Entries.{FitEach, operands_fit}
-use Rattle.typed_holders.proofs.Entries as fit
-use Rattle.typed_holders.proofs.GoesOn.{typed_module}
-use Rattle.typed_memory.specs.inner.Worlds.{DatumIs, World}
+use Rattle.tracked_frames.proofs.typed_holders.Data.{read_place}
+use Rattle.tracked_frames.proofs.typed_holders.Entries.{FitEach, operands_fit}
+use Rattle.tracked_frames.proofs.typed_holders.Entries as fit
+use Rattle.tracked_frames.proofs.typed_holders.GoesOn.{typed_module}
+use Rattle.tracked_frames.specs.typed_memory.inner.Worlds.{DatumIs, World}
 use Rattle.held_places.specs.inner.FramePlaces.{Names}
 use Rattle.held_places.specs.inner.PlaceStates.{AreLentBy}
 use Rattle.held_places.specs.inner.Premises.{AreCallsHandingOver, HandsOver, ReadsOperands}

@@ -2,24 +2,24 @@
 use Rattle.std.proofs.Common.{◌≡◌, ℕ, ℤ, List, [], ◌∷◌, ◌++◌, drop, Contains, Option, Some, None, refl, sym, ap, ◌∙◌, subst, slice_get}
 use Rattle.std.specs.Prelude.{option_and_then}
 use Rattle.std.proofs.lemmas.List.Elements.{Contains-push}
-use Rattle.accepted_memory.specs.holder_model.Calling.{lent_places, lent_with}
-use Rattle.accepted_memory.specs.holder_model.Data.{AddressOf, Datum, FunctionOf, ValueOf, all_of, values_of, with_first}
-use Rattle.accepted_memory.specs.holder_model.Effects.{Calls, Change, Makes, effect_of, unchanged}
-use Rattle.accepted_memory.specs.holder_model.Frames.{Entry, Frame, Operands}
-use Rattle.accepted_memory.specs.holder_model.HolderStates.{HolderNext, HolderState}
-use Rattle.accepted_memory.specs.holder_model.ModuleFacts.{facts_of, facts_told}
-use Rattle.accepted_memory.specs.holder_model.ModuleShapes.{shapes_in, shapes_of}
-use Rattle.accepted_memory.specs.holder_model.Standing.{stands_at}
-use Rattle.accepted_memory.specs.holder_model.States.{Task}
-use Rattle.accepted_memory.specs.holder_model.Steps.{numbers_of}
-use Rattle.accepted_memory.specs.holder_model.declared.event.Event.{Event}
-use Rattle.accepted_memory.specs.holder_model.declared.row_effect.RowEffect.TheVariants as row
-use Rattle.accepted_memory.specs.memory_accesses.Operations.{operated, operations_of}
-use Rattle.accepted_memory.specs.memory_accesses.declared.access.Operated.{Operated}
-use Rattle.accepted_values.specs.inner.Known.{IsAcceptedBody}
+use Rattle.placed_values.specs.accepted_memory.holder_model.Calling.{lent_places, lent_with}
+use Rattle.placed_values.specs.accepted_memory.holder_model.Data.{AddressOf, Datum, FunctionOf, ValueOf, all_of, values_of, with_first}
+use Rattle.placed_values.specs.accepted_memory.holder_model.Effects.{Calls, Change, Makes, effect_of, unchanged}
+use Rattle.placed_values.specs.accepted_memory.holder_model.Frames.{Entry, Frame, Operands}
+use Rattle.placed_values.specs.accepted_memory.holder_model.HolderStates.{HolderNext, HolderState}
+use Rattle.placed_values.specs.accepted_memory.holder_model.ModuleFacts.{facts_of, facts_told}
+use Rattle.placed_values.specs.accepted_memory.holder_model.ModuleShapes.{shapes_in, shapes_of}
+use Rattle.placed_values.specs.accepted_memory.holder_model.Standing.{stands_at}
+use Rattle.placed_values.specs.accepted_memory.holder_model.States.{Task}
+use Rattle.placed_values.specs.accepted_memory.holder_model.Steps.{numbers_of}
+use Rattle.placed_values.specs.accepted_memory.holder_model.declared.event.Event.{Event}
+use Rattle.placed_values.specs.accepted_memory.holder_model.declared.row_effect.RowEffect.TheVariants as row
+use Rattle.placed_values.specs.accepted_memory.memory_accesses.Operations.{operated, operations_of}
+use Rattle.placed_values.specs.accepted_memory.memory_accesses.declared.access.Operated.{Operated}
+use Rattle.placed_values.specs.accepted_values.inner.Known.{IsAcceptedBody}
 use Rattle.argument_conventions.specs.declared.row.AddressRow.{AddressRow}
-use Rattle.holder_steps.specs.inner.Ways.{GoesBehind, left_with, turned}
-use Rattle.holder_steps.proofs.WhichFaults.{results_err}
+use Rattle.tracked_frames.specs.holder_steps.inner.Ways.{GoesBehind, left_with, turned}
+use Rattle.tracked_frames.proofs.holder_steps.WhichFaults.{results_err}
 use Rattle.item_operands.specs.Items.{item_defined, item_taken}
 use Rattle.item_operands.specs.declared.taken.Taken.{Taken}
 use Rattle.ownership_chains.specs.declared.facts.Facts.{Facts}

@@ -2,21 +2,21 @@
 use Rattle.std.proofs.Common.{◌≡◌, ◌⊎◌, ⊎_elim, inr, ◌≤◌, ◌==◌, ℕ, List, [], ◌∷◌, length, Bool, true, false, Option, Some, Contains, refl, sym, ap, ◌∙◌, subst, slice_get, arith, eqb-true}
 use Rattle.std.proofs.lemmas.Bool.{false_from_ne_true}
 use Rattle.std.proofs.lemmas.List.Elements.{Contains-push}
-use Rattle.accepted_memory.specs.holder_model.Calling.{places_given}
-use Rattle.accepted_memory.specs.holder_model.Data.{Datum}
-use Rattle.accepted_memory.specs.holder_model.Frames.{Entry, Frame}
-use Rattle.accepted_memory.specs.holder_model.ModuleShapes.{ModuleShapes}
-use Rattle.accepted_memory.specs.holder_model.States.{Runs, Task, dropping}
-use Rattle.accepted_memory.specs.memory_accesses.Operations.{operated}
-use Rattle.accepted_memory.specs.memory_accesses.Rows.{has_operation}
-use Rattle.accepted_memory.specs.memory_accesses.Sources.{source_at, sources_of}
-use Rattle.accepted_memory.specs.memory_accesses.declared.access.Operation.{Operation}
-use Rattle.accepted_memory.specs.memory_accesses.declared.access.Operation.TheVariants.{Handed, Take}
-use Rattle.accepted_memory.specs.memory_accesses.declared.source.Source.TheVariants as source
-use Rattle.accepted_memory.specs.memory_parts.Parts.{whole_cell}
-use Rattle.accepted_places.specs.inner.Cells.{touches}
-use Rattle.accepted_places.specs.inner.Stacks.{keeps_slots, slots_on}
-use Rattle.accepted_values.specs.inner.Known.{IsAcceptedBody}
+use Rattle.placed_values.specs.accepted_memory.holder_model.Calling.{places_given}
+use Rattle.placed_values.specs.accepted_memory.holder_model.Data.{Datum}
+use Rattle.placed_values.specs.accepted_memory.holder_model.Frames.{Entry, Frame}
+use Rattle.placed_values.specs.accepted_memory.holder_model.ModuleShapes.{ModuleShapes}
+use Rattle.placed_values.specs.accepted_memory.holder_model.States.{Runs, Task, dropping}
+use Rattle.placed_values.specs.accepted_memory.memory_accesses.Operations.{operated}
+use Rattle.placed_values.specs.accepted_memory.memory_accesses.Rows.{has_operation}
+use Rattle.placed_values.specs.accepted_memory.memory_accesses.Sources.{source_at, sources_of}
+use Rattle.placed_values.specs.accepted_memory.memory_accesses.declared.access.Operation.{Operation}
+use Rattle.placed_values.specs.accepted_memory.memory_accesses.declared.access.Operation.TheVariants.{Handed, Take}
+use Rattle.placed_values.specs.accepted_memory.memory_accesses.declared.source.Source.TheVariants as source
+use Rattle.placed_values.specs.accepted_memory.memory_parts.Parts.{whole_cell}
+use Rattle.placed_values.specs.accepted_places.inner.Cells.{touches}
+use Rattle.placed_values.specs.accepted_places.inner.Stacks.{keeps_slots, slots_on}
+use Rattle.placed_values.specs.accepted_values.inner.Known.{IsAcceptedBody}
 use Rattle.argument_conventions.specs.declared.row.AddressRow.{AddressRow}
 use Rattle.item_operands.specs.Parts.{inst_at, item_inst}
 use Rattle.memory_cells.specs.inner.Cells.{cell_at}

@@ -5,33 +5,33 @@ use Rattle.std.specs.List.{list_any}
 use Rattle.std.proofs.lemmas.Bool.{false≢true, or_cases, or_left, true≢false}
 use Rattle.std.proofs.lemmas.List.Elements.{Contains-push}
 use Rattle.std.proofs.lemmas.Option.{same_Some}
-use Rattle.accepted_memory.specs.accepted_trails.inner.Bases.{IsAsMade}
-use Rattle.accepted_memory.specs.accepted_trails.inner.Defined.{makes}
-use Rattle.accepted_memory.specs.holder_model.Data.{AddressOf, Datum, as_value}
-use Rattle.accepted_memory.specs.holder_model.Effects as effects
-use Rattle.accepted_memory.specs.holder_model.Effects.{Change, Effect, Makes, effect_by, effect_of, gives, only, part_number, part_number_by, unchanged, with_some}
-use Rattle.accepted_memory.specs.holder_model.Faults.{HolderFault}
-use Rattle.accepted_memory.specs.holder_model.Frames.{Entry, Operands, datum_in, entry_at, result_put, results_put, with_ok}
+use Rattle.placed_values.specs.accepted_memory.accepted_trails.inner.Bases.{IsAsMade}
+use Rattle.placed_values.specs.accepted_memory.accepted_trails.inner.Defined.{makes}
+use Rattle.placed_values.specs.accepted_memory.holder_model.Data.{AddressOf, Datum, as_value}
+use Rattle.placed_values.specs.accepted_memory.holder_model.Effects as effects
+use Rattle.placed_values.specs.accepted_memory.holder_model.Effects.{Change, Effect, Makes, effect_by, effect_of, gives, only, part_number, part_number_by, unchanged, with_some}
+use Rattle.placed_values.specs.accepted_memory.holder_model.Faults.{HolderFault}
+use Rattle.placed_values.specs.accepted_memory.holder_model.Frames.{Entry, Operands, datum_in, entry_at, result_put, results_put, with_ok}
 use Rattle.std.specs.declared.result.Result.{Result}
-use Rattle.accepted_memory.specs.holder_model.MemoryEffects.{at_places, effect}
-use Rattle.accepted_memory.specs.holder_model.ModuleShapes.{ModuleShapes, field_shapes}
-use Rattle.accepted_memory.specs.holder_model.declared.row_effect.RowEffect.{RowEffect}
-use Rattle.accepted_memory.specs.holder_model.declared.row_effect.RowEffect.TheVariants as row
-use Rattle.accepted_memory.specs.memory_accesses.Locations.{extended, location_of}
-use Rattle.accepted_memory.specs.memory_accesses.Operations.{access_kind_of}
-use Rattle.accepted_memory.specs.memory_accesses.Rows.{has_steps, is_part}
-use Rattle.accepted_memory.specs.memory_accesses.Sources.{part_source, source_at, source_by, sources_of}
-use Rattle.accepted_memory.specs.memory_accesses.declared.location.Location.{Location}
-use Rattle.accepted_memory.specs.memory_accesses.declared.source.Source.{Source}
-use Rattle.accepted_memory.specs.memory_accesses.declared.source.Source.TheVariants as source
-use Rattle.accepted_memory.specs.run_trails.inner.RunTrails.{IsRunTrail}
-use Rattle.accepted_places.proofs.Locating.{members_located}
-use Rattle.accepted_places.proofs.RootsMade.{operands_located}
-use Rattle.accepted_places.specs.inner.Located.{IsAddress, IsLocated, IsMemberOf, IsRoot}
-use Rattle.accepted_values.specs.owned_run_typing.inner.OwnedTyped.{OwnedFunction}
-use Rattle.accepted_values.specs.run_typing.CallForms.{IsOf}
-use Rattle.accepted_values.specs.run_typing.EndForms.{value_in}
-use Rattle.accepted_values.specs.run_typing.Forms.{Form, OfPlace, form_of, forms_of}
+use Rattle.placed_values.specs.accepted_memory.holder_model.MemoryEffects.{at_places, effect}
+use Rattle.placed_values.specs.accepted_memory.holder_model.ModuleShapes.{ModuleShapes, field_shapes}
+use Rattle.placed_values.specs.accepted_memory.holder_model.declared.row_effect.RowEffect.{RowEffect}
+use Rattle.placed_values.specs.accepted_memory.holder_model.declared.row_effect.RowEffect.TheVariants as row
+use Rattle.placed_values.specs.accepted_memory.memory_accesses.Locations.{extended, location_of}
+use Rattle.placed_values.specs.accepted_memory.memory_accesses.Operations.{access_kind_of}
+use Rattle.placed_values.specs.accepted_memory.memory_accesses.Rows.{has_steps, is_part}
+use Rattle.placed_values.specs.accepted_memory.memory_accesses.Sources.{part_source, source_at, source_by, sources_of}
+use Rattle.placed_values.specs.accepted_memory.memory_accesses.declared.location.Location.{Location}
+use Rattle.placed_values.specs.accepted_memory.memory_accesses.declared.source.Source.{Source}
+use Rattle.placed_values.specs.accepted_memory.memory_accesses.declared.source.Source.TheVariants as source
+use Rattle.placed_values.specs.accepted_memory.run_trails.inner.RunTrails.{IsRunTrail}
+use Rattle.placed_values.proofs.accepted_places.Locating.{members_located}
+use Rattle.placed_values.proofs.accepted_places.RootsMade.{operands_located}
+use Rattle.placed_values.specs.accepted_places.inner.Located.{IsAddress, IsLocated, IsMemberOf, IsRoot}
+use Rattle.placed_values.specs.accepted_values.owned_run_typing.inner.OwnedTyped.{OwnedFunction}
+use Rattle.placed_values.specs.accepted_values.run_typing.CallForms.{IsOf}
+use Rattle.placed_values.specs.accepted_values.run_typing.EndForms.{value_in}
+use Rattle.placed_values.specs.accepted_values.run_typing.Forms.{Form, OfPlace, form_of, forms_of}
 use Rattle.instruction_table.specs.Forms.{detail_of, roles_of}
 use Rattle.instruction_table.specs.declared.op.Op.{Op}
 use Rattle.instruction_table.specs.declared.op.Op.TheVariants as op
@@ -59,12 +59,12 @@ use Rattle.sil_ast.specs.declared.place.ValueId.{ValueId}
 use Rattle.sil_cfg.specs.declared.item.Item.{Item}
 use Rattle.sil_cfg.specs.declared.item.Item.TheVariants as item
 use Rattle.type_definitions.specs.Declarations.{Declarations, declarations_of}
-use Rattle.typed_holders.proofs.Data.{DataAre, read_place}
-use Rattle.typed_holders.proofs.Data as data_are
-use Rattle.typed_holders.proofs.GoesOn.{typed_module}
-use Rattle.typed_holders.proofs.Performs.{defines_results}
-use Rattle.typed_memory.proofs.Parts.{member_there}
-use Rattle.typed_memory.specs.inner.Worlds.{World}
+use Rattle.tracked_frames.proofs.typed_holders.Data.{DataAre, read_place}
+use Rattle.tracked_frames.proofs.typed_holders.Data as data_are
+use Rattle.tracked_frames.proofs.typed_holders.GoesOn.{typed_module}
+use Rattle.tracked_frames.proofs.typed_holders.Performs.{defines_results}
+use Rattle.tracked_frames.proofs.typed_memory.Parts.{member_there}
+use Rattle.tracked_frames.specs.typed_memory.inner.Worlds.{World}
 use Rattle.value_tables.specs.FirstValue.{first_value, value_of}
 use Rattle.held_places.specs.inner.FramePlaces.{IsPartAt, Names}
 use Rattle.held_places.specs.inner.PartsNamed.{AreNewNamed, ArePartsNamed}

@@ -2,10 +2,10 @@
 use Rattle.std.proofs.Common.{◌≡◌, ⊎_elim, List, [], ◌∷◌, Bool, false, cond, Option, Some, None, Ok, refl, sym, ap, ◌∙◌, subst}
 use Rattle.std.specs.Prelude.{Err}
 use Rattle.std.specs.declared.result.Result.{Result}
-use Rattle.accepted_memory.specs.holder_model.Data.{Datum}
-use Rattle.accepted_memory.specs.holder_model.Faults.{HolderFault}
-use Rattle.accepted_memory.specs.holder_model.Frames.{Entry, and_more, datum_in, datum_or_fault, ends, entry_at, has_any, operand, operand_data, unless_dead, used_datum, with_ok}
-use Rattle.accepted_memory.specs.memory_accesses.Marks.{ended_by, ended_with}
+use Rattle.placed_values.specs.accepted_memory.holder_model.Data.{Datum}
+use Rattle.placed_values.specs.accepted_memory.holder_model.Faults.{HolderFault}
+use Rattle.placed_values.specs.accepted_memory.holder_model.Frames.{Entry, and_more, datum_in, datum_or_fault, ends, entry_at, has_any, operand, operand_data, unless_dead, used_datum, with_ok}
+use Rattle.placed_values.specs.accepted_memory.memory_accesses.Marks.{ended_by, ended_with}
 use Rattle.instruction_table.specs.declared.entries.Role.{Role}
 use Rattle.instruction_table.specs.declared.entries.Role.TheVariants as role
 use Rattle.item_operands.specs.Items.{item_taken}
@@ -15,8 +15,8 @@ use Rattle.run_values.specs.Memory.{Memory}
 use Rattle.sil_ast.specs.declared.place.ValueId.{ValueId}
 use Rattle.type_definitions.specs.declared.kind.Kind.{Kind}
 use Rattle.type_definitions.specs.declared.kind.Kind.TheVariants as kind
-use Rattle.typed_holders.proofs.Entries.{left_typed}
-use Rattle.typed_holders.proofs.Operands.{operand_there, operands_read}
+use Rattle.tracked_frames.proofs.typed_holders.Entries.{left_typed}
+use Rattle.tracked_frames.proofs.typed_holders.Operands.{operand_there, operands_read}
 use Rattle.held_places.specs.inner.Premises.{AreLeftTyped, AreOperandsNamed}
 use Rattle.held_places.specs.inner.TakenPlaces.{AreNamedBy, IsNamedBy}
 use Rattle.held_places.proofs.EntriesKept.{never_ok, ok_once}

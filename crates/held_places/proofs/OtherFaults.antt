@@ -1,7 +1,7 @@
 -- Faults of operands and of results are none of places.
 use Rattle.std.proofs.Common.{◌≡◌, false, refl}
-use Rattle.accepted_memory.specs.holder_model.Faults.{HolderFault}
-use Rattle.holder_steps.proofs.WhichFaults.{IsOperandFault, IsResultFault}
+use Rattle.placed_values.specs.accepted_memory.holder_model.Faults.{HolderFault}
+use Rattle.tracked_frames.proofs.holder_steps.WhichFaults.{IsOperandFault, IsResultFault}
 use Rattle.held_places.specs.inner.Items.{is_place_fault}
 
 pub operand_fault : (x : HolderFault) → IsOperandFault x → is_place_fault x ≡ false

@@ -3,26 +3,26 @@ use Rattle.std.proofs.Common.{◌≡◌, ◌++◌, ℕ, List, [], ◌∷◌, map
 use Rattle.std.proofs.lemmas.Bool.{and_parts}
 use Rattle.std.proofs.lemmas.Option.{same_Some}
 use Rattle.std.specs.Prelude.{not}
-use Rattle.accepted_memory.specs.holder_model.Calling.{as_argument}
-use Rattle.accepted_memory.specs.holder_model.Data.{Datum, ValueOf}
-use Rattle.accepted_memory.specs.holder_model.Effects as effects
-use Rattle.accepted_memory.specs.holder_model.Edges.{edge_of}
-use Rattle.accepted_memory.specs.holder_model.Faults.{HolderFault}
-use Rattle.accepted_memory.specs.holder_model.Frames.{Frame, Operands, has_any}
-use Rattle.accepted_memory.specs.holder_model.HolderStates.{HolderNext, HolderState}
-use Rattle.accepted_memory.specs.holder_model.ModuleFacts.{ModuleFacts, facts_of, facts_told}
-use Rattle.accepted_memory.specs.holder_model.Standing.{stands_at}
-use Rattle.accepted_memory.specs.holder_model.States.{Runs, Task}
-use Rattle.accepted_memory.specs.holder_model.Steps as steps
-use Rattle.accepted_memory.specs.holder_model.declared.event.Event.TheVariants as event
-use Rattle.accepted_memory.specs.run_trails.inner.RunTrails.{ComesAt, IsRunTrail}
-use Rattle.accepted_values.specs.accepted_modules.inner.Checked.{IsVerified}
-use Rattle.accepted_values.specs.inner.Known.{IsAcceptedBody}
+use Rattle.placed_values.specs.accepted_memory.holder_model.Calling.{as_argument}
+use Rattle.placed_values.specs.accepted_memory.holder_model.Data.{Datum, ValueOf}
+use Rattle.placed_values.specs.accepted_memory.holder_model.Effects as effects
+use Rattle.placed_values.specs.accepted_memory.holder_model.Edges.{edge_of}
+use Rattle.placed_values.specs.accepted_memory.holder_model.Faults.{HolderFault}
+use Rattle.placed_values.specs.accepted_memory.holder_model.Frames.{Frame, Operands, has_any}
+use Rattle.placed_values.specs.accepted_memory.holder_model.HolderStates.{HolderNext, HolderState}
+use Rattle.placed_values.specs.accepted_memory.holder_model.ModuleFacts.{ModuleFacts, facts_of, facts_told}
+use Rattle.placed_values.specs.accepted_memory.holder_model.Standing.{stands_at}
+use Rattle.placed_values.specs.accepted_memory.holder_model.States.{Runs, Task}
+use Rattle.placed_values.specs.accepted_memory.holder_model.Steps as steps
+use Rattle.placed_values.specs.accepted_memory.holder_model.declared.event.Event.TheVariants as event
+use Rattle.placed_values.specs.accepted_memory.run_trails.inner.RunTrails.{ComesAt, IsRunTrail}
+use Rattle.placed_values.specs.accepted_values.accepted_modules.inner.Checked.{IsVerified}
+use Rattle.placed_values.specs.accepted_values.inner.Known.{IsAcceptedBody}
 use Rattle.argument_conventions.specs.Arguments.{arguments_of}
-use Rattle.held_entries.proofs.accepted_trails.run_trails.WalkEdges.{are_next}
-use Rattle.holder_steps.specs.inner.Ways.{Acts, Chooses, Performs, StepsBy, TakesEdge, left_with, operands_in, turned}
-use Rattle.holder_steps.proofs.StepsTold.{steps_told}
-use Rattle.holder_steps.proofs.WhichFaults.{operands_err}
+use Rattle.placed_values.proofs.held_entries.accepted_trails.run_trails.WalkEdges.{are_next}
+use Rattle.tracked_frames.specs.holder_steps.inner.Ways.{Acts, Chooses, Performs, StepsBy, TakesEdge, left_with, operands_in, turned}
+use Rattle.tracked_frames.proofs.holder_steps.StepsTold.{steps_told}
+use Rattle.tracked_frames.proofs.holder_steps.WhichFaults.{operands_err}
 use Rattle.instruction_table.specs.Forms.{ending_of}
 use Rattle.item_operands.specs.Items.{item_taken}
 use Rattle.item_operands.specs.Parts.{inst_at, terminator_of}
@@ -41,9 +41,9 @@ use Rattle.sil_cfg.specs.declared.item.Item.{Item}
 use Rattle.sil_cfg.specs.declared.item.Item.TheVariants as item
 use Rattle.tracked_frames.specs.inner.TrackedStates.{IsTrackedState}
 use Rattle.tracked_frames.proofs.NextItems.{chooses_on, chosen_within, edge_comes, exit_comes, exit_returns, inst_comes, one_edge}
-use Rattle.typed_holders.specs.inner.TypedStates.{IsTypedState, TasksAre}
-use Rattle.typed_holders.specs.typed_memory.inner.Worlds.{World}
-use Rattle.typed_holders.proofs.GoesOn.{accepted_body, typed_module}
+use Rattle.tracked_frames.specs.typed_holders.inner.TypedStates.{IsTypedState, TasksAre}
+use Rattle.tracked_frames.specs.typed_holders.typed_memory.inner.Worlds.{World}
+use Rattle.tracked_frames.proofs.typed_holders.GoesOn.{accepted_body, typed_module}
 use Rattle.held_places.specs.inner.FramePlaces.{HoldsPlaces}
 use Rattle.held_places.specs.inner.Items.{AreFieldsFound, AreItemsPlaced, IsItemPlaced, PlacedNext, is_place_fault}
 use Rattle.held_places.specs.inner.Laws.{ArePlacesKept, BeginPlaced, NoPlaceFaults}

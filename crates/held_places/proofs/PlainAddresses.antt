@@ -2,15 +2,15 @@
 use Rattle.std.proofs.Common.{◌≡◌, ◌<◌, ℕ, List, Option, Some, None, refl, sym, ap, ◌∙◌, subst}
 use Rattle.std.specs.Prelude.{slice_get, unwrap_or}
 use Rattle.std.proofs.lemmas.Option.{none-some, same_Some, slice_get_within}
-use Rattle.accepted_memory.specs.holder_model.Data.{AddressOf, Datum}
-use Rattle.accepted_memory.specs.holder_model.Frames.{Entry, Gone, datum_in, entry_at, made_entry, plain_address}
-use Rattle.accepted_values.specs.accepted_modules.sil_types.Typing.Shapes.{target}
-use Rattle.accepted_values.specs.accepted_modules.sil_types.Typing.Values.{function_at, value_functions}
-use Rattle.accepted_values.specs.inner.Known.{IsAcceptedBody, kind_at, type_in}
-use Rattle.accepted_values.specs.run_typing.CallForms.{IsOf}
-use Rattle.accepted_values.specs.run_typing.Forms.{Form, OfPlace, form_by, form_of, form_with}
-use Rattle.accepted_values.proofs.Addresses.{addresses_plain}
-use Rattle.accepted_places.specs.inner.Located.{IsAddress}
+use Rattle.placed_values.specs.accepted_memory.holder_model.Data.{AddressOf, Datum}
+use Rattle.placed_values.specs.accepted_memory.holder_model.Frames.{Entry, Gone, datum_in, entry_at, made_entry, plain_address}
+use Rattle.placed_values.specs.accepted_values.accepted_modules.sil_types.Typing.Shapes.{target}
+use Rattle.placed_values.specs.accepted_values.accepted_modules.sil_types.Typing.Values.{function_at, value_functions}
+use Rattle.placed_values.specs.accepted_values.inner.Known.{IsAcceptedBody, kind_at, type_in}
+use Rattle.placed_values.specs.accepted_values.run_typing.CallForms.{IsOf}
+use Rattle.placed_values.specs.accepted_values.run_typing.Forms.{Form, OfPlace, form_by, form_of, form_with}
+use Rattle.placed_values.proofs.accepted_values.Addresses.{addresses_plain}
+use Rattle.placed_values.specs.accepted_places.inner.Located.{IsAddress}
 use Rattle.run_values.specs.Places.{Place}
 use Rattle.sil_ast.specs.declared.function.Function.{Function}
 use Rattle.sil_ast.specs.declared.module.Module.{Module}
@@ -21,8 +21,8 @@ use Rattle.sil_ast.specs.declared.type_name.TypeName.{TypeName}
 use Rattle.type_definitions.specs.Declarations.{declarations_of}
 use Rattle.type_definitions.specs.declared.kind.Kind.{Kind}
 use Rattle.type_definitions.specs.declared.kind.Kind.TheVariants as kind
-use Rattle.typed_holders.specs.inner.TypedStates.{EntriesAre, EntryIs, gone, made}
-use Rattle.typed_memory.specs.inner.Worlds.{DatumIs, World}
+use Rattle.tracked_frames.specs.typed_holders.inner.TypedStates.{EntriesAre, EntryIs, gone, made}
+use Rattle.tracked_frames.specs.typed_memory.inner.Worlds.{DatumIs, World}
 use Rattle.held_places.specs.inner.FramePlaces.{Names}
 use Rattle.held_places.proofs.EntriesKept.{made_datum, ok_once}
 use Rattle.held_places.proofs.Taking.{AreAddressesPlain}

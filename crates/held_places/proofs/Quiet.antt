@@ -2,21 +2,21 @@
 use Rattle.std.proofs.Common.{◌≡◌, ◌≤◌, ℕ, zero, suc, List, [], ◌∷◌, length, Bool, true, false, Option, Some, Ok, refl, sym, ap, ◌∙◌}
 use Rattle.std.proofs.lemmas.Bool.{false≢true}
 use Rattle.std.proofs.lemmas.Option.{none-some, same_Some}
-use Rattle.accepted_memory.specs.accepted_trails.inner.Defined.{makes}
-use Rattle.accepted_memory.specs.holder_model.Data.{Datum}
-use Rattle.accepted_memory.specs.holder_model.Frames.{Entry, Frame, datum_in, entry_at, results_put}
-use Rattle.accepted_memory.specs.holder_model.States.{Task}
-use Rattle.accepted_memory.specs.memory_accesses.Locations.{locate, located_by, location_of, whole}
-use Rattle.accepted_memory.specs.memory_accesses.Rows.{is_part}
-use Rattle.accepted_memory.specs.memory_accesses.Sources.{source_at, sources_of}
-use Rattle.accepted_memory.specs.memory_accesses.declared.location.Location.{Location}
-use Rattle.accepted_memory.specs.memory_accesses.declared.source.Source.{Source}
-use Rattle.accepted_memory.specs.memory_accesses.declared.source.Source.TheVariants as source
-use Rattle.accepted_memory.specs.memory_parts.Parts.{whole_cell}
-use Rattle.accepted_memory.specs.run_trails.inner.RunTrails.{GoesOn, IsRunTrail}
-use Rattle.accepted_places.specs.inner.Cells.{touches}
-use Rattle.accepted_places.specs.inner.Stacks.{slots_on}
-use Rattle.accepted_values.specs.inner.Known.{IsAcceptedBody}
+use Rattle.placed_values.specs.accepted_memory.accepted_trails.inner.Defined.{makes}
+use Rattle.placed_values.specs.accepted_memory.holder_model.Data.{Datum}
+use Rattle.placed_values.specs.accepted_memory.holder_model.Frames.{Entry, Frame, datum_in, entry_at, results_put}
+use Rattle.placed_values.specs.accepted_memory.holder_model.States.{Task}
+use Rattle.placed_values.specs.accepted_memory.memory_accesses.Locations.{locate, located_by, location_of, whole}
+use Rattle.placed_values.specs.accepted_memory.memory_accesses.Rows.{is_part}
+use Rattle.placed_values.specs.accepted_memory.memory_accesses.Sources.{source_at, sources_of}
+use Rattle.placed_values.specs.accepted_memory.memory_accesses.declared.location.Location.{Location}
+use Rattle.placed_values.specs.accepted_memory.memory_accesses.declared.source.Source.{Source}
+use Rattle.placed_values.specs.accepted_memory.memory_accesses.declared.source.Source.TheVariants as source
+use Rattle.placed_values.specs.accepted_memory.memory_parts.Parts.{whole_cell}
+use Rattle.placed_values.specs.accepted_memory.run_trails.inner.RunTrails.{GoesOn, IsRunTrail}
+use Rattle.placed_values.specs.accepted_places.inner.Cells.{touches}
+use Rattle.placed_values.specs.accepted_places.inner.Stacks.{slots_on}
+use Rattle.placed_values.specs.accepted_values.inner.Known.{IsAcceptedBody}
 use Rattle.item_operands.specs.Items.{item_defined}
 use Rattle.item_operands.specs.Parts.{item_inst}
 use Rattle.memory_cells.specs.inner.Cells.{cell_at}

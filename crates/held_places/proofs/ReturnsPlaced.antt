@@ -1,21 +1,21 @@
 -- A return: what it leaves is as it should be, and what waits below goes on with its places.
 use Rattle.std.proofs.Common.{◌≡◌, ℕ, List, [], ◌∷◌, map, true, Option, Ok, Some, refl, sym, ap, ◌∙◌, subst, slice_get}
 use Rattle.std.proofs.lemmas.Option.{same_Some}
-use Rattle.accepted_memory.specs.holder_model.Calling.{places_given}
-use Rattle.accepted_memory.specs.holder_model.Data.{Datum}
-use Rattle.accepted_memory.specs.holder_model.Effects.{unchanged}
-use Rattle.accepted_memory.specs.holder_model.Frames.{Entry, Frame, Operands, results_put}
-use Rattle.accepted_memory.specs.holder_model.HolderStates.{HolderNext, HolderState}
-use Rattle.accepted_memory.specs.holder_model.ModuleFacts.{ModuleFacts, facts_told}
-use Rattle.accepted_memory.specs.holder_model.Standing.{stands_at}
-use Rattle.accepted_memory.specs.holder_model.States.{Runs, Task}
-use Rattle.accepted_memory.specs.run_trails.inner.RunTrails.{IsRunTrail}
-use Rattle.accepted_values.specs.accepted_modules.inner.Checked.{IsVerified}
-use Rattle.accepted_values.specs.inner.Known.{IsAcceptedBody}
-use Rattle.held_entries.proofs.accepted_trails.run_trails.WalkEdges.{are_next}
-use Rattle.holder_steps.specs.inner.Stacks.{Below}
-use Rattle.holder_steps.specs.inner.Ways.{GoesBehind, Leaves, Reaches}
-use Rattle.holder_steps.proofs.WhichFaults.{results_err}
+use Rattle.placed_values.specs.accepted_memory.holder_model.Calling.{places_given}
+use Rattle.placed_values.specs.accepted_memory.holder_model.Data.{Datum}
+use Rattle.placed_values.specs.accepted_memory.holder_model.Effects.{unchanged}
+use Rattle.placed_values.specs.accepted_memory.holder_model.Frames.{Entry, Frame, Operands, results_put}
+use Rattle.placed_values.specs.accepted_memory.holder_model.HolderStates.{HolderNext, HolderState}
+use Rattle.placed_values.specs.accepted_memory.holder_model.ModuleFacts.{ModuleFacts, facts_told}
+use Rattle.placed_values.specs.accepted_memory.holder_model.Standing.{stands_at}
+use Rattle.placed_values.specs.accepted_memory.holder_model.States.{Runs, Task}
+use Rattle.placed_values.specs.accepted_memory.run_trails.inner.RunTrails.{IsRunTrail}
+use Rattle.placed_values.specs.accepted_values.accepted_modules.inner.Checked.{IsVerified}
+use Rattle.placed_values.specs.accepted_values.inner.Known.{IsAcceptedBody}
+use Rattle.placed_values.proofs.held_entries.accepted_trails.run_trails.WalkEdges.{are_next}
+use Rattle.tracked_frames.specs.holder_steps.inner.Stacks.{Below}
+use Rattle.tracked_frames.specs.holder_steps.inner.Ways.{GoesBehind, Leaves, Reaches}
+use Rattle.tracked_frames.proofs.holder_steps.WhichFaults.{results_err}
 use Rattle.item_operands.specs.Items.{item_defined}
 use Rattle.item_operands.specs.Parts.{inst_at}
 use Rattle.ownership_chains.specs.declared.facts.Facts.{Facts}
@@ -26,9 +26,9 @@ use Rattle.sil_ast.specs.declared.place.ValueId.{ValueId}
 use Rattle.sil_cfg.specs.Returns.{is_return}
 use Rattle.sil_cfg.specs.declared.item.Item.{Item}
 use Rattle.sil_cfg.specs.declared.item.Item.TheVariants as item
-use Rattle.typed_holders.specs.inner.TypedStates.{DeinitsTyped, DroppedTyped, FinishedTyped, FrameIs, GoesTyped, WaitsTyped}
-use Rattle.typed_holders.specs.typed_memory.inner.Worlds.{World}
-use Rattle.typed_holders.proofs.GoesOn.{accepted_body}
+use Rattle.tracked_frames.specs.typed_holders.inner.TypedStates.{DeinitsTyped, DroppedTyped, FinishedTyped, FrameIs, GoesTyped, WaitsTyped}
+use Rattle.tracked_frames.specs.typed_holders.typed_memory.inner.Worlds.{World}
+use Rattle.tracked_frames.proofs.typed_holders.GoesOn.{accepted_body}
 use Rattle.held_places.specs.inner.FramePlaces.{HoldsPlaces}
 use Rattle.held_places.specs.inner.Items.{PlacedNext}
 use Rattle.held_places.specs.inner.PlaceStates.{BelowPlaced, TasksPlaced, WaitsPlaced, as_given}

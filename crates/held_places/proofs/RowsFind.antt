@@ -4,23 +4,23 @@ use Rattle.std.specs.Prelude.{option_map}
 use Rattle.std.specs.Option.{option_to_list}
 use Rattle.std.proofs.lemmas.Bool.{false≢true}
 use Rattle.std.proofs.lemmas.Option.{same_Some}
-use Rattle.accepted_memory.specs.holder_model.Frames.{Frame}
-use Rattle.accepted_memory.specs.holder_model.HolderStates.{HolderState}
-use Rattle.accepted_memory.specs.holder_model.Standing.{stands_at}
-use Rattle.accepted_memory.specs.holder_model.States.{Runs, Task}
-use Rattle.accepted_memory.specs.memory_accesses.Operations.{access_kind_of, deallocates_by, operated, operated_at, operation_at, operations_of}
-use Rattle.accepted_memory.specs.memory_accesses.declared.access.Operated.{Operated}
-use Rattle.accepted_memory.specs.memory_accesses.declared.access.Operation.{Operation}
-use Rattle.accepted_memory.specs.memory_accesses.declared.access.Operation.TheVariants.{Handed}
-use Rattle.accepted_memory.specs.memory_accesses.declared.columns.AccessKind.{AccessKind}
-use Rattle.accepted_memory.specs.memory_accesses.declared.columns.AccessKind.TheVariants as access
-use Rattle.accepted_places.proofs.Done.{IsDoneBy, alone, done_by, of_call, of_row, operates}
-use Rattle.accepted_places.proofs.OperationsRight.{stands_somewhere}
-use Rattle.accepted_values.specs.accepted_modules.inner.Checked.{IsVerified}
-use Rattle.accepted_values.specs.inner.Known.{IsAcceptedBody}
-use Rattle.accepted_values.proofs.Accepted.{typed}
+use Rattle.placed_values.specs.accepted_memory.holder_model.Frames.{Frame}
+use Rattle.placed_values.specs.accepted_memory.holder_model.HolderStates.{HolderState}
+use Rattle.placed_values.specs.accepted_memory.holder_model.Standing.{stands_at}
+use Rattle.placed_values.specs.accepted_memory.holder_model.States.{Runs, Task}
+use Rattle.placed_values.specs.accepted_memory.memory_accesses.Operations.{access_kind_of, deallocates_by, operated, operated_at, operation_at, operations_of}
+use Rattle.placed_values.specs.accepted_memory.memory_accesses.declared.access.Operated.{Operated}
+use Rattle.placed_values.specs.accepted_memory.memory_accesses.declared.access.Operation.{Operation}
+use Rattle.placed_values.specs.accepted_memory.memory_accesses.declared.access.Operation.TheVariants.{Handed}
+use Rattle.placed_values.specs.accepted_memory.memory_accesses.declared.columns.AccessKind.{AccessKind}
+use Rattle.placed_values.specs.accepted_memory.memory_accesses.declared.columns.AccessKind.TheVariants as access
+use Rattle.placed_values.proofs.accepted_places.Done.{IsDoneBy, alone, done_by, of_call, of_row, operates}
+use Rattle.placed_values.proofs.accepted_places.OperationsRight.{stands_somewhere}
+use Rattle.placed_values.specs.accepted_values.accepted_modules.inner.Checked.{IsVerified}
+use Rattle.placed_values.specs.accepted_values.inner.Known.{IsAcceptedBody}
+use Rattle.placed_values.proofs.accepted_values.Accepted.{typed}
 use Rattle.argument_conventions.specs.declared.row.AddressRow.{AddressRow}
-use Rattle.held_entries.proofs.accepted_trails.run_trails.WalkEdges.{are_next}
+use Rattle.placed_values.proofs.held_entries.accepted_trails.run_trails.WalkEdges.{are_next}
 use Rattle.item_operands.specs.Items.{taken_in}
 use Rattle.item_operands.specs.Parts.{inst_at}
 use Rattle.item_operands.specs.Roles.{taken_by}
@@ -32,8 +32,8 @@ use Rattle.sil_ast.specs.declared.inst.Inst.{Inst}
 use Rattle.sil_ast.specs.declared.module.Module.{Module}
 use Rattle.sil_ast.specs.declared.place.PointId.{PointId}
 use Rattle.sil_cfg.specs.declared.item.Item.TheVariants as item
-use Rattle.typed_holders.specs.inner.TypedStates.{FrameIs, IsTypedState, TasksAre}
-use Rattle.typed_holders.proofs.GoesOn.{accepted_body}
+use Rattle.tracked_frames.specs.typed_holders.inner.TypedStates.{FrameIs, IsTypedState, TasksAre}
+use Rattle.tracked_frames.proofs.typed_holders.GoesOn.{accepted_body}
 use Rattle.held_places.specs.inner.FramePlaces.{HoldsPlaces, Names}
 use Rattle.held_places.specs.inner.Items.{IsFoundSo, RowsFindTheirPlaces}
 use Rattle.held_places.specs.inner.PlaceStates.{AreSlotsRight, TasksPlaced}

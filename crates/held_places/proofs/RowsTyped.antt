@@ -1,11 +1,11 @@
 -- What typing says of the operands and results of rows that name places, store, or call.
 use Rattle.std.proofs.Common.{◌≡◌, ℕ, List, [], ◌∷◌, refl, sym, subst, true, Some, slice_get}
-use Rattle.accepted_memory.specs.holder_model.Effects.{effect_of, part_number}
-use Rattle.accepted_memory.specs.holder_model.declared.row_effect.RowEffect.{RowEffect}
-use Rattle.accepted_memory.specs.holder_model.declared.row_effect.RowEffect.TheVariants as row
-use Rattle.accepted_values.specs.owned_run_typing.inner.OwnedRows.{OwnedRowForms}
-use Rattle.accepted_values.specs.run_typing.Forms.{Form, OfFunction, OfPlace, OfValue}
-use Rattle.accepted_values.specs.run_typing.RowForms.{RowForms}
+use Rattle.placed_values.specs.accepted_memory.holder_model.Effects.{effect_of, part_number}
+use Rattle.placed_values.specs.accepted_memory.holder_model.declared.row_effect.RowEffect.{RowEffect}
+use Rattle.placed_values.specs.accepted_memory.holder_model.declared.row_effect.RowEffect.TheVariants as row
+use Rattle.placed_values.specs.accepted_values.owned_run_typing.inner.OwnedRows.{OwnedRowForms}
+use Rattle.placed_values.specs.accepted_values.run_typing.Forms.{Form, OfFunction, OfPlace, OfValue}
+use Rattle.placed_values.specs.accepted_values.run_typing.RowForms.{RowForms}
 use Rattle.run_values.specs.Fits.{fits}
 use Rattle.run_values.specs.Shapes.{Shape, Stored, member_shapes}
 use Rattle.run_values.specs.Values.{Value}
@@ -13,7 +13,7 @@ use Rattle.sil_ast.specs.declared.inst.Inst.{Inst}
 use Rattle.sil_ast.specs.declared.module.Module.{Module}
 use Rattle.sil_ast.specs.declared.place.FuncId.{FuncId}
 use Rattle.type_definitions.specs.Declarations.{declarations_of}
-use Rattle.typed_memory.proofs.StoredValues.{named_suits_storage}
+use Rattle.tracked_frames.proofs.typed_memory.StoredValues.{named_suits_storage}
 use Rattle.value_parts.proofs.Suiting.{suits_fits}
 use Rattle.value_parts.specs.inner.Suits.{ClassTest, suits}
 

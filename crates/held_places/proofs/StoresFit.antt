@@ -1,11 +1,11 @@
 -- What an instruction stores fits the place.
 use Rattle.std.proofs.Common.{◌≡◌, ℕ, List, [], ◌∷◌, map, refl, sym, ap, ◌∙◌, subst, true, Option, Some}
-use Rattle.accepted_memory.specs.holder_model.Data.{AddressOf, Datum, ValueOf}
-use Rattle.accepted_memory.specs.holder_model.Effects.{effect_of}
-use Rattle.accepted_memory.specs.holder_model.Frames.{Entry, Operands}
-use Rattle.accepted_values.specs.owned_run_typing.inner.OwnedTyped.{OwnedFunction, OwnedInst}
-use Rattle.accepted_values.specs.run_typing.EndForms.{value_in}
-use Rattle.accepted_values.specs.run_typing.Forms.{Form, OfPlace, OfValue, forms_of}
+use Rattle.placed_values.specs.accepted_memory.holder_model.Data.{AddressOf, Datum, ValueOf}
+use Rattle.placed_values.specs.accepted_memory.holder_model.Effects.{effect_of}
+use Rattle.placed_values.specs.accepted_memory.holder_model.Frames.{Entry, Operands}
+use Rattle.placed_values.specs.accepted_values.owned_run_typing.inner.OwnedTyped.{OwnedFunction, OwnedInst}
+use Rattle.placed_values.specs.accepted_values.run_typing.EndForms.{value_in}
+use Rattle.placed_values.specs.accepted_values.run_typing.Forms.{Form, OfPlace, OfValue, forms_of}
 use Rattle.item_operands.specs.Items.{item_taken}
 use Rattle.item_operands.specs.Parts.{inst_at}
 use Rattle.ownership_chains.specs.declared.facts.Facts.{Facts}
@@ -20,11 +20,11 @@ use Rattle.sil_ast.specs.declared.place.PointId.{PointId}
 use Rattle.sil_ast.specs.declared.place.ValueId.{ValueId}
 use Rattle.sil_cfg.specs.declared.item.Item.TheVariants as item
 use Rattle.type_definitions.specs.Declarations.{declarations_of}
-use Rattle.typed_holders.proofs.Data.{DataAre, read_place, read_value}
-use Rattle.typed_holders.proofs.Data as data_are
-use Rattle.typed_holders.proofs.Entries.{FitEach, fit_data, operands_fit}
-use Rattle.typed_holders.proofs.GoesOn.{typed_module}
-use Rattle.typed_memory.specs.inner.Worlds.{World, names}
+use Rattle.tracked_frames.proofs.typed_holders.Data.{DataAre, read_place, read_value}
+use Rattle.tracked_frames.proofs.typed_holders.Data as data_are
+use Rattle.tracked_frames.proofs.typed_holders.Entries.{FitEach, fit_data, operands_fit}
+use Rattle.tracked_frames.proofs.typed_holders.GoesOn.{typed_module}
+use Rattle.tracked_frames.specs.typed_memory.inner.Worlds.{World, names}
 use Rattle.held_places.specs.inner.Premises.{AreStoresFit, ReadsOperands}
 use Rattle.held_places.proofs.RowsTyped.{Says, StoresForms, row_says}
 

@@ -2,3 +2,6 @@ pub mod Sourcing
 pub mod ArgumentsTold
 pub mod TrivialArguments
 pub mod RootsTold
+pub use Rattle.accepted_places.proofs as accepted_places
+pub use Rattle.accepted_places.proofs.accepted_values as accepted_values
+pub use Rattle.accepted_places.proofs.held_entries as held_entries

@@ -6,3 +6,7 @@ pub mod NextItems
 pub mod Entering
 pub mod TrackedSteps
 pub mod Begun
+pub use Rattle.typed_holders.proofs as typed_holders
+pub use Rattle.typed_holders.proofs.typed_memory as typed_memory
+pub use Rattle.typed_holders.proofs.holder_steps as holder_steps
+pub use Rattle.accepted_premises.proofs as accepted_premises

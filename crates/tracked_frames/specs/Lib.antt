@@ -1,1 +1,4 @@
 pub mod inner
+pub use Rattle.typed_holders.specs.typed_memory as typed_memory
+pub use Rattle.typed_holders.specs.holder_steps as holder_steps
+pub use Rattle.typed_holders.specs as typed_holders

@@ -16,3 +16,4 @@ pub mod Returns
 pub mod Drops
 pub mod TypedSteps
 pub use Rattle.holder_steps.proofs as holder_steps
+pub use Rattle.typed_memory.proofs as typed_memory

@@ -16,8 +16,8 @@ use Rattle.sil_cfg.specs.declared.item.Item.TheVariants as item
 use Rattle.type_definitions.specs.Declarations.{declarations_of}
 use Rattle.run_values.specs.Memory.{Memory}
 use Rattle.run_values.specs.Values.{Value}
-use Rattle.held_entries.specs.accepted_trails.ownership_kinds.Facts.{facts_in}
-use Rattle.accepted_values.specs.inner.Known.{IsAcceptedBody, kind_at}
+use Rattle.scoped_addresses.specs.held_entries.accepted_trails.ownership_kinds.Facts.{facts_in}
+use Rattle.scoped_addresses.specs.accepted_values.inner.Known.{IsAcceptedBody, kind_at}
 use Rattle.holder_counts.specs.holder_model.Data.{Datum, ValueOf, references_in}
 use Rattle.holder_counts.specs.holder_model.Edges.{carried_along}
 use Rattle.holder_counts.specs.holder_model.Frames.{Entry, Lent, Operands, made_entry, operands_of}

@@ -5,10 +5,10 @@ use Rattle.sil_ast.specs.declared.function.Function.{Function}
 use Rattle.sil_ast.specs.declared.inst.Inst.{Inst}
 use Rattle.sil_ast.specs.declared.module.Module.{Module}
 use Rattle.type_definitions.specs.Declarations.{Declarations, declarations_of}
-use Rattle.accepted_values.specs.run_typing.Forms.{Form}
-use Rattle.owned_run_typing.specs.inner.OwnedRows.{OwnedRowForms}
-use Rattle.typed_memory.specs.inner.Worlds.{DatumIs, World}
-use Rattle.typed_holders.specs.inner.TypedStates.{EntriesAre}
+use Rattle.scoped_addresses.specs.accepted_values.run_typing.Forms.{Form}
+use Rattle.scoped_addresses.specs.owned_run_typing.inner.OwnedRows.{OwnedRowForms}
+use Rattle.tracked_frames.specs.typed_memory.inner.Worlds.{DatumIs, World}
+use Rattle.tracked_frames.specs.typed_holders.inner.TypedStates.{EntriesAre}
 use Rattle.tracked_frames.specs.inner.TrackedStates.{GoesAlong}
 use Rattle.holder_counts.specs.holder_model.Data.{Datum}
 use Rattle.holder_counts.specs.holder_model.Frames.{Entry, Frame}

@@ -15,8 +15,8 @@ use Rattle.run_values.specs.Memory.{Memory}
 use Rattle.run_values.specs.Places.{OnStack, Place}
 use Rattle.run_values.specs.Values.{Value}
 use Rattle.value_tables.specs.Borrows.{is_borrow}
-use Rattle.held_entries.specs.accepted_trails.ownership_kinds.Facts.{facts_in}
-use Rattle.held_entries.specs.accepted_trails.run_trails.inner.RunTrails.{ComesAt}
+use Rattle.scoped_addresses.specs.held_entries.accepted_trails.ownership_kinds.Facts.{facts_in}
+use Rattle.scoped_addresses.specs.held_entries.accepted_trails.run_trails.inner.RunTrails.{ComesAt}
 use Rattle.holder_counts.specs.holder_model.Calling.{are_as_before, handed_over, lent_places}
 use Rattle.holder_counts.specs.holder_model.Data.{AddressOf, Datum}
 use Rattle.holder_counts.specs.holder_model.Effects as effects
@@ -29,7 +29,7 @@ use Rattle.holder_counts.specs.holder_model.ModuleShapes.{shapes_in}
 use Rattle.holder_counts.specs.holder_model.Standing.{stands_at}
 use Rattle.holder_counts.specs.holder_model.StepParts.{slots_behind}
 use Rattle.holder_counts.specs.holder_model.States.{Runs, Task, dropping}
-use Rattle.typed_holders.specs.inner.TypedStates.{IsTypedState}
+use Rattle.tracked_frames.specs.typed_holders.inner.TypedStates.{IsTypedState}
 use Rattle.tracked_frames.specs.inner.TrackedStates.{IsTrackedState}
 use Rattle.guarded_entries.specs.inner.Guards.{IsArgument, KeepsAt, Lending}
 use Rattle.guarded_entries.specs.inner.GuardedStates.{Loans}

@@ -16,14 +16,14 @@ use Rattle.sil_cfg.specs.declared.item.Item.{Item}
 use Rattle.sil_cfg.specs.declared.item.Item.TheVariants as item
 use Rattle.type_definitions.specs.Declarations.{declarations_of}
 use Rattle.run_values.specs.Memory.{Memory}
-use Rattle.held_entries.specs.accepted_trails.ownership_kinds.Facts.{facts_in}
-use Rattle.held_entries.specs.accepted_trails.run_trails.inner.RunTrails.{IsRunTrail}
-use Rattle.accepted_values.specs.accepted_modules.inner.Checked.{IsVerified}
-use Rattle.accepted_values.specs.inner.Known.{IsAcceptedBody}
-use Rattle.accepted_values.specs.run_typing.Forms.{Form}
-use Rattle.owned_run_typing.specs.inner.OwnedRows.{OwnedRowForms}
-use Rattle.typed_memory.specs.inner.Worlds.{DatumIs, MemoryIs, World}
-use Rattle.typed_holders.specs.inner.TypedStates.{EntriesAre}
+use Rattle.scoped_addresses.specs.held_entries.accepted_trails.ownership_kinds.Facts.{facts_in}
+use Rattle.scoped_addresses.specs.held_entries.accepted_trails.run_trails.inner.RunTrails.{IsRunTrail}
+use Rattle.scoped_addresses.specs.accepted_values.accepted_modules.inner.Checked.{IsVerified}
+use Rattle.scoped_addresses.specs.accepted_values.inner.Known.{IsAcceptedBody}
+use Rattle.scoped_addresses.specs.accepted_values.run_typing.Forms.{Form}
+use Rattle.scoped_addresses.specs.owned_run_typing.inner.OwnedRows.{OwnedRowForms}
+use Rattle.tracked_frames.specs.typed_memory.inner.Worlds.{DatumIs, MemoryIs, World}
+use Rattle.tracked_frames.specs.typed_holders.inner.TypedStates.{EntriesAre}
 use Rattle.tracked_frames.specs.inner.TrackedStates.{GoesAlong}
 use Rattle.holder_counts.specs.holder_model.Data.{Datum}
 use Rattle.holder_counts.specs.holder_model.Edges.{carried_along}

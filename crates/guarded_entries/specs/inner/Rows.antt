@@ -18,8 +18,8 @@ use Rattle.run_values.specs.Places.{Place, value_at}
 use Rattle.run_values.specs.Shapes.{Shape}
 use Rattle.run_values.specs.Values.{Value, references_of}
 use Rattle.value_tables.specs.Borrows.{is_borrow}
-use Rattle.held_entries.specs.accepted_trails.ownership_kinds.Facts.{facts_in}
-use Rattle.accepted_values.specs.inner.Known.{IsAcceptedBody, kind_at}
+use Rattle.scoped_addresses.specs.held_entries.accepted_trails.ownership_kinds.Facts.{facts_in}
+use Rattle.scoped_addresses.specs.accepted_values.inner.Known.{IsAcceptedBody, kind_at}
 use Rattle.holder_counts.specs.holder_model.declared.row_effect.RowEffect.TheVariants as row
 use Rattle.holder_counts.specs.holder_model.Data.{AddressOf, Datum, ValueOf, references_in}
 use Rattle.holder_counts.specs.holder_model.Effects as effects

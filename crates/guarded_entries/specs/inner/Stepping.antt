@@ -15,11 +15,11 @@ use Rattle.run_values.specs.Memory.{Memory, is_dead, is_live, object_at, phase_o
 use Rattle.run_values.specs.Places.{Place}
 use Rattle.run_values.specs.Values.{Value}
 use Rattle.value_tables.specs.Borrows.{is_borrow}
-use Rattle.held_entries.specs.accepted_trails.inner.Bases.{IsBaseOf}
-use Rattle.held_entries.specs.accepted_trails.inner.Defined.{makes}
-use Rattle.held_entries.specs.accepted_trails.inner.Lives.{BorrowsFrom}
-use Rattle.held_entries.specs.accepted_trails.ownership_kinds.Facts.{facts_in}
-use Rattle.accepted_values.specs.inner.Known.{kind_at}
+use Rattle.scoped_addresses.specs.held_entries.accepted_trails.inner.Bases.{IsBaseOf}
+use Rattle.scoped_addresses.specs.held_entries.accepted_trails.inner.Defined.{makes}
+use Rattle.scoped_addresses.specs.held_entries.accepted_trails.inner.Lives.{BorrowsFrom}
+use Rattle.scoped_addresses.specs.held_entries.accepted_trails.ownership_kinds.Facts.{facts_in}
+use Rattle.scoped_addresses.specs.accepted_values.inner.Known.{kind_at}
 use Rattle.holder_counts.specs.holder_model.Calling.{value_count}
 use Rattle.holder_counts.specs.holder_model.Data.{Datum, references_in}
 use Rattle.holder_counts.specs.holder_model.Dropping.{ended, field_references, in_phase}

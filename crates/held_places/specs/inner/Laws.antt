@@ -1,17 +1,17 @@
 -- Laws of the places on the stack in a run by holders.
 use Rattle.std.specs.Prelude.{◌≡◌, ℕ, true, false, Some, slice_get}
-use Rattle.accepted_memory.specs.holder_model.Faults.{HolderFault}
-use Rattle.accepted_memory.specs.holder_model.HolderStates.{HolderState}
-use Rattle.accepted_memory.specs.holder_model.ModuleFacts.{facts_of}
-use Rattle.accepted_memory.specs.holder_model.Outcomes.{begins, may_start}
-use Rattle.accepted_memory.specs.holder_model.States.{Ends, Faulted, Goes}
-use Rattle.accepted_memory.specs.holder_model.Steps.{step}
-use Rattle.accepted_values.specs.accepted_modules.inner.Checked.{IsVerified}
+use Rattle.placed_values.specs.accepted_memory.holder_model.Faults.{HolderFault}
+use Rattle.placed_values.specs.accepted_memory.holder_model.HolderStates.{HolderState}
+use Rattle.placed_values.specs.accepted_memory.holder_model.ModuleFacts.{facts_of}
+use Rattle.placed_values.specs.accepted_memory.holder_model.Outcomes.{begins, may_start}
+use Rattle.placed_values.specs.accepted_memory.holder_model.States.{Ends, Faulted, Goes}
+use Rattle.placed_values.specs.accepted_memory.holder_model.Steps.{step}
+use Rattle.placed_values.specs.accepted_values.accepted_modules.inner.Checked.{IsVerified}
 use Rattle.sil_ast.specs.declared.function.Function.{Function}
 use Rattle.sil_ast.specs.declared.module.Module.{Module}
 use Rattle.sil_ast.specs.declared.place.FuncId.{FuncId}
 use Rattle.tracked_frames.specs.inner.TrackedStates.{IsTrackedState}
-use Rattle.typed_holders.specs.inner.TypedStates.{IsTypedState}
+use Rattle.tracked_frames.specs.typed_holders.inner.TypedStates.{IsTypedState}
 use Rattle.held_places.specs.inner.Items.{AreFieldsFound, is_place_fault}
 use Rattle.held_places.specs.inner.PlaceStates.{AreSlotsRight}
 

@@ -1,16 +1,16 @@
 -- What typing says of the places that operands and results name: the premises of the laws of steps.
 use Rattle.std.specs.Prelude.{◌≡◌, ℕ, List, [], ◌∷◌, true, Option, Some, Ok, drop, slice_get}
-use Rattle.accepted_memory.specs.holder_model.Data.{AddressOf, Datum, ValueOf}
-use Rattle.accepted_memory.specs.holder_model.Calling.{lent_places}
-use Rattle.accepted_memory.specs.holder_model.Effects.{Calls, Change, Makes, effect_of}
-use Rattle.accepted_memory.specs.holder_model.Frames.{Entry, Operands, entry_at, operands_of, plain_address, results_put}
-use Rattle.accepted_memory.specs.holder_model.MemoryEffects.{effect}
-use Rattle.accepted_memory.specs.holder_model.ModuleShapes.{ModuleShapes}
-use Rattle.accepted_memory.specs.holder_model.declared.row_effect.RowEffect.TheVariants as row
-use Rattle.accepted_memory.specs.memory_accesses.Operations.{operations_of}
-use Rattle.accepted_memory.specs.memory_accesses.Sources.{is_trivial_at, sources_of}
-use Rattle.accepted_memory.specs.run_trails.inner.RunTrails.{IsRunTrail}
-use Rattle.accepted_values.specs.inner.Known.{IsAcceptedBody}
+use Rattle.placed_values.specs.accepted_memory.holder_model.Data.{AddressOf, Datum, ValueOf}
+use Rattle.placed_values.specs.accepted_memory.holder_model.Calling.{lent_places}
+use Rattle.placed_values.specs.accepted_memory.holder_model.Effects.{Calls, Change, Makes, effect_of}
+use Rattle.placed_values.specs.accepted_memory.holder_model.Frames.{Entry, Operands, entry_at, operands_of, plain_address, results_put}
+use Rattle.placed_values.specs.accepted_memory.holder_model.MemoryEffects.{effect}
+use Rattle.placed_values.specs.accepted_memory.holder_model.ModuleShapes.{ModuleShapes}
+use Rattle.placed_values.specs.accepted_memory.holder_model.declared.row_effect.RowEffect.TheVariants as row
+use Rattle.placed_values.specs.accepted_memory.memory_accesses.Operations.{operations_of}
+use Rattle.placed_values.specs.accepted_memory.memory_accesses.Sources.{is_trivial_at, sources_of}
+use Rattle.placed_values.specs.accepted_memory.run_trails.inner.RunTrails.{IsRunTrail}
+use Rattle.placed_values.specs.accepted_values.inner.Known.{IsAcceptedBody}
 use Rattle.argument_conventions.specs.Arguments.{arguments_of}
 use Rattle.item_operands.specs.Items.{item_defined, item_taken}
 use Rattle.item_operands.specs.Parts.{inst_at}
@@ -31,8 +31,8 @@ use Rattle.sil_ast.specs.declared.place.ValueId.{ValueId}
 use Rattle.sil_cfg.specs.declared.item.Item.{Item}
 use Rattle.sil_cfg.specs.declared.item.Item.TheVariants as item
 use Rattle.type_definitions.specs.Declarations.{declarations_of}
-use Rattle.typed_holders.specs.inner.TypedStates.{EntriesAre}
-use Rattle.typed_memory.specs.inner.Worlds.{World}
+use Rattle.tracked_frames.specs.typed_holders.inner.TypedStates.{EntriesAre}
+use Rattle.tracked_frames.specs.typed_memory.inner.Worlds.{World}
 use Rattle.held_places.specs.inner.FramePlaces.{Names}
 use Rattle.held_places.specs.inner.PartsNamed.{AreNewNamed, ArePartsNamed}
 use Rattle.held_places.specs.inner.PlaceStates.{AreLentBy}
