@@ -7,3 +7,5 @@ pub mod OpenScopes
 pub mod RootsStay
 pub mod CallsClear
 pub mod Below
+pub mod AtItems
+pub mod Instructions
