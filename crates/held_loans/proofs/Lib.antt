@@ -6,6 +6,8 @@ pub mod Undisturbed
 pub mod OpenScopes
 pub mod RootsStay
 pub mod CallsClear
+pub mod Waiting
 pub mod Below
 pub mod AtItems
 pub mod Instructions
+pub mod Kept
