@@ -13,6 +13,7 @@ use Rattle.held_entries.specs.holder_model.Steps.{step}
 use Rattle.typed_holders.specs.inner.TypedStates.{IsTypedState}
 use Rattle.tracked_frames.specs.inner.Laws.{is_entry_fault}
 use Rattle.tracked_frames.specs.inner.TrackedStates.{IsTrackedState}
+use Rattle.guarded_entries.specs.inner.Laws.{is_dead_fault}
 use Rattle.accepted_runs.specs.inner.Kept.{IsKept}
 use Rattle.accepted_runs.specs.inner.Laws.{OnRuns}
 use Rattle.accepted_runs.proofs.KeptOnRuns.{And, Nothing, both_kept, outcomes_exclude, runs_exclude}
@@ -32,21 +33,6 @@ is_place_fault LeavesHeld = false
 is_place_fault LeavesSlot = true
 is_place_fault LeavesPlace = true
 is_place_fault WrongShape = false
-
--- and of dead objects
-abbrev pub is_dead_fault : HolderFault → Bool
-is_dead_fault NoEntry = false
-is_dead_fault ConsumesLent = false
-is_dead_fault NamesDead = true
-is_dead_fault EmptyPlace = false
-is_dead_fault FullPlace = false
-is_dead_fault PlaceNotAsAsked = false
-is_dead_fault NotLastSlot = false
-is_dead_fault OverwritesHeld = false
-is_dead_fault LeavesHeld = false
-is_dead_fault LeavesSlot = false
-is_dead_fault LeavesPlace = false
-is_dead_fault WrongShape = false
 
 abbrev is_any : HolderFault → Bool
 is_any x = is_shape_fault x || (is_entry_fault x || (is_place_fault x || is_dead_fault x))

@@ -1,3 +1,4 @@
 pub mod KeptOnRuns
 pub mod RightRuns
 pub mod Faultless
+pub mod GuardedRuns

@@ -54,7 +54,7 @@ operand_alive facts m before left t x h =
     let same : y.0 ≡ x = let e = put.1 in cc in
     subst (IsAlive m) same put.0
 
-more_parts : (x : Datum) (r : Result (List Datum) HolderFault) (all : List Datum) → and_more x r ≡ Ok all → (xs : List Datum) × (r ≡ Ok xs) × (x ∷ xs ≡ all)
+pub more_parts : (x : Datum) (r : Result (List Datum) HolderFault) (all : List Datum) → and_more x r ≡ Ok all → (xs : List Datum) × (r ≡ Ok xs) × (x ∷ xs ≡ all)
 more_parts x (Ok xs) all h = (xs, refl, cc)
 more_parts x (Err e) all h = cc
 
@@ -85,7 +85,7 @@ object_at_number : (m : Memory) (o p : ObjectId) → o.0 ≡ p.0 → is_dead m o
 object_at_number m o p e = ap (λ n. is_dead_phase (unwrap_or (slice_get m.objects n) no_object).phase) e
 
 -- another object than one that is dead, where it isn't
-alive_other : (m : Memory) (o p : ObjectId) → is_dead m o ≡ true → is_dead m p ≡ false → one_object o p ≡ 0
+pub alive_other : (m : Memory) (o p : ObjectId) → is_dead m o ≡ true → is_dead m p ≡ false → one_object o p ≡ 0
 alive_other m o p dead alive = ⊎_elim
     (λ same. absurd (true≢false (sym dead ∙ object_at_number m o p (eqb-true o.0 p.0 same) ∙ alive)))
     (λ other. counts_other o p other)
@@ -183,7 +183,7 @@ first_alive m (x ∷ xs) v e h = at x e h.0
     at (AddressOf p) e alive = cc
     at (FunctionOf g) e alive = cc
 
-some_through : {A B : Type 0} (f : A → Option B) (x : Option A) (y : B) → option_and_then f x ≡ Some y → (z : A) × (x ≡ Some z) × (f z ≡ Some y)
+pub some_through : {A B : Type 0} (f : A → Option B) (x : Option A) (y : B) → option_and_then f x ≡ Some y → (z : A) × (x ≡ Some z) × (f z ≡ Some y)
 some_through f None y h = cc
 some_through f (Some z) y h = (z, refl, h)
 

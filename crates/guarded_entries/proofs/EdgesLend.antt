@@ -39,7 +39,6 @@ use Rattle.guarded_entries.proofs.RowTables.{Gives, Opens}
 use Rattle.guarded_entries.proofs.RowTables as table
 use Rattle.guarded_entries.proofs.Sources as sources
 use Rattle.guarded_entries.proofs.Sources.{ended_fact, held, lends_it, named_datum, value_lent}
-
 use Rattle.std.specs.Prelude.{option_and_then, option_map}
 use Rattle.std.specs.List.{AllZip}
 use Rattle.instruction_table.specs.Forms.{ending_of}

@@ -215,8 +215,8 @@ module _ (m : Module) (n : ℕ) (f : Function) (a : IsAcceptedBody m n f) where
             let own : has (x.value ∷ []) b.0 ≡ true = sym (ap (λ (o : Option Facts). has (known_or (λ _. o) x.value).bases b.0) l.facts) ∙ base in
             let here : (x.value.0 == b.0) ≡ true = ⊎_elim (λ e. e) (λ e. absurd (false≢true e)) (or_cases (x.value.0 == b.0) false own) in
             inl (
-              ap (λ o. has_any (ended_with o x) && (x.value.0 == b.0)) known
-              ∙ ap (λ r. has_any (cond r (end_of x.value ∷ []) []) && (x.value.0 == b.0)) is ∙ here)
+            ap (λ o. has_any (ended_with o x) && (x.value.0 == b.0)) known
+            ∙ ap (λ r. has_any (cond r (end_of x.value ∷ []) []) && (x.value.0 == b.0)) is ∙ here)
         by_role bases known has_it false is = inr (
             ap (λ o. list_any (λ k. k.subject.0 == b.0) (used_with o x)) known
             ∙ ap (λ r. list_any (λ k. k.subject.0 == b.0) (cond r [] (map use_of bases))) is ∙ used_among bases b has_it)
@@ -309,7 +309,7 @@ module _ (m : Module) (n : ℕ) (f : Function) (a : IsAcceptedBody m n f) where
 
   -- ---- arguments
 
-  argument_made : (v : ValueId) → IsArgument f v → makes f v item.Entry ≡ true
+  pub argument_made : (v : ValueId) → IsArgument f v → makes f v item.Entry ≡ true
   argument_made v lt = at (slice_get (args_of f 0) v.0) refl
     where
       at : (o : Option BlockArg) → slice_get (args_of f 0) v.0 ≡ o → has (map arg_value (args_of f 0)) v.0 ≡ true

@@ -306,4 +306,3 @@ module _ (m : Module) (n : ℕ) (f : Function) (a : IsAcceptedBody m n f) (it : 
       at (Plain z) is h =
           let same : z ≡ y = cc in
           absurd (named_nowhere o (subst (λ os. IsNamed o os) (ap references_in (sym same) ∙ plain_bare d f entries kinds w z is) named))
-

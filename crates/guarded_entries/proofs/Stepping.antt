@@ -109,7 +109,7 @@ finishes_dropping o (p ∷ os) tasks = refl
 
 module _ (m : Module) (loans : Loans) where
   -- slots' cells stay as they are
-  stack_kept : (memory later : Memory) → later.stack ≡ memory.stack → (tasks : List (Task Frame)) → KeepLoans m loans memory later tasks
+  pub stack_kept : (memory later : Memory) → later.stack ≡ memory.stack → (tasks : List (Task Frame)) → KeepLoans m loans memory later tasks
   stack_kept memory later same [] = tt
   stack_kept memory later same (Runs frame ∷ rest) = (λ f s x k y is borrow e l keeps. ap (λ cells. slice_get cells k) same ∙ keeps, stack_kept memory later same rest)
   stack_kept memory later same (Drops references ∷ rest) = stack_kept memory later same rest
@@ -254,7 +254,7 @@ items_guarded m loans memory rest frame f i ops c slots entries h goes =
     goes.put goes.arguments goes.right goes.phases goes.none goes.below
 
 -- nothing changes in memory
-same_phases : (memory : Memory) → KeepsPhases memory memory
+pub same_phases : (memory : Memory) → KeepsPhases memory memory
 same_phases memory = record { dead = λ o h. h; deiniting = λ o. refl }
 
 pub returns_guarded : (m : Module) (loans : Loans) → AreReturnsGuarded m loans

@@ -28,6 +28,18 @@ ghost use Rattle.guarded_entries.specs.inner.Kept.{
   HaveGuardedHolders,
   HaveKeptHolders,
 };
+ghost use Rattle.guarded_entries.specs.inner.Laws.{AreStepsGuarded, NoDeadFaults};
+ghost use Rattle.guarded_entries.specs.inner.Premises.{
+  AreAddressesInScopes,
+  AreBorrowsScopes,
+  AreFramesCurrent,
+  ArePlainInScopesNamed,
+  AreTypedForRows,
+  BeginGuarded,
+  CarryTypedValues,
+  HaveSlotsNoBases,
+  LoadTypedStrongly,
+};
 ghost use Rattle.guarded_entries.specs.inner.Rows.{AreRowsGuarded};
 ghost use Rattle.guarded_entries.specs.inner.Stepping.{
   AreCallsGuarded,
@@ -138,4 +150,37 @@ pub fn tracked_go_along()
 pub fn typed_are_of_kinds()
     ensures kinds { AreTypedOfKinds }
     ensures handed { HandTypedValues }
+{}
+
+/// The scopes of an address are open where the next item of a run takes it: a Plain value with bases names a place, and what it borrows from is a
+/// scope to memory too. A slot has no bases. So the operands of the item at which a tracked frame stands are current.
+pub fn addresses_are_in_scopes()
+    ensures borrows { AreBorrowsScopes }
+    ensures named { ArePlainInScopesNamed }
+    ensures slots { HaveSlotsNoBases }
+    ensures open { AreAddressesInScopes }
+    ensures current { AreFramesCurrent }
+{}
+
+/// Where entries and memory are typed, the operands of an instruction are as its row asks, what is loaded is kept strongly, and what an edge carries
+/// are values.
+pub fn typed_operands_are_right()
+    ensures loads { LoadTypedStrongly }
+    ensures rows { AreTypedForRows }
+    ensures edges { CarryTypedValues }
+{}
+
+/// A run begins guarded.
+pub fn runs_begin_guarded()
+    ensures { BeginGuarded }
+{}
+
+/// A step leads from a guarded state to a guarded one, where open scopes keep what they lend.
+pub fn steps_stay_guarded()
+    ensures { AreStepsGuarded }
+{}
+
+/// It ends in no fault of dead objects.
+pub fn no_dead_faults()
+    ensures { NoDeadFaults }
 {}

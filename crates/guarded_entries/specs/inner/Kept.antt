@@ -96,7 +96,7 @@ abbrev pub AreGuardedLeft : Type 0
 AreGuardedLeft = (d : Declarations) (f : Function) (lends : Lending) (m : Memory) (entries left : List Entry) (t : List Item) (ts : List Taken)
     → AreOfKinds d f entries → AreLentGuarded d f lends m entries t → without_ended (facts_in d f) ts entries ≡ Ok left
     → ((s b : ValueId) (x : Datum) → is_borrow f s ≡ true → entry_at entries s ≡ Lent x → IsThere (entry_at left s) → BorrowsFrom d f s b
-        → IsThere (entry_at entries b) → IsThere (entry_at left b))
+    → IsThere (entry_at entries b) → IsThere (entry_at left b))
     → AreOfKinds d f left × AreLentGuarded d f lends m left t
 
 module _ (d : Declarations) (f : Function) (lends lends' : Lending) (m m' : Memory) (left : List Entry) (o : ObjectId) where

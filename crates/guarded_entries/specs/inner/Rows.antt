@@ -43,7 +43,7 @@ LendsLoaded f lends memory later i xs = (p : Place) (v : ValueId) (n : ℕ) (x :
 abbrev pub AreRowsGuarded : Type 0
 AreRowsGuarded = (m : Module) (n : ℕ) (f : Function) → IsAcceptedBody m n f → (p : PointId) (i : Inst) → inst_at f p ≡ Some i
     → (shapes : ModuleShapes) (values : List Shape) (lends lends' : Lending) (memory : Memory) (entries : List Entry) (t : List Item) (ops : Operands)
-        (c : Change)
+    (c : Change)
     → operands_of (facts_in (declarations_of m) f) memory entries (item_taken f (item.Inst p)) ≡ Ok ops
     → effect (declarations_of m) shapes values memory i ops.given ≡ effects.Makes c
     → AreOfKinds (declarations_of m) f entries → AreLentGuarded (declarations_of m) f lends memory ops.left t

@@ -143,7 +143,7 @@ module _ (m : Module) (loans : Loans) where
       (entries : List Entry) → IsGuardedRun m loans memory (Finishes (h ∷ gs) o ∷ rest) → slice_get m.functions g.0 ≡ Some callee
       → results_put (facts_in (declarations_of m) callee) (item_defined callee item.Entry) args (no_entries (value_count callee)) ≡ Ok entries
       → ((p : ObjectId) → is_dead memory p ≡ true → HoldsNone (one_object p)
-          (record { results = args; dropped = []; retained = []; memory = memory; slots = SameSlots }))
+      (record { results = args; dropped = []; retained = []; memory = memory; slots = SameSlots }))
       → AreArgumentsGuarded callee args (λ p. p ≡ o)
       → IsGuardedRun m loans memory (Runs (new_frame g entries) ∷ Finishes gs o ∷ rest)
 

@@ -1,0 +1,29 @@
+-- Guards are kept, where open scopes keep what they lend: the part of the invariant that excludes dead objects.
+use Rattle.sil_ast.specs.declared.module.Module.{Module}
+use Rattle.accepted_values.specs.accepted_modules.inner.Checked.{IsVerified}
+use Rattle.held_entries.specs.holder_model.HolderStates.{HolderState}
+use Rattle.typed_holders.specs.inner.TypedStates.{IsTypedState}
+use Rattle.tracked_frames.specs.inner.TrackedStates.{IsTrackedState}
+use Rattle.guarded_entries.specs.inner.GuardedStates.{IsGuardedState, Loans}
+use Rattle.guarded_entries.specs.inner.Laws.{is_dead_fault}
+use Rattle.guarded_entries.specs.inner.LoansKept.{LoansAreKept}
+use Rattle.guarded_entries.proofs.Begun.{begin_guarded}
+use Rattle.guarded_entries.proofs.DeadFaults.{no_dead_faults}
+use Rattle.guarded_entries.proofs.GuardedSteps.{steps_stay_guarded_where}
+use Rattle.accepted_runs.specs.inner.Kept.{IsKept}
+use Rattle.accepted_runs.proofs.KeptOnRuns.{And, Nothing}
+
+-- which cells scopes lend may go by the module
+module _ (loans : Module → Loans) (Placed : Module → HolderState → Type 0) (kept : (m : Module) → IsVerified m → LoansAreKept m (loans m) (Placed m)) where
+  abbrev pub Guarded : Module → HolderState → Type 0
+  Guarded m s = IsGuardedState m (loans m) s
+
+  pub guarded_kept : IsKept (And (And (And Nothing IsTypedState) IsTrackedState) Placed) Guarded is_dead_fault
+  guarded_kept = record {
+    begin = λ m e f v there may. begin_guarded m (loans m) e f v there may;
+    goes = λ m bound s next v before then is by.
+        steps_stay_guarded_where m (loans m) (Placed m) bound s next v (kept m v)
+        (record { typed = before.0.0.1; tracked = before.0.1; placed = before.1 })
+        (record { typed = then.0.0.1; tracked = then.0.1; placed = then.1 }) is by;
+    faults = λ m bound s last x v before is by. no_dead_faults m (loans m) bound s last x v before.0.0.1 before.0.1 is by;
+  }
