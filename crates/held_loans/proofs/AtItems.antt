@@ -41,7 +41,7 @@ use Rattle.held_places.proofs.Naming.{names_once}
 use Rattle.held_places.proofs.TrailsSo.{trail_laws}
 use Rattle.held_places.proofs.TypingSo.{typing_laws}
 use Rattle.held_loans.specs.inner.Loans.{loans_of}
-use Rattle.held_loans.specs.inner.LoansKept.{TakesOperands}
+use Rattle.guarded_entries.specs.inner.LoansKept.{TakesOperands}
 use Rattle.held_loans.proofs.Below.{TrackedBelow}
 use Rattle.held_loans.proofs.LoanAt.{LendsCell, lends_cell, lent_still}
 use Rattle.held_loans.proofs.OpenScopes.{lent_on}

@@ -66,7 +66,7 @@ use Rattle.held_places.proofs.RowsAt.{Removes, is_at_one, is_removal, is_store, 
 use Rattle.held_places.proofs.StoresFit.{stores_fit}
 use Rattle.held_places.proofs.TrailsSo.{trail_laws}
 use Rattle.held_loans.specs.inner.Loans.{loans_of}
-use Rattle.held_loans.specs.inner.LoansKept.{TakesOperands}
+use Rattle.guarded_entries.specs.inner.LoansKept.{TakesOperands}
 use Rattle.held_loans.proofs.AtItems.{IsLentLeft, accepted, left, now, number, reads, run, w}
 use Rattle.held_loans.proofs.Clear.{other_root, same_root}
 use Rattle.held_loans.proofs.RootsStay.{never_closed}

@@ -43,7 +43,7 @@ use Rattle.held_places.proofs.Lent.{Calling}
 use Rattle.held_places.proofs.TrailsSo.{trail_laws}
 use Rattle.held_places.proofs.TypingSo.{typing_laws}
 use Rattle.held_loans.specs.inner.Loans.{loans_of}
-use Rattle.held_loans.specs.inner.LoansKept.{Calls, Does, IsPlacedState, LendOn, Resumes, Stays, TakesOperands}
+use Rattle.guarded_entries.specs.inner.LoansKept.{Calls, Does, IsPlacedState, LendOn, Resumes, Stays, TakesOperands}
 use Rattle.held_loans.proofs.AtItems as at
 use Rattle.held_loans.proofs.Below.{below_kept}
 use Rattle.held_loans.proofs.CallsClear.{not_lent}

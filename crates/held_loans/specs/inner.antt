@@ -1,3 +1,2 @@
 pub mod Loans
-pub mod LoansKept
 pub mod Laws
