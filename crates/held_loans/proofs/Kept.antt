@@ -42,7 +42,10 @@ use Rattle.held_places.proofs.CallsPlaced.{CallsBody, accepted, calling}
 use Rattle.held_places.proofs.Lent.{Calling}
 use Rattle.held_places.proofs.TrailsSo.{trail_laws}
 use Rattle.held_places.proofs.TypingSo.{typing_laws}
+use Rattle.held_loans.specs.inner.Laws.{AreLoansKept}
 use Rattle.held_loans.specs.inner.Loans.{loans_of}
+use Rattle.held_loans.proofs.Arguments.{arguments_on_stack}
+use Rattle.held_loans.proofs.Loaded.{loads_lent}
 use Rattle.guarded_entries.specs.inner.LoansKept.{Calls, Does, IsPlacedState, LendOn, Resumes, Stays, TakesOperands}
 use Rattle.held_loans.proofs.AtItems as at
 use Rattle.held_loans.proofs.Below.{below_kept}
@@ -156,3 +159,19 @@ module _ (m : Module) (verified : IsVerified m) where
 
       tracked : AreTasksTracked m (Runs callee ∷ Runs frame ∷ rest)
       tracked = subst (AreTasksTracked m) x.tasks x.state.tracked
+
+-- ---- all of it
+
+pub loans_kept : AreLoansKept
+loans_kept m verified = record {
+  lending = lending m verified;
+  below = below m verified;
+  loaded = λ s next rest frame f i ops c slots behind x.
+      loads_lent m verified s rest frame f (stands_at f frame.trail) ops x.takes i x.here (facts_of m).shapes (shapes_in (facts_of m).shapes frame.function) c x.makes
+      behind x.leads.put slots;
+  stays = stays m verified;
+  handed = handed m verified;
+  handed_below = handed_below m verified;
+  resumed = resumed m verified;
+  arguments = arguments_on_stack m verified;
+}

@@ -11,3 +11,7 @@ pub mod Below
 pub mod AtItems
 pub mod Instructions
 pub mod Kept
+pub mod Trivial
+pub mod Keeping
+pub mod Arguments
+pub mod Loaded

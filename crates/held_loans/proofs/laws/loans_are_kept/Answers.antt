@@ -1,14 +1,5 @@
-use Rattle.held_loans.proofs.Reached as m0
-use Rattle.held_loans.proofs.LoanAt as m1
-use Rattle.held_loans.proofs.Clear as m2
-use Rattle.held_loans.proofs.TrivialStores as m3
-use Rattle.held_loans.proofs.Undisturbed as m4
-use Rattle.held_loans.proofs.OpenScopes as m5
-use Rattle.held_loans.proofs.RootsStay as m6
-use Rattle.held_loans.proofs.CallsClear as m7
-use Rattle.held_loans.proofs.Below as m8
-use Rattle.held_loans.proofs.AtItems as m9
-use Rattle.held_loans.proofs.Instructions as m10
-use Rattle.held_loans.proofs.Waiting as m11
-use Rattle.held_loans.proofs.Kept as m12
+use Rattle.held_loans.proofs.Kept.{loans_kept}
 use Rattle.held_loans.proofs.laws.loans_are_kept.Goals as goal
+
+pub returns : goal.returns
+returns c = loans_kept
