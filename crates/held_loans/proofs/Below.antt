@@ -44,7 +44,7 @@ use Rattle.held_loans.specs.inner.Loans.{loans_of}
 use Rattle.held_loans.proofs.CallsClear.{not_lent}
 use Rattle.held_loans.proofs.Clear.{in_root}
 use Rattle.held_loans.proofs.LoanAt.{LendsCell, lends_cell}
-use Rattle.held_loans.proofs.OpenScopes.{lent_on}
+use Rattle.held_loans.proofs.Waiting.{waiting_holds, waiting_not_lent}
 
 abbrev pub TrackedBelow : Module → Frame → List (Task Frame) → Type 0
 TrackedBelow m callee tasks =
@@ -89,48 +89,8 @@ module _ (m : Module) (verified : IsVerified m) (memory later : Memory) (w : Wor
       → (f : Function) (s : ValueId) (x : Datum) (k : ℕ) → slice_get m.functions frame.function.0 ≡ Some f → is_borrow f s ≡ true → entry_at frame.entries s ≡ Lent x
       → loans_of m f frame s k ≡ true → Frees (declarations_of m) f frame k → ⊥
   waits_never callee frame rest typed placed along f s x k is borrow lent lends free =
-      not_lent trail_laws m number f accepted memory frame rest holds point placed.call frame.lent call placed.lent k
-      (record { scope = s; cell = cell; on = lent_on m number f accepted frame.trail (item.Inst point) call.trail turned frame.entries (along f is).tracked s cell.address x borrow lent cell.source })
-      (lent_where_free m f memory frame rest holds s k cell free)
-    where
-      number : ℕ
-      number = frame.function.0
-
-      point : PointId
-      point = stands_at f frame.trail
-
-      of : FrameIs m w f frame
-      of = subst (λ b. FrameIs m w b frame) (same_Some typed.f f (sym typed.of.is ∙ is)) typed.of
-
-      same : placed.f ≡ f
-      same = same_Some placed.f f (sym placed.is ∙ is)
-
-      holds : HoldsPlaces m memory f frame rest
-      holds = subst (λ b. HoldsPlaces m memory b frame rest) same placed.holds
-
-      stands : inst_at f (stands_at f frame.trail) ≡ Some placed.call
-      stands = subst (λ b. inst_at b (stands_at b frame.trail) ≡ Some placed.call) same placed.stands
-
-      accepted : IsAcceptedBody m frame.function.0 f
-      accepted = accepted_body m verified frame.function f of.is of.bodied
-
-      run : IsRunTrail f (item.Inst (stands_at f frame.trail) ∷ frame.trail)
-      run = (are_next f frame.trail (item.Inst point) of.goes (inst_comes f point placed.call stands), of.trail)
-
-      turned : IsTurnedTrail f (item.Inst (stands_at f frame.trail) ∷ frame.trail)
-      turned = turned_next m number f accepted frame.trail (item.Inst point) of.trail of.goes (inst_comes f point placed.call stands)
-
-      call : IsCallAt trail_laws m frame.function.0 f accepted frame.trail (stands_at f frame.trail) placed.call
-      call = comes_to_call trail_laws m number f accepted w frame.entries of.entries frame.trail point placed.call frame.lent (record {
-        inst = stands;
-        calls = placed.calls;
-        trail = run;
-        goes = of.goes;
-        by = placed.lent;
-      })
-
-      cell : LendsCell m f frame s k
-      cell = lends_cell m f frame s k lends
+      waiting_not_lent m verified memory w callee frame rest typed placed f is (along f is) s x k borrow lent lends
+      (lent_where_free m f memory frame rest (waiting_holds m verified memory w callee frame rest typed placed f is (along f is)) s k (lends_cell m f frame s k lends) free)
 
   mutual
     pub below_kept : (callee : Frame) (rest : List (Task Frame)) → BelowTyped m w callee rest → BelowPlaced m memory callee rest → TrackedBelow m callee rest → StaysFor rest

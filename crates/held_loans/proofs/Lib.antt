@@ -6,4 +6,12 @@ pub mod Undisturbed
 pub mod OpenScopes
 pub mod RootsStay
 pub mod CallsClear
+pub mod Waiting
 pub mod Below
+pub mod AtItems
+pub mod Instructions
+pub mod Kept
+pub mod Trivial
+pub mod Keeping
+pub mod Arguments
+pub mod Loaded

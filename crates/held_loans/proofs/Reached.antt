@@ -50,13 +50,13 @@ reaches _ whole s u e (inside {t = t} {k = k} {path = path} at part) =
 -- and what it leads to is a part
 pub lies_at : (path : List ℕ) (whole q : Place) → reached whole path ≡ Some q → LiesAt whole path q
 lies_at [] whole q is = subst (LiesAt whole []) (same_Some whole q is) (record { part = here; first = omega arith; home = refl })
-lies_at (k ∷ path) whole q is = at (slice_get (member_shapes whole.shape) k) refl is
+lies_at (k ∷ path) whole q is = at (λ r h. lies_at path r q h) (slice_get (member_shapes whole.shape) k) refl is
   where
-    at : (o : Option Shape) → slice_get (member_shapes whole.shape) k ≡ o
+    at : ((r : Place) → reached r path ≡ Some q → LiesAt r path q) → (o : Option Shape) → slice_get (member_shapes whole.shape) k ≡ o
         → option_and_then (λ r. reached r path) (option_map (part_of whole (member_shapes whole.shape) k) o) ≡ Some q → LiesAt whole (k ∷ path) q
-    at None e h = absurd (none-some q h)
-    at (Some t) e h =
-        let deeper = lies_at path (part_of whole (member_shapes whole.shape) k t) q h in
+    at more None e h = absurd (none-some q h)
+    at more (Some t) e h =
+        let deeper = more (part_of whole (member_shapes whole.shape) k t) h in
         let from = deeper.first in
         let before = along whole.shape t k path e in
         record { part = inside e deeper.part; first = omega (arith, from, before); home = deeper.home }

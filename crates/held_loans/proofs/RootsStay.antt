@@ -78,7 +78,7 @@ module _ (m : Module) (n : ℕ) (f : Function) (a : IsAcceptedBody m n f) (t : L
     made_stays v source.Other = tt
 
     -- a deallocation would overlap the loan
-    never_closed : (x : Inst) → item_inst f i ≡ Some x → deallocates x ≡ true → (v : ValueId) → Contains (addresses_of x) v → is_same v l.root ≡ true → ⊥
+    pub never_closed : (x : Inst) → item_inst f i ≡ Some x → deallocates x ≡ true → (v : ValueId) → Contains (addresses_of x) v → is_same v l.root ≡ true → ⊥
     never_closed x is closes v c same =
         let number : v.0 ≡ l.root.0 = eqb-true v.0 l.root.0 same in
         let root : v ≡ l.root = ap (λ (k : ℕ). record { 0 = k }) number in

@@ -90,7 +90,7 @@ module _ (laws : TrailLaws) (m : Module) (number : ℕ) (f : Function) (body : I
       at : (o : Option Part) → part_at (declarations_of m) f x.cell.location.root ≡ o → IsRootPart laws m number f body x.cell.location.root o
           → is_full_on (declarations_of m) f x.cell.location.root frame.trail ≡ Some true
       at _ e IsRootPart.full = ap (full_by (declarations_of m) f frame.trail) e
-      at _ e (IsRootPart.followed trivial left there more) =
+      at _ e (IsRootPart.followed trivial left there) =
           let same = own_cell laws m number f body x.cell.location.root on in
           ap (full_by (declarations_of m) f frame.trail) e
           ∙ ap (λ c. is_on (declarations_of m) f (Contents c trivial left) frame.trail) (sym same)
@@ -123,6 +123,7 @@ module _ (laws : TrailLaws) (m : Module) (number : ℕ) (f : Function) (body : I
 
     module _ (there : IsThere (declarations_of m) f frame.trail operand.location.root) where
       stands : StandsAt laws m number f body frame frame rest memory point x v o operand.location p
+      unfolding done
       stands = record {
         holds = h;
         none_lent = s.none_lent;

@@ -77,25 +77,25 @@ module _ (laws : TrailLaws) (typing : TypingLaws) (m : Module) (verified : IsVer
     pub bodied : has_any callee.blocks ≡ true
 
   module _ (s : CallsBody) where
-    abbrev point : PointId
+    abbrev pub point : PointId
     point = stands_at f frame.trail
 
-    abbrev left : Frame
+    abbrev pub left : Frame
     left = record frame { entries = ops.left }
 
-    abbrev lent : List LentPlace
+    abbrev pub lent : List LentPlace
     lent = lent_places (drop 1 (item_taken f (item.Inst (stands_at f frame.trail)))) args
 
-    accepted : IsAcceptedBody m frame.function.0 f
+    pub accepted : IsAcceptedBody m frame.function.0 f
     accepted = body laws typing m verified w memory frame rest f first
 
-    now : IsFirst m w memory (record frame { entries = ops.left }) rest f
+    pub now : IsFirst m w memory (record frame { entries = ops.left }) rest f
     now = left_first laws typing m verified w memory frame rest f first facts (item.Inst point) ops s.reads
 
     over : HandsOver f (stands_at f frame.trail) i ops.left args callee
     over = typing.calls m frame.function.0 f w facts memory frame.entries point ops s.reads i s.here shapes values g args callee s.is s.there
 
-    call : IsCallAt laws m frame.function.0 f accepted frame.trail point i
+    pub call : IsCallAt laws m frame.function.0 f accepted frame.trail point i
     call = comes_to_call laws m frame.function.0 f accepted w ops.left now.typed.entries frame.trail point i lent (record {
       inst = s.here;
       calls = calls_by_row (declarations_of m) shapes values memory i ops.given g args s.is;
@@ -116,7 +116,7 @@ module _ (laws : TrailLaws) (typing : TypingLaws) (m : Module) (verified : IsVer
         (λ (inner : (is_part at.location ≡ true) × (l.place.is_part ≡ true)). absurd (true≢false (sym inner.0 ∙ whole)))
         in_root.how
 
-    calling : Calling laws m frame.function.0 f accepted point i memory left rest lent
+    pub calling : Calling laws m frame.function.0 f accepted point i memory left rest lent
     calling = record { call = call; holds = now.holds; none_lent = now.none_lent; by = over.lent; shaped = shaped }
 
     pub never_wrong : are_as_before memory (lent_places (drop 1 (item_taken f (item.Inst (stands_at f frame.trail)))) args) ≡ false → ⊥

@@ -22,7 +22,7 @@ use Rattle.type_definitions.specs.Declarations.{declarations_of}
 use Rattle.type_definitions.specs.declared.kind.Kind.{Kind}
 use Rattle.type_definitions.specs.declared.kind.Kind.TheVariants as kind
 use Rattle.tracked_frames.specs.typed_holders.inner.TypedStates.{EntriesAre, EntryIs, gone, made}
-use Rattle.tracked_frames.specs.typed_memory.inner.Worlds.{DatumIs, World}
+use Rattle.tracked_frames.specs.typed_memory.inner.Worlds.{DatumIs, PlaceIs, World}
 use Rattle.held_places.specs.inner.FramePlaces.{Names}
 use Rattle.held_places.proofs.EntriesKept.{made_datum, ok_once}
 use Rattle.held_places.proofs.Taking.{AreAddressesPlain}
@@ -33,11 +33,21 @@ address_form m w _ _ p (DatumIs.value s x suits) e = absurd (cc)
 address_form m w _ _ p (DatumIs.place q is) e = let same : q ≡ p = cc in ap (λ (r : Place). OfPlace r.shape) same
 address_form m w _ _ p (DatumIs.function g) e = absurd (cc)
 
+address_typed : (m : Module) (w : World) (form : Form) (x : Datum) (p : Place) → DatumIs m w form x → x ≡ AddressOf p → PlaceIs m w p
+address_typed m w _ _ p (DatumIs.value s x suits) e = absurd (cc)
+address_typed m w _ _ p (DatumIs.place q is) e = let same : q ≡ p = cc in subst (PlaceIs m w) same is
+address_typed m w _ _ p (DatumIs.function g) e = absurd (cc)
+
 module _ (m : Module) (w : World) (k : Kind) (form : Form) (p : Place) where
   -- the entry names it, so its form is that of a place
   pub named_form : (e : Entry) → EntryIs m w k form e → datum_in e ≡ Some (AddressOf p) → form ≡ OfPlace p.shape
   named_form _ gone names = absurd (none-some (AddressOf p) names)
   named_form _ (made x e is so) names = address_form m w form x p so (same_Some x (AddressOf p) (sym (made_datum (λ v. None) k x e is) ∙ names))
+
+  -- and the place is typed
+  pub named_typed : (e : Entry) → EntryIs m w k form e → datum_in e ≡ Some (AddressOf p) → PlaceIs m w p
+  named_typed _ gone names = absurd (none-some (AddressOf p) names)
+  named_typed _ (made x e is so) names = address_typed m w form x p so (same_Some x (AddressOf p) (sym (made_datum (λ v. None) k x e is) ∙ names))
 
   -- and where it has no kind the entry was made so
   pub named_plain : (e : Entry) → EntryIs m w k form e → datum_in e ≡ Some (AddressOf p) → k ≡ kind.Plain → e ≡ plain_address p.home (AddressOf p)
@@ -77,6 +87,10 @@ module _ (m : Module) (w : World) (number : ℕ) (f : Function) (body : IsAccept
   pub named_shape : (v : ValueId) (p : Place) → Names entries v p → form_of (declarations_of m) f v ≡ OfPlace p.shape
   named_shape v p names =
       named_form m w (kind_at (declarations_of m) f v) (form_of (declarations_of m) f v) p (entry_at entries v) (typed.each v (within v p names)) names
+
+  pub place_typed : (v : ValueId) (p : Place) → Names entries v p → PlaceIs m w p
+  place_typed v p names =
+      named_typed m w (kind_at (declarations_of m) f v) (form_of (declarations_of m) f v) p (entry_at entries v) (typed.each v (within v p names)) names
 
   pub named_address : (v : ValueId) (p : Place) → Names entries v p → IsAddress (declarations_of m) f v
   named_address v p names = record { shape = p.shape; is = named_shape v p names }
