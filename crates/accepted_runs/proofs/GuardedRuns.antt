@@ -1,15 +1,15 @@
 -- Guards are kept, where open scopes keep what they lend: the part of the invariant that excludes dead objects.
 use Rattle.sil_ast.specs.declared.module.Module.{Module}
-use Rattle.accepted_values.specs.accepted_modules.inner.Checked.{IsVerified}
-use Rattle.held_entries.specs.holder_model.HolderStates.{HolderState}
-use Rattle.typed_holders.specs.inner.TypedStates.{IsTypedState}
-use Rattle.tracked_frames.specs.inner.TrackedStates.{IsTrackedState}
-use Rattle.guarded_entries.specs.inner.GuardedStates.{IsGuardedState, Loans}
-use Rattle.guarded_entries.specs.inner.Laws.{is_dead_fault}
-use Rattle.guarded_entries.specs.inner.LoansKept.{LoansAreKept}
-use Rattle.guarded_entries.proofs.Begun.{begin_guarded}
-use Rattle.guarded_entries.proofs.DeadFaults.{no_dead_faults}
-use Rattle.guarded_entries.proofs.GuardedSteps.{steps_stay_guarded_where}
+use Rattle.followed_objects.specs.accepted_values.accepted_modules.inner.Checked.{IsVerified}
+use Rattle.followed_objects.specs.held_entries.holder_model.HolderStates.{HolderState}
+use Rattle.followed_objects.specs.typed_holders.inner.TypedStates.{IsTypedState}
+use Rattle.followed_objects.specs.tracked_frames.inner.TrackedStates.{IsTrackedState}
+use Rattle.held_loans.specs.guarded_entries.inner.GuardedStates.{IsGuardedState, Loans}
+use Rattle.held_loans.specs.guarded_entries.inner.Laws.{is_dead_fault}
+use Rattle.held_loans.specs.guarded_entries.inner.LoansKept.{LoansAreKept}
+use Rattle.held_loans.proofs.guarded_entries.Begun.{begin_guarded}
+use Rattle.held_loans.proofs.guarded_entries.DeadFaults.{no_dead_faults}
+use Rattle.held_loans.proofs.guarded_entries.GuardedSteps.{steps_stay_guarded_where}
 use Rattle.accepted_runs.specs.inner.Kept.{IsKept}
 use Rattle.accepted_runs.proofs.KeptOnRuns.{And, Nothing}
 

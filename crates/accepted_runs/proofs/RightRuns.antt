@@ -3,28 +3,28 @@ use Rattle.std.proofs.Common.{◌≡◌, ℕ, refl, sym, ◌∙◌, Bool, true, 
 use Rattle.std.specs.Prelude.{◌||◌}
 use Rattle.std.proofs.lemmas.Bool.{true≢false}
 use Rattle.sil_ast.specs.declared.module.Module.{Module}
-use Rattle.held_entries.specs.holder_model.Faults.{ConsumesLent, EmptyPlace, FullPlace, HolderFault, LeavesHeld, LeavesPlace, LeavesSlot, NamesDead, NoEntry}
-use Rattle.held_entries.specs.holder_model.Faults.{NotLastSlot, OverwritesHeld, PlaceNotAsAsked, WrongShape}
-use Rattle.held_entries.specs.holder_model.HolderStates.{HolderState}
-use Rattle.typed_holders.specs.inner.TypedStates.{IsTypedState}
-use Rattle.typed_holders.proofs.TypedSteps.{begin_typed, shapes_right, steps_typed}
-use Rattle.tracked_frames.specs.inner.Laws.{is_entry_fault}
-use Rattle.tracked_frames.specs.inner.TrackedStates.{IsTrackedState}
-use Rattle.tracked_frames.proofs.Begun.{begin_tracked}
-use Rattle.tracked_frames.proofs.TrackedSteps.{entries_are_right, steps_are_tracked}
-use Rattle.held_places.specs.inner.Items.{is_place_fault}
-use Rattle.held_places.specs.inner.Laws.{ArePlacesKept, NoPlaceFaults}
-use Rattle.held_places.specs.inner.PlaceStates.{AreSlotsRight}
-use Rattle.held_places.proofs.ItemsPlaced.{items_placed}
-use Rattle.held_places.proofs.PlacedSteps.{begin_placed, no_place_faults, places_kept}
-use Rattle.held_places.proofs.TrailsSo.{trail_laws}
-use Rattle.held_places.proofs.TypingSo.{typing_laws}
+use Rattle.followed_objects.specs.held_entries.holder_model.Faults.{ConsumesLent, EmptyPlace, FullPlace, HolderFault, LeavesHeld, LeavesPlace, LeavesSlot, NamesDead, NoEntry}
+use Rattle.followed_objects.specs.held_entries.holder_model.Faults.{NotLastSlot, OverwritesHeld, PlaceNotAsAsked, WrongShape}
+use Rattle.followed_objects.specs.held_entries.holder_model.HolderStates.{HolderState}
+use Rattle.followed_objects.specs.typed_holders.inner.TypedStates.{IsTypedState}
+use Rattle.followed_objects.proofs.typed_holders.TypedSteps.{begin_typed, shapes_right, steps_typed}
+use Rattle.followed_objects.specs.tracked_frames.inner.Laws.{is_entry_fault}
+use Rattle.followed_objects.specs.tracked_frames.inner.TrackedStates.{IsTrackedState}
+use Rattle.followed_objects.proofs.tracked_frames.Begun.{begin_tracked}
+use Rattle.followed_objects.proofs.tracked_frames.TrackedSteps.{entries_are_right, steps_are_tracked}
+use Rattle.held_loans.specs.held_places.inner.Items.{is_place_fault}
+use Rattle.held_loans.specs.held_places.inner.Laws.{ArePlacesKept, NoPlaceFaults}
+use Rattle.held_loans.specs.held_places.inner.PlaceStates.{AreSlotsRight}
+use Rattle.held_loans.proofs.held_places.ItemsPlaced.{items_placed}
+use Rattle.held_loans.proofs.held_places.PlacedSteps.{begin_placed, no_place_faults, places_kept}
+use Rattle.held_loans.proofs.held_places.TrailsSo.{trail_laws}
+use Rattle.held_loans.proofs.held_places.TypingSo.{typing_laws}
 use Rattle.followed_objects.specs.inner.Said.{said}
 use Rattle.followed_objects.proofs.BuiltSteps.{begin_built, objects_kept}
 use Rattle.followed_objects.proofs.Found.{find_fields}
-use Rattle.held_objects.specs.inner.ObjectStates.{AreObjectsRight}
-use Rattle.guarded_entries.specs.inner.GuardedStates.{IsGuardedState}
-use Rattle.guarded_entries.specs.inner.Laws.{is_dead_fault}
+use Rattle.followed_objects.specs.held_objects.inner.ObjectStates.{AreObjectsRight}
+use Rattle.held_loans.specs.guarded_entries.inner.GuardedStates.{IsGuardedState}
+use Rattle.held_loans.specs.guarded_entries.inner.Laws.{is_dead_fault}
 use Rattle.held_loans.specs.inner.Loans.{loans_of}
 use Rattle.held_loans.proofs.LoansKept.{loans_are_kept}
 use Rattle.accepted_runs.proofs.GuardedRuns.{guarded_kept}

@@ -36,3 +36,6 @@ pub mod EdgeValues
 pub mod RowsRight
 pub mod BuiltBehind
 pub mod BuiltSteps
+pub use Rattle.tracked_frames.proofs.typed_holders as typed_holders
+pub use Rattle.accepted_places.proofs.held_entries as held_entries
+pub use Rattle.tracked_frames.proofs as tracked_frames

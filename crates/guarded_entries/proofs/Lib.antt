@@ -29,3 +29,4 @@ pub mod GuardedItems
 pub mod GuardedWays
 pub mod GuardedDeinits
 pub mod GuardedSteps
+pub use Rattle.holder_counts.proofs as holder_counts

@@ -1,24 +1,24 @@
 -- The places of arguments are on the stack: an argument of the entry that is an address is a root.
 use Rattle.std.proofs.Common.{◌≡◌, ℕ, List, [], ◌∷◌, Bool, true, Contains, Option, Some, None, refl, sym, ap, ◌∙◌, subst, slice_get}
 use Rattle.std.proofs.lemmas.Option.{same_Some}
-use Rattle.accepted_memory.specs.holder_model.Data.{AddressOf}
-use Rattle.accepted_memory.specs.holder_model.Frames.{Frame, datum_in, entry_at}
-use Rattle.accepted_memory.specs.holder_model.HolderStates.{HolderState}
-use Rattle.accepted_memory.specs.holder_model.States.{Runs, Task}
-use Rattle.accepted_memory.specs.memory_accesses.Sources.{argument_source_or, handed_source, source_at, sources_of}
-use Rattle.accepted_memory.specs.memory_accesses.declared.source.Source.{Source}
-use Rattle.accepted_memory.specs.memory_accesses.declared.source.Source.TheVariants as source
-use Rattle.accepted_places.proofs.Fields.{has_among}
-use Rattle.accepted_places.proofs.Naming.{MakesAddress, address_made}
-use Rattle.accepted_places.specs.inner.Located.{IsAddress, IsRoot}
-use Rattle.accepted_values.proofs.Counted.{stands}
-use Rattle.accepted_values.specs.accepted_modules.inner.Checked.{IsVerified}
-use Rattle.accepted_values.specs.inner.Known.{IsAcceptedBody}
+use Rattle.held_places.specs.accepted_memory.holder_model.Data.{AddressOf}
+use Rattle.held_places.specs.accepted_memory.holder_model.Frames.{Frame, datum_in, entry_at}
+use Rattle.held_places.specs.accepted_memory.holder_model.HolderStates.{HolderState}
+use Rattle.held_places.specs.accepted_memory.holder_model.States.{Runs, Task}
+use Rattle.held_places.specs.accepted_memory.memory_accesses.Sources.{argument_source_or, handed_source, source_at, sources_of}
+use Rattle.held_places.specs.accepted_memory.memory_accesses.declared.source.Source.{Source}
+use Rattle.held_places.specs.accepted_memory.memory_accesses.declared.source.Source.TheVariants as source
+use Rattle.held_places.proofs.accepted_places.Fields.{has_among}
+use Rattle.held_places.proofs.accepted_places.Naming.{MakesAddress, address_made}
+use Rattle.held_places.specs.accepted_places.inner.Located.{IsAddress, IsRoot}
+use Rattle.held_places.proofs.accepted_values.Counted.{stands}
+use Rattle.held_places.specs.accepted_values.accepted_modules.inner.Checked.{IsVerified}
+use Rattle.held_places.specs.accepted_values.inner.Known.{IsAcceptedBody}
 use Rattle.argument_conventions.specs.Arguments.{Told, arguments_of}
 use Rattle.argument_conventions.specs.Rows.{address_row}
 use Rattle.argument_conventions.specs.declared.row.AddressRow.{AddressRow}
 use Rattle.item_operands.specs.Items.{item_defined}
-use Rattle.placed_values.proofs.ArgumentsTold.{entry_source}
+use Rattle.held_places.proofs.placed_values.ArgumentsTold.{entry_source}
 use Rattle.point_checks.proofs.Among.{contained_among}
 use Rattle.run_values.specs.Places.{OnStack, Place}
 use Rattle.sil_ast.specs.declared.function.Function.{Function}
@@ -26,8 +26,8 @@ use Rattle.sil_ast.specs.declared.module.Module.{Module}
 use Rattle.sil_ast.specs.declared.place.ValueId.{ValueId}
 use Rattle.sil_cfg.specs.declared.item.Item.TheVariants as item
 use Rattle.type_definitions.specs.Declarations.{Declarations, declarations_of}
-use Rattle.typed_holders.proofs.GoesOn.{accepted_body}
-use Rattle.typed_holders.specs.inner.TypedStates.{FrameIs, TasksAre}
+use Rattle.held_places.proofs.typed_holders.GoesOn.{accepted_body}
+use Rattle.held_places.specs.typed_holders.inner.TypedStates.{FrameIs, TasksAre}
 use Rattle.guarded_entries.proofs.Following.{argument_made}
 use Rattle.guarded_entries.specs.inner.Guards.{IsArgument}
 use Rattle.guarded_entries.specs.inner.LoansKept.{IsPlacedState}

@@ -1,19 +1,19 @@
 -- A state in which an item comes next: the first frame without the operands that end, and what its open scopes lend.
 use Rattle.std.proofs.Common.{◌≡◌, ℕ, List, [], ◌∷◌, Bool, true, false, Option, Some, Ok, refl, sym, ap, ◌∙◌, subst, slice_get}
 use Rattle.std.proofs.lemmas.Option.{same_Some}
-use Rattle.accepted_memory.specs.accepted_trails.inner.Defined.{makes}
-use Rattle.accepted_memory.specs.holder_model.Data.{AddressOf, Datum}
-use Rattle.accepted_memory.specs.holder_model.Frames.{Entry, Frame, Lent, Operands, datum_in, entry_at, operands_of, results_put, without_ended}
-use Rattle.accepted_memory.specs.holder_model.HolderStates.{HolderState}
-use Rattle.accepted_memory.specs.holder_model.Standing.{stands_at}
-use Rattle.accepted_memory.specs.holder_model.States.{Runs, Task}
-use Rattle.accepted_memory.specs.run_trails.inner.RunTrails.{GoesOn, IsRunTrail, IsTurnedTrail}
-use Rattle.accepted_places.specs.inner.Loans.{IsLentOn}
-use Rattle.accepted_values.specs.accepted_modules.inner.Checked.{IsVerified}
-use Rattle.accepted_values.specs.inner.Known.{IsAcceptedBody}
-use Rattle.held_entries.proofs.accepted_trails.run_trails.WalkEdges.{are_next}
-use Rattle.held_entries.specs.accepted_trails.ownership_kinds.Facts.{facts_in}
-use Rattle.held_entries.specs.inner.Tracked.{AreTrackedLeft}
+use Rattle.held_places.specs.accepted_memory.accepted_trails.inner.Defined.{makes}
+use Rattle.held_places.specs.accepted_memory.holder_model.Data.{AddressOf, Datum}
+use Rattle.held_places.specs.accepted_memory.holder_model.Frames.{Entry, Frame, Lent, Operands, datum_in, entry_at, operands_of, results_put, without_ended}
+use Rattle.held_places.specs.accepted_memory.holder_model.HolderStates.{HolderState}
+use Rattle.held_places.specs.accepted_memory.holder_model.Standing.{stands_at}
+use Rattle.held_places.specs.accepted_memory.holder_model.States.{Runs, Task}
+use Rattle.held_places.specs.accepted_memory.run_trails.inner.RunTrails.{GoesOn, IsRunTrail, IsTurnedTrail}
+use Rattle.held_places.specs.accepted_places.inner.Loans.{IsLentOn}
+use Rattle.held_places.specs.accepted_values.accepted_modules.inner.Checked.{IsVerified}
+use Rattle.held_places.specs.accepted_values.inner.Known.{IsAcceptedBody}
+use Rattle.held_places.proofs.held_entries.accepted_trails.run_trails.WalkEdges.{are_next}
+use Rattle.held_places.specs.held_entries.accepted_trails.ownership_kinds.Facts.{facts_in}
+use Rattle.held_places.specs.held_entries.inner.Tracked.{AreTrackedLeft}
 use Rattle.item_operands.specs.Items.{item_defined, item_taken}
 use Rattle.ownership_chains.specs.declared.facts.Facts.{Facts}
 use Rattle.run_values.specs.Memory.{Memory}
@@ -23,14 +23,14 @@ use Rattle.sil_ast.specs.declared.module.Module.{Module}
 use Rattle.sil_ast.specs.declared.place.ValueId.{ValueId}
 use Rattle.sil_cfg.specs.declared.item.Item.{Item}
 use Rattle.type_definitions.specs.Declarations.{declarations_of}
-use Rattle.typed_holders.proofs.GoesOn.{accepted_body}
-use Rattle.typed_holders.proofs.Operands.{operands_read}
-use Rattle.typed_holders.proofs.Stacks.{BelowTyped}
-use Rattle.typed_holders.specs.inner.TypedStates.{FrameIs, TasksAre}
-use Rattle.typed_memory.specs.inner.Worlds.{World}
-use Rattle.tracked_frames.proofs.NextItems.{turned_next}
-use Rattle.tracked_frames.proofs.OperandsFound.{operands_left, tracked_left}
-use Rattle.tracked_frames.specs.inner.TrackedStates.{AreTasksTracked, GoesAlong, InFunction}
+use Rattle.held_places.proofs.typed_holders.GoesOn.{accepted_body}
+use Rattle.held_places.proofs.typed_holders.Operands.{operands_read}
+use Rattle.held_places.proofs.typed_holders.Stacks.{BelowTyped}
+use Rattle.held_places.specs.typed_holders.inner.TypedStates.{FrameIs, TasksAre}
+use Rattle.held_places.specs.typed_memory.inner.Worlds.{World}
+use Rattle.held_places.proofs.tracked_frames.NextItems.{turned_next}
+use Rattle.held_places.proofs.tracked_frames.OperandsFound.{operands_left, tracked_left}
+use Rattle.held_places.specs.tracked_frames.inner.TrackedStates.{AreTasksTracked, GoesAlong, InFunction}
 use Rattle.value_tables.specs.Borrows.{is_borrow}
 use Rattle.held_places.specs.inner.FramePlaces.{HoldsPlaces, Names}
 use Rattle.held_places.specs.inner.PlaceStates.{AreSlotsRight, BelowPlaced, TasksPlaced}

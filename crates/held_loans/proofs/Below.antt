@@ -2,15 +2,15 @@
 use Rattle.std.proofs.Common.{◌≡◌, ◌⊎◌, ⊎_elim, inl, inr, ◌<◌, ℕ, List, [], ◌∷◌, length, Bool, true, false, Option, Some, refl, sym, ap, ◌∙◌, subst, slice_get}
 use Rattle.std.proofs.lemmas.Bool.{false≢true}
 use Rattle.std.proofs.lemmas.Option.{same_Some, slice_get_within}
-use Rattle.accepted_memory.specs.holder_model.Data.{Datum}
-use Rattle.accepted_memory.specs.holder_model.Frames.{Frame, Lent, entry_at}
-use Rattle.accepted_memory.specs.holder_model.Standing.{stands_at}
-use Rattle.accepted_memory.specs.holder_model.States.{Drops, Finishes, Runs, Task}
-use Rattle.accepted_memory.specs.run_trails.inner.RunTrails.{IsRunTrail, IsTurnedTrail}
-use Rattle.accepted_values.specs.accepted_modules.inner.Checked.{IsVerified}
-use Rattle.accepted_values.specs.inner.Known.{IsAcceptedBody}
-use Rattle.held_entries.proofs.accepted_trails.run_trails.WalkEdges.{are_next}
-use Rattle.holder_steps.specs.inner.Stacks.{Below, Going}
+use Rattle.held_places.specs.accepted_memory.holder_model.Data.{Datum}
+use Rattle.held_places.specs.accepted_memory.holder_model.Frames.{Frame, Lent, entry_at}
+use Rattle.held_places.specs.accepted_memory.holder_model.Standing.{stands_at}
+use Rattle.held_places.specs.accepted_memory.holder_model.States.{Drops, Finishes, Runs, Task}
+use Rattle.held_places.specs.accepted_memory.run_trails.inner.RunTrails.{IsRunTrail, IsTurnedTrail}
+use Rattle.held_places.specs.accepted_values.accepted_modules.inner.Checked.{IsVerified}
+use Rattle.held_places.specs.accepted_values.inner.Known.{IsAcceptedBody}
+use Rattle.held_places.proofs.held_entries.accepted_trails.run_trails.WalkEdges.{are_next}
+use Rattle.held_places.specs.holder_steps.inner.Stacks.{Below, Going}
 use Rattle.memory_cells.specs.inner.Cells.{cell_at, has_cell}
 use Rattle.item_operands.specs.Parts.{inst_at}
 use Rattle.run_values.specs.Cells.{Keeps}
@@ -25,12 +25,12 @@ use Rattle.sil_ast.specs.declared.place.ValueId.{ValueId}
 use Rattle.sil_cfg.specs.declared.item.Item.{Item}
 use Rattle.sil_cfg.specs.declared.item.Item.TheVariants as item
 use Rattle.type_definitions.specs.Declarations.{declarations_of}
-use Rattle.typed_holders.proofs.GoesOn.{accepted_body}
-use Rattle.typed_holders.proofs.Stacks.{BelowTyped}
-use Rattle.typed_holders.specs.inner.TypedStates.{EntriesAre, FrameIs, TasksAre, WaitsTyped}
-use Rattle.typed_memory.specs.inner.Worlds.{World}
-use Rattle.tracked_frames.proofs.NextItems.{inst_comes, turned_next}
-use Rattle.tracked_frames.specs.inner.TrackedStates.{AreTasksTracked, GoesAlong, InFunction, WaitsAlong}
+use Rattle.held_places.proofs.typed_holders.GoesOn.{accepted_body}
+use Rattle.held_places.proofs.typed_holders.Stacks.{BelowTyped}
+use Rattle.held_places.specs.typed_holders.inner.TypedStates.{EntriesAre, FrameIs, TasksAre, WaitsTyped}
+use Rattle.held_places.specs.typed_memory.inner.Worlds.{World}
+use Rattle.held_places.proofs.tracked_frames.NextItems.{inst_comes, turned_next}
+use Rattle.held_places.specs.tracked_frames.inner.TrackedStates.{AreTasksTracked, GoesAlong, InFunction, WaitsAlong}
 use Rattle.value_tables.specs.Borrows.{is_borrow}
 use Rattle.guarded_entries.specs.inner.Guards.{KeepsAt}
 use Rattle.guarded_entries.specs.inner.Stepping.{KeepLoans, KeepsLoans}

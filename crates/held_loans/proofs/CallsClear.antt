@@ -1,18 +1,18 @@
 -- What a call lends so that nobody shares it has no cell that an open scope lends.
 use Rattle.std.proofs.Common.{◌≡◌, ℕ, List, [], ◌∷◌, Bool, true, false, not, Some, refl, sym, ap, ◌∙◌, subst}
 use Rattle.std.proofs.lemmas.Bool.{true≢false}
-use Rattle.accepted_memory.specs.holder_model.Frames.{Frame, LentPlace}
-use Rattle.accepted_memory.specs.holder_model.States.{Task}
-use Rattle.accepted_memory.specs.memory_accesses.Operations.{operations_of}
-use Rattle.accepted_memory.specs.memory_accesses.Rows.{is_part}
-use Rattle.accepted_memory.specs.memory_accesses.Sources.{sources_of}
-use Rattle.accepted_memory.specs.memory_accesses.declared.access.Operation.TheVariants.{Handed}
-use Rattle.accepted_memory.specs.memory_accesses.declared.location.Location.{Location}
-use Rattle.accepted_memory.specs.memory_parts.Loans.{writes}
-use Rattle.accepted_memory.specs.run_trails.inner.RunTrails.{IsRunTrail}
-use Rattle.accepted_places.proofs.Apart.{apart_by_cells}
-use Rattle.accepted_places.proofs.LoansKept.{loans_unwritten}
-use Rattle.accepted_values.specs.inner.Known.{IsAcceptedBody}
+use Rattle.held_places.specs.accepted_memory.holder_model.Frames.{Frame, LentPlace}
+use Rattle.held_places.specs.accepted_memory.holder_model.States.{Task}
+use Rattle.held_places.specs.accepted_memory.memory_accesses.Operations.{operations_of}
+use Rattle.held_places.specs.accepted_memory.memory_accesses.Rows.{is_part}
+use Rattle.held_places.specs.accepted_memory.memory_accesses.Sources.{sources_of}
+use Rattle.held_places.specs.accepted_memory.memory_accesses.declared.access.Operation.TheVariants.{Handed}
+use Rattle.held_places.specs.accepted_memory.memory_accesses.declared.location.Location.{Location}
+use Rattle.held_places.specs.accepted_memory.memory_parts.Loans.{writes}
+use Rattle.held_places.specs.accepted_memory.run_trails.inner.RunTrails.{IsRunTrail}
+use Rattle.held_places.proofs.accepted_places.Apart.{apart_by_cells}
+use Rattle.held_places.proofs.accepted_places.LoansKept.{loans_unwritten}
+use Rattle.held_places.specs.accepted_values.inner.Known.{IsAcceptedBody}
 use Rattle.argument_conventions.specs.Rows.{only_reads, row_of}
 use Rattle.argument_conventions.specs.declared.convention.AddressConvention.{AddressConvention}
 use Rattle.argument_conventions.specs.declared.convention.AddressConvention.TheVariants as convention

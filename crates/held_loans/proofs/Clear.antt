@@ -2,14 +2,14 @@
 use Rattle.std.proofs.Common.{◌≡◌, ◌⊎◌, ⊎_elim, inl, inr, ◌==◌, ◌&&◌, ◌||◌, ℕ, List, [], ◌∷◌, Bool, true, false, Option, Some, refl, sym, ap, ◌∙◌, subst, arith, eqb-true}
 use Rattle.std.specs.List.{starts_with}
 use Rattle.std.proofs.lemmas.Bool.{or_parts, true≢false}
-use Rattle.accepted_memory.specs.accepted_trails.inner.Bases.{IsAsMade}
-use Rattle.accepted_memory.specs.holder_model.Frames.{Frame}
-use Rattle.accepted_memory.specs.holder_model.States.{Task}
-use Rattle.accepted_memory.specs.memory_accesses.Locations.{do_overlap, location_of, meet, same_step}
-use Rattle.accepted_memory.specs.memory_accesses.Rows.{has_steps, is_part}
-use Rattle.accepted_memory.specs.memory_accesses.Sources.{source_at, sources_of}
-use Rattle.accepted_memory.specs.memory_accesses.declared.location.Location.{Location}
-use Rattle.accepted_places.specs.inner.Loans.{AreApartByCells, IsBefore}
+use Rattle.held_places.specs.accepted_memory.accepted_trails.inner.Bases.{IsAsMade}
+use Rattle.held_places.specs.accepted_memory.holder_model.Frames.{Frame}
+use Rattle.held_places.specs.accepted_memory.holder_model.States.{Task}
+use Rattle.held_places.specs.accepted_memory.memory_accesses.Locations.{do_overlap, location_of, meet, same_step}
+use Rattle.held_places.specs.accepted_memory.memory_accesses.Rows.{has_steps, is_part}
+use Rattle.held_places.specs.accepted_memory.memory_accesses.Sources.{source_at, sources_of}
+use Rattle.held_places.specs.accepted_memory.memory_accesses.declared.location.Location.{Location}
+use Rattle.held_places.specs.accepted_places.inner.Loans.{AreApartByCells, IsBefore}
 use Rattle.memory_cells.specs.inner.Cells.{has_cell}
 use Rattle.memory_cells.proofs.PlaceCells.{cell_within}
 use Rattle.run_values.specs.Memory.{Memory}

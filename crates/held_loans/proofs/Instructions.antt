@@ -2,31 +2,31 @@
 use Rattle.std.proofs.Common.{◌≡◌, ◌⊎◌, ⊎_elim, inl, inr, ◌==◌, ◌&&◌, ◌<◌, ◌++◌, append-nil, ℕ, List, [], ◌∷◌, length, Bool, true, false, cond, Contains, Option, Some, None, refl, sym, ap, ◌∙◌, subst, slice_get, eq-eqb}
 use Rattle.std.proofs.lemmas.Bool.{false_from_ne_true, or_left, true≢false}
 use Rattle.std.proofs.lemmas.List.Elements.{Contains-push}
-use Rattle.accepted_memory.specs.holder_model.Data.{AddressOf, Datum, ValueOf}
-use Rattle.accepted_memory.specs.holder_model.Effects as effects
-use Rattle.accepted_memory.specs.holder_model.Effects.{Change, effect_of}
-use Rattle.accepted_memory.specs.holder_model.Frames.{Entry, Frame, Operands}
-use Rattle.accepted_memory.specs.holder_model.MemoryEffects.{after, effect, operation_done, takes}
-use Rattle.accepted_memory.specs.holder_model.ModuleShapes.{ModuleShapes, field_shapes}
-use Rattle.accepted_memory.specs.holder_model.HolderStates.{HolderState}
-use Rattle.accepted_memory.specs.holder_model.States.{Runs, Task}
-use Rattle.accepted_memory.specs.holder_model.declared.row_effect.RowEffect.TheVariants as row
-use Rattle.accepted_memory.specs.memory_accesses.Locations.{location_of, whole}
-use Rattle.accepted_memory.specs.memory_accesses.Operations.{access_kind_of, addresses_of, deallocates, operated, operation_by, operations_of}
-use Rattle.accepted_memory.specs.memory_accesses.Sources.{is_slot_source, source_at, sources_of}
-use Rattle.accepted_memory.specs.memory_accesses.declared.access.Operation.{Operation}
-use Rattle.accepted_memory.specs.memory_accesses.declared.access.Operation.TheVariants.{Take, TrivialStore}
-use Rattle.accepted_memory.specs.memory_accesses.declared.source.Source.{Source}
-use Rattle.accepted_memory.specs.memory_accesses.declared.source.Source.TheVariants as source
-use Rattle.accepted_places.proofs.OperationsRight.{of_slots}
-use Rattle.accepted_places.specs.inner.Located.{IsAddress}
-use Rattle.accepted_values.proofs.run_typing_laws.Rows.Points.{is_at}
-use Rattle.accepted_values.specs.accepted_modules.inner.Checked.{IsVerified}
-use Rattle.accepted_values.specs.accepted_modules.sil_types.Typing.Shapes.{is_trivial_object, target}
-use Rattle.accepted_values.specs.inner.Known.{IsAcceptedBody, type_in}
-use Rattle.holder_counts.proofs.Changes.{changes_told}
-use Rattle.holder_counts.specs.inner.Doing.{Leaves}
-use Rattle.holder_counts.specs.inner.Keeping.{with_new_object, with_new_slot}
+use Rattle.held_places.specs.accepted_memory.holder_model.Data.{AddressOf, Datum, ValueOf}
+use Rattle.held_places.specs.accepted_memory.holder_model.Effects as effects
+use Rattle.held_places.specs.accepted_memory.holder_model.Effects.{Change, effect_of}
+use Rattle.held_places.specs.accepted_memory.holder_model.Frames.{Entry, Frame, Operands}
+use Rattle.held_places.specs.accepted_memory.holder_model.MemoryEffects.{after, effect, operation_done, takes}
+use Rattle.held_places.specs.accepted_memory.holder_model.ModuleShapes.{ModuleShapes, field_shapes}
+use Rattle.held_places.specs.accepted_memory.holder_model.HolderStates.{HolderState}
+use Rattle.held_places.specs.accepted_memory.holder_model.States.{Runs, Task}
+use Rattle.held_places.specs.accepted_memory.holder_model.declared.row_effect.RowEffect.TheVariants as row
+use Rattle.held_places.specs.accepted_memory.memory_accesses.Locations.{location_of, whole}
+use Rattle.held_places.specs.accepted_memory.memory_accesses.Operations.{access_kind_of, addresses_of, deallocates, operated, operation_by, operations_of}
+use Rattle.held_places.specs.accepted_memory.memory_accesses.Sources.{is_slot_source, source_at, sources_of}
+use Rattle.held_places.specs.accepted_memory.memory_accesses.declared.access.Operation.{Operation}
+use Rattle.held_places.specs.accepted_memory.memory_accesses.declared.access.Operation.TheVariants.{Take, TrivialStore}
+use Rattle.held_places.specs.accepted_memory.memory_accesses.declared.source.Source.{Source}
+use Rattle.held_places.specs.accepted_memory.memory_accesses.declared.source.Source.TheVariants as source
+use Rattle.held_places.proofs.accepted_places.OperationsRight.{of_slots}
+use Rattle.held_places.specs.accepted_places.inner.Located.{IsAddress}
+use Rattle.held_places.proofs.accepted_values.run_typing_laws.Rows.Points.{is_at}
+use Rattle.held_places.specs.accepted_values.accepted_modules.inner.Checked.{IsVerified}
+use Rattle.held_places.specs.accepted_values.accepted_modules.sil_types.Typing.Shapes.{is_trivial_object, target}
+use Rattle.held_places.specs.accepted_values.inner.Known.{IsAcceptedBody, type_in}
+use Rattle.guarded_entries.proofs.holder_counts.Changes.{changes_told}
+use Rattle.guarded_entries.specs.holder_counts.inner.Doing.{Leaves}
+use Rattle.guarded_entries.specs.holder_counts.inner.Keeping.{with_new_object, with_new_slot}
 use Rattle.item_operands.specs.Items.{item_taken, taken_in}
 use Rattle.item_operands.specs.Parts.{inst_at}
 use Rattle.item_operands.specs.Roles.{conventions_in, roles_for, taken_as, taken_by, taken_each}

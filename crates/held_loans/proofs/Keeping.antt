@@ -3,11 +3,11 @@ use Rattle.std.proofs.Common.{◌≡◌, ℕ, zero, suc, ◌+◌, ◌<◌, ◌�
 use Rattle.std.proofs.lemmas.List.{length-drop, length-take-le}
 use Rattle.std.proofs.lemmas.Option.{slice_get_within}
 use Rattle.numbered_form.specs.Lists.{Each}
-use Rattle.holder_counts.proofs.Sums.{total_cons}
-use Rattle.holder_counts.proofs.Values.{read_counted}
-use Rattle.holder_counts.specs.holder_model.Holders.{in_cell, in_cells, of_references}
-use Rattle.holder_counts.specs.inner.Keeping.{KeepsStrongly}
-use Rattle.holder_counts.specs.inner.Naming.{IsReadStrongly}
+use Rattle.guarded_entries.proofs.holder_counts.Sums.{total_cons}
+use Rattle.guarded_entries.proofs.holder_counts.Values.{read_counted}
+use Rattle.guarded_entries.specs.holder_counts.holder_model.Holders.{in_cell, in_cells, of_references}
+use Rattle.guarded_entries.specs.holder_counts.inner.Keeping.{KeepsStrongly}
+use Rattle.guarded_entries.specs.holder_counts.inner.Naming.{IsReadStrongly}
 use Rattle.memory_cells.specs.inner.Cells.{cell_at, has_cell}
 use Rattle.memory_cells.proofs.PlaceCells.{cell_number, get_cell}
 use Rattle.run_values.specs.Cells.{Cell, Gone, Empty, Keeps, cell_count}

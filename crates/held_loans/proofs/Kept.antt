@@ -2,19 +2,19 @@
 use Rattle.std.proofs.Common.{◌≡◌, ◌⊎◌, ℕ, List, [], ◌∷◌, Bool, true, false, drop, Option, Some, Ok, refl, sym, ap, ◌∙◌, subst, slice_get}
 use Rattle.std.proofs.lemmas.Bool.{true≢false}
 use Rattle.std.proofs.lemmas.Option.{same_Some, slice_get_within}
-use Rattle.accepted_memory.specs.holder_model.Calling.{handed_over, lent_places}
-use Rattle.accepted_memory.specs.holder_model.Data.{Datum}
-use Rattle.accepted_memory.specs.holder_model.Effects.{Change}
-use Rattle.accepted_memory.specs.holder_model.Frames.{Entry, Frame, Lent, LentPlace, Operands, entry_at}
-use Rattle.accepted_memory.specs.holder_model.HolderStates.{HolderState}
-use Rattle.accepted_memory.specs.holder_model.ModuleFacts.{facts_of}
-use Rattle.accepted_memory.specs.holder_model.ModuleShapes.{shapes_in}
-use Rattle.accepted_memory.specs.holder_model.Standing.{stands_at}
-use Rattle.accepted_memory.specs.holder_model.States.{Runs, Task}
-use Rattle.accepted_values.specs.accepted_modules.inner.Checked.{IsVerified}
-use Rattle.accepted_values.specs.inner.Known.{IsAcceptedBody}
-use Rattle.accepted_places.specs.inner.Loans.{IsLentOn}
-use Rattle.held_entries.specs.accepted_trails.ownership_kinds.Facts.{facts_in}
+use Rattle.held_places.specs.accepted_memory.holder_model.Calling.{handed_over, lent_places}
+use Rattle.held_places.specs.accepted_memory.holder_model.Data.{Datum}
+use Rattle.held_places.specs.accepted_memory.holder_model.Effects.{Change}
+use Rattle.held_places.specs.accepted_memory.holder_model.Frames.{Entry, Frame, Lent, LentPlace, Operands, entry_at}
+use Rattle.held_places.specs.accepted_memory.holder_model.HolderStates.{HolderState}
+use Rattle.held_places.specs.accepted_memory.holder_model.ModuleFacts.{facts_of}
+use Rattle.held_places.specs.accepted_memory.holder_model.ModuleShapes.{shapes_in}
+use Rattle.held_places.specs.accepted_memory.holder_model.Standing.{stands_at}
+use Rattle.held_places.specs.accepted_memory.holder_model.States.{Runs, Task}
+use Rattle.held_places.specs.accepted_values.accepted_modules.inner.Checked.{IsVerified}
+use Rattle.held_places.specs.accepted_values.inner.Known.{IsAcceptedBody}
+use Rattle.held_places.specs.accepted_places.inner.Loans.{IsLentOn}
+use Rattle.held_places.specs.held_entries.accepted_trails.ownership_kinds.Facts.{facts_in}
 use Rattle.item_operands.specs.Items.{item_taken}
 use Rattle.memory_cells.specs.inner.Cells.{cell_at}
 use Rattle.run_values.specs.Cells.{Keeps}
@@ -30,8 +30,8 @@ use Rattle.sil_ast.specs.declared.place.ValueId.{ValueId}
 use Rattle.sil_cfg.specs.declared.item.Item.{Item}
 use Rattle.sil_cfg.specs.declared.item.Item.TheVariants as item
 use Rattle.type_definitions.specs.Declarations.{declarations_of}
-use Rattle.typed_holders.specs.inner.TypedStates.{TasksAre}
-use Rattle.tracked_frames.specs.inner.TrackedStates.{AreTasksTracked}
+use Rattle.held_places.specs.typed_holders.inner.TypedStates.{TasksAre}
+use Rattle.held_places.specs.tracked_frames.inner.TrackedStates.{AreTasksTracked}
 use Rattle.value_tables.specs.Borrows.{is_borrow}
 use Rattle.guarded_entries.specs.inner.Guards.{KeepsAt}
 use Rattle.guarded_entries.specs.inner.Stepping.{KeepLoans, frame_behind, frame_waiting}

@@ -15,3 +15,5 @@ pub mod Trivial
 pub mod Keeping
 pub mod Arguments
 pub mod Loaded
+pub use Rattle.guarded_entries.proofs as guarded_entries
+pub use Rattle.held_places.proofs as held_places

@@ -4,35 +4,35 @@ use Rattle.std.specs.Prelude.{option_map}
 use Rattle.std.proofs.lemmas.Bool.{false≢true, true≢false}
 use Rattle.std.proofs.lemmas.List.Elements.{Contains-push}
 use Rattle.std.proofs.lemmas.Option.{none-some, same_Some}
-use Rattle.accepted_memory.specs.holder_model.Data.{AddressOf, Datum}
-use Rattle.accepted_memory.specs.holder_model.Effects as effects
-use Rattle.accepted_memory.specs.holder_model.Effects.{Change, effect_of}
-use Rattle.accepted_memory.specs.holder_model.Frames.{Entry, Frame, Operands, datum_in, results_put}
-use Rattle.accepted_memory.specs.holder_model.HolderStates.{HolderState}
-use Rattle.accepted_memory.specs.holder_model.MemoryEffects.{after, effect, takes}
-use Rattle.accepted_memory.specs.holder_model.ModuleShapes.{ModuleShapes}
-use Rattle.accepted_memory.specs.holder_model.States.{Task}
-use Rattle.accepted_memory.specs.holder_model.declared.row_effect.RowEffect.{RowEffect}
-use Rattle.accepted_memory.specs.holder_model.declared.row_effect.RowEffect.TheVariants as row
-use Rattle.accepted_memory.specs.memory_accesses.Locations.{location_of}
-use Rattle.accepted_memory.specs.memory_accesses.Operations.{access_kind_of, operated, operation_by, operations_of}
-use Rattle.accepted_memory.specs.memory_accesses.Rows.{has_by, has_operation, has_steps, is_part}
-use Rattle.accepted_memory.specs.memory_accesses.Sources.{is_trivial_at, loan_source, result_source, source_at, source_by, sources_of}
-use Rattle.accepted_memory.specs.memory_accesses.declared.access.Operation.{Operation}
-use Rattle.accepted_memory.specs.memory_accesses.declared.access.Operation.TheVariants.{Lend}
-use Rattle.accepted_memory.specs.memory_accesses.declared.location.Location.{Location}
-use Rattle.accepted_memory.specs.memory_accesses.declared.source.Source.TheVariants as source
-use Rattle.accepted_places.specs.inner.Located.{IsAddress}
-use Rattle.accepted_places.specs.inner.Stacks.{keeps_slots, slots_on}
-use Rattle.accepted_values.proofs.TableRows.{result_rows}
-use Rattle.accepted_values.proofs.run_typing_laws.Rows.Points.{is_at}
-use Rattle.accepted_values.specs.accepted_modules.inner.Checked.{IsVerified}
-use Rattle.accepted_values.specs.inner.Known.{IsAcceptedBody}
-use Rattle.held_entries.specs.accepted_trails.ownership_kinds.Facts.{facts_in}
-use Rattle.holder_counts.proofs.Changes.{changes_told}
-use Rattle.holder_counts.specs.inner.Doing.{Leaves}
-use Rattle.holder_counts.specs.inner.Naming.{IsReadStrongly}
-use Rattle.holder_counts.specs.holder_model.Holders.{one_object}
+use Rattle.held_places.specs.accepted_memory.holder_model.Data.{AddressOf, Datum}
+use Rattle.held_places.specs.accepted_memory.holder_model.Effects as effects
+use Rattle.held_places.specs.accepted_memory.holder_model.Effects.{Change, effect_of}
+use Rattle.held_places.specs.accepted_memory.holder_model.Frames.{Entry, Frame, Operands, datum_in, results_put}
+use Rattle.held_places.specs.accepted_memory.holder_model.HolderStates.{HolderState}
+use Rattle.held_places.specs.accepted_memory.holder_model.MemoryEffects.{after, effect, takes}
+use Rattle.held_places.specs.accepted_memory.holder_model.ModuleShapes.{ModuleShapes}
+use Rattle.held_places.specs.accepted_memory.holder_model.States.{Task}
+use Rattle.held_places.specs.accepted_memory.holder_model.declared.row_effect.RowEffect.{RowEffect}
+use Rattle.held_places.specs.accepted_memory.holder_model.declared.row_effect.RowEffect.TheVariants as row
+use Rattle.held_places.specs.accepted_memory.memory_accesses.Locations.{location_of}
+use Rattle.held_places.specs.accepted_memory.memory_accesses.Operations.{access_kind_of, operated, operation_by, operations_of}
+use Rattle.held_places.specs.accepted_memory.memory_accesses.Rows.{has_by, has_operation, has_steps, is_part}
+use Rattle.held_places.specs.accepted_memory.memory_accesses.Sources.{is_trivial_at, loan_source, result_source, source_at, source_by, sources_of}
+use Rattle.held_places.specs.accepted_memory.memory_accesses.declared.access.Operation.{Operation}
+use Rattle.held_places.specs.accepted_memory.memory_accesses.declared.access.Operation.TheVariants.{Lend}
+use Rattle.held_places.specs.accepted_memory.memory_accesses.declared.location.Location.{Location}
+use Rattle.held_places.specs.accepted_memory.memory_accesses.declared.source.Source.TheVariants as source
+use Rattle.held_places.specs.accepted_places.inner.Located.{IsAddress}
+use Rattle.held_places.specs.accepted_places.inner.Stacks.{keeps_slots, slots_on}
+use Rattle.held_places.proofs.accepted_values.TableRows.{result_rows}
+use Rattle.held_places.proofs.accepted_values.run_typing_laws.Rows.Points.{is_at}
+use Rattle.held_places.specs.accepted_values.accepted_modules.inner.Checked.{IsVerified}
+use Rattle.held_places.specs.accepted_values.inner.Known.{IsAcceptedBody}
+use Rattle.held_places.specs.held_entries.accepted_trails.ownership_kinds.Facts.{facts_in}
+use Rattle.guarded_entries.proofs.holder_counts.Changes.{changes_told}
+use Rattle.guarded_entries.specs.holder_counts.inner.Doing.{Leaves}
+use Rattle.guarded_entries.specs.holder_counts.inner.Naming.{IsReadStrongly}
+use Rattle.guarded_entries.specs.holder_counts.holder_model.Holders.{one_object}
 use Rattle.instruction_table.specs.Forms.{result_kind_of, roles_of}
 use Rattle.instruction_table.specs.declared.op.Op.{Op}
 use Rattle.instruction_table.specs.declared.op.Op.TheVariants as op
@@ -57,9 +57,9 @@ use Rattle.sil_ast.specs.declared.place.PointId.{PointId}
 use Rattle.sil_ast.specs.declared.place.ValueId.{ValueId}
 use Rattle.sil_cfg.specs.declared.item.Item.TheVariants as item
 use Rattle.type_definitions.specs.Declarations.{declarations_of}
-use Rattle.typed_memory.proofs.Homes.{place_read}
-use Rattle.typed_memory.proofs.Trivials.{no_references}
-use Rattle.typed_memory.specs.inner.Worlds.{Suits, names}
+use Rattle.held_places.proofs.typed_memory.Homes.{place_read}
+use Rattle.held_places.proofs.typed_memory.Trivials.{no_references}
+use Rattle.held_places.specs.typed_memory.inner.Worlds.{Suits, names}
 use Rattle.value_tables.specs.Borrows.{borrow_by, borrows, is_borrow}
 use Rattle.value_tables.specs.FirstValue.{first_value, value_of}
 use Rattle.guarded_entries.proofs.TypedGiven.{typed_for_rows}

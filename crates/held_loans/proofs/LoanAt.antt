@@ -3,15 +3,15 @@ use Rattle.std.proofs.Common.{◌≡◌, ◌&&◌, ℕ, List, [], ◌∷◌, Boo
 use Rattle.std.specs.Prelude.{option_and_then}
 use Rattle.std.proofs.lemmas.Bool.{and_from, and_parts, false≢true}
 use Rattle.std.proofs.lemmas.Option.{none-some, same_Some}
-use Rattle.accepted_memory.specs.holder_model.Calling.{place_in}
-use Rattle.accepted_memory.specs.holder_model.Data.{AddressOf, Datum, FunctionOf, ValueOf}
-use Rattle.accepted_memory.specs.holder_model.Frames.{Entry, Frame, datum_in, entry_at}
-use Rattle.accepted_memory.specs.memory_accesses.Locations.{location_of}
-use Rattle.accepted_memory.specs.memory_accesses.Sources.{is_trivial_at, is_trivial_source, source_at, sources_of}
-use Rattle.accepted_memory.specs.memory_accesses.declared.location.Location.{Location}
-use Rattle.accepted_memory.specs.memory_accesses.declared.source.Source.{Source}
-use Rattle.accepted_memory.specs.memory_accesses.declared.source.Source.TheVariants as source
-use Rattle.accepted_places.specs.inner.Stacks.{slots_on}
+use Rattle.held_places.specs.accepted_memory.holder_model.Calling.{place_in}
+use Rattle.held_places.specs.accepted_memory.holder_model.Data.{AddressOf, Datum, FunctionOf, ValueOf}
+use Rattle.held_places.specs.accepted_memory.holder_model.Frames.{Entry, Frame, datum_in, entry_at}
+use Rattle.held_places.specs.accepted_memory.memory_accesses.Locations.{location_of}
+use Rattle.held_places.specs.accepted_memory.memory_accesses.Sources.{is_trivial_at, is_trivial_source, source_at, sources_of}
+use Rattle.held_places.specs.accepted_memory.memory_accesses.declared.location.Location.{Location}
+use Rattle.held_places.specs.accepted_memory.memory_accesses.declared.source.Source.{Source}
+use Rattle.held_places.specs.accepted_memory.memory_accesses.declared.source.Source.TheVariants as source
+use Rattle.held_places.specs.accepted_places.inner.Stacks.{slots_on}
 use Rattle.memory_cells.specs.inner.Cells.{has_cell}
 use Rattle.ownership_chains.specs.Facts.{has}
 use Rattle.run_values.specs.Places.{Place}

@@ -3,21 +3,21 @@ use Rattle.std.proofs.Common.{◌≡◌, ◌&&◌, ℕ, List, [], ◌∷◌, Boo
 use Rattle.std.specs.Prelude.{option_map}
 use Rattle.std.specs.List.{list_any}
 use Rattle.std.proofs.lemmas.Bool.{and_parts, false≢true}
-use Rattle.accepted_memory.proofs.InScopes.{lent_in_scopes}
-use Rattle.accepted_memory.specs.accepted_trails.inner.Lives.{IsScopeIn, is_open}
-use Rattle.accepted_memory.specs.accepted_trails.inner.Passing.{IsPassed, is_end, left_by}
-use Rattle.accepted_memory.specs.memory_accesses.Sources.{source_at, sources_of}
-use Rattle.accepted_memory.specs.memory_accesses.declared.source.Source.TheVariants as source
-use Rattle.accepted_memory.specs.run_trails.inner.RunTrails.{IsRunTrail, IsTurnedTrail}
-use Rattle.accepted_places.proofs.ItemStacks.{accepted_in}
-use Rattle.accepted_places.proofs.LoansKept.{loans_followed}
-use Rattle.accepted_places.specs.inner.Loans.{IsLentOn}
-use Rattle.accepted_values.specs.inner.Known.{IsAcceptedBody}
-use Rattle.held_entries.proofs.accepted_trails.ScopesPassed.{scopes_passed}
-use Rattle.held_entries.specs.accepted_trails.ownership_kinds.Facts.{facts_in}
-use Rattle.held_entries.specs.holder_model.Data.{Datum}
-use Rattle.held_entries.specs.holder_model.Frames.{Entry, Gone, Lent, entry_at}
-use Rattle.held_entries.specs.inner.Tracked.{AreTrackedLeft, IsOwnScope, LendsWhile}
+use Rattle.held_places.proofs.accepted_memory.InScopes.{lent_in_scopes}
+use Rattle.held_places.specs.accepted_memory.accepted_trails.inner.Lives.{IsScopeIn, is_open}
+use Rattle.held_places.specs.accepted_memory.accepted_trails.inner.Passing.{IsPassed, is_end, left_by}
+use Rattle.held_places.specs.accepted_memory.memory_accesses.Sources.{source_at, sources_of}
+use Rattle.held_places.specs.accepted_memory.memory_accesses.declared.source.Source.TheVariants as source
+use Rattle.held_places.specs.accepted_memory.run_trails.inner.RunTrails.{IsRunTrail, IsTurnedTrail}
+use Rattle.held_places.proofs.accepted_places.ItemStacks.{accepted_in}
+use Rattle.held_places.proofs.accepted_places.LoansKept.{loans_followed}
+use Rattle.held_places.specs.accepted_places.inner.Loans.{IsLentOn}
+use Rattle.held_places.specs.accepted_values.inner.Known.{IsAcceptedBody}
+use Rattle.held_places.proofs.held_entries.accepted_trails.ScopesPassed.{scopes_passed}
+use Rattle.held_places.specs.held_entries.accepted_trails.ownership_kinds.Facts.{facts_in}
+use Rattle.held_places.specs.held_entries.holder_model.Data.{Datum}
+use Rattle.held_places.specs.held_entries.holder_model.Frames.{Entry, Gone, Lent, entry_at}
+use Rattle.held_places.specs.held_entries.inner.Tracked.{AreTrackedLeft, IsOwnScope, LendsWhile}
 use Rattle.item_operands.specs.Items.{item_taken}
 use Rattle.sil_ast.specs.declared.function.Function.{Function}
 use Rattle.sil_ast.specs.declared.module.Module.{Module}

@@ -4,31 +4,31 @@ use Rattle.std.specs.Prelude.{option_and_then}
 use Rattle.std.specs.List.{starts_with}
 use Rattle.std.proofs.lemmas.Bool.{and_from, or_left, or_right, true≢false}
 use Rattle.std.proofs.lemmas.Option.{none-some}
-use Rattle.accepted_memory.proofs.PartsTurned.{turn_by}
-use Rattle.accepted_memory.proofs.Turning.{turned_each}
-use Rattle.accepted_memory.specs.inner.PartTrails.{accesses_in}
-use Rattle.accepted_memory.specs.memory_accesses.Accesses.{made_by}
-use Rattle.accepted_memory.specs.memory_accesses.Locations.{do_overlap, location_of, meet, same_step, whole}
-use Rattle.accepted_memory.specs.memory_accesses.Operations.{addresses_of, deallocates}
-use Rattle.accepted_memory.specs.memory_accesses.Sources.{is_slot_source, source_at, sources_of}
-use Rattle.accepted_memory.specs.memory_accesses.declared.access.Access.{Access}
-use Rattle.accepted_memory.specs.memory_accesses.declared.location.Location.{Location}
-use Rattle.accepted_memory.specs.memory_accesses.declared.source.Source.{Source}
-use Rattle.accepted_memory.specs.memory_accesses.declared.source.Source.TheVariants as source
-use Rattle.accepted_memory.specs.memory_parts.Switches.{is_same, when}
-use Rattle.accepted_memory.specs.memory_parts.declared.part.Part.TheVariants.{Allocation}
-use Rattle.accepted_memory.specs.ownership_kinds.Facts.{facts_in}
-use Rattle.accepted_memory.specs.run_trails.inner.RunTrails.{IsRunTrail}
-use Rattle.accepted_places.proofs.Fields.{when_turned}
-use Rattle.accepted_places.proofs.Items.{accesses_each}
-use Rattle.accepted_places.proofs.Locating.{root_location}
-use Rattle.accepted_places.proofs.LoansKept.{loans_there}
-use Rattle.accepted_places.proofs.MadeOnce.{StaysOn, stays_on}
-use Rattle.accepted_places.proofs.Mentioned.{slot_root}
-use Rattle.accepted_places.proofs.Stacked.{has_behind}
-use Rattle.accepted_places.specs.inner.Loans.{IsLentOn}
-use Rattle.accepted_places.specs.inner.Stacks.{slots_on}
-use Rattle.accepted_values.specs.inner.Known.{IsAcceptedBody}
+use Rattle.held_places.proofs.accepted_memory.PartsTurned.{turn_by}
+use Rattle.held_places.proofs.accepted_memory.Turning.{turned_each}
+use Rattle.held_places.specs.accepted_memory.inner.PartTrails.{accesses_in}
+use Rattle.held_places.specs.accepted_memory.memory_accesses.Accesses.{made_by}
+use Rattle.held_places.specs.accepted_memory.memory_accesses.Locations.{do_overlap, location_of, meet, same_step, whole}
+use Rattle.held_places.specs.accepted_memory.memory_accesses.Operations.{addresses_of, deallocates}
+use Rattle.held_places.specs.accepted_memory.memory_accesses.Sources.{is_slot_source, source_at, sources_of}
+use Rattle.held_places.specs.accepted_memory.memory_accesses.declared.access.Access.{Access}
+use Rattle.held_places.specs.accepted_memory.memory_accesses.declared.location.Location.{Location}
+use Rattle.held_places.specs.accepted_memory.memory_accesses.declared.source.Source.{Source}
+use Rattle.held_places.specs.accepted_memory.memory_accesses.declared.source.Source.TheVariants as source
+use Rattle.held_places.specs.accepted_memory.memory_parts.Switches.{is_same, when}
+use Rattle.held_places.specs.accepted_memory.memory_parts.declared.part.Part.TheVariants.{Allocation}
+use Rattle.held_places.specs.accepted_memory.ownership_kinds.Facts.{facts_in}
+use Rattle.held_places.specs.accepted_memory.run_trails.inner.RunTrails.{IsRunTrail}
+use Rattle.held_places.proofs.accepted_places.Fields.{when_turned}
+use Rattle.held_places.proofs.accepted_places.Items.{accesses_each}
+use Rattle.held_places.proofs.accepted_places.Locating.{root_location}
+use Rattle.held_places.proofs.accepted_places.LoansKept.{loans_there}
+use Rattle.held_places.proofs.accepted_places.MadeOnce.{StaysOn, stays_on}
+use Rattle.held_places.proofs.accepted_places.Mentioned.{slot_root}
+use Rattle.held_places.proofs.accepted_places.Stacked.{has_behind}
+use Rattle.held_places.specs.accepted_places.inner.Loans.{IsLentOn}
+use Rattle.held_places.specs.accepted_places.inner.Stacks.{slots_on}
+use Rattle.held_places.specs.accepted_values.inner.Known.{IsAcceptedBody}
 use Rattle.item_operands.specs.Parts.{item_inst}
 use Rattle.numbered_form.specs.Lists.{Each}
 use Rattle.ownership_chains.specs.Facts.{has}

@@ -3,21 +3,21 @@ use Rattle.std.proofs.Common.{◌≡◌, ℕ, List, refl, sym, ap, ◌∙◌, su
 use Rattle.std.specs.Prelude.{option_and_then, slice_get}
 use Rattle.std.proofs.lemmas.Bool.{not-false}
 use Rattle.std.proofs.lemmas.Option.{none-some, same_Some}
-use Rattle.accepted_memory.specs.memory_accesses.Operations.{access_kind_of, operation_by, store_operation}
-use Rattle.accepted_memory.specs.memory_accesses.declared.access.Operation.{Operation}
-use Rattle.accepted_memory.specs.memory_accesses.declared.access.Operation.TheVariants.{TrivialStore}
-use Rattle.accepted_values.specs.accepted_modules.sil_types.Typing.FormRules.{has_word_by, has_wrong_qualifier, is_owned_form, is_write_word}
-use Rattle.accepted_values.specs.accepted_modules.sil_types.Typing.OperandTypes.{is_as_written}
-use Rattle.accepted_values.specs.accepted_modules.sil_types.Typing.RowTypes.{passes, type_of, written}
-use Rattle.accepted_values.specs.accepted_modules.sil_types.Typing.Shapes.{is_trivial_object, target}
-use Rattle.accepted_values.specs.accepted_modules.sil_types.Typing.Typed.{BreaksAtPoint, at_point, point}
-use Rattle.accepted_values.specs.accepted_modules.sil_types.Typing.Values.{value_types}
-use Rattle.accepted_values.specs.inner.Known.{IsAcceptedBody, type_in}
-use Rattle.accepted_values.proofs.Accepted.{in_ownership_form, typed, well_typed}
-use Rattle.accepted_values.proofs.Written.{written_type}
-use Rattle.accepted_values.proofs.run_typing_laws.FunctionFacts.{TypedInst}
-use Rattle.accepted_values.proofs.run_typing_laws.Rows.Finding.{found_behind, never_passes, passed, passes_at}
-use Rattle.accepted_values.proofs.run_typing_laws.ValueForms.{operands_written}
+use Rattle.held_places.specs.accepted_memory.memory_accesses.Operations.{access_kind_of, operation_by, store_operation}
+use Rattle.held_places.specs.accepted_memory.memory_accesses.declared.access.Operation.{Operation}
+use Rattle.held_places.specs.accepted_memory.memory_accesses.declared.access.Operation.TheVariants.{TrivialStore}
+use Rattle.held_places.specs.accepted_values.accepted_modules.sil_types.Typing.FormRules.{has_word_by, has_wrong_qualifier, is_owned_form, is_write_word}
+use Rattle.held_places.specs.accepted_values.accepted_modules.sil_types.Typing.OperandTypes.{is_as_written}
+use Rattle.held_places.specs.accepted_values.accepted_modules.sil_types.Typing.RowTypes.{passes, type_of, written}
+use Rattle.held_places.specs.accepted_values.accepted_modules.sil_types.Typing.Shapes.{is_trivial_object, target}
+use Rattle.held_places.specs.accepted_values.accepted_modules.sil_types.Typing.Typed.{BreaksAtPoint, at_point, point}
+use Rattle.held_places.specs.accepted_values.accepted_modules.sil_types.Typing.Values.{value_types}
+use Rattle.held_places.specs.accepted_values.inner.Known.{IsAcceptedBody, type_in}
+use Rattle.held_places.proofs.accepted_values.Accepted.{in_ownership_form, typed, well_typed}
+use Rattle.held_places.proofs.accepted_values.Written.{written_type}
+use Rattle.held_places.proofs.accepted_values.run_typing_laws.FunctionFacts.{TypedInst}
+use Rattle.held_places.proofs.accepted_values.run_typing_laws.Rows.Finding.{found_behind, never_passes, passed, passes_at}
+use Rattle.held_places.proofs.accepted_values.run_typing_laws.ValueForms.{operands_written}
 use Rattle.instruction_table.specs.Forms.{type_words_of}
 use Rattle.numbered_form.specs.inner.Parts.{may_have}
 use Rattle.instruction_table.specs.declared.op.Op.{Op}

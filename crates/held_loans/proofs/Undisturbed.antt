@@ -3,33 +3,33 @@ use Rattle.std.proofs.Common.{◌≡◌, ◌⊎◌, ⊎_elim, inl, inr, ◌==◌
 use Rattle.std.proofs.lemmas.Bool.{false_from_ne_true, true≢false}
 use Rattle.std.proofs.lemmas.List.Elements.{Contains-push}
 use Rattle.std.proofs.lemmas.Option.{none-some, same_Some}
-use Rattle.accepted_memory.specs.holder_model.Data.{Datum}
-use Rattle.accepted_memory.specs.holder_model.Frames.{Frame}
-use Rattle.accepted_memory.specs.holder_model.States.{Task}
-use Rattle.accepted_memory.specs.memory_accesses.Locations.{cell_of, do_overlap, location_of}
-use Rattle.accepted_memory.specs.memory_accesses.Operations.{access_kind_of, deallocates, operated, operation_by, operations_of}
-use Rattle.accepted_memory.specs.memory_accesses.Rows.{has_operation, is_part}
-use Rattle.accepted_memory.specs.memory_accesses.Sources.{is_trivial_at, source_at, sources_of}
-use Rattle.accepted_memory.specs.memory_accesses.declared.access.Operated.{Operated}
-use Rattle.accepted_memory.specs.memory_accesses.declared.access.Operation.{Operation}
-use Rattle.accepted_memory.specs.memory_accesses.declared.access.Operation.TheVariants.{FirstWrite, Take, TrivialStore, Write}
-use Rattle.accepted_memory.specs.memory_accesses.declared.location.Location.{Location}
-use Rattle.accepted_memory.specs.memory_parts.Loans.{writes}
-use Rattle.accepted_memory.specs.memory_parts.Parts.{whole_cell}
-use Rattle.accepted_memory.specs.memory_parts.declared.part.Part.{Part}
-use Rattle.accepted_memory.specs.memory_parts.declared.part.Part.TheVariants.{Contents}
-use Rattle.accepted_memory.specs.inner.PartTrails.{IsPartOf, is_on}
-use Rattle.accepted_memory.specs.run_trails.inner.RunTrails.{GoesOn, IsRunTrail}
-use Rattle.accepted_memory.specs.run_trails.inner.Switched.{finds}
-use Rattle.accepted_places.proofs.Apart.{apart_by_cells}
-use Rattle.accepted_places.proofs.LoansFull.{loans_full}
-use Rattle.accepted_places.proofs.LoansKept.{loans_unwritten}
-use Rattle.accepted_places.specs.inner.Cells.{IsDoneAt, mark_at, part_at}
-use Rattle.accepted_places.specs.inner.Loans.{IsLentOn}
-use Rattle.accepted_places.specs.inner.Located.{IsAddress}
-use Rattle.accepted_values.proofs.run_typing_laws.Rows.Points.{is_at}
-use Rattle.accepted_values.specs.accepted_modules.sil_types.Typing.Shapes.{is_trivial_object, target}
-use Rattle.accepted_values.specs.inner.Known.{IsAcceptedBody, type_in}
+use Rattle.held_places.specs.accepted_memory.holder_model.Data.{Datum}
+use Rattle.held_places.specs.accepted_memory.holder_model.Frames.{Frame}
+use Rattle.held_places.specs.accepted_memory.holder_model.States.{Task}
+use Rattle.held_places.specs.accepted_memory.memory_accesses.Locations.{cell_of, do_overlap, location_of}
+use Rattle.held_places.specs.accepted_memory.memory_accesses.Operations.{access_kind_of, deallocates, operated, operation_by, operations_of}
+use Rattle.held_places.specs.accepted_memory.memory_accesses.Rows.{has_operation, is_part}
+use Rattle.held_places.specs.accepted_memory.memory_accesses.Sources.{is_trivial_at, source_at, sources_of}
+use Rattle.held_places.specs.accepted_memory.memory_accesses.declared.access.Operated.{Operated}
+use Rattle.held_places.specs.accepted_memory.memory_accesses.declared.access.Operation.{Operation}
+use Rattle.held_places.specs.accepted_memory.memory_accesses.declared.access.Operation.TheVariants.{FirstWrite, Take, TrivialStore, Write}
+use Rattle.held_places.specs.accepted_memory.memory_accesses.declared.location.Location.{Location}
+use Rattle.held_places.specs.accepted_memory.memory_parts.Loans.{writes}
+use Rattle.held_places.specs.accepted_memory.memory_parts.Parts.{whole_cell}
+use Rattle.held_places.specs.accepted_memory.memory_parts.declared.part.Part.{Part}
+use Rattle.held_places.specs.accepted_memory.memory_parts.declared.part.Part.TheVariants.{Contents}
+use Rattle.held_places.specs.accepted_memory.inner.PartTrails.{IsPartOf, is_on}
+use Rattle.held_places.specs.accepted_memory.run_trails.inner.RunTrails.{GoesOn, IsRunTrail}
+use Rattle.held_places.specs.accepted_memory.run_trails.inner.Switched.{finds}
+use Rattle.held_places.proofs.accepted_places.Apart.{apart_by_cells}
+use Rattle.held_places.proofs.accepted_places.LoansFull.{loans_full}
+use Rattle.held_places.proofs.accepted_places.LoansKept.{loans_unwritten}
+use Rattle.held_places.specs.accepted_places.inner.Cells.{IsDoneAt, mark_at, part_at}
+use Rattle.held_places.specs.accepted_places.inner.Loans.{IsLentOn}
+use Rattle.held_places.specs.accepted_places.inner.Located.{IsAddress}
+use Rattle.held_places.proofs.accepted_values.run_typing_laws.Rows.Points.{is_at}
+use Rattle.held_places.specs.accepted_values.accepted_modules.sil_types.Typing.Shapes.{is_trivial_object, target}
+use Rattle.held_places.specs.accepted_values.inner.Known.{IsAcceptedBody, type_in}
 use Rattle.argument_conventions.specs.declared.row.Content.{Content}
 use Rattle.instruction_table.specs.declared.op.Op.TheVariants as op
 use Rattle.item_operands.specs.Items.{item_taken}

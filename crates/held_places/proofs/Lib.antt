@@ -64,3 +64,11 @@ pub mod HandingOver
 pub mod NewParts
 pub mod NamedChanges
 pub mod TypingSo
+pub use Rattle.tracked_frames.proofs.typed_memory as typed_memory
+pub use Rattle.placed_values.proofs.accepted_memory as accepted_memory
+pub use Rattle.tracked_frames.proofs.typed_holders as typed_holders
+pub use Rattle.placed_values.proofs as placed_values
+pub use Rattle.placed_values.proofs.accepted_places as accepted_places
+pub use Rattle.placed_values.proofs.accepted_values as accepted_values
+pub use Rattle.placed_values.proofs.held_entries as held_entries
+pub use Rattle.tracked_frames.proofs as tracked_frames

@@ -1,6 +1,6 @@
 -- The law of loans: in a run of an accepted module steps keep what open scopes lend.
 use Rattle.sil_ast.specs.declared.module.Module.{Module}
-use Rattle.accepted_values.specs.accepted_modules.inner.Checked.{IsVerified}
+use Rattle.held_places.specs.accepted_values.accepted_modules.inner.Checked.{IsVerified}
 use Rattle.held_places.specs.inner.PlaceStates.{AreSlotsRight}
 use Rattle.held_loans.specs.inner.Loans.{loans_of}
 use Rattle.guarded_entries.specs.inner.LoansKept.{LoansAreKept}
