@@ -1,9 +1,9 @@
 -- Guards are kept, where open scopes keep what they lend: the part of the invariant that excludes dead objects.
 use Rattle.sil_ast.specs.declared.module.Module.{Module}
-use Rattle.followed_objects.specs.accepted_values.accepted_modules.inner.Checked.{IsVerified}
-use Rattle.followed_objects.specs.held_entries.holder_model.HolderStates.{HolderState}
-use Rattle.followed_objects.specs.typed_holders.inner.TypedStates.{IsTypedState}
-use Rattle.followed_objects.specs.tracked_frames.inner.TrackedStates.{IsTrackedState}
+use Rattle.held_loans.specs.followed_objects.accepted_values.accepted_modules.inner.Checked.{IsVerified}
+use Rattle.held_loans.specs.followed_objects.held_entries.holder_model.HolderStates.{HolderState}
+use Rattle.held_loans.specs.followed_objects.typed_holders.inner.TypedStates.{IsTypedState}
+use Rattle.held_loans.specs.followed_objects.tracked_frames.inner.TrackedStates.{IsTrackedState}
 use Rattle.held_loans.specs.guarded_entries.inner.GuardedStates.{IsGuardedState, Loans}
 use Rattle.held_loans.specs.guarded_entries.inner.Laws.{is_dead_fault}
 use Rattle.held_loans.specs.guarded_entries.inner.LoansKept.{LoansAreKept}

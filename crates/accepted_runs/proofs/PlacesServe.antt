@@ -1,18 +1,18 @@
 -- What objects ask of the places of a state: an operand that is no address of a field is on the stack, and a frame that waits stands at a call.
 use Rattle.std.proofs.Common.{◌≡◌, ⊎_elim, ℕ, List, ◌∷◌, Contains, Some, refl, sym, ap, ◌∙◌, subst, slice_get}
 use Rattle.std.proofs.lemmas.Option.{same_Some}
-use Rattle.followed_objects.specs.accepted_values.accepted_modules.inner.Checked.{IsVerified}
-use Rattle.followed_objects.specs.accepted_values.inner.Known.{IsAcceptedBody}
-use Rattle.followed_objects.specs.inner.BuiltStates.{AreOthersOnStack, DoPlacesServe, WaitsAtCall}
-use Rattle.followed_objects.proofs.held_entries.accepted_trails.run_trails.WalkEdges.{are_next}
-use Rattle.followed_objects.specs.held_entries.accepted_trails.memory_accesses.Sources.{source_at, sources_of}
-use Rattle.followed_objects.specs.held_entries.accepted_trails.memory_accesses.declared.source.Source.TheVariants as source
-use Rattle.followed_objects.specs.held_entries.holder_model.Effects.{effect_of}
-use Rattle.followed_objects.specs.held_entries.holder_model.Frames.{Frame}
-use Rattle.followed_objects.specs.held_entries.holder_model.HolderStates.{HolderState}
-use Rattle.followed_objects.specs.held_entries.holder_model.Standing.{stands_at}
-use Rattle.followed_objects.specs.held_entries.holder_model.States.{Runs, Task}
-use Rattle.followed_objects.specs.held_entries.holder_model.declared.row_effect.RowEffect.TheVariants as row
+use Rattle.held_loans.specs.followed_objects.accepted_values.accepted_modules.inner.Checked.{IsVerified}
+use Rattle.held_loans.specs.followed_objects.accepted_values.inner.Known.{IsAcceptedBody}
+use Rattle.held_loans.specs.followed_objects.inner.BuiltStates.{AreOthersOnStack, DoPlacesServe, WaitsAtCall}
+use Rattle.held_loans.proofs.followed_objects.held_entries.accepted_trails.run_trails.WalkEdges.{are_next}
+use Rattle.held_loans.specs.followed_objects.held_entries.accepted_trails.memory_accesses.Sources.{source_at, sources_of}
+use Rattle.held_loans.specs.followed_objects.held_entries.accepted_trails.memory_accesses.declared.source.Source.TheVariants as source
+use Rattle.held_loans.specs.followed_objects.held_entries.holder_model.Effects.{effect_of}
+use Rattle.held_loans.specs.followed_objects.held_entries.holder_model.Frames.{Frame}
+use Rattle.held_loans.specs.followed_objects.held_entries.holder_model.HolderStates.{HolderState}
+use Rattle.held_loans.specs.followed_objects.held_entries.holder_model.Standing.{stands_at}
+use Rattle.held_loans.specs.followed_objects.held_entries.holder_model.States.{Runs, Task}
+use Rattle.held_loans.specs.followed_objects.held_entries.holder_model.declared.row_effect.RowEffect.TheVariants as row
 use Rattle.held_loans.specs.held_places.inner.FramePlaces.{Names}
 use Rattle.held_loans.specs.held_places.inner.PlaceStates.{AreSlotsRight, TasksPlaced, WaitsPlaced}
 use Rattle.held_loans.proofs.held_places.Locating.{IsInObject, IsOperandAt, operand_at}
@@ -26,7 +26,7 @@ use Rattle.sil_ast.specs.declared.inst.Inst.{Inst}
 use Rattle.sil_ast.specs.declared.module.Module.{Module}
 use Rattle.sil_cfg.specs.declared.item.Item.TheVariants as item
 use Rattle.type_definitions.specs.Declarations.{declarations_of}
-use Rattle.followed_objects.specs.typed_holders.inner.TypedStates.{FrameIs, IsTypedState}
+use Rattle.held_loans.specs.followed_objects.typed_holders.inner.TypedStates.{FrameIs, IsTypedState}
 
 module _ (m : Module) (s : HolderState) (verified : IsVerified m) (is_typed : IsTypedState m s) (placed : AreSlotsRight m s) where
   others_on_stack : AreOthersOnStack m s

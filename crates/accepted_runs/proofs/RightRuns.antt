@@ -3,15 +3,15 @@ use Rattle.std.proofs.Common.{◌≡◌, ℕ, refl, sym, ◌∙◌, Bool, true, 
 use Rattle.std.specs.Prelude.{◌||◌}
 use Rattle.std.proofs.lemmas.Bool.{true≢false}
 use Rattle.sil_ast.specs.declared.module.Module.{Module}
-use Rattle.followed_objects.specs.held_entries.holder_model.Faults.{ConsumesLent, EmptyPlace, FullPlace, HolderFault, LeavesHeld, LeavesPlace, LeavesSlot, NamesDead, NoEntry}
-use Rattle.followed_objects.specs.held_entries.holder_model.Faults.{NotLastSlot, OverwritesHeld, PlaceNotAsAsked, WrongShape}
-use Rattle.followed_objects.specs.held_entries.holder_model.HolderStates.{HolderState}
-use Rattle.followed_objects.specs.typed_holders.inner.TypedStates.{IsTypedState}
-use Rattle.followed_objects.proofs.typed_holders.TypedSteps.{begin_typed, shapes_right, steps_typed}
-use Rattle.followed_objects.specs.tracked_frames.inner.Laws.{is_entry_fault}
-use Rattle.followed_objects.specs.tracked_frames.inner.TrackedStates.{IsTrackedState}
-use Rattle.followed_objects.proofs.tracked_frames.Begun.{begin_tracked}
-use Rattle.followed_objects.proofs.tracked_frames.TrackedSteps.{entries_are_right, steps_are_tracked}
+use Rattle.held_loans.specs.followed_objects.held_entries.holder_model.Faults.{ConsumesLent, EmptyPlace, FullPlace, HolderFault, LeavesHeld, LeavesPlace, LeavesSlot, NamesDead, NoEntry}
+use Rattle.held_loans.specs.followed_objects.held_entries.holder_model.Faults.{NotLastSlot, OverwritesHeld, PlaceNotAsAsked, WrongShape}
+use Rattle.held_loans.specs.followed_objects.held_entries.holder_model.HolderStates.{HolderState}
+use Rattle.held_loans.specs.followed_objects.typed_holders.inner.TypedStates.{IsTypedState}
+use Rattle.held_loans.proofs.followed_objects.typed_holders.TypedSteps.{begin_typed, shapes_right, steps_typed}
+use Rattle.held_loans.specs.followed_objects.tracked_frames.inner.Laws.{is_entry_fault}
+use Rattle.held_loans.specs.followed_objects.tracked_frames.inner.TrackedStates.{IsTrackedState}
+use Rattle.held_loans.proofs.followed_objects.tracked_frames.Begun.{begin_tracked}
+use Rattle.held_loans.proofs.followed_objects.tracked_frames.TrackedSteps.{entries_are_right, steps_are_tracked}
 use Rattle.held_loans.specs.held_places.inner.Items.{is_place_fault}
 use Rattle.held_loans.specs.held_places.inner.Laws.{ArePlacesKept, NoPlaceFaults}
 use Rattle.held_loans.specs.held_places.inner.PlaceStates.{AreSlotsRight}
@@ -19,10 +19,10 @@ use Rattle.held_loans.proofs.held_places.ItemsPlaced.{items_placed}
 use Rattle.held_loans.proofs.held_places.PlacedSteps.{begin_placed, no_place_faults, places_kept}
 use Rattle.held_loans.proofs.held_places.TrailsSo.{trail_laws}
 use Rattle.held_loans.proofs.held_places.TypingSo.{typing_laws}
-use Rattle.followed_objects.specs.inner.Said.{said}
-use Rattle.followed_objects.proofs.BuiltSteps.{begin_built, objects_kept}
-use Rattle.followed_objects.proofs.Found.{find_fields}
-use Rattle.followed_objects.specs.held_objects.inner.ObjectStates.{AreObjectsRight}
+use Rattle.held_loans.specs.followed_objects.inner.Said.{said}
+use Rattle.held_loans.proofs.followed_objects.BuiltSteps.{begin_built, objects_kept}
+use Rattle.held_loans.proofs.followed_objects.Found.{find_fields}
+use Rattle.held_loans.specs.followed_objects.held_objects.inner.ObjectStates.{AreObjectsRight}
 use Rattle.held_loans.specs.guarded_entries.inner.GuardedStates.{IsGuardedState}
 use Rattle.held_loans.specs.guarded_entries.inner.Laws.{is_dead_fault}
 use Rattle.held_loans.specs.inner.Loans.{loans_of}

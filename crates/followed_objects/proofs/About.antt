@@ -12,42 +12,42 @@ use Rattle.argument_conventions.specs.declared.row.AddressRow.{AddressRow}
 use Rattle.instruction_table.specs.Forms.{is_terminator}
 use Rattle.instruction_table.specs.declared.op.Op.{Op}
 use Rattle.instruction_table.specs.declared.op.Op.TheVariants as op
-use Rattle.accepted_places.specs.accepted_memory.accepted_trails.inner.Bases.{IsAsMade}
-use Rattle.accepted_places.specs.accepted_memory.accepted_trails.inner.Defined.{IsDefinedOn, makes}
-use Rattle.accepted_places.specs.accepted_memory.memory_accesses.Locations.{below, below_by, is_object, locate, located_by, object_lent, upcast_from, whole}
-use Rattle.accepted_places.specs.accepted_memory.memory_accesses.Operations.{access_kind_of}
-use Rattle.accepted_places.specs.accepted_memory.memory_accesses.Sources.{argument_source_or, borrow_source, element_place, field_source, handed_source, is_trivial_member}
-use Rattle.accepted_places.specs.accepted_memory.memory_accesses.Sources.{loan_source, member_place, object_source, part_source, result_source, slot_source, source_at, source_by, sources_of}
-use Rattle.accepted_places.specs.accepted_memory.memory_accesses.Sources.{upcast_source}
-use Rattle.accepted_places.specs.accepted_memory.memory_accesses.declared.columns.AccessKind.{AccessKind}
-use Rattle.accepted_places.specs.accepted_memory.memory_accesses.declared.columns.AccessKind.TheVariants as access
-use Rattle.accepted_places.specs.accepted_memory.memory_accesses.declared.location.Location.{Location}
-use Rattle.accepted_places.specs.accepted_memory.memory_accesses.declared.source.Source.{Source}
-use Rattle.accepted_places.specs.accepted_memory.memory_accesses.declared.source.Source.TheVariants as source
-use Rattle.accepted_places.specs.accepted_memory.memory_parts.Building.{builds, is_object_of}
-use Rattle.accepted_places.specs.accepted_memory.run_trails.inner.RunTrails.{IsTurnedTrail}
-use Rattle.accepted_places.specs.accepted_memory.run_trails.inner.Since.{is_none_since}
-use Rattle.accepted_places.proofs.accepted_memory.accepted_trails.Tests.{any_alike, any_reversed, each_weaker, or_right, picked}
-use Rattle.accepted_places.proofs.accepted_memory.run_trails.RunPaths.{are_trails}
-use Rattle.accepted_places.proofs.accepted_memory.run_trails.SplicedRuns.{are_spliced}
-use Rattle.accepted_places.proofs.accepted_memory.run_trails.TurnedTrails.{are_of_items, turned_item, turned_older}
-use Rattle.accepted_places.proofs.Fields.{has_among}
-use Rattle.accepted_places.proofs.ItemStacks.{accepted_in}
-use Rattle.accepted_places.proofs.Locating.{member_location, root_location, taken_before}
-use Rattle.accepted_places.proofs.Made.{IsMadeBy, argument, made_so, result}
-use Rattle.accepted_places.specs.inner.Located.{IsRoot}
-use Rattle.accepted_places.specs.inner.Located as located
-use Rattle.accepted_places.proofs.accepted_premises.MadeAtStops.{made_at_stops}
-use Rattle.accepted_places.specs.accepted_values.inner.Known.{IsAcceptedBody}
-use Rattle.accepted_places.specs.accepted_values.inner.Rows.{source_of_argument}
-use Rattle.accepted_places.specs.accepted_values.run_typing.EndForms.{value_in}
-use Rattle.accepted_places.proofs.accepted_values.Accepted.{in_ownership_form, typed, well_typed}
+use Rattle.held_places.specs.accepted_places.accepted_memory.accepted_trails.inner.Bases.{IsAsMade}
+use Rattle.held_places.specs.accepted_places.accepted_memory.accepted_trails.inner.Defined.{IsDefinedOn, makes}
+use Rattle.held_places.specs.accepted_places.accepted_memory.memory_accesses.Locations.{below, below_by, is_object, locate, located_by, object_lent, upcast_from, whole}
+use Rattle.held_places.specs.accepted_places.accepted_memory.memory_accesses.Operations.{access_kind_of}
+use Rattle.held_places.specs.accepted_places.accepted_memory.memory_accesses.Sources.{argument_source_or, borrow_source, element_place, field_source, handed_source, is_trivial_member}
+use Rattle.held_places.specs.accepted_places.accepted_memory.memory_accesses.Sources.{loan_source, member_place, object_source, part_source, result_source, slot_source, source_at, source_by, sources_of}
+use Rattle.held_places.specs.accepted_places.accepted_memory.memory_accesses.Sources.{upcast_source}
+use Rattle.held_places.specs.accepted_places.accepted_memory.memory_accesses.declared.columns.AccessKind.{AccessKind}
+use Rattle.held_places.specs.accepted_places.accepted_memory.memory_accesses.declared.columns.AccessKind.TheVariants as access
+use Rattle.held_places.specs.accepted_places.accepted_memory.memory_accesses.declared.location.Location.{Location}
+use Rattle.held_places.specs.accepted_places.accepted_memory.memory_accesses.declared.source.Source.{Source}
+use Rattle.held_places.specs.accepted_places.accepted_memory.memory_accesses.declared.source.Source.TheVariants as source
+use Rattle.held_places.specs.accepted_places.accepted_memory.memory_parts.Building.{builds, is_object_of}
+use Rattle.held_places.specs.accepted_places.accepted_memory.run_trails.inner.RunTrails.{IsTurnedTrail}
+use Rattle.held_places.specs.accepted_places.accepted_memory.run_trails.inner.Since.{is_none_since}
+use Rattle.held_places.proofs.accepted_places.accepted_memory.accepted_trails.Tests.{any_alike, any_reversed, each_weaker, or_right, picked}
+use Rattle.held_places.proofs.accepted_places.accepted_memory.run_trails.RunPaths.{are_trails}
+use Rattle.held_places.proofs.accepted_places.accepted_memory.run_trails.SplicedRuns.{are_spliced}
+use Rattle.held_places.proofs.accepted_places.accepted_memory.run_trails.TurnedTrails.{are_of_items, turned_item, turned_older}
+use Rattle.held_places.proofs.accepted_places.Fields.{has_among}
+use Rattle.held_places.proofs.accepted_places.ItemStacks.{accepted_in}
+use Rattle.held_places.proofs.accepted_places.Locating.{member_location, root_location, taken_before}
+use Rattle.held_places.proofs.accepted_places.Made.{IsMadeBy, argument, made_so, result}
+use Rattle.held_places.specs.accepted_places.inner.Located.{IsRoot}
+use Rattle.held_places.specs.accepted_places.inner.Located as located
+use Rattle.held_places.proofs.accepted_places.accepted_premises.MadeAtStops.{made_at_stops}
+use Rattle.held_places.specs.accepted_places.accepted_values.inner.Known.{IsAcceptedBody}
+use Rattle.held_places.specs.accepted_places.accepted_values.inner.Rows.{source_of_argument}
+use Rattle.held_places.specs.accepted_places.accepted_values.run_typing.EndForms.{value_in}
+use Rattle.held_places.proofs.accepted_places.accepted_values.Accepted.{in_ownership_form, typed, well_typed}
 use Rattle.held_objects.specs.built_objects.inner.Building.{IsAbout, IsFieldAddress, address, borrow, itself}
 use Rattle.item_operands.specs.Items.{item_defined, item_taken}
 use Rattle.item_operands.specs.Parts.{inst_at, item_inst}
 use Rattle.item_operands.specs.declared.taken.Taken.{Taken}
 use Rattle.numbered_form.specs.Lists.{Each}
-use Rattle.accepted_places.proofs.owned_run_typing.OwnedInsts.{owned_inst}
+use Rattle.held_places.proofs.accepted_places.owned_run_typing.OwnedInsts.{owned_inst}
 use Rattle.ownership_chains.specs.Facts.{value_of}
 use Rattle.point_checks.proofs.Among.{Among, among_contained, contained_among}
 use Rattle.sil_ast.specs.declared.function.Function.{Function}

@@ -9,21 +9,21 @@ use Rattle.argument_conventions.specs.declared.row.AddressRow.{AddressRow}
 use Rattle.instruction_table.specs.Forms.{is_terminator}
 use Rattle.instruction_table.specs.declared.op.Op.{Op}
 use Rattle.instruction_table.specs.declared.op.Op.TheVariants as op
-use Rattle.accepted_places.specs.accepted_memory.accepted_trails.inner.Defined.{makes}
-use Rattle.accepted_places.specs.accepted_memory.memory_accesses.Locations.{locate, located_by, whole}
-use Rattle.accepted_places.specs.accepted_memory.memory_accesses.Operations.{access_kind_of}
-use Rattle.accepted_places.specs.accepted_memory.memory_accesses.Sources.{argument_source_or, handed_source, loan_source, object_source, slot_source, source_at, source_by, sources_of}
-use Rattle.accepted_places.specs.accepted_memory.memory_accesses.declared.columns.AccessKind.{AccessKind}
-use Rattle.accepted_places.specs.accepted_memory.memory_accesses.declared.columns.AccessKind.TheVariants as access
-use Rattle.accepted_places.specs.accepted_memory.memory_accesses.declared.location.Location.{Location}
-use Rattle.accepted_places.specs.accepted_memory.memory_accesses.declared.source.Source.{Source}
-use Rattle.accepted_places.specs.accepted_memory.memory_accesses.declared.source.Source.TheVariants as source
-use Rattle.accepted_places.specs.accepted_memory.memory_parts.Building.{builds}
-use Rattle.accepted_places.proofs.Fields.{has_among}
-use Rattle.accepted_places.proofs.Made.{IsMadeBy, argument, made_so, result}
-use Rattle.accepted_places.specs.accepted_values.inner.Known.{IsAcceptedBody}
-use Rattle.accepted_places.specs.accepted_values.inner.Rows.{source_of_argument}
-use Rattle.accepted_places.proofs.accepted_values.Accepted.{typed}
+use Rattle.held_places.specs.accepted_places.accepted_memory.accepted_trails.inner.Defined.{makes}
+use Rattle.held_places.specs.accepted_places.accepted_memory.memory_accesses.Locations.{locate, located_by, whole}
+use Rattle.held_places.specs.accepted_places.accepted_memory.memory_accesses.Operations.{access_kind_of}
+use Rattle.held_places.specs.accepted_places.accepted_memory.memory_accesses.Sources.{argument_source_or, handed_source, loan_source, object_source, slot_source, source_at, source_by, sources_of}
+use Rattle.held_places.specs.accepted_places.accepted_memory.memory_accesses.declared.columns.AccessKind.{AccessKind}
+use Rattle.held_places.specs.accepted_places.accepted_memory.memory_accesses.declared.columns.AccessKind.TheVariants as access
+use Rattle.held_places.specs.accepted_places.accepted_memory.memory_accesses.declared.location.Location.{Location}
+use Rattle.held_places.specs.accepted_places.accepted_memory.memory_accesses.declared.source.Source.{Source}
+use Rattle.held_places.specs.accepted_places.accepted_memory.memory_accesses.declared.source.Source.TheVariants as source
+use Rattle.held_places.specs.accepted_places.accepted_memory.memory_parts.Building.{builds}
+use Rattle.held_places.proofs.accepted_places.Fields.{has_among}
+use Rattle.held_places.proofs.accepted_places.Made.{IsMadeBy, argument, made_so, result}
+use Rattle.held_places.specs.accepted_places.accepted_values.inner.Known.{IsAcceptedBody}
+use Rattle.held_places.specs.accepted_places.accepted_values.inner.Rows.{source_of_argument}
+use Rattle.held_places.proofs.accepted_places.accepted_values.Accepted.{typed}
 use Rattle.held_objects.specs.built_objects.inner.Building.{IsAbout, IsFieldAddress, address, borrow, itself}
 use Rattle.held_objects.specs.built_objects.inner.Laws.{IsOutside}
 use Rattle.item_operands.specs.Items.{item_defined}

@@ -11,23 +11,23 @@ use Rattle.instruction_table.specs.Forms.{roles_of}
 use Rattle.instruction_table.specs.declared.entries.Role.TheVariants as role
 use Rattle.instruction_table.specs.declared.op.Op.{Op}
 use Rattle.instruction_table.specs.declared.op.Op.TheVariants as op
-use Rattle.accepted_places.specs.accepted_memory.holder_model.Effects.{effect_of}
-use Rattle.accepted_places.specs.accepted_memory.holder_model.declared.row_effect.RowEffect.{RowEffect}
-use Rattle.accepted_places.specs.accepted_memory.holder_model.declared.row_effect.RowEffect.TheVariants as row
-use Rattle.accepted_places.specs.accepted_memory.sil_types.Typing.Shapes.{is_object}
-use Rattle.accepted_places.specs.accepted_memory.sil_types.Typing.SignatureRules.{fits_by}
-use Rattle.accepted_places.specs.accepted_memory.sil_types.Typing.Values.{function_at, value_functions}
-use Rattle.accepted_places.proofs.OperationsRight.{stands_somewhere}
-use Rattle.accepted_places.specs.inner.Located.{IsAddress}
-use Rattle.accepted_places.specs.accepted_values.inner.Handed.{IsHanded}
-use Rattle.accepted_places.specs.accepted_values.inner.Known.{IsAcceptedBody, type_in}
-use Rattle.accepted_places.specs.accepted_values.run_typing.Forms.{OfPlace, OfValue, form_by, form_of, form_with}
-use Rattle.accepted_places.proofs.accepted_values.Accepted.{well_typed}
-use Rattle.accepted_places.proofs.accepted_values.Calls.{calls_handed}
-use Rattle.accepted_places.proofs.accepted_values.Parameters.{fits, told_fits}
-use Rattle.accepted_places.proofs.owned_run_typing.run_typing_laws.CallFacts.{called}
-use Rattle.accepted_places.proofs.accepted_values.run_typing_laws.FunctionFacts.{typed_function}
-use Rattle.accepted_places.proofs.accepted_values.run_typing_laws.Rows.Layers.{object_target}
+use Rattle.held_places.specs.accepted_places.accepted_memory.holder_model.Effects.{effect_of}
+use Rattle.held_places.specs.accepted_places.accepted_memory.holder_model.declared.row_effect.RowEffect.{RowEffect}
+use Rattle.held_places.specs.accepted_places.accepted_memory.holder_model.declared.row_effect.RowEffect.TheVariants as row
+use Rattle.held_places.specs.accepted_places.accepted_memory.sil_types.Typing.Shapes.{is_object}
+use Rattle.held_places.specs.accepted_places.accepted_memory.sil_types.Typing.SignatureRules.{fits_by}
+use Rattle.held_places.specs.accepted_places.accepted_memory.sil_types.Typing.Values.{function_at, value_functions}
+use Rattle.held_places.proofs.accepted_places.OperationsRight.{stands_somewhere}
+use Rattle.held_places.specs.accepted_places.inner.Located.{IsAddress}
+use Rattle.held_places.specs.accepted_places.accepted_values.inner.Handed.{IsHanded}
+use Rattle.held_places.specs.accepted_places.accepted_values.inner.Known.{IsAcceptedBody, type_in}
+use Rattle.held_places.specs.accepted_places.accepted_values.run_typing.Forms.{OfPlace, OfValue, form_by, form_of, form_with}
+use Rattle.held_places.proofs.accepted_places.accepted_values.Accepted.{well_typed}
+use Rattle.held_places.proofs.accepted_places.accepted_values.Calls.{calls_handed}
+use Rattle.held_places.proofs.accepted_places.accepted_values.Parameters.{fits, told_fits}
+use Rattle.held_places.proofs.accepted_places.owned_run_typing.run_typing_laws.CallFacts.{called}
+use Rattle.held_places.proofs.accepted_places.accepted_values.run_typing_laws.FunctionFacts.{typed_function}
+use Rattle.held_places.proofs.accepted_places.accepted_values.run_typing_laws.Rows.Layers.{object_target}
 use Rattle.item_operands.specs.Parts.{inst_at}
 use Rattle.item_operands.specs.Roles.{by_convention, by_row, conventions_by, conventions_in, roles_for, taken_as, taken_by, taken_each}
 use Rattle.item_operands.specs.declared.taken.Taken.{Taken}

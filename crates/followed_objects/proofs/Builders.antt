@@ -1,10 +1,10 @@
 -- What holds of each borrow of a new object, and goes on along upcasts, holds of all its building borrows.
 use Rattle.std.proofs.Common.{◌≡◌, ◌⊎◌, inl, inr, ℕ, zero, suc, List, length, refl, sym, ◌∙◌, subst, true}
-use Rattle.accepted_places.specs.accepted_memory.memory_accesses.Locations.{below, below_by, upcast_from}
-use Rattle.accepted_places.specs.accepted_memory.memory_accesses.Sources.{source_at}
-use Rattle.accepted_places.specs.accepted_memory.memory_accesses.declared.source.Source.{Source}
-use Rattle.accepted_places.specs.accepted_memory.memory_accesses.declared.source.Source.TheVariants as source
-use Rattle.accepted_places.specs.accepted_memory.memory_parts.Building.{builds}
+use Rattle.held_places.specs.accepted_places.accepted_memory.memory_accesses.Locations.{below, below_by, upcast_from}
+use Rattle.held_places.specs.accepted_places.accepted_memory.memory_accesses.Sources.{source_at}
+use Rattle.held_places.specs.accepted_places.accepted_memory.memory_accesses.declared.source.Source.{Source}
+use Rattle.held_places.specs.accepted_places.accepted_memory.memory_accesses.declared.source.Source.TheVariants as source
+use Rattle.held_places.specs.accepted_places.accepted_memory.memory_parts.Building.{builds}
 use Rattle.sil_ast.specs.declared.place.ValueId.{ValueId}
 use Rattle.followed_objects.proofs.About.{builder, lends, lent, lent_is}
 

@@ -1,17 +1,17 @@
 -- Behind an item, or where a function is entered, the objects of a state are right where they are so in its memory and tasks.
 use Rattle.std.proofs.Common.{◌≡◌, inl, ℕ, List, ◌∷◌, refl, sym, ap, ◌∙◌, false, Some, Ok}
 use Rattle.std.specs.Prelude.{slice_get}
-use Rattle.accepted_places.specs.accepted_memory.holder_model.Calling.{value_count}
-use Rattle.accepted_places.specs.accepted_memory.holder_model.Data.{Datum, references_in}
-use Rattle.accepted_places.specs.accepted_memory.holder_model.Effects.{Change, unchanged}
-use Rattle.accepted_places.specs.accepted_memory.holder_model.Frames.{Entry, Frame, no_entries, results_put}
-use Rattle.accepted_places.specs.accepted_memory.holder_model.HolderStates.{HolderNext, HolderState}
-use Rattle.accepted_places.specs.accepted_memory.holder_model.ModuleFacts.{ModuleFacts, facts_of, facts_told}
-use Rattle.accepted_places.specs.accepted_memory.holder_model.StepParts.{slots_behind}
-use Rattle.accepted_places.specs.accepted_memory.holder_model.States.{Ends, Goes, Runs, Task, dropping}
-use Rattle.accepted_places.specs.accepted_memory.memory_accesses.Operations.{access_kind_of}
-use Rattle.accepted_places.specs.accepted_memory.ownership_kinds.Facts.{facts_in}
-use Rattle.accepted_places.proofs.accepted_values.Facts.{run_facts}
+use Rattle.held_places.specs.accepted_places.accepted_memory.holder_model.Calling.{value_count}
+use Rattle.held_places.specs.accepted_places.accepted_memory.holder_model.Data.{Datum, references_in}
+use Rattle.held_places.specs.accepted_places.accepted_memory.holder_model.Effects.{Change, unchanged}
+use Rattle.held_places.specs.accepted_places.accepted_memory.holder_model.Frames.{Entry, Frame, no_entries, results_put}
+use Rattle.held_places.specs.accepted_places.accepted_memory.holder_model.HolderStates.{HolderNext, HolderState}
+use Rattle.held_places.specs.accepted_places.accepted_memory.holder_model.ModuleFacts.{ModuleFacts, facts_of, facts_told}
+use Rattle.held_places.specs.accepted_places.accepted_memory.holder_model.StepParts.{slots_behind}
+use Rattle.held_places.specs.accepted_places.accepted_memory.holder_model.States.{Ends, Goes, Runs, Task, dropping}
+use Rattle.held_places.specs.accepted_places.accepted_memory.memory_accesses.Operations.{access_kind_of}
+use Rattle.held_places.specs.accepted_places.accepted_memory.ownership_kinds.Facts.{facts_in}
+use Rattle.held_places.proofs.accepted_places.accepted_values.Facts.{run_facts}
 use Rattle.held_objects.specs.inner.Items.{frame_behind}
 use Rattle.held_objects.specs.inner.ObjectStates.{AreObjectsRight, TasksBuild}
 use Rattle.item_operands.specs.Items.{item_defined}
@@ -26,7 +26,7 @@ use Rattle.sil_ast.specs.declared.place.FuncId.{FuncId}
 use Rattle.sil_cfg.specs.declared.item.Item.{Item}
 use Rattle.sil_cfg.specs.declared.item.Item.TheVariants as item
 use Rattle.type_definitions.specs.Declarations.{declarations_of}
-use Rattle.tracked_frames.specs.typed_holders.holder_steps.inner.Ways.{GoesBehind}
+use Rattle.held_places.specs.tracked_frames.typed_holders.holder_steps.inner.Ways.{GoesBehind}
 use Rattle.held_objects.specs.whole_objects.inner.Whole.{IsWholeMemory, NameWhole}
 use Rattle.followed_objects.specs.inner.Said.{said}
 use Rattle.followed_objects.proofs.Apart.{KeepsApart}

@@ -6,31 +6,31 @@ use Rattle.std.proofs.lemmas.Option.{same_Some}
 use Rattle.argument_conventions.specs.Arguments.{arguments_of}
 use Rattle.instruction_table.specs.Forms.{ending_of}
 use Rattle.instruction_table.specs.declared.entries.Ending.TheVariants as ending
-use Rattle.accepted_places.specs.accepted_memory.accepted_modules.inner.Checked.{IsVerified}
-use Rattle.accepted_places.specs.accepted_memory.holder_model.Calling.{as_argument, handed_over}
-use Rattle.accepted_places.specs.accepted_memory.holder_model.Data.{Datum, ValueOf, references_in}
-use Rattle.accepted_places.specs.accepted_memory.holder_model.Edges.{edge_of}
-use Rattle.accepted_places.specs.accepted_memory.holder_model.Effects as effects
-use Rattle.accepted_places.specs.accepted_memory.holder_model.Effects.{Change, effect_of, only, unchanged}
-use Rattle.accepted_places.specs.accepted_memory.holder_model.Faults.{HolderFault}
-use Rattle.accepted_places.specs.accepted_memory.holder_model.Frames.{Entry, Frame, Operands, has_any, operands_of, results_put}
-use Rattle.accepted_places.specs.accepted_memory.holder_model.HolderStates.{HolderNext, HolderState}
-use Rattle.accepted_places.specs.accepted_memory.holder_model.ModuleFacts.{facts_of}
-use Rattle.accepted_places.specs.accepted_memory.holder_model.ModuleShapes.{shapes_in, shapes_of}
-use Rattle.accepted_places.specs.accepted_memory.holder_model.Standing.{stands_at}
-use Rattle.accepted_places.specs.accepted_memory.holder_model.States.{Finishes, Runs, Task}
-use Rattle.accepted_places.specs.accepted_memory.holder_model.Steps as steps
-use Rattle.accepted_places.specs.accepted_memory.memory_accesses.Operations.{access_kind_of}
-use Rattle.accepted_places.specs.accepted_memory.memory_accesses.Sources.{sources_of}
-use Rattle.accepted_places.specs.accepted_memory.ownership_kinds.Facts.{facts_in}
-use Rattle.accepted_places.specs.accepted_memory.run_trails.inner.RunTrails.{ComesAt, IsRunTrail, IsTurnedTrail}
-use Rattle.accepted_places.proofs.accepted_memory.run_trails.RunPaths.{are_trails}
-use Rattle.accepted_places.proofs.accepted_memory.run_trails.WalkEdges.{are_next}
-use Rattle.accepted_places.proofs.ItemStacks.{accepted_in}
-use Rattle.accepted_places.specs.accepted_values.inner.Known.{IsAcceptedBody}
-use Rattle.accepted_places.proofs.accepted_values.Accepted.{typed}
-use Rattle.accepted_places.proofs.accepted_values.Facts.{run_facts}
-use Rattle.accepted_places.specs.held_entries.inner.Entries.{End}
+use Rattle.held_places.specs.accepted_places.accepted_memory.accepted_modules.inner.Checked.{IsVerified}
+use Rattle.held_places.specs.accepted_places.accepted_memory.holder_model.Calling.{as_argument, handed_over}
+use Rattle.held_places.specs.accepted_places.accepted_memory.holder_model.Data.{Datum, ValueOf, references_in}
+use Rattle.held_places.specs.accepted_places.accepted_memory.holder_model.Edges.{edge_of}
+use Rattle.held_places.specs.accepted_places.accepted_memory.holder_model.Effects as effects
+use Rattle.held_places.specs.accepted_places.accepted_memory.holder_model.Effects.{Change, effect_of, only, unchanged}
+use Rattle.held_places.specs.accepted_places.accepted_memory.holder_model.Faults.{HolderFault}
+use Rattle.held_places.specs.accepted_places.accepted_memory.holder_model.Frames.{Entry, Frame, Operands, has_any, operands_of, results_put}
+use Rattle.held_places.specs.accepted_places.accepted_memory.holder_model.HolderStates.{HolderNext, HolderState}
+use Rattle.held_places.specs.accepted_places.accepted_memory.holder_model.ModuleFacts.{facts_of}
+use Rattle.held_places.specs.accepted_places.accepted_memory.holder_model.ModuleShapes.{shapes_in, shapes_of}
+use Rattle.held_places.specs.accepted_places.accepted_memory.holder_model.Standing.{stands_at}
+use Rattle.held_places.specs.accepted_places.accepted_memory.holder_model.States.{Finishes, Runs, Task}
+use Rattle.held_places.specs.accepted_places.accepted_memory.holder_model.Steps as steps
+use Rattle.held_places.specs.accepted_places.accepted_memory.memory_accesses.Operations.{access_kind_of}
+use Rattle.held_places.specs.accepted_places.accepted_memory.memory_accesses.Sources.{sources_of}
+use Rattle.held_places.specs.accepted_places.accepted_memory.ownership_kinds.Facts.{facts_in}
+use Rattle.held_places.specs.accepted_places.accepted_memory.run_trails.inner.RunTrails.{ComesAt, IsRunTrail, IsTurnedTrail}
+use Rattle.held_places.proofs.accepted_places.accepted_memory.run_trails.RunPaths.{are_trails}
+use Rattle.held_places.proofs.accepted_places.accepted_memory.run_trails.WalkEdges.{are_next}
+use Rattle.held_places.proofs.accepted_places.ItemStacks.{accepted_in}
+use Rattle.held_places.specs.accepted_places.accepted_values.inner.Known.{IsAcceptedBody}
+use Rattle.held_places.proofs.accepted_places.accepted_values.Accepted.{typed}
+use Rattle.held_places.proofs.accepted_places.accepted_values.Facts.{run_facts}
+use Rattle.held_places.specs.accepted_places.held_entries.inner.Entries.{End}
 use Rattle.held_objects.specs.inner.Items.{LosesEntries, Stands}
 use Rattle.held_objects.specs.inner.ObjectStates.{AreObjectsRight, BelowBuild, TasksBuild}
 use Rattle.held_objects.proofs.Drops.{drops_right, finishes_right}
@@ -50,14 +50,14 @@ use Rattle.sil_cfg.specs.Items.{leaves_function}
 use Rattle.sil_cfg.specs.declared.item.Item.{Item}
 use Rattle.sil_cfg.specs.declared.item.Item.TheVariants as item
 use Rattle.type_definitions.specs.Declarations.{declarations_of}
-use Rattle.tracked_frames.specs.inner.TrackedStates.{AreTasksTracked, GoesAlong, IsTrackedState}
-use Rattle.tracked_frames.proofs.NextItems.{chooses_on, chosen_within, edge_comes, exit_comes, inst_comes, one_edge}
-use Rattle.tracked_frames.proofs.OperandsFound.{ended, operands_left, size_left}
-use Rattle.tracked_frames.specs.typed_holders.holder_steps.inner.Ways.{Acts, DropsOne, Enters, FinishesOne, Leaves, Performs, Reaches, StandsAtEnd, StepsBy, TakesEdge, left_with}
-use Rattle.tracked_frames.specs.typed_holders.holder_steps.inner.Ways.{lent_at, operands_in}
-use Rattle.tracked_frames.specs.typed_holders.inner.TypedStates.{FrameIs, IsTypedState, TasksAre, WaitsTyped}
-use Rattle.tracked_frames.proofs.typed_holders.GoesOn.{accepted_body, typed_module}
-use Rattle.tracked_frames.proofs.typed_holders.holder_steps.StepsTold.{steps_told}
+use Rattle.held_places.specs.tracked_frames.inner.TrackedStates.{AreTasksTracked, GoesAlong, IsTrackedState}
+use Rattle.held_places.proofs.tracked_frames.NextItems.{chooses_on, chosen_within, edge_comes, exit_comes, inst_comes, one_edge}
+use Rattle.held_places.proofs.tracked_frames.OperandsFound.{ended, operands_left, size_left}
+use Rattle.held_places.specs.tracked_frames.typed_holders.holder_steps.inner.Ways.{Acts, DropsOne, Enters, FinishesOne, Leaves, Performs, Reaches, StandsAtEnd, StepsBy, TakesEdge, left_with}
+use Rattle.held_places.specs.tracked_frames.typed_holders.holder_steps.inner.Ways.{lent_at, operands_in}
+use Rattle.held_places.specs.tracked_frames.typed_holders.inner.TypedStates.{FrameIs, IsTypedState, TasksAre, WaitsTyped}
+use Rattle.held_places.proofs.tracked_frames.typed_holders.GoesOn.{accepted_body, typed_module}
+use Rattle.held_places.proofs.tracked_frames.typed_holders.holder_steps.StepsTold.{steps_told}
 use Rattle.held_objects.specs.whole_objects.inner.Whole.{IsWhole, IsWholeMemory, NameWhole}
 use Rattle.followed_objects.specs.inner.BuiltStates.{AreObjectsKept, BeginBuilt, DoPlacesServe}
 use Rattle.followed_objects.specs.inner.Said.{said}

@@ -4,31 +4,31 @@ use Rattle.std.specs.Prelude.{Contains, cond, option_map, slice_get}
 use Rattle.std.specs.List.{list_any}
 use Rattle.std.proofs.lemmas.Bool.{and_from, false≢true}
 use Rattle.std.proofs.lemmas.Option.{same_Some}
-use Rattle.accepted_places.specs.accepted_memory.memory_accesses.Operations.{access_kind_of}
-use Rattle.accepted_places.specs.accepted_memory.memory_accesses.Sources.{source_at, sources_of}
-use Rattle.accepted_places.specs.accepted_memory.memory_accesses.declared.source.Source.{Source}
-use Rattle.accepted_places.specs.accepted_memory.memory_accesses.declared.source.Source.TheVariants as source
-use Rattle.accepted_places.specs.accepted_memory.memory_parts.Building.{builds, goes_by_borrow}
-use Rattle.accepted_places.specs.accepted_memory.ownership_origins.Origins.{chain_operands, definitions_of, is_trivial_or_untyped, result_origin}
-use Rattle.accepted_places.specs.accepted_memory.sil_types.Typing.RowTypes.{made_types}
-use Rattle.accepted_places.specs.accepted_memory.sil_types.Typing.Shapes.{target}
-use Rattle.accepted_places.specs.accepted_memory.sil_types.Typing.Values.{function_at, value_functions}
-use Rattle.accepted_places.proofs.Fields.{has_among}
-use Rattle.accepted_places.specs.accepted_values.inner.Bases.{IsBaseOf}
-use Rattle.accepted_places.specs.accepted_values.inner.Known.{IsAcceptedBody, facts_at, kind_at, type_in}
-use Rattle.accepted_places.specs.accepted_values.inner.Operands.{kind_by_row, kind_of_result, kind_together}
-use Rattle.accepted_places.specs.accepted_values.run_typing.Forms.{OfValue, form_by, form_with}
-use Rattle.accepted_places.proofs.accepted_values.Based.{handed_on, lenders_own_bases}
-use Rattle.accepted_places.proofs.accepted_values.Accepted.{typed}
-use Rattle.accepted_places.proofs.accepted_values.Suited.{result_kind}
-use Rattle.accepted_places.proofs.accepted_values.Told.{any_of}
+use Rattle.held_places.specs.accepted_places.accepted_memory.memory_accesses.Operations.{access_kind_of}
+use Rattle.held_places.specs.accepted_places.accepted_memory.memory_accesses.Sources.{source_at, sources_of}
+use Rattle.held_places.specs.accepted_places.accepted_memory.memory_accesses.declared.source.Source.{Source}
+use Rattle.held_places.specs.accepted_places.accepted_memory.memory_accesses.declared.source.Source.TheVariants as source
+use Rattle.held_places.specs.accepted_places.accepted_memory.memory_parts.Building.{builds, goes_by_borrow}
+use Rattle.held_places.specs.accepted_places.accepted_memory.ownership_origins.Origins.{chain_operands, definitions_of, is_trivial_or_untyped, result_origin}
+use Rattle.held_places.specs.accepted_places.accepted_memory.sil_types.Typing.RowTypes.{made_types}
+use Rattle.held_places.specs.accepted_places.accepted_memory.sil_types.Typing.Shapes.{target}
+use Rattle.held_places.specs.accepted_places.accepted_memory.sil_types.Typing.Values.{function_at, value_functions}
+use Rattle.held_places.proofs.accepted_places.Fields.{has_among}
+use Rattle.held_places.specs.accepted_places.accepted_values.inner.Bases.{IsBaseOf}
+use Rattle.held_places.specs.accepted_places.accepted_values.inner.Known.{IsAcceptedBody, facts_at, kind_at, type_in}
+use Rattle.held_places.specs.accepted_places.accepted_values.inner.Operands.{kind_by_row, kind_of_result, kind_together}
+use Rattle.held_places.specs.accepted_places.accepted_values.run_typing.Forms.{OfValue, form_by, form_with}
+use Rattle.held_places.proofs.accepted_places.accepted_values.Based.{handed_on, lenders_own_bases}
+use Rattle.held_places.proofs.accepted_places.accepted_values.Accepted.{typed}
+use Rattle.held_places.proofs.accepted_places.accepted_values.Suited.{result_kind}
+use Rattle.held_places.proofs.accepted_places.accepted_values.Told.{any_of}
 use Rattle.held_objects.proofs.built_objects.About.{built_new}
 use Rattle.instruction_table.specs.Forms.{result_kind_of}
 use Rattle.instruction_table.specs.declared.entries.ResultKind.TheVariants.{ForwardedResult, ScopeResult}
 use Rattle.instruction_table.specs.declared.op.Op.TheVariants as op
 use Rattle.numbered_form.specs.Names.{Name}
 use Rattle.numbered_form.specs.inner.Parts.{has_operands, is_typed}
-use Rattle.accepted_places.proofs.owned_run_typing.run_typing_laws.EndFacts.{one_operand}
+use Rattle.held_places.proofs.accepted_places.owned_run_typing.run_typing_laws.EndFacts.{one_operand}
 use Rattle.ownership_chains.specs.Chains.{operands_at}
 use Rattle.ownership_chains.specs.Facts.{facts_with, forwarded, has, is_guaranteed, is_owned, known_or, origin_at}
 use Rattle.ownership_chains.specs.declared.definition.Definition.{Definition}
@@ -46,7 +46,7 @@ use Rattle.sil_ast.specs.declared.place.ValueId.{ValueId}
 use Rattle.sil_ast.specs.declared.type_name.TypeName.{TypeName}
 use Rattle.type_definitions.specs.Declarations.{Declarations, declarations_of}
 use Rattle.type_definitions.specs.declared.kind.Kind.TheVariants as kind
-use Rattle.tracked_frames.proofs.typed_holders.TrivialShapes.{trivial_shape}
+use Rattle.held_places.proofs.tracked_frames.typed_holders.TrivialShapes.{trivial_shape}
 use Rattle.value_tables.specs.Borrows.{borrow_at, borrow_by, borrows, is_borrow, takes_address}
 use Rattle.instruction_table.specs.Forms.{roles_of}
 use Rattle.value_tables.specs.FirstValue.{first_value, value_of}

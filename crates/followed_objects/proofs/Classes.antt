@@ -3,35 +3,35 @@ use Rattle.std.proofs.Common.{◌≡◌, ◌<◌, ◌+◌, ℕ, List, [], ◌∷
 use Rattle.std.specs.Prelude.{is_some, option_map, slice_get, unwrap_or}
 use Rattle.std.proofs.lemmas.List.{length-map}
 use Rattle.std.proofs.lemmas.Option.{none-some, same_Some, slice_get-map, slice_get_within}
-use Rattle.accepted_places.specs.accepted_memory.memory_accesses.Operations.{access_kind_of}
-use Rattle.accepted_places.specs.accepted_memory.memory_accesses.Sources.{field_count_in, object_source, result_source, source_at, source_by, sources_of}
-use Rattle.accepted_places.specs.accepted_memory.memory_accesses.declared.location.Location.{Location}
-use Rattle.accepted_places.specs.accepted_memory.memory_accesses.declared.source.Source.{Source}
-use Rattle.accepted_places.specs.accepted_memory.memory_accesses.declared.source.Source.TheVariants as source
-use Rattle.accepted_places.specs.accepted_memory.memory_parts.Building.{builds}
-use Rattle.accepted_places.specs.accepted_memory.sil_types.Typing.RowTypes.{given_by, gives, made_types}
-use Rattle.accepted_places.specs.accepted_memory.sil_types.Typing.Shapes.{target, where_it}
-use Rattle.accepted_places.specs.accepted_memory.sil_types.Typing.Values.{function_at, value_functions}
-use Rattle.accepted_places.specs.accepted_values.inner.Known.{IsAcceptedBody, type_in}
-use Rattle.accepted_places.proofs.accepted_values.Accepted.{typed, well_typed}
+use Rattle.held_places.specs.accepted_places.accepted_memory.memory_accesses.Operations.{access_kind_of}
+use Rattle.held_places.specs.accepted_places.accepted_memory.memory_accesses.Sources.{field_count_in, object_source, result_source, source_at, source_by, sources_of}
+use Rattle.held_places.specs.accepted_places.accepted_memory.memory_accesses.declared.location.Location.{Location}
+use Rattle.held_places.specs.accepted_places.accepted_memory.memory_accesses.declared.source.Source.{Source}
+use Rattle.held_places.specs.accepted_places.accepted_memory.memory_accesses.declared.source.Source.TheVariants as source
+use Rattle.held_places.specs.accepted_places.accepted_memory.memory_parts.Building.{builds}
+use Rattle.held_places.specs.accepted_places.accepted_memory.sil_types.Typing.RowTypes.{given_by, gives, made_types}
+use Rattle.held_places.specs.accepted_places.accepted_memory.sil_types.Typing.Shapes.{target, where_it}
+use Rattle.held_places.specs.accepted_places.accepted_memory.sil_types.Typing.Values.{function_at, value_functions}
+use Rattle.held_places.specs.accepted_places.accepted_values.inner.Known.{IsAcceptedBody, type_in}
+use Rattle.held_places.proofs.accepted_places.accepted_values.Accepted.{typed, well_typed}
 use Rattle.held_objects.specs.built_objects.inner.Building.{IsFieldAddress, IsNewField}
 use Rattle.held_objects.proofs.built_objects.About.{built_new}
 use Rattle.instruction_table.specs.Forms.{detail_of}
 use Rattle.instruction_table.specs.declared.op.Op.TheVariants as op
 use Rattle.numbered_form.specs.Names.{Name}
-use Rattle.accepted_places.specs.owned_run_typing.holder_model.Effects.{effect_of, part_number, part_number_by}
-use Rattle.accepted_places.specs.owned_run_typing.holder_model.ModuleShapes.{field_shape, field_shapes, shapes_of}
-use Rattle.accepted_places.specs.owned_run_typing.holder_model.declared.row_effect.RowEffect.TheVariants as row
-use Rattle.accepted_places.specs.owned_run_typing.run_typing.Classes.{ClassesAreSound, is_a}
-use Rattle.accepted_places.specs.owned_run_typing.run_typing.EndForms.{value_in}
-use Rattle.accepted_places.specs.owned_run_typing.run_typing.Forms.{OfValue, form_by, form_of, forms_of}
-use Rattle.accepted_places.proofs.owned_run_typing.run_typing_laws.ClassFacts.{classes, field_shapes_are}
-use Rattle.accepted_places.proofs.owned_run_typing.run_typing_laws.Rows.Finding.{where_found}
-use Rattle.accepted_places.proofs.owned_run_typing.run_typing_laws.Rows.Forms.{value_form}
-use Rattle.accepted_places.proofs.owned_run_typing.run_typing_laws.Rows.Layers.{out-Named, target-Named}
-use Rattle.accepted_places.proofs.owned_run_typing.run_typing_laws.Rows.Shares.{given_one}
-use Rattle.accepted_places.proofs.owned_run_typing.run_typing_laws.ShapeFacts.{class_type_shape}
-use Rattle.accepted_places.proofs.owned_run_typing.run_typing_laws.ValueForms.{row_kept}
+use Rattle.held_places.specs.accepted_places.owned_run_typing.holder_model.Effects.{effect_of, part_number, part_number_by}
+use Rattle.held_places.specs.accepted_places.owned_run_typing.holder_model.ModuleShapes.{field_shape, field_shapes, shapes_of}
+use Rattle.held_places.specs.accepted_places.owned_run_typing.holder_model.declared.row_effect.RowEffect.TheVariants as row
+use Rattle.held_places.specs.accepted_places.owned_run_typing.run_typing.Classes.{ClassesAreSound, is_a}
+use Rattle.held_places.specs.accepted_places.owned_run_typing.run_typing.EndForms.{value_in}
+use Rattle.held_places.specs.accepted_places.owned_run_typing.run_typing.Forms.{OfValue, form_by, form_of, forms_of}
+use Rattle.held_places.proofs.accepted_places.owned_run_typing.run_typing_laws.ClassFacts.{classes, field_shapes_are}
+use Rattle.held_places.proofs.accepted_places.owned_run_typing.run_typing_laws.Rows.Finding.{where_found}
+use Rattle.held_places.proofs.accepted_places.owned_run_typing.run_typing_laws.Rows.Forms.{value_form}
+use Rattle.held_places.proofs.accepted_places.owned_run_typing.run_typing_laws.Rows.Layers.{out-Named, target-Named}
+use Rattle.held_places.proofs.accepted_places.owned_run_typing.run_typing_laws.Rows.Shares.{given_one}
+use Rattle.held_places.proofs.accepted_places.owned_run_typing.run_typing_laws.ShapeFacts.{class_type_shape}
+use Rattle.held_places.proofs.accepted_places.owned_run_typing.run_typing_laws.ValueForms.{row_kept}
 use Rattle.run_values.specs.Shapes.{Reference, Shape, shape_of}
 use Rattle.sil_ast.specs.declared.function.Function.{Function}
 use Rattle.sil_ast.specs.declared.inst.Inst.{Inst}

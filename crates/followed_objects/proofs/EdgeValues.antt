@@ -7,22 +7,22 @@ use Rattle.instruction_table.specs.Forms.{ending_of, is_terminator}
 use Rattle.instruction_table.specs.declared.entries.Ending.TheVariants as ending
 use Rattle.instruction_table.specs.declared.op.Op.{Op}
 use Rattle.instruction_table.specs.declared.op.Op.TheVariants as op
-use Rattle.accepted_places.specs.accepted_memory.holder_model.Data.{Datum, references_in}
-use Rattle.accepted_places.specs.accepted_memory.holder_model.Frames.{Frame, Operands}
-use Rattle.accepted_places.specs.accepted_memory.holder_model.States.{Task}
-use Rattle.accepted_places.specs.accepted_memory.memory_accesses.Operations.{access_kind_of}
-use Rattle.accepted_places.specs.accepted_values.inner.Known.{IsAcceptedBody}
-use Rattle.accepted_places.specs.accepted_values.run_typing.EndForms.{EndForms, operand_forms, value_in}
-use Rattle.accepted_places.specs.accepted_values.run_typing.Forms.{form_of, forms_of, given_shape}
-use Rattle.accepted_places.specs.accepted_values.run_typing.RowForms.{bit}
-use Rattle.accepted_places.proofs.accepted_values.Accepted.{typed}
-use Rattle.accepted_places.proofs.accepted_values.Counted.{nothing_in}
+use Rattle.held_places.specs.accepted_places.accepted_memory.holder_model.Data.{Datum, references_in}
+use Rattle.held_places.specs.accepted_places.accepted_memory.holder_model.Frames.{Frame, Operands}
+use Rattle.held_places.specs.accepted_places.accepted_memory.holder_model.States.{Task}
+use Rattle.held_places.specs.accepted_places.accepted_memory.memory_accesses.Operations.{access_kind_of}
+use Rattle.held_places.specs.accepted_places.accepted_values.inner.Known.{IsAcceptedBody}
+use Rattle.held_places.specs.accepted_places.accepted_values.run_typing.EndForms.{EndForms, operand_forms, value_in}
+use Rattle.held_places.specs.accepted_places.accepted_values.run_typing.Forms.{form_of, forms_of, given_shape}
+use Rattle.held_places.specs.accepted_places.accepted_values.run_typing.RowForms.{bit}
+use Rattle.held_places.proofs.accepted_places.accepted_values.Accepted.{typed}
+use Rattle.held_places.proofs.accepted_places.accepted_values.Counted.{nothing_in}
 use Rattle.item_operands.specs.Items.{item_taken, taken_along_in, taken_in}
 use Rattle.item_operands.specs.Parts.{item_edge, item_inst, terminator_of}
 use Rattle.item_operands.specs.Roles.{consumed, taken_along, taken_by}
 use Rattle.item_operands.specs.declared.taken.Taken.{Taken}
 use Rattle.numbered_form.specs.Lists.{Each}
-use Rattle.accepted_places.specs.owned_run_typing.inner.OwnedEnds.{OwnedEndForms}
+use Rattle.held_places.specs.accepted_places.owned_run_typing.inner.OwnedEnds.{OwnedEndForms}
 use Rattle.point_checks.proofs.Among.{Among, among_contained, contained_among, map_among}
 use Rattle.run_values.specs.Memory.{Memory}
 use Rattle.sil_ast.specs.declared.function.Function.{Function}
@@ -30,9 +30,9 @@ use Rattle.sil_ast.specs.declared.inst.Edge.{Edge}
 use Rattle.sil_ast.specs.declared.inst.Inst.{Inst}
 use Rattle.sil_ast.specs.declared.module.Module.{Module}
 use Rattle.sil_cfg.specs.declared.item.Item.{Item}
-use Rattle.tracked_frames.proofs.ConsumedValues.{IsValueForm, consumed_value, owned_typed}
+use Rattle.held_places.proofs.tracked_frames.ConsumedValues.{IsValueForm, consumed_value, owned_typed}
 use Rattle.type_definitions.specs.Declarations.{Declarations, declarations_of}
-use Rattle.tracked_frames.proofs.typed_holders.Data.{read_value}
+use Rattle.held_places.proofs.tracked_frames.typed_holders.Data.{read_value}
 use Rattle.held_objects.specs.whole_objects.inner.Whole.{NameWhole}
 use Rattle.followed_objects.proofs.EntriesNamed.{AreNamed}
 use Rattle.followed_objects.proofs.GivenValues.{ending_whole}

@@ -4,16 +4,16 @@ use Rattle.std.specs.Prelude.{Contains, cond, option_map, slice_get, unwrap_or}
 use Rattle.std.specs.Option.{option_or}
 use Rattle.std.proofs.lemmas.Option.{none-some, same_Some}
 use Rattle.argument_conventions.specs.declared.row.AddressRow.{AddressRow}
-use Rattle.accepted_places.specs.accepted_memory.holder_model.Calling.{as_argument, lent_places, lent_with, value_count}
-use Rattle.accepted_places.specs.accepted_memory.holder_model.Data.{AddressOf, Datum, FunctionOf, ValueOf, as_place, home_references, references_in}
-use Rattle.accepted_places.specs.accepted_memory.holder_model.Effects.{effect_of}
-use Rattle.accepted_places.specs.accepted_memory.holder_model.Frames.{Entry, Frame, Gone, Operands, any_dead, datum_in, entry_at, no_entries, results_put}
-use Rattle.accepted_places.specs.accepted_memory.holder_model.States.{Task}
-use Rattle.accepted_places.specs.accepted_memory.holder_model.declared.row_effect.RowEffect.TheVariants as row
-use Rattle.accepted_places.specs.accepted_memory.memory_accesses.Operations.{access_kind_of, is_address_role, operated, operated_at, operation_at, operation_by, operations_of}
-use Rattle.accepted_places.specs.accepted_memory.memory_accesses.Sources.{sources_of}
-use Rattle.accepted_places.specs.accepted_memory.memory_accesses.declared.access.Operation.TheVariants as operation
-use Rattle.accepted_places.specs.accepted_values.inner.Known.{IsAcceptedBody}
+use Rattle.held_places.specs.accepted_places.accepted_memory.holder_model.Calling.{as_argument, lent_places, lent_with, value_count}
+use Rattle.held_places.specs.accepted_places.accepted_memory.holder_model.Data.{AddressOf, Datum, FunctionOf, ValueOf, as_place, home_references, references_in}
+use Rattle.held_places.specs.accepted_places.accepted_memory.holder_model.Effects.{effect_of}
+use Rattle.held_places.specs.accepted_places.accepted_memory.holder_model.Frames.{Entry, Frame, Gone, Operands, any_dead, datum_in, entry_at, no_entries, results_put}
+use Rattle.held_places.specs.accepted_places.accepted_memory.holder_model.States.{Task}
+use Rattle.held_places.specs.accepted_places.accepted_memory.holder_model.declared.row_effect.RowEffect.TheVariants as row
+use Rattle.held_places.specs.accepted_places.accepted_memory.memory_accesses.Operations.{access_kind_of, is_address_role, operated, operated_at, operation_at, operation_by, operations_of}
+use Rattle.held_places.specs.accepted_places.accepted_memory.memory_accesses.Sources.{sources_of}
+use Rattle.held_places.specs.accepted_places.accepted_memory.memory_accesses.declared.access.Operation.TheVariants as operation
+use Rattle.held_places.specs.accepted_places.accepted_values.inner.Known.{IsAcceptedBody}
 use Rattle.held_objects.specs.built_objects.inner.FrameObjects.{Names}
 use Rattle.held_objects.specs.built_objects.inner.Laws.{IsOutside}
 use Rattle.held_objects.specs.inner.Items.{AreEntered, IsOnStack}

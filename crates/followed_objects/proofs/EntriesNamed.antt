@@ -6,13 +6,13 @@ use Rattle.std.specs.declared.result.Result.{Result}
 use Rattle.std.proofs.lemmas.Bool.{eqb-true, false≢true, true≢false}
 use Rattle.std.proofs.lemmas.List.{length-set}
 use Rattle.std.proofs.lemmas.Option.{none-some, slice_get_within}
-use Rattle.accepted_places.specs.accepted_memory.holder_model.Data.{AddressOf, Datum, FunctionOf, ValueOf, references_in}
-use Rattle.accepted_places.specs.accepted_memory.holder_model.Faults.{ConsumesLent, HolderFault, NamesDead, OverwritesHeld, WrongShape}
-use Rattle.accepted_places.specs.accepted_memory.holder_model.Frames.{Entry, Gone, Held, Lent, Operands, Plain, any_dead, datum_in, datum_or_fault, ends, entry_at, has_any}
-use Rattle.accepted_places.specs.accepted_memory.holder_model.Frames.{is_consumed, is_held, made_entry, operand, operand_data, operands_of, plain_address, plain_entry, put_entry, result_put}
-use Rattle.accepted_places.specs.accepted_memory.holder_model.Frames.{results_put, unless_dead, used_datum, with_ok}
+use Rattle.held_places.specs.accepted_places.accepted_memory.holder_model.Data.{AddressOf, Datum, FunctionOf, ValueOf, references_in}
+use Rattle.held_places.specs.accepted_places.accepted_memory.holder_model.Faults.{ConsumesLent, HolderFault, NamesDead, OverwritesHeld, WrongShape}
+use Rattle.held_places.specs.accepted_places.accepted_memory.holder_model.Frames.{Entry, Gone, Held, Lent, Operands, Plain, any_dead, datum_in, datum_or_fault, ends, entry_at, has_any}
+use Rattle.held_places.specs.accepted_places.accepted_memory.holder_model.Frames.{is_consumed, is_held, made_entry, operand, operand_data, operands_of, plain_address, plain_entry, put_entry, result_put}
+use Rattle.held_places.specs.accepted_places.accepted_memory.holder_model.Frames.{results_put, unless_dead, used_datum, with_ok}
 use Rattle.held_objects.specs.built_objects.inner.FrameObjects.{Names}
-use Rattle.accepted_places.proofs.held_entries.EntriesEnded.{entry_set_other, entry_set_same}
+use Rattle.held_places.proofs.accepted_places.held_entries.EntriesEnded.{entry_set_other, entry_set_same}
 use Rattle.instruction_table.specs.declared.entries.Role.{Role}
 use Rattle.instruction_table.specs.declared.entries.Role.TheVariants as role
 use Rattle.item_operands.specs.declared.taken.Taken.{Taken}
@@ -25,7 +25,7 @@ use Rattle.run_values.specs.Values.{references_of}
 use Rattle.sil_ast.specs.declared.place.ValueId.{ValueId}
 use Rattle.type_definitions.specs.declared.kind.Kind.{Kind}
 use Rattle.type_definitions.specs.declared.kind.Kind.TheVariants as kind
-use Rattle.tracked_frames.proofs.typed_holders.Operands.{joined, operand_there, operands_read}
+use Rattle.held_places.proofs.tracked_frames.typed_holders.Operands.{joined, operand_there, operands_read}
 
 -- ---- results
 

@@ -2,28 +2,28 @@
 use Rattle.std.proofs.Common.{◌≡◌, ◌≤◌, ◌<◌, ℕ, List, [], ◌∷◌, ◌++◌, length, map, refl, sym, ap, ◌∙◌, subst, arith, true, false, Option, Some, None}
 use Rattle.std.specs.Prelude.{Contains, slice_get}
 use Rattle.std.proofs.lemmas.Option.{same_Some, slice_get_within}
-use Rattle.accepted_places.specs.accepted_memory.holder_model.Data.{ValueOf}
-use Rattle.accepted_places.specs.accepted_memory.holder_model.Effects.{effect_of, part_number, part_number_by}
-use Rattle.accepted_places.specs.accepted_memory.holder_model.Frames.{Entry}
-use Rattle.accepted_places.specs.accepted_memory.holder_model.ModuleShapes.{field_shapes, shapes_of}
-use Rattle.accepted_places.specs.accepted_memory.holder_model.declared.row_effect.RowEffect.TheVariants as row
-use Rattle.accepted_places.specs.accepted_memory.memory_accesses.Locations.{whole}
-use Rattle.accepted_places.specs.accepted_memory.memory_accesses.Operations.{access_kind_of}
-use Rattle.accepted_places.specs.accepted_memory.memory_accesses.Rows.{has_steps, is_part}
-use Rattle.accepted_places.specs.accepted_memory.memory_accesses.Sources.{element_place, field_source, is_trivial_member, member_place, part_source, result_source, source_at, source_by}
-use Rattle.accepted_places.specs.accepted_memory.memory_accesses.Sources.{sources_of}
-use Rattle.accepted_places.specs.accepted_memory.memory_accesses.declared.location.Location.{Location}
-use Rattle.accepted_places.specs.accepted_memory.memory_accesses.declared.source.Source.{Source}
-use Rattle.accepted_places.specs.accepted_memory.memory_accesses.declared.source.Source.TheVariants as source
-use Rattle.accepted_places.proofs.Locating.{member_location, root_location}
-use Rattle.accepted_places.proofs.Made.{results_so}
-use Rattle.accepted_places.proofs.PartsThere.{each_where_among}
-use Rattle.accepted_places.specs.inner.Located.{IsRoot}
-use Rattle.accepted_places.specs.inner.Located as located
-use Rattle.accepted_places.specs.accepted_values.inner.Known.{IsAcceptedBody}
-use Rattle.accepted_places.specs.accepted_values.run_typing.EndForms.{value_in}
-use Rattle.accepted_places.specs.accepted_values.run_typing.Forms.{OfValue, form_of, forms_of}
-use Rattle.accepted_places.proofs.accepted_values.Accepted.{in_ownership_form, well_typed}
+use Rattle.held_places.specs.accepted_places.accepted_memory.holder_model.Data.{ValueOf}
+use Rattle.held_places.specs.accepted_places.accepted_memory.holder_model.Effects.{effect_of, part_number, part_number_by}
+use Rattle.held_places.specs.accepted_places.accepted_memory.holder_model.Frames.{Entry}
+use Rattle.held_places.specs.accepted_places.accepted_memory.holder_model.ModuleShapes.{field_shapes, shapes_of}
+use Rattle.held_places.specs.accepted_places.accepted_memory.holder_model.declared.row_effect.RowEffect.TheVariants as row
+use Rattle.held_places.specs.accepted_places.accepted_memory.memory_accesses.Locations.{whole}
+use Rattle.held_places.specs.accepted_places.accepted_memory.memory_accesses.Operations.{access_kind_of}
+use Rattle.held_places.specs.accepted_places.accepted_memory.memory_accesses.Rows.{has_steps, is_part}
+use Rattle.held_places.specs.accepted_places.accepted_memory.memory_accesses.Sources.{element_place, field_source, is_trivial_member, member_place, part_source, result_source, source_at, source_by}
+use Rattle.held_places.specs.accepted_places.accepted_memory.memory_accesses.Sources.{sources_of}
+use Rattle.held_places.specs.accepted_places.accepted_memory.memory_accesses.declared.location.Location.{Location}
+use Rattle.held_places.specs.accepted_places.accepted_memory.memory_accesses.declared.source.Source.{Source}
+use Rattle.held_places.specs.accepted_places.accepted_memory.memory_accesses.declared.source.Source.TheVariants as source
+use Rattle.held_places.proofs.accepted_places.Locating.{member_location, root_location}
+use Rattle.held_places.proofs.accepted_places.Made.{results_so}
+use Rattle.held_places.proofs.accepted_places.PartsThere.{each_where_among}
+use Rattle.held_places.specs.accepted_places.inner.Located.{IsRoot}
+use Rattle.held_places.specs.accepted_places.inner.Located as located
+use Rattle.held_places.specs.accepted_places.accepted_values.inner.Known.{IsAcceptedBody}
+use Rattle.held_places.specs.accepted_places.accepted_values.run_typing.EndForms.{value_in}
+use Rattle.held_places.specs.accepted_places.accepted_values.run_typing.Forms.{OfValue, form_of, forms_of}
+use Rattle.held_places.proofs.accepted_places.accepted_values.Accepted.{in_ownership_form, well_typed}
 use Rattle.held_objects.specs.built_objects.inner.Building.{IsFieldAddress}
 use Rattle.held_objects.specs.built_objects.inner.FrameObjects.{IsInField, Names, fields_of_object, place_of_field}
 use Rattle.instruction_table.specs.Forms.{detail_of}
@@ -32,8 +32,8 @@ use Rattle.instruction_table.specs.declared.op.Op.TheVariants as op
 use Rattle.item_operands.specs.Items.{item_defined}
 use Rattle.item_operands.specs.Parts.{inst_at}
 use Rattle.memory_cells.specs.inner.Cells.{has_cell}
-use Rattle.accepted_places.proofs.owned_run_typing.OwnedInsts.{owned_inst}
-use Rattle.accepted_places.proofs.owned_run_typing.run_typing_laws.Rows.Points.{in_front}
+use Rattle.held_places.proofs.accepted_places.owned_run_typing.OwnedInsts.{owned_inst}
+use Rattle.held_places.proofs.accepted_places.owned_run_typing.run_typing_laws.Rows.Points.{in_front}
 use Rattle.point_checks.proofs.Among.{among_contained}
 use Rattle.run_values.specs.Memory.{Memory, object_at}
 use Rattle.run_values.specs.Places.{Inside, field_in, offset}
@@ -49,12 +49,12 @@ use Rattle.sil_ast.specs.declared.place.PointId.{PointId}
 use Rattle.sil_ast.specs.declared.place.ValueId.{ValueId}
 use Rattle.sil_cfg.specs.declared.item.Item.TheVariants as item
 use Rattle.type_definitions.specs.Declarations.{Declarations, declarations_of, is_class}
-use Rattle.tracked_frames.specs.typed_holders.inner.TypedStates.{EntriesAre}
-use Rattle.tracked_frames.specs.typed_holders.typed_memory.inner.Worlds.{IsWorldOf, MemoryIs, Suits, World, names}
-use Rattle.tracked_frames.proofs.typed_holders.Data.{read_value}
-use Rattle.tracked_frames.proofs.typed_memory.Growth.{offset_front}
-use Rattle.tracked_frames.proofs.typed_memory.Homes.{object_is}
-use Rattle.tracked_frames.proofs.typed_memory.Naming.{NamedBy, each_at, named_by}
+use Rattle.held_places.specs.tracked_frames.typed_holders.inner.TypedStates.{EntriesAre}
+use Rattle.held_places.specs.tracked_frames.typed_holders.typed_memory.inner.Worlds.{IsWorldOf, MemoryIs, Suits, World, names}
+use Rattle.held_places.proofs.tracked_frames.typed_holders.Data.{read_value}
+use Rattle.held_places.proofs.tracked_frames.typed_memory.Growth.{offset_front}
+use Rattle.held_places.proofs.tracked_frames.typed_memory.Homes.{object_is}
+use Rattle.held_places.proofs.tracked_frames.typed_memory.Naming.{NamedBy, each_at, named_by}
 use Rattle.value_tables.specs.FirstValue.{first_value}
 use Rattle.followed_objects.specs.inner.FieldPlaces.{AreFieldsPlaced, AreMembersPlaced, AreObjectsCounted}
 use Rattle.followed_objects.proofs.About.{unlocated}

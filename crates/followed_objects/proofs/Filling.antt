@@ -2,26 +2,26 @@
 use Rattle.std.proofs.Common.{◌≡◌, ℕ, List, refl, sym, ap, ◌∙◌, subst, Bool, true, false, ◌&&◌, Option, Some, None}
 use Rattle.std.proofs.lemmas.Bool.{false≢true, true≢false}
 use Rattle.std.proofs.lemmas.Option.{none-some, same_Some}
-use Rattle.accepted_places.specs.accepted_memory.memory_accesses.Locations.{cell_by, cell_of, location_of}
-use Rattle.accepted_places.specs.accepted_memory.memory_accesses.Operations.{access_kind_of, load_operation, operation_by}
-use Rattle.accepted_places.specs.accepted_memory.memory_accesses.Rows.{has_by, has_operation, is_part}
-use Rattle.accepted_places.specs.accepted_memory.memory_accesses.Sources.{is_trivial_at, source_at, sources_of}
-use Rattle.accepted_places.specs.accepted_memory.memory_accesses.declared.access.Operated.{Operated}
-use Rattle.accepted_places.specs.accepted_memory.memory_accesses.declared.access.Operation.{Operation}
-use Rattle.accepted_places.specs.accepted_memory.memory_accesses.declared.access.Operation.TheVariants as operation
-use Rattle.accepted_places.specs.accepted_memory.memory_accesses.declared.columns.AccessKind.{AccessKind}
-use Rattle.accepted_places.specs.accepted_memory.memory_accesses.declared.columns.AccessKind.TheVariants as access
-use Rattle.accepted_places.specs.accepted_memory.memory_accesses.declared.location.Cell.{Cell}
-use Rattle.accepted_places.specs.accepted_memory.memory_accesses.declared.location.Location.{Location}
-use Rattle.accepted_places.specs.accepted_memory.memory_accesses.declared.source.Source.{Source}
-use Rattle.accepted_places.specs.accepted_memory.memory_accesses.declared.source.Source.TheVariants as source
-use Rattle.accepted_places.specs.accepted_memory.memory_parts.Building.{fills}
-use Rattle.accepted_places.specs.accepted_memory.memory_parts.Contents.{counts_at_part, operation_mark, same_cell}
-use Rattle.accepted_places.specs.accepted_memory.memory_parts.Switches.{is_same, is_turned_on, when}
-use Rattle.accepted_places.proofs.Done.{IsDoneBy, done_by, of_call, of_row}
-use Rattle.accepted_places.proofs.ItemStacks.{accepted_in}
-use Rattle.accepted_places.proofs.OperationsRight.{rows_right}
-use Rattle.accepted_places.specs.accepted_values.inner.Known.{IsAcceptedBody}
+use Rattle.held_places.specs.accepted_places.accepted_memory.memory_accesses.Locations.{cell_by, cell_of, location_of}
+use Rattle.held_places.specs.accepted_places.accepted_memory.memory_accesses.Operations.{access_kind_of, load_operation, operation_by}
+use Rattle.held_places.specs.accepted_places.accepted_memory.memory_accesses.Rows.{has_by, has_operation, is_part}
+use Rattle.held_places.specs.accepted_places.accepted_memory.memory_accesses.Sources.{is_trivial_at, source_at, sources_of}
+use Rattle.held_places.specs.accepted_places.accepted_memory.memory_accesses.declared.access.Operated.{Operated}
+use Rattle.held_places.specs.accepted_places.accepted_memory.memory_accesses.declared.access.Operation.{Operation}
+use Rattle.held_places.specs.accepted_places.accepted_memory.memory_accesses.declared.access.Operation.TheVariants as operation
+use Rattle.held_places.specs.accepted_places.accepted_memory.memory_accesses.declared.columns.AccessKind.{AccessKind}
+use Rattle.held_places.specs.accepted_places.accepted_memory.memory_accesses.declared.columns.AccessKind.TheVariants as access
+use Rattle.held_places.specs.accepted_places.accepted_memory.memory_accesses.declared.location.Cell.{Cell}
+use Rattle.held_places.specs.accepted_places.accepted_memory.memory_accesses.declared.location.Location.{Location}
+use Rattle.held_places.specs.accepted_places.accepted_memory.memory_accesses.declared.source.Source.{Source}
+use Rattle.held_places.specs.accepted_places.accepted_memory.memory_accesses.declared.source.Source.TheVariants as source
+use Rattle.held_places.specs.accepted_places.accepted_memory.memory_parts.Building.{fills}
+use Rattle.held_places.specs.accepted_places.accepted_memory.memory_parts.Contents.{counts_at_part, operation_mark, same_cell}
+use Rattle.held_places.specs.accepted_places.accepted_memory.memory_parts.Switches.{is_same, is_turned_on, when}
+use Rattle.held_places.proofs.accepted_places.Done.{IsDoneBy, done_by, of_call, of_row}
+use Rattle.held_places.proofs.accepted_places.ItemStacks.{accepted_in}
+use Rattle.held_places.proofs.accepted_places.OperationsRight.{rows_right}
+use Rattle.held_places.specs.accepted_places.accepted_values.inner.Known.{IsAcceptedBody}
 use Rattle.argument_conventions.specs.declared.row.AddressRow.{AddressRow}
 use Rattle.instruction_table.specs.Forms.{is_terminator}
 use Rattle.instruction_table.specs.declared.op.Op.{Op}

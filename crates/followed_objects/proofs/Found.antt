@@ -3,23 +3,23 @@ use Rattle.std.proofs.Common.{◌≡◌, ℕ, List, ◌∷◌, sym, ◌∙◌, s
 use Rattle.std.specs.Prelude.{Contains, slice_get}
 use Rattle.std.proofs.lemmas.List.Elements.{Contains-append_left}
 use Rattle.std.proofs.lemmas.Option.{same_Some}
-use Rattle.accepted_places.specs.accepted_memory.accepted_modules.inner.Checked.{IsVerified}
-use Rattle.accepted_places.specs.accepted_memory.holder_model.Data.{AddressOf}
-use Rattle.accepted_places.specs.accepted_memory.holder_model.Frames.{Frame, Operands}
-use Rattle.accepted_places.specs.accepted_memory.holder_model.HolderStates.{HolderState}
-use Rattle.accepted_places.specs.accepted_memory.holder_model.ModuleFacts.{facts_of, facts_told}
-use Rattle.accepted_places.specs.accepted_memory.holder_model.ModuleShapes.{shapes_of}
-use Rattle.accepted_places.specs.accepted_memory.holder_model.Standing.{stands_at}
-use Rattle.accepted_places.specs.accepted_memory.holder_model.States.{Runs, Task}
-use Rattle.accepted_places.specs.accepted_memory.memory_accesses.Locations.{location_of}
-use Rattle.accepted_places.specs.accepted_memory.memory_accesses.Operations.{operations_of}
-use Rattle.accepted_places.specs.accepted_memory.memory_accesses.Sources.{source_at, sources_of}
-use Rattle.accepted_places.specs.accepted_memory.memory_accesses.declared.access.Operated.{Operated}
-use Rattle.accepted_places.specs.accepted_memory.memory_accesses.declared.location.Location.{Location}
-use Rattle.accepted_places.specs.accepted_memory.memory_accesses.declared.source.Source.TheVariants as source
-use Rattle.accepted_places.specs.accepted_memory.run_trails.inner.RunTrails.{IsRunTrail}
-use Rattle.accepted_places.proofs.accepted_memory.run_trails.WalkEdges.{are_next}
-use Rattle.accepted_places.specs.accepted_values.inner.Known.{IsAcceptedBody}
+use Rattle.held_places.specs.accepted_places.accepted_memory.accepted_modules.inner.Checked.{IsVerified}
+use Rattle.held_places.specs.accepted_places.accepted_memory.holder_model.Data.{AddressOf}
+use Rattle.held_places.specs.accepted_places.accepted_memory.holder_model.Frames.{Frame, Operands}
+use Rattle.held_places.specs.accepted_places.accepted_memory.holder_model.HolderStates.{HolderState}
+use Rattle.held_places.specs.accepted_places.accepted_memory.holder_model.ModuleFacts.{facts_of, facts_told}
+use Rattle.held_places.specs.accepted_places.accepted_memory.holder_model.ModuleShapes.{shapes_of}
+use Rattle.held_places.specs.accepted_places.accepted_memory.holder_model.Standing.{stands_at}
+use Rattle.held_places.specs.accepted_places.accepted_memory.holder_model.States.{Runs, Task}
+use Rattle.held_places.specs.accepted_places.accepted_memory.memory_accesses.Locations.{location_of}
+use Rattle.held_places.specs.accepted_places.accepted_memory.memory_accesses.Operations.{operations_of}
+use Rattle.held_places.specs.accepted_places.accepted_memory.memory_accesses.Sources.{source_at, sources_of}
+use Rattle.held_places.specs.accepted_places.accepted_memory.memory_accesses.declared.access.Operated.{Operated}
+use Rattle.held_places.specs.accepted_places.accepted_memory.memory_accesses.declared.location.Location.{Location}
+use Rattle.held_places.specs.accepted_places.accepted_memory.memory_accesses.declared.source.Source.TheVariants as source
+use Rattle.held_places.specs.accepted_places.accepted_memory.run_trails.inner.RunTrails.{IsRunTrail}
+use Rattle.held_places.proofs.accepted_places.accepted_memory.run_trails.WalkEdges.{are_next}
+use Rattle.held_places.specs.accepted_places.accepted_values.inner.Known.{IsAcceptedBody}
 use Rattle.held_objects.specs.built_objects.inner.Building.{IsFieldAddress}
 use Rattle.held_objects.specs.built_objects.inner.FrameObjects.{HoldsObjects, Names}
 use Rattle.held_objects.proofs.built_objects.Asked.{fields_asked}
@@ -36,11 +36,11 @@ use Rattle.sil_ast.specs.declared.place.ObjectId.{ObjectId}
 use Rattle.sil_ast.specs.declared.place.PointId.{PointId}
 use Rattle.sil_ast.specs.declared.place.ValueId.{ValueId}
 use Rattle.sil_cfg.specs.declared.item.Item.TheVariants as item
-use Rattle.tracked_frames.proofs.NextItems.{inst_comes}
+use Rattle.held_places.proofs.tracked_frames.NextItems.{inst_comes}
 use Rattle.type_definitions.specs.Declarations.{declarations_of}
-use Rattle.tracked_frames.specs.typed_holders.holder_steps.inner.Ways.{operands_in}
-use Rattle.tracked_frames.specs.typed_holders.inner.TypedStates.{FrameIs, IsTypedState, TasksAre}
-use Rattle.tracked_frames.proofs.typed_holders.GoesOn.{accepted_body}
+use Rattle.held_places.specs.tracked_frames.typed_holders.holder_steps.inner.Ways.{operands_in}
+use Rattle.held_places.specs.tracked_frames.typed_holders.inner.TypedStates.{FrameIs, IsTypedState, TasksAre}
+use Rattle.held_places.proofs.tracked_frames.typed_holders.GoesOn.{accepted_body}
 use Rattle.followed_objects.specs.inner.Found.{FindFields, IsFoundSo}
 use Rattle.followed_objects.specs.inner.Said.{said}
 use Rattle.followed_objects.proofs.Operands.{fields_right, operand_of_operation}

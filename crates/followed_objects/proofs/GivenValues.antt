@@ -4,20 +4,20 @@ use Rattle.std.proofs.lemmas.Bool.{false≢true}
 use Rattle.instruction_table.specs.Forms.{is_terminator}
 use Rattle.instruction_table.specs.declared.op.Op.{Op}
 use Rattle.instruction_table.specs.declared.op.Op.TheVariants as op
-use Rattle.accepted_places.specs.accepted_memory.holder_model.Data.{Datum}
-use Rattle.accepted_places.specs.accepted_memory.holder_model.Effects.{effect_of}
-use Rattle.accepted_places.specs.accepted_memory.holder_model.Frames.{Entry}
-use Rattle.accepted_places.specs.accepted_memory.holder_model.declared.row_effect.RowEffect.{RowEffect}
-use Rattle.accepted_places.specs.accepted_memory.holder_model.declared.row_effect.RowEffect.TheVariants as row
-use Rattle.accepted_places.specs.accepted_values.inner.Known.{IsAcceptedBody}
-use Rattle.accepted_places.specs.accepted_values.run_typing.Forms.{Form, OfValue, form_of}
-use Rattle.accepted_places.proofs.accepted_values.Accepted.{in_ownership_form, well_typed}
+use Rattle.held_places.specs.accepted_places.accepted_memory.holder_model.Data.{Datum}
+use Rattle.held_places.specs.accepted_places.accepted_memory.holder_model.Effects.{effect_of}
+use Rattle.held_places.specs.accepted_places.accepted_memory.holder_model.Frames.{Entry}
+use Rattle.held_places.specs.accepted_places.accepted_memory.holder_model.declared.row_effect.RowEffect.{RowEffect}
+use Rattle.held_places.specs.accepted_places.accepted_memory.holder_model.declared.row_effect.RowEffect.TheVariants as row
+use Rattle.held_places.specs.accepted_places.accepted_values.inner.Known.{IsAcceptedBody}
+use Rattle.held_places.specs.accepted_places.accepted_values.run_typing.Forms.{Form, OfValue, form_of}
+use Rattle.held_places.proofs.accepted_places.accepted_values.Accepted.{in_ownership_form, well_typed}
 use Rattle.held_objects.specs.built_objects.inner.FrameObjects.{Names}
 use Rattle.item_operands.specs.Items.{item_taken}
 use Rattle.item_operands.specs.Parts.{inst_at}
 use Rattle.item_operands.specs.declared.taken.Taken.{Taken}
-use Rattle.accepted_places.specs.owned_run_typing.inner.OwnedRows.{OwnedRowForms}
-use Rattle.accepted_places.proofs.owned_run_typing.OwnedInsts.{owned_inst}
+use Rattle.held_places.specs.accepted_places.owned_run_typing.inner.OwnedRows.{OwnedRowForms}
+use Rattle.held_places.proofs.accepted_places.owned_run_typing.OwnedInsts.{owned_inst}
 use Rattle.run_values.specs.Memory.{Memory}
 use Rattle.sil_ast.specs.declared.function.Function.{Function}
 use Rattle.sil_ast.specs.declared.inst.Inst.{Inst}
@@ -25,9 +25,9 @@ use Rattle.sil_ast.specs.declared.module.Module.{Module}
 use Rattle.sil_ast.specs.declared.place.PointId.{PointId}
 use Rattle.sil_cfg.specs.declared.item.Item.TheVariants as item
 use Rattle.type_definitions.specs.Declarations.{declarations_of}
-use Rattle.tracked_frames.specs.typed_holders.inner.TypedStates.{EntriesAre}
-use Rattle.tracked_frames.specs.typed_holders.typed_memory.inner.Worlds.{World}
-use Rattle.tracked_frames.proofs.typed_holders.Data.{read_value}
+use Rattle.held_places.specs.tracked_frames.typed_holders.inner.TypedStates.{EntriesAre}
+use Rattle.held_places.specs.tracked_frames.typed_holders.typed_memory.inner.Worlds.{World}
+use Rattle.held_places.proofs.tracked_frames.typed_holders.Data.{read_value}
 use Rattle.followed_objects.proofs.EntriesNamed.{AreNamed}
 use Rattle.followed_objects.proofs.GoesOn.{TakesWhole}
 use Rattle.followed_objects.proofs.Reading.{named_datum}

@@ -8,35 +8,35 @@ use Rattle.instruction_table.specs.Forms.{detail_of}
 use Rattle.instruction_table.specs.declared.entries.Detail.TheVariants as detail
 use Rattle.instruction_table.specs.declared.op.Op.{Op}
 use Rattle.instruction_table.specs.declared.op.Op.TheVariants as op
-use Rattle.accepted_places.specs.accepted_memory.accepted_trails.inner.Defined.{IsDefinedOn, makes}
-use Rattle.accepted_places.specs.accepted_memory.holder_model.Effects.{effect_of, part_number, part_number_by}
-use Rattle.accepted_places.specs.accepted_memory.holder_model.declared.row_effect.RowEffect.{RowEffect}
-use Rattle.accepted_places.specs.accepted_memory.holder_model.declared.row_effect.RowEffect.TheVariants as row
-use Rattle.accepted_places.specs.accepted_memory.memory_accesses.Accesses.{allowance_of}
-use Rattle.accepted_places.specs.accepted_memory.memory_accesses.Locations.{extended, is_object, whole}
-use Rattle.accepted_places.specs.accepted_memory.memory_accesses.Operations.{access_kind_of, deallocates_by}
-use Rattle.accepted_places.specs.accepted_memory.memory_accesses.Sources as memory_accesses
-use Rattle.accepted_places.specs.accepted_memory.memory_accesses.Sources.{borrow_source, result_source, source_at, source_by, sources_of, upcast_source}
-use Rattle.accepted_places.specs.accepted_memory.memory_accesses.declared.columns.AccessKind.TheVariants as access
-use Rattle.accepted_places.specs.accepted_memory.memory_accesses.declared.location.Location.{Location}
-use Rattle.accepted_places.specs.accepted_memory.memory_accesses.declared.source.Source.{Source}
-use Rattle.accepted_places.specs.accepted_memory.memory_accesses.declared.source.Source.TheVariants as source
-use Rattle.accepted_places.specs.accepted_memory.memory_parts.Building.{builds, takes_borrow, takes_object}
-use Rattle.accepted_places.specs.accepted_memory.run_trails.inner.RunTrails.{IsRunTrail, IsTurnedTrail}
-use Rattle.accepted_places.proofs.accepted_memory.run_trails.RunPaths.{are_trails}
-use Rattle.accepted_places.proofs.ItemStacks.{accepted_in}
-use Rattle.accepted_places.proofs.Locating.{members_located, root_location}
-use Rattle.accepted_places.specs.inner.Located.{IsAddress, IsRoot}
-use Rattle.accepted_places.specs.inner.Located as located
-use Rattle.accepted_places.specs.accepted_values.inner.Known.{IsAcceptedBody}
-use Rattle.accepted_places.specs.accepted_values.run_typing.EndForms.{value_in}
-use Rattle.accepted_places.proofs.accepted_values.Accepted.{in_ownership_form, well_typed}
+use Rattle.held_places.specs.accepted_places.accepted_memory.accepted_trails.inner.Defined.{IsDefinedOn, makes}
+use Rattle.held_places.specs.accepted_places.accepted_memory.holder_model.Effects.{effect_of, part_number, part_number_by}
+use Rattle.held_places.specs.accepted_places.accepted_memory.holder_model.declared.row_effect.RowEffect.{RowEffect}
+use Rattle.held_places.specs.accepted_places.accepted_memory.holder_model.declared.row_effect.RowEffect.TheVariants as row
+use Rattle.held_places.specs.accepted_places.accepted_memory.memory_accesses.Accesses.{allowance_of}
+use Rattle.held_places.specs.accepted_places.accepted_memory.memory_accesses.Locations.{extended, is_object, whole}
+use Rattle.held_places.specs.accepted_places.accepted_memory.memory_accesses.Operations.{access_kind_of, deallocates_by}
+use Rattle.held_places.specs.accepted_places.accepted_memory.memory_accesses.Sources as memory_accesses
+use Rattle.held_places.specs.accepted_places.accepted_memory.memory_accesses.Sources.{borrow_source, result_source, source_at, source_by, sources_of, upcast_source}
+use Rattle.held_places.specs.accepted_places.accepted_memory.memory_accesses.declared.columns.AccessKind.TheVariants as access
+use Rattle.held_places.specs.accepted_places.accepted_memory.memory_accesses.declared.location.Location.{Location}
+use Rattle.held_places.specs.accepted_places.accepted_memory.memory_accesses.declared.source.Source.{Source}
+use Rattle.held_places.specs.accepted_places.accepted_memory.memory_accesses.declared.source.Source.TheVariants as source
+use Rattle.held_places.specs.accepted_places.accepted_memory.memory_parts.Building.{builds, takes_borrow, takes_object}
+use Rattle.held_places.specs.accepted_places.accepted_memory.run_trails.inner.RunTrails.{IsRunTrail, IsTurnedTrail}
+use Rattle.held_places.proofs.accepted_places.accepted_memory.run_trails.RunPaths.{are_trails}
+use Rattle.held_places.proofs.accepted_places.ItemStacks.{accepted_in}
+use Rattle.held_places.proofs.accepted_places.Locating.{members_located, root_location}
+use Rattle.held_places.specs.accepted_places.inner.Located.{IsAddress, IsRoot}
+use Rattle.held_places.specs.accepted_places.inner.Located as located
+use Rattle.held_places.specs.accepted_places.accepted_values.inner.Known.{IsAcceptedBody}
+use Rattle.held_places.specs.accepted_places.accepted_values.run_typing.EndForms.{value_in}
+use Rattle.held_places.proofs.accepted_places.accepted_values.Accepted.{in_ownership_form, well_typed}
 use Rattle.held_objects.specs.built_objects.inner.Building.{IsAbout, IsFieldAddress, address, borrow, itself}
 use Rattle.held_objects.specs.built_objects.inner.Laws.{GoesOn}
 use Rattle.item_operands.specs.Items.{item_taken}
 use Rattle.item_operands.specs.Parts.{inst_at}
 use Rattle.item_operands.specs.declared.taken.Taken.{Taken}
-use Rattle.accepted_places.proofs.owned_run_typing.OwnedInsts.{owned_inst}
+use Rattle.held_places.proofs.accepted_places.owned_run_typing.OwnedInsts.{owned_inst}
 use Rattle.point_checks.proofs.Among.{Among, among_contained, contained_among}
 use Rattle.sil_ast.specs.declared.function.Function.{Function}
 use Rattle.sil_ast.specs.declared.inst.Inst.{Inst}

@@ -5,19 +5,19 @@ use Rattle.std.proofs.lemmas.Bool.{false≢true}
 use Rattle.std.proofs.lemmas.Option.{none-some, same_Some}
 use Rattle.instruction_table.specs.declared.op.Op.{Op}
 use Rattle.instruction_table.specs.declared.op.Op.TheVariants as op
-use Rattle.accepted_places.specs.accepted_memory.accepted_trails.inner.Defined.{makes}
-use Rattle.accepted_places.specs.accepted_memory.holder_model.Data.{AddressOf, Datum, ValueOf}
-use Rattle.accepted_places.specs.accepted_memory.holder_model.Effects as effects
-use Rattle.accepted_places.specs.accepted_memory.holder_model.Effects.{Change, effect_of, unchanged}
-use Rattle.accepted_places.specs.accepted_memory.holder_model.Frames.{Frame, Operands}
-use Rattle.accepted_places.specs.accepted_memory.holder_model.MemoryEffects.{effect}
-use Rattle.accepted_places.specs.accepted_memory.holder_model.ModuleShapes.{shapes_of}
-use Rattle.accepted_places.specs.accepted_memory.holder_model.States.{Runs, Task}
-use Rattle.accepted_places.specs.accepted_memory.holder_model.declared.row_effect.RowEffect.TheVariants as row
-use Rattle.accepted_places.specs.accepted_memory.memory_accesses.Operations.{access_kind_of}
-use Rattle.accepted_places.specs.accepted_memory.memory_accesses.Sources.{is_trivial_member, sources_of}
-use Rattle.accepted_places.specs.accepted_memory.memory_accesses.declared.location.Location.{Location}
-use Rattle.accepted_places.proofs.Fields.{has_among}
+use Rattle.held_places.specs.accepted_places.accepted_memory.accepted_trails.inner.Defined.{makes}
+use Rattle.held_places.specs.accepted_places.accepted_memory.holder_model.Data.{AddressOf, Datum, ValueOf}
+use Rattle.held_places.specs.accepted_places.accepted_memory.holder_model.Effects as effects
+use Rattle.held_places.specs.accepted_places.accepted_memory.holder_model.Effects.{Change, effect_of, unchanged}
+use Rattle.held_places.specs.accepted_places.accepted_memory.holder_model.Frames.{Frame, Operands}
+use Rattle.held_places.specs.accepted_places.accepted_memory.holder_model.MemoryEffects.{effect}
+use Rattle.held_places.specs.accepted_places.accepted_memory.holder_model.ModuleShapes.{shapes_of}
+use Rattle.held_places.specs.accepted_places.accepted_memory.holder_model.States.{Runs, Task}
+use Rattle.held_places.specs.accepted_places.accepted_memory.holder_model.declared.row_effect.RowEffect.TheVariants as row
+use Rattle.held_places.specs.accepted_places.accepted_memory.memory_accesses.Operations.{access_kind_of}
+use Rattle.held_places.specs.accepted_places.accepted_memory.memory_accesses.Sources.{is_trivial_member, sources_of}
+use Rattle.held_places.specs.accepted_places.accepted_memory.memory_accesses.declared.location.Location.{Location}
+use Rattle.held_places.proofs.accepted_places.Fields.{has_among}
 use Rattle.held_objects.specs.built_objects.inner.Building.{IsFieldAddress}
 use Rattle.held_objects.specs.built_objects.inner.FrameObjects.{IsInField, Names}
 use Rattle.held_objects.specs.built_objects.inner.Laws.{GoesOn, MayBegin}

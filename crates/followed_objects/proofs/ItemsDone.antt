@@ -5,28 +5,28 @@ use Rattle.std.proofs.lemmas.Bool.{true≢false}
 use Rattle.argument_conventions.specs.Arguments.{Told, arguments_of}
 use Rattle.argument_conventions.specs.Rows.{address_row}
 use Rattle.argument_conventions.specs.declared.row.AddressRow.{AddressRow}
-use Rattle.accepted_places.specs.accepted_memory.accepted_trails.inner.Defined.{makes}
-use Rattle.accepted_places.specs.accepted_memory.holder_model.Data.{Datum, references_in}
-use Rattle.accepted_places.specs.accepted_memory.holder_model.Effects.{Change}
-use Rattle.accepted_places.specs.accepted_memory.holder_model.Frames.{Entry, Frame, Gone, entry_at, results_put}
-use Rattle.accepted_places.specs.accepted_memory.holder_model.ModuleShapes.{shapes_of}
-use Rattle.accepted_places.specs.accepted_memory.holder_model.States.{Runs, Task, dropping}
-use Rattle.accepted_places.specs.accepted_memory.memory_accesses.Locations.{is_object}
-use Rattle.accepted_places.specs.accepted_memory.memory_accesses.Operations.{access_kind_of}
-use Rattle.accepted_places.specs.accepted_memory.memory_accesses.Sources.{argument_source_or, borrow_source, element_place, field_source, handed_source, is_trivial_member, loan_source}
-use Rattle.accepted_places.specs.accepted_memory.memory_accesses.Sources.{member_place}
-use Rattle.accepted_places.specs.accepted_memory.memory_accesses.Sources.{part_source, slot_source, source_at, source_by, sources_of, upcast_source}
-use Rattle.accepted_places.specs.accepted_memory.memory_accesses.declared.columns.AccessKind.{AccessKind}
-use Rattle.accepted_places.specs.accepted_memory.memory_accesses.declared.columns.AccessKind.TheVariants as access
-use Rattle.accepted_places.specs.accepted_memory.memory_accesses.declared.source.Source.{Source}
-use Rattle.accepted_places.specs.accepted_memory.memory_accesses.declared.source.Source.TheVariants as source
-use Rattle.accepted_places.specs.accepted_memory.memory_parts.declared.part.Part.TheVariants.{Building}
-use Rattle.accepted_places.specs.accepted_memory.run_trails.inner.RunTrails.{IsRunTrail}
-use Rattle.accepted_places.specs.accepted_memory.inner.PartTrails.{is_on}
-use Rattle.accepted_places.proofs.Fields.{has_among}
-use Rattle.accepted_places.proofs.Made.{IsMadeBy, argument, made_so, result}
-use Rattle.accepted_places.specs.accepted_values.inner.Known.{IsAcceptedBody}
-use Rattle.accepted_places.specs.accepted_values.inner.Rows.{source_of_argument}
+use Rattle.held_places.specs.accepted_places.accepted_memory.accepted_trails.inner.Defined.{makes}
+use Rattle.held_places.specs.accepted_places.accepted_memory.holder_model.Data.{Datum, references_in}
+use Rattle.held_places.specs.accepted_places.accepted_memory.holder_model.Effects.{Change}
+use Rattle.held_places.specs.accepted_places.accepted_memory.holder_model.Frames.{Entry, Frame, Gone, entry_at, results_put}
+use Rattle.held_places.specs.accepted_places.accepted_memory.holder_model.ModuleShapes.{shapes_of}
+use Rattle.held_places.specs.accepted_places.accepted_memory.holder_model.States.{Runs, Task, dropping}
+use Rattle.held_places.specs.accepted_places.accepted_memory.memory_accesses.Locations.{is_object}
+use Rattle.held_places.specs.accepted_places.accepted_memory.memory_accesses.Operations.{access_kind_of}
+use Rattle.held_places.specs.accepted_places.accepted_memory.memory_accesses.Sources.{argument_source_or, borrow_source, element_place, field_source, handed_source, is_trivial_member, loan_source}
+use Rattle.held_places.specs.accepted_places.accepted_memory.memory_accesses.Sources.{member_place}
+use Rattle.held_places.specs.accepted_places.accepted_memory.memory_accesses.Sources.{part_source, slot_source, source_at, source_by, sources_of, upcast_source}
+use Rattle.held_places.specs.accepted_places.accepted_memory.memory_accesses.declared.columns.AccessKind.{AccessKind}
+use Rattle.held_places.specs.accepted_places.accepted_memory.memory_accesses.declared.columns.AccessKind.TheVariants as access
+use Rattle.held_places.specs.accepted_places.accepted_memory.memory_accesses.declared.source.Source.{Source}
+use Rattle.held_places.specs.accepted_places.accepted_memory.memory_accesses.declared.source.Source.TheVariants as source
+use Rattle.held_places.specs.accepted_places.accepted_memory.memory_parts.declared.part.Part.TheVariants.{Building}
+use Rattle.held_places.specs.accepted_places.accepted_memory.run_trails.inner.RunTrails.{IsRunTrail}
+use Rattle.held_places.specs.accepted_places.accepted_memory.inner.PartTrails.{is_on}
+use Rattle.held_places.proofs.accepted_places.Fields.{has_among}
+use Rattle.held_places.proofs.accepted_places.Made.{IsMadeBy, argument, made_so, result}
+use Rattle.held_places.specs.accepted_places.accepted_values.inner.Known.{IsAcceptedBody}
+use Rattle.held_places.specs.accepted_places.accepted_values.inner.Rows.{source_of_argument}
 use Rattle.held_objects.specs.built_objects.inner.Building.{Progress}
 use Rattle.held_objects.specs.built_objects.inner.FrameObjects.{Holds, HoldsObjects, MayName, Names}
 use Rattle.held_objects.specs.built_objects.inner.FrameObjects as frames

@@ -36,6 +36,9 @@ pub mod EdgeValues
 pub mod RowsRight
 pub mod BuiltBehind
 pub mod BuiltSteps
-pub use Rattle.tracked_frames.proofs.typed_holders as typed_holders
-pub use Rattle.accepted_places.proofs.held_entries as held_entries
-pub use Rattle.tracked_frames.proofs as tracked_frames
+pub use Rattle.held_places.proofs.tracked_frames.typed_holders as typed_holders
+pub use Rattle.held_places.proofs.accepted_places.held_entries as held_entries
+pub use Rattle.held_places.proofs.tracked_frames as tracked_frames
+pub use Rattle.holder_counts.proofs as holder_counts
+pub use Rattle.held_places.proofs.scoped_addresses as scoped_addresses
+pub use Rattle.held_places.proofs as held_places

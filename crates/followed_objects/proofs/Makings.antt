@@ -6,40 +6,40 @@ use Rattle.std.proofs.lemmas.Option.{same_Some}
 use Rattle.instruction_table.specs.Forms.{result_kind_of}
 use Rattle.instruction_table.specs.declared.op.Op.{Op}
 use Rattle.instruction_table.specs.declared.op.Op.TheVariants as op
-use Rattle.accepted_places.specs.accepted_memory.holder_model.Data.{Datum, ValueOf}
-use Rattle.accepted_places.specs.accepted_memory.holder_model.Effects as effects
-use Rattle.accepted_places.specs.accepted_memory.holder_model.Effects.{Change, effect_of, result_shape_of}
-use Rattle.accepted_places.specs.accepted_memory.holder_model.Frames.{Entry, Frame, Held, Operands, entry_at, made_entry, results_put}
-use Rattle.accepted_places.specs.accepted_memory.holder_model.MemoryEffects.{effect}
-use Rattle.accepted_places.specs.accepted_memory.holder_model.ModuleShapes.{field_shapes, shapes_in, shapes_of}
-use Rattle.accepted_places.specs.accepted_memory.holder_model.States.{Runs, Task, dropping}
-use Rattle.accepted_places.specs.accepted_memory.holder_model.declared.row_effect.RowEffect.{RowEffect}
-use Rattle.accepted_places.specs.accepted_memory.holder_model.declared.row_effect.RowEffect.TheVariants as row
-use Rattle.accepted_places.specs.accepted_memory.memory_accesses.Operations.{access_kind_of}
-use Rattle.accepted_places.specs.accepted_memory.memory_accesses.Sources.{field_count_in, object_source, source_at, source_by, sources_of}
-use Rattle.accepted_places.specs.accepted_memory.memory_accesses.declared.source.Source.TheVariants as source
-use Rattle.accepted_places.specs.accepted_memory.ownership_kinds.Facts.{facts_in}
-use Rattle.accepted_places.specs.accepted_memory.sil_types.Typing.RowTypes.{given_by, gives}
-use Rattle.accepted_places.specs.accepted_memory.sil_types.Typing.Shapes.{where_it}
-use Rattle.accepted_places.specs.accepted_memory.ownership_origins.Origins.{is_trivial_or_untyped}
-use Rattle.accepted_places.proofs.Done.{none_done, operates, passes}
-use Rattle.accepted_places.proofs.OperationsRight.{stands_somewhere}
-use Rattle.accepted_places.specs.accepted_values.inner.Known.{kind_at, type_in}
-use Rattle.accepted_places.specs.accepted_values.inner.Operands.{kind_by_row, kind_together}
-use Rattle.accepted_places.specs.accepted_values.run_typing.CallForms.{IsOf}
-use Rattle.accepted_places.specs.accepted_values.run_typing.Forms.{forms_of}
-use Rattle.accepted_places.proofs.accepted_values.Accepted.{typed}
-use Rattle.accepted_places.proofs.accepted_values.Made.{items_of}
-use Rattle.accepted_places.proofs.accepted_values.Suited.{results_of_kinds}
+use Rattle.held_places.specs.accepted_places.accepted_memory.holder_model.Data.{Datum, ValueOf}
+use Rattle.held_places.specs.accepted_places.accepted_memory.holder_model.Effects as effects
+use Rattle.held_places.specs.accepted_places.accepted_memory.holder_model.Effects.{Change, effect_of, result_shape_of}
+use Rattle.held_places.specs.accepted_places.accepted_memory.holder_model.Frames.{Entry, Frame, Held, Operands, entry_at, made_entry, results_put}
+use Rattle.held_places.specs.accepted_places.accepted_memory.holder_model.MemoryEffects.{effect}
+use Rattle.held_places.specs.accepted_places.accepted_memory.holder_model.ModuleShapes.{field_shapes, shapes_in, shapes_of}
+use Rattle.held_places.specs.accepted_places.accepted_memory.holder_model.States.{Runs, Task, dropping}
+use Rattle.held_places.specs.accepted_places.accepted_memory.holder_model.declared.row_effect.RowEffect.{RowEffect}
+use Rattle.held_places.specs.accepted_places.accepted_memory.holder_model.declared.row_effect.RowEffect.TheVariants as row
+use Rattle.held_places.specs.accepted_places.accepted_memory.memory_accesses.Operations.{access_kind_of}
+use Rattle.held_places.specs.accepted_places.accepted_memory.memory_accesses.Sources.{field_count_in, object_source, source_at, source_by, sources_of}
+use Rattle.held_places.specs.accepted_places.accepted_memory.memory_accesses.declared.source.Source.TheVariants as source
+use Rattle.held_places.specs.accepted_places.accepted_memory.ownership_kinds.Facts.{facts_in}
+use Rattle.held_places.specs.accepted_places.accepted_memory.sil_types.Typing.RowTypes.{given_by, gives}
+use Rattle.held_places.specs.accepted_places.accepted_memory.sil_types.Typing.Shapes.{where_it}
+use Rattle.held_places.specs.accepted_places.accepted_memory.ownership_origins.Origins.{is_trivial_or_untyped}
+use Rattle.held_places.proofs.accepted_places.Done.{none_done, operates, passes}
+use Rattle.held_places.proofs.accepted_places.OperationsRight.{stands_somewhere}
+use Rattle.held_places.specs.accepted_places.accepted_values.inner.Known.{kind_at, type_in}
+use Rattle.held_places.specs.accepted_places.accepted_values.inner.Operands.{kind_by_row, kind_together}
+use Rattle.held_places.specs.accepted_places.accepted_values.run_typing.CallForms.{IsOf}
+use Rattle.held_places.specs.accepted_places.accepted_values.run_typing.Forms.{forms_of}
+use Rattle.held_places.proofs.accepted_places.accepted_values.Accepted.{typed}
+use Rattle.held_places.proofs.accepted_places.accepted_values.Made.{items_of}
+use Rattle.held_places.proofs.accepted_places.accepted_values.Suited.{results_of_kinds}
 use Rattle.held_objects.specs.built_objects.inner.FrameObjects.{Holds}
-use Rattle.accepted_places.proofs.held_entries.EntriesEnded.{entry_set_same}
+use Rattle.held_places.proofs.accepted_places.held_entries.EntriesEnded.{entry_set_same}
 use Rattle.held_objects.specs.inner.Items.{frame_behind}
 use Rattle.held_objects.specs.inner.ObjectStates.{TasksBuild}
 use Rattle.held_objects.proofs.Items.{making_right}
 use Rattle.item_operands.specs.Items.{item_defined}
 use Rattle.item_operands.specs.Parts.{inst_at, results_in}
 use Rattle.numbered_form.specs.Lists.{Each}
-use Rattle.accepted_places.proofs.owned_run_typing.run_typing_laws.ValueForms.{row_kept}
+use Rattle.held_places.proofs.accepted_places.owned_run_typing.run_typing_laws.ValueForms.{row_kept}
 use Rattle.ownership_chains.specs.Facts.{has, known_or, value_of}
 use Rattle.ownership_chains.specs.declared.facts.Facts.{Facts}
 use Rattle.run_values.specs.Memory.{Memory, new_object}
@@ -58,7 +58,7 @@ use Rattle.type_definitions.specs.Declarations.{declarations_of}
 use Rattle.type_definitions.specs.Rules.{is_class_type}
 use Rattle.type_definitions.specs.declared.kind.Kind.{Kind}
 use Rattle.type_definitions.specs.declared.kind.Kind.TheVariants as kind
-use Rattle.tracked_frames.proofs.typed_holders.ShapesTold.{first_shape, result_told, shape_in}
+use Rattle.held_places.proofs.tracked_frames.typed_holders.ShapesTold.{first_shape, result_told, shape_in}
 use Rattle.held_objects.specs.whole_objects.inner.Whole.{IsWholeMemory}
 use Rattle.followed_objects.specs.inner.Said.{said}
 use Rattle.followed_objects.proofs.Classes.{ObjectClass, object_class}

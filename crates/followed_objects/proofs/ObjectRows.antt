@@ -4,16 +4,16 @@ use Rattle.std.specs.Prelude.{slice_get}
 use Rattle.std.proofs.lemmas.Bool.{false≢true}
 use Rattle.std.proofs.lemmas.Option.{same_Some}
 use Rattle.numbered_form.specs.Names.{Name}
-use Rattle.accepted_places.specs.owned_run_typing.holder_model.Effects.{effect_of, part_number}
-use Rattle.accepted_places.specs.owned_run_typing.holder_model.ModuleShapes.{field_shapes, shapes_of}
-use Rattle.accepted_places.specs.owned_run_typing.holder_model.declared.row_effect.RowEffect.{RowEffect}
-use Rattle.accepted_places.specs.owned_run_typing.holder_model.declared.row_effect.RowEffect.TheVariants as row
-use Rattle.accepted_places.specs.owned_run_typing.inner.OwnedRows as owned
-use Rattle.accepted_places.specs.owned_run_typing.inner.OwnedRows.{OwnedRowForms}
-use Rattle.accepted_places.specs.owned_run_typing.run_typing.Classes.{ClassesAreSound, is_a}
-use Rattle.accepted_places.specs.owned_run_typing.run_typing.Forms.{Form, OfPlace, OfValue}
-use Rattle.accepted_places.specs.owned_run_typing.run_typing.RowForms as rows
-use Rattle.accepted_places.specs.owned_run_typing.run_typing.RowForms.{RowForms}
+use Rattle.held_places.specs.accepted_places.owned_run_typing.holder_model.Effects.{effect_of, part_number}
+use Rattle.held_places.specs.accepted_places.owned_run_typing.holder_model.ModuleShapes.{field_shapes, shapes_of}
+use Rattle.held_places.specs.accepted_places.owned_run_typing.holder_model.declared.row_effect.RowEffect.{RowEffect}
+use Rattle.held_places.specs.accepted_places.owned_run_typing.holder_model.declared.row_effect.RowEffect.TheVariants as row
+use Rattle.held_places.specs.accepted_places.owned_run_typing.inner.OwnedRows as owned
+use Rattle.held_places.specs.accepted_places.owned_run_typing.inner.OwnedRows.{OwnedRowForms}
+use Rattle.held_places.specs.accepted_places.owned_run_typing.run_typing.Classes.{ClassesAreSound, is_a}
+use Rattle.held_places.specs.accepted_places.owned_run_typing.run_typing.Forms.{Form, OfPlace, OfValue}
+use Rattle.held_places.specs.accepted_places.owned_run_typing.run_typing.RowForms as rows
+use Rattle.held_places.specs.accepted_places.owned_run_typing.run_typing.RowForms.{RowForms}
 use Rattle.run_values.specs.Shapes.{Reference, Shape}
 use Rattle.sil_ast.specs.declared.inst.Inst.{Inst}
 use Rattle.sil_ast.specs.declared.member.Member.{Member}

@@ -2,20 +2,20 @@
 use Rattle.std.proofs.Common.{◌≡◌, List, sym, ap, ◌∙◌, true, false, Some}
 use Rattle.std.specs.Prelude.{Contains}
 use Rattle.std.proofs.lemmas.Bool.{or_parts}
-use Rattle.accepted_places.specs.accepted_memory.holder_model.Data.{AddressOf, home_references, references_in}
-use Rattle.accepted_places.specs.accepted_memory.holder_model.Frames.{Frame, Operands, any_dead}
-use Rattle.accepted_places.specs.accepted_memory.holder_model.States.{Task}
-use Rattle.accepted_places.specs.accepted_memory.memory_accesses.Locations.{location_of}
-use Rattle.accepted_places.specs.accepted_memory.memory_accesses.Operations.{operated, operations_of}
-use Rattle.accepted_places.specs.accepted_memory.memory_accesses.Rows.{has_operation, is_part}
-use Rattle.accepted_places.specs.accepted_memory.memory_accesses.Sources.{source_at, sources_of}
-use Rattle.accepted_places.specs.accepted_memory.memory_accesses.declared.access.Operated.{Operated}
-use Rattle.accepted_places.specs.accepted_memory.memory_accesses.declared.access.Operation.TheVariants as operation
-use Rattle.accepted_places.specs.accepted_memory.memory_accesses.declared.location.Location.{Location}
-use Rattle.accepted_places.proofs.ItemStacks.{accepted_in}
-use Rattle.accepted_places.proofs.OperationsRight.{rows_right}
-use Rattle.accepted_places.proofs.RootsMade.{operands_located}
-use Rattle.accepted_places.specs.inner.Located.{IsLocated}
+use Rattle.held_places.specs.accepted_places.accepted_memory.holder_model.Data.{AddressOf, home_references, references_in}
+use Rattle.held_places.specs.accepted_places.accepted_memory.holder_model.Frames.{Frame, Operands, any_dead}
+use Rattle.held_places.specs.accepted_places.accepted_memory.holder_model.States.{Task}
+use Rattle.held_places.specs.accepted_places.accepted_memory.memory_accesses.Locations.{location_of}
+use Rattle.held_places.specs.accepted_places.accepted_memory.memory_accesses.Operations.{operated, operations_of}
+use Rattle.held_places.specs.accepted_places.accepted_memory.memory_accesses.Rows.{has_operation, is_part}
+use Rattle.held_places.specs.accepted_places.accepted_memory.memory_accesses.Sources.{source_at, sources_of}
+use Rattle.held_places.specs.accepted_places.accepted_memory.memory_accesses.declared.access.Operated.{Operated}
+use Rattle.held_places.specs.accepted_places.accepted_memory.memory_accesses.declared.access.Operation.TheVariants as operation
+use Rattle.held_places.specs.accepted_places.accepted_memory.memory_accesses.declared.location.Location.{Location}
+use Rattle.held_places.proofs.accepted_places.ItemStacks.{accepted_in}
+use Rattle.held_places.proofs.accepted_places.OperationsRight.{rows_right}
+use Rattle.held_places.proofs.accepted_places.RootsMade.{operands_located}
+use Rattle.held_places.specs.accepted_places.inner.Located.{IsLocated}
 use Rattle.argument_conventions.specs.declared.row.AddressRow.{AddressRow}
 use Rattle.held_objects.specs.built_objects.inner.FrameObjects.{Names}
 use Rattle.item_operands.specs.Items.{item_taken}

@@ -7,31 +7,31 @@ use Rattle.std.proofs.lemmas.List.Elements.{Contains-append_left}
 use Rattle.std.proofs.lemmas.Option.{same_Some}
 use Rattle.argument_conventions.specs.declared.row.Content.{Content}
 use Rattle.argument_conventions.specs.declared.row.Content.TheVariants as content
-use Rattle.accepted_places.specs.accepted_memory.accepted_trails.inner.Bases.{IsAsMade}
-use Rattle.accepted_places.specs.accepted_memory.holder_model.MemoryEffects.{asked_before}
-use Rattle.accepted_places.specs.accepted_memory.memory_accesses.Accesses.{allowance_of}
-use Rattle.accepted_places.specs.accepted_memory.memory_accesses.Locations.{cell_by, cell_of, field_cell, object_built}
-use Rattle.accepted_places.specs.accepted_memory.memory_accesses.Operations.{access_kind_of, operated, operated_at, operation_at, operations_of}
-use Rattle.accepted_places.specs.accepted_memory.memory_accesses.Rows.{field_has, has_by, has_operation, is_part}
-use Rattle.accepted_places.specs.accepted_memory.memory_accesses.Sources.{is_trivial_at, source_at, sources_of}
-use Rattle.accepted_places.specs.accepted_memory.memory_accesses.declared.access.Operated.{Operated}
-use Rattle.accepted_places.specs.accepted_memory.memory_accesses.declared.access.Operation.{Operation}
-use Rattle.accepted_places.specs.accepted_memory.memory_accesses.declared.access.Operation.TheVariants.{FirstWrite, Read, Lend, Write, TrivialStore, Handed, Take}
-use Rattle.accepted_places.specs.accepted_memory.memory_accesses.declared.location.Location.{Location}
-use Rattle.accepted_places.specs.accepted_memory.memory_accesses.declared.source.Source.{Source}
-use Rattle.accepted_places.specs.accepted_memory.memory_parts.Building.{builds, goes_by_borrow, is_forbidden, takes_borrow, takes_object}
-use Rattle.accepted_places.specs.accepted_memory.memory_parts.Contents.{operation_mark}
-use Rattle.accepted_places.specs.accepted_memory.memory_parts.Switches.{is_same}
-use Rattle.accepted_places.specs.accepted_memory.memory_parts.declared.part.Part.TheVariants.{Building, Contents}
-use Rattle.accepted_places.specs.accepted_memory.run_trails.inner.RunTrails.{IsRunTrail}
-use Rattle.accepted_places.specs.accepted_memory.run_trails.inner.Switched.{finds}
-use Rattle.accepted_places.specs.accepted_memory.inner.PartTrails.{IsPartOf, is_on}
-use Rattle.accepted_places.proofs.CellsRight.{operations_right}
-use Rattle.accepted_places.proofs.Fields.{unfinished_allowed, unwritten_empty}
-use Rattle.accepted_places.proofs.ItemStacks.{accepted_in}
-use Rattle.accepted_places.proofs.OperationsRight.{rows_right}
-use Rattle.accepted_places.specs.inner.Cells.{IsDoneAt, IsFoundSo, mark_at}
-use Rattle.accepted_places.specs.accepted_values.inner.Known.{IsAcceptedBody, facts_at}
+use Rattle.held_places.specs.accepted_places.accepted_memory.accepted_trails.inner.Bases.{IsAsMade}
+use Rattle.held_places.specs.accepted_places.accepted_memory.holder_model.MemoryEffects.{asked_before}
+use Rattle.held_places.specs.accepted_places.accepted_memory.memory_accesses.Accesses.{allowance_of}
+use Rattle.held_places.specs.accepted_places.accepted_memory.memory_accesses.Locations.{cell_by, cell_of, field_cell, object_built}
+use Rattle.held_places.specs.accepted_places.accepted_memory.memory_accesses.Operations.{access_kind_of, operated, operated_at, operation_at, operations_of}
+use Rattle.held_places.specs.accepted_places.accepted_memory.memory_accesses.Rows.{field_has, has_by, has_operation, is_part}
+use Rattle.held_places.specs.accepted_places.accepted_memory.memory_accesses.Sources.{is_trivial_at, source_at, sources_of}
+use Rattle.held_places.specs.accepted_places.accepted_memory.memory_accesses.declared.access.Operated.{Operated}
+use Rattle.held_places.specs.accepted_places.accepted_memory.memory_accesses.declared.access.Operation.{Operation}
+use Rattle.held_places.specs.accepted_places.accepted_memory.memory_accesses.declared.access.Operation.TheVariants.{FirstWrite, Read, Lend, Write, TrivialStore, Handed, Take}
+use Rattle.held_places.specs.accepted_places.accepted_memory.memory_accesses.declared.location.Location.{Location}
+use Rattle.held_places.specs.accepted_places.accepted_memory.memory_accesses.declared.source.Source.{Source}
+use Rattle.held_places.specs.accepted_places.accepted_memory.memory_parts.Building.{builds, goes_by_borrow, is_forbidden, takes_borrow, takes_object}
+use Rattle.held_places.specs.accepted_places.accepted_memory.memory_parts.Contents.{operation_mark}
+use Rattle.held_places.specs.accepted_places.accepted_memory.memory_parts.Switches.{is_same}
+use Rattle.held_places.specs.accepted_places.accepted_memory.memory_parts.declared.part.Part.TheVariants.{Building, Contents}
+use Rattle.held_places.specs.accepted_places.accepted_memory.run_trails.inner.RunTrails.{IsRunTrail}
+use Rattle.held_places.specs.accepted_places.accepted_memory.run_trails.inner.Switched.{finds}
+use Rattle.held_places.specs.accepted_places.accepted_memory.inner.PartTrails.{IsPartOf, is_on}
+use Rattle.held_places.proofs.accepted_places.CellsRight.{operations_right}
+use Rattle.held_places.proofs.accepted_places.Fields.{unfinished_allowed, unwritten_empty}
+use Rattle.held_places.proofs.accepted_places.ItemStacks.{accepted_in}
+use Rattle.held_places.proofs.accepted_places.OperationsRight.{rows_right}
+use Rattle.held_places.specs.accepted_places.inner.Cells.{IsDoneAt, IsFoundSo, mark_at}
+use Rattle.held_places.specs.accepted_places.accepted_values.inner.Known.{IsAcceptedBody, facts_at}
 use Rattle.held_objects.specs.built_objects.inner.Building.{IsFieldAddress, IsNewField, address}
 use Rattle.held_objects.specs.built_objects.inner.Laws.{asks_empty}
 use Rattle.item_operands.specs.Items.{item_taken, taken_along_in, taken_in}

@@ -5,32 +5,32 @@ use Rattle.std.proofs.lemmas.Bool.{false≢true, true≢false}
 use Rattle.std.proofs.lemmas.Option.{none-some, same_Some, slice_get-map}
 use Rattle.instruction_table.specs.declared.op.Op.{Op}
 use Rattle.instruction_table.specs.declared.op.Op.TheVariants as op
-use Rattle.accepted_places.specs.accepted_memory.accepted_trails.inner.Defined.{IsDefinedOn, makes}
-use Rattle.accepted_places.specs.accepted_memory.holder_model.Effects.{effect_of}
-use Rattle.accepted_places.specs.accepted_memory.holder_model.declared.row_effect.RowEffect.{RowEffect}
-use Rattle.accepted_places.specs.accepted_memory.holder_model.declared.row_effect.RowEffect.TheVariants as row
-use Rattle.accepted_places.specs.accepted_memory.memory_accesses.Operations.{access_kind_of}
-use Rattle.accepted_places.specs.accepted_memory.memory_accesses.Locations.{locate, located_by}
-use Rattle.accepted_places.specs.accepted_memory.memory_accesses.Sources.{borrow_source, result_source, source_at, source_by, sources_of, upcast_source}
-use Rattle.accepted_places.specs.accepted_memory.memory_accesses.declared.columns.AccessKind.TheVariants as access
-use Rattle.accepted_places.specs.accepted_memory.memory_accesses.declared.location.Location.{Location}
-use Rattle.accepted_places.specs.accepted_memory.memory_accesses.declared.source.Source.{Source}
-use Rattle.accepted_places.specs.accepted_memory.run_trails.inner.RunTrails.{IsTurnedTrail}
-use Rattle.accepted_places.proofs.accepted_memory.accepted_trails.Tests.{picked}
-use Rattle.accepted_places.proofs.accepted_memory.run_trails.TurnedTrails.{are_of_items}
-use Rattle.accepted_places.proofs.Fields.{has_among}
-use Rattle.accepted_places.proofs.Made.{results_so}
-use Rattle.accepted_places.proofs.PartsThere.{each_where_among}
-use Rattle.accepted_places.specs.inner.Located.{IsAddress}
-use Rattle.accepted_places.specs.accepted_values.inner.Known.{IsAcceptedBody}
-use Rattle.accepted_places.specs.accepted_values.run_typing.Forms.{Form, OfPlace, OfValue, form_of, forms_of}
-use Rattle.accepted_places.proofs.accepted_values.Accepted.{in_ownership_form, well_typed}
-use Rattle.accepted_places.proofs.accepted_values.Counted.{stands}
+use Rattle.held_places.specs.accepted_places.accepted_memory.accepted_trails.inner.Defined.{IsDefinedOn, makes}
+use Rattle.held_places.specs.accepted_places.accepted_memory.holder_model.Effects.{effect_of}
+use Rattle.held_places.specs.accepted_places.accepted_memory.holder_model.declared.row_effect.RowEffect.{RowEffect}
+use Rattle.held_places.specs.accepted_places.accepted_memory.holder_model.declared.row_effect.RowEffect.TheVariants as row
+use Rattle.held_places.specs.accepted_places.accepted_memory.memory_accesses.Operations.{access_kind_of}
+use Rattle.held_places.specs.accepted_places.accepted_memory.memory_accesses.Locations.{locate, located_by}
+use Rattle.held_places.specs.accepted_places.accepted_memory.memory_accesses.Sources.{borrow_source, result_source, source_at, source_by, sources_of, upcast_source}
+use Rattle.held_places.specs.accepted_places.accepted_memory.memory_accesses.declared.columns.AccessKind.TheVariants as access
+use Rattle.held_places.specs.accepted_places.accepted_memory.memory_accesses.declared.location.Location.{Location}
+use Rattle.held_places.specs.accepted_places.accepted_memory.memory_accesses.declared.source.Source.{Source}
+use Rattle.held_places.specs.accepted_places.accepted_memory.run_trails.inner.RunTrails.{IsTurnedTrail}
+use Rattle.held_places.proofs.accepted_places.accepted_memory.accepted_trails.Tests.{picked}
+use Rattle.held_places.proofs.accepted_places.accepted_memory.run_trails.TurnedTrails.{are_of_items}
+use Rattle.held_places.proofs.accepted_places.Fields.{has_among}
+use Rattle.held_places.proofs.accepted_places.Made.{results_so}
+use Rattle.held_places.proofs.accepted_places.PartsThere.{each_where_among}
+use Rattle.held_places.specs.accepted_places.inner.Located.{IsAddress}
+use Rattle.held_places.specs.accepted_places.accepted_values.inner.Known.{IsAcceptedBody}
+use Rattle.held_places.specs.accepted_places.accepted_values.run_typing.Forms.{Form, OfPlace, OfValue, form_of, forms_of}
+use Rattle.held_places.proofs.accepted_places.accepted_values.Accepted.{in_ownership_form, well_typed}
+use Rattle.held_places.proofs.accepted_places.accepted_values.Counted.{stands}
 use Rattle.held_objects.specs.built_objects.inner.Building.{IsFieldAddress}
 use Rattle.item_operands.specs.Items.{item_defined}
 use Rattle.item_operands.specs.Parts.{inst_at, results_in}
-use Rattle.accepted_places.specs.owned_run_typing.inner.OwnedRows.{OwnedRowForms}
-use Rattle.accepted_places.proofs.owned_run_typing.OwnedInsts.{owned_inst}
+use Rattle.held_places.specs.accepted_places.owned_run_typing.inner.OwnedRows.{OwnedRowForms}
+use Rattle.held_places.proofs.accepted_places.owned_run_typing.OwnedInsts.{owned_inst}
 use Rattle.ownership_chains.specs.Facts.{has}
 use Rattle.point_checks.proofs.Among.{contained_among}
 use Rattle.run_values.specs.Shapes.{Shape}

@@ -10,12 +10,12 @@ use Rattle.instruction_table.specs.declared.entries.Role.{Role}
 use Rattle.instruction_table.specs.declared.entries.Role.TheVariants as role
 use Rattle.instruction_table.specs.declared.op.Op.{Op}
 use Rattle.instruction_table.specs.declared.op.Op.TheVariants as op
-use Rattle.accepted_places.specs.accepted_memory.holder_model.Effects.{effect_of}
-use Rattle.accepted_places.specs.accepted_memory.holder_model.declared.row_effect.RowEffect.{RowEffect}
-use Rattle.accepted_places.specs.accepted_memory.holder_model.declared.row_effect.RowEffect.TheVariants as row
-use Rattle.accepted_places.specs.accepted_memory.memory_accesses.Operations.{access_kind_of, is_address_role, operated, operated_at, operation_at, operation_by, operations_of}
-use Rattle.accepted_places.specs.accepted_memory.memory_accesses.declared.access.Operation.{Operation}
-use Rattle.accepted_places.specs.accepted_memory.memory_accesses.declared.access.Operation.TheVariants.{Handed}
+use Rattle.held_places.specs.accepted_places.accepted_memory.holder_model.Effects.{effect_of}
+use Rattle.held_places.specs.accepted_places.accepted_memory.holder_model.declared.row_effect.RowEffect.{RowEffect}
+use Rattle.held_places.specs.accepted_places.accepted_memory.holder_model.declared.row_effect.RowEffect.TheVariants as row
+use Rattle.held_places.specs.accepted_places.accepted_memory.memory_accesses.Operations.{access_kind_of, is_address_role, operated, operated_at, operation_at, operation_by, operations_of}
+use Rattle.held_places.specs.accepted_places.accepted_memory.memory_accesses.declared.access.Operation.{Operation}
+use Rattle.held_places.specs.accepted_places.accepted_memory.memory_accesses.declared.access.Operation.TheVariants.{Handed}
 use Rattle.item_operands.specs.Items.{item_taken, taken_in}
 use Rattle.item_operands.specs.Parts.{inst_at}
 use Rattle.item_operands.specs.Roles.{by_row, conventions_in, roles_for, taken_as, taken_by, taken_each}

@@ -5,13 +5,13 @@ use Rattle.std.specs.Prelude.{Contains, slice_get, unwrap_or}
 use Rattle.std.specs.declared.result.Result.{Result}
 use Rattle.std.proofs.lemmas.Bool.{or_parts}
 use Rattle.std.proofs.lemmas.Option.{none-some, same_Some, slice_get_within}
-use Rattle.accepted_places.specs.accepted_memory.holder_model.Data.{AddressOf, Datum, home_references, references_in}
-use Rattle.accepted_places.specs.accepted_memory.holder_model.Faults.{HolderFault, NamesDead}
-use Rattle.accepted_places.specs.accepted_memory.holder_model.Frames.{Entry, Gone, Held, Lent, Operands, Plain, and_more, any_dead, datum_in, datum_or_fault, ends, entry_at, operand}
-use Rattle.accepted_places.specs.accepted_memory.holder_model.Frames.{operand_data}
-use Rattle.accepted_places.specs.accepted_memory.holder_model.Frames.{operands_of, unless_dead, used_datum}
-use Rattle.accepted_places.specs.accepted_values.run_typing.CallForms.{IsOf}
-use Rattle.accepted_places.specs.accepted_values.run_typing.Forms.{Form, OfPlace, form_of}
+use Rattle.held_places.specs.accepted_places.accepted_memory.holder_model.Data.{AddressOf, Datum, home_references, references_in}
+use Rattle.held_places.specs.accepted_places.accepted_memory.holder_model.Faults.{HolderFault, NamesDead}
+use Rattle.held_places.specs.accepted_places.accepted_memory.holder_model.Frames.{Entry, Gone, Held, Lent, Operands, Plain, and_more, any_dead, datum_in, datum_or_fault, ends, entry_at, operand}
+use Rattle.held_places.specs.accepted_places.accepted_memory.holder_model.Frames.{operand_data}
+use Rattle.held_places.specs.accepted_places.accepted_memory.holder_model.Frames.{operands_of, unless_dead, used_datum}
+use Rattle.held_places.specs.accepted_places.accepted_values.run_typing.CallForms.{IsOf}
+use Rattle.held_places.specs.accepted_places.accepted_values.run_typing.Forms.{Form, OfPlace, form_of}
 use Rattle.held_objects.specs.built_objects.inner.FrameObjects.{Names}
 use Rattle.holder_counts.proofs.Entries.{IsLeftOf, chosen_ok, left_of, ok_through, was_there}
 use Rattle.holder_counts.proofs.Moves.{operands_are}
@@ -28,12 +28,12 @@ use Rattle.sil_ast.specs.declared.module.Module.{Module}
 use Rattle.sil_ast.specs.declared.place.ObjectId.{ObjectId}
 use Rattle.sil_ast.specs.declared.place.ValueId.{ValueId}
 use Rattle.type_definitions.specs.Declarations.{declarations_of}
-use Rattle.tracked_frames.specs.typed_holders.inner.TypedStates.{EntriesAre}
-use Rattle.tracked_frames.proofs.typed_holders.Entries.{entry_fits}
-use Rattle.tracked_frames.specs.typed_holders.typed_memory.inner.Worlds.{CellIs, CellsAre, DatumIs, IsIn, MemoryIs, PlaceIs, World, fields_of_class}
-use Rattle.tracked_frames.proofs.typed_memory.CellShapes.{place_within, shape_count}
-use Rattle.tracked_frames.proofs.typed_memory.Homes.{object_is}
-use Rattle.tracked_frames.proofs.typed_memory.Zips.{zip_beside}
+use Rattle.held_places.specs.tracked_frames.typed_holders.inner.TypedStates.{EntriesAre}
+use Rattle.held_places.proofs.tracked_frames.typed_holders.Entries.{entry_fits}
+use Rattle.held_places.specs.tracked_frames.typed_holders.typed_memory.inner.Worlds.{CellIs, CellsAre, DatumIs, IsIn, MemoryIs, PlaceIs, World, fields_of_class}
+use Rattle.held_places.proofs.tracked_frames.typed_memory.CellShapes.{place_within, shape_count}
+use Rattle.held_places.proofs.tracked_frames.typed_memory.Homes.{object_is}
+use Rattle.held_places.proofs.tracked_frames.typed_memory.Zips.{zip_beside}
 
 -- ---- operands
 

@@ -3,18 +3,18 @@ use Rattle.std.proofs.Common.{◌≡◌, List, [], ◌∷◌, refl, sym, ap, ◌
 use Rattle.std.specs.Prelude.{cond}
 use Rattle.std.specs.declared.result.Result.{Result}
 use Rattle.std.proofs.lemmas.Bool.{false≢true}
-use Rattle.accepted_places.specs.accepted_memory.holder_model.Effects as effects
-use Rattle.accepted_places.specs.accepted_memory.holder_model.Effects.{Change, ClosesSlot, SlotChange, effect_of}
-use Rattle.accepted_places.specs.accepted_memory.holder_model.Faults.{HolderFault, NotLastSlot}
-use Rattle.accepted_places.specs.accepted_memory.holder_model.Frames.{Entry, Frame, Operands, results_put}
-use Rattle.accepted_places.specs.accepted_memory.holder_model.MemoryEffects.{effect}
-use Rattle.accepted_places.specs.accepted_memory.holder_model.ModuleShapes.{shapes_in, shapes_of}
-use Rattle.accepted_places.specs.accepted_memory.holder_model.StepParts.{slots_behind}
-use Rattle.accepted_places.specs.accepted_memory.holder_model.Standing.{is_slot, on_stack}
-use Rattle.accepted_places.specs.accepted_memory.holder_model.States.{Runs, Task, dropping}
-use Rattle.accepted_places.specs.accepted_memory.holder_model.declared.row_effect.RowEffect.{RowEffect}
-use Rattle.accepted_places.specs.accepted_memory.holder_model.declared.row_effect.RowEffect.TheVariants as row
-use Rattle.accepted_places.specs.accepted_memory.ownership_kinds.Facts.{facts_in}
+use Rattle.held_places.specs.accepted_places.accepted_memory.holder_model.Effects as effects
+use Rattle.held_places.specs.accepted_places.accepted_memory.holder_model.Effects.{Change, ClosesSlot, SlotChange, effect_of}
+use Rattle.held_places.specs.accepted_places.accepted_memory.holder_model.Faults.{HolderFault, NotLastSlot}
+use Rattle.held_places.specs.accepted_places.accepted_memory.holder_model.Frames.{Entry, Frame, Operands, results_put}
+use Rattle.held_places.specs.accepted_places.accepted_memory.holder_model.MemoryEffects.{effect}
+use Rattle.held_places.specs.accepted_places.accepted_memory.holder_model.ModuleShapes.{shapes_in, shapes_of}
+use Rattle.held_places.specs.accepted_places.accepted_memory.holder_model.StepParts.{slots_behind}
+use Rattle.held_places.specs.accepted_places.accepted_memory.holder_model.Standing.{is_slot, on_stack}
+use Rattle.held_places.specs.accepted_places.accepted_memory.holder_model.States.{Runs, Task, dropping}
+use Rattle.held_places.specs.accepted_places.accepted_memory.holder_model.declared.row_effect.RowEffect.{RowEffect}
+use Rattle.held_places.specs.accepted_places.accepted_memory.holder_model.declared.row_effect.RowEffect.TheVariants as row
+use Rattle.held_places.specs.accepted_places.accepted_memory.ownership_kinds.Facts.{facts_in}
 use Rattle.held_objects.specs.inner.Items.{frame_behind}
 use Rattle.held_objects.specs.inner.ObjectStates.{TasksBuild}
 use Rattle.item_operands.specs.Items.{item_defined}

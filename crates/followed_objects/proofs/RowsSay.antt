@@ -1,19 +1,19 @@
 -- What the forms of an instruction say by its row: of an operand that is a value, of an address that is made, and of what is stored.
 use Rattle.std.proofs.Common.{◌≡◌, List, [], ◌∷◌, refl, sym, subst, true}
-use Rattle.accepted_places.specs.accepted_memory.holder_model.Effects.{effect_of}
-use Rattle.accepted_places.specs.accepted_memory.holder_model.declared.row_effect.RowEffect.{RowEffect}
-use Rattle.accepted_places.specs.accepted_memory.holder_model.declared.row_effect.RowEffect.TheVariants as row
-use Rattle.accepted_places.specs.accepted_values.run_typing.Forms.{Form, OfPlace, OfValue}
-use Rattle.accepted_places.specs.accepted_values.run_typing.RowForms.{RowForms}
-use Rattle.accepted_places.specs.accepted_values.run_typing.RowForms as rows
-use Rattle.accepted_places.specs.owned_run_typing.inner.OwnedRows.{OwnedRowForms}
-use Rattle.accepted_places.specs.owned_run_typing.inner.OwnedRows as owned
+use Rattle.held_places.specs.accepted_places.accepted_memory.holder_model.Effects.{effect_of}
+use Rattle.held_places.specs.accepted_places.accepted_memory.holder_model.declared.row_effect.RowEffect.{RowEffect}
+use Rattle.held_places.specs.accepted_places.accepted_memory.holder_model.declared.row_effect.RowEffect.TheVariants as row
+use Rattle.held_places.specs.accepted_places.accepted_values.run_typing.Forms.{Form, OfPlace, OfValue}
+use Rattle.held_places.specs.accepted_places.accepted_values.run_typing.RowForms.{RowForms}
+use Rattle.held_places.specs.accepted_places.accepted_values.run_typing.RowForms as rows
+use Rattle.held_places.specs.accepted_places.owned_run_typing.inner.OwnedRows.{OwnedRowForms}
+use Rattle.held_places.specs.accepted_places.owned_run_typing.inner.OwnedRows as owned
 use Rattle.run_values.specs.Fits.{fits}
 use Rattle.run_values.specs.Shapes.{Reference, Shape, Stored}
 use Rattle.run_values.specs.Values.{Value}
 use Rattle.sil_ast.specs.declared.inst.Inst.{Inst}
 use Rattle.sil_ast.specs.declared.module.Module.{Module}
-use Rattle.tracked_frames.proofs.typed_memory.StoredValues.{named_suits_storage}
+use Rattle.held_places.proofs.tracked_frames.typed_memory.StoredValues.{named_suits_storage}
 use Rattle.value_parts.proofs.Suiting.{suits_fits}
 use Rattle.value_parts.specs.inner.Suits.{ClassTest, suits}
 

@@ -5,18 +5,18 @@ use Rattle.std.proofs.lemmas.Bool.{false≢true, true≢false}
 use Rattle.std.proofs.lemmas.Option.{none-some, same_Some}
 use Rattle.instruction_table.specs.declared.op.Op.{Op}
 use Rattle.instruction_table.specs.declared.op.Op.TheVariants as op
-use Rattle.accepted_places.specs.accepted_memory.holder_model.Data.{AddressOf, Datum, ValueOf, home_references, references_in, values_of}
-use Rattle.accepted_places.specs.accepted_memory.holder_model.Effects as effects
-use Rattle.accepted_places.specs.accepted_memory.holder_model.Effects.{Change, ClosesSlot, OpensSlot, effect_of, member_of, unchanged}
-use Rattle.accepted_places.specs.accepted_memory.holder_model.Frames.{Frame, Operands, any_dead}
-use Rattle.accepted_places.specs.accepted_memory.holder_model.MemoryEffects.{after, effect, references_at, takes}
-use Rattle.accepted_places.specs.accepted_memory.holder_model.ModuleShapes.{ModuleShapes}
-use Rattle.accepted_places.specs.accepted_memory.holder_model.States.{Runs, Task}
-use Rattle.accepted_places.specs.accepted_memory.holder_model.declared.row_effect.RowEffect.{RowEffect}
-use Rattle.accepted_places.specs.accepted_memory.holder_model.declared.row_effect.RowEffect.TheVariants as row
-use Rattle.accepted_places.specs.accepted_memory.memory_accesses.Operations.{access_kind_of, operation_by}
-use Rattle.accepted_places.specs.accepted_memory.memory_accesses.declared.access.Operation.{Operation}
-use Rattle.accepted_places.specs.accepted_memory.memory_accesses.declared.access.Operation.TheVariants as operation
+use Rattle.held_places.specs.accepted_places.accepted_memory.holder_model.Data.{AddressOf, Datum, ValueOf, home_references, references_in, values_of}
+use Rattle.held_places.specs.accepted_places.accepted_memory.holder_model.Effects as effects
+use Rattle.held_places.specs.accepted_places.accepted_memory.holder_model.Effects.{Change, ClosesSlot, OpensSlot, effect_of, member_of, unchanged}
+use Rattle.held_places.specs.accepted_places.accepted_memory.holder_model.Frames.{Frame, Operands, any_dead}
+use Rattle.held_places.specs.accepted_places.accepted_memory.holder_model.MemoryEffects.{after, effect, references_at, takes}
+use Rattle.held_places.specs.accepted_places.accepted_memory.holder_model.ModuleShapes.{ModuleShapes}
+use Rattle.held_places.specs.accepted_places.accepted_memory.holder_model.States.{Runs, Task}
+use Rattle.held_places.specs.accepted_places.accepted_memory.holder_model.declared.row_effect.RowEffect.{RowEffect}
+use Rattle.held_places.specs.accepted_places.accepted_memory.holder_model.declared.row_effect.RowEffect.TheVariants as row
+use Rattle.held_places.specs.accepted_places.accepted_memory.memory_accesses.Operations.{access_kind_of, operation_by}
+use Rattle.held_places.specs.accepted_places.accepted_memory.memory_accesses.declared.access.Operation.{Operation}
+use Rattle.held_places.specs.accepted_places.accepted_memory.memory_accesses.declared.access.Operation.TheVariants as operation
 use Rattle.holder_counts.specs.inner.Doing.{Leaves, giving}
 use Rattle.holder_counts.specs.inner.Doing as doing
 use Rattle.holder_counts.specs.inner.Keeping.{with_new_slot}

@@ -4,34 +4,34 @@ use Rattle.std.specs.Prelude.{◌==◌, Contains, is_some}
 use Rattle.std.proofs.lemmas.Bool.{and_parts, eqb-true, false≢true, true≢false}
 use Rattle.std.proofs.lemmas.Option.{none-some, same_Some}
 use Rattle.argument_conventions.specs.declared.row.Content.TheVariants as content
-use Rattle.accepted_places.specs.accepted_memory.accepted_trails.inner.Defined.{IsDefinedOn}
-use Rattle.accepted_places.specs.accepted_memory.holder_model.Data.{AddressOf, ValueOf, references_in}
-use Rattle.accepted_places.specs.accepted_memory.holder_model.Effects as effects
-use Rattle.accepted_places.specs.accepted_memory.holder_model.Effects.{Change, effect_of, unchanged}
-use Rattle.accepted_places.specs.accepted_memory.holder_model.Frames.{Entry, Frame, Operands, any_dead, results_put}
-use Rattle.accepted_places.specs.accepted_memory.holder_model.MemoryEffects.{asked_before, effect, references_at}
-use Rattle.accepted_places.specs.accepted_memory.holder_model.ModuleShapes.{shapes_of}
-use Rattle.accepted_places.specs.accepted_memory.holder_model.States.{Runs, Task, dropping}
-use Rattle.accepted_places.specs.accepted_memory.holder_model.declared.row_effect.RowEffect.TheVariants as row
-use Rattle.accepted_places.specs.accepted_memory.memory_accesses.Locations.{cell_by, cell_of, field_cell, location_of, object_built}
-use Rattle.accepted_places.specs.accepted_memory.memory_accesses.Operations.{access_kind_of, operated, operation_by, operations_of, store_operation}
-use Rattle.accepted_places.specs.accepted_memory.memory_accesses.Rows.{field_has, has_by, has_operation, is_part}
-use Rattle.accepted_places.specs.accepted_memory.memory_accesses.Sources.{is_trivial_at, source_at, sources_of}
-use Rattle.accepted_places.specs.accepted_memory.memory_accesses.declared.access.Operated.{Operated}
-use Rattle.accepted_places.specs.accepted_memory.memory_accesses.declared.location.Location.{Location}
-use Rattle.accepted_places.specs.accepted_memory.memory_accesses.declared.source.Source.{Source}
-use Rattle.accepted_places.specs.accepted_memory.memory_accesses.declared.source.Source.TheVariants as source
-use Rattle.accepted_places.specs.accepted_memory.memory_parts.Building.{builds, fills, is_object_of}
-use Rattle.accepted_places.specs.accepted_memory.memory_parts.Contents.{counts_at_part, operation_mark, same_cell}
-use Rattle.accepted_places.specs.accepted_memory.memory_parts.Switches.{is_turned_on, when}
-use Rattle.accepted_places.specs.accepted_memory.memory_parts.declared.part.Part.TheVariants.{Building}
-use Rattle.accepted_places.proofs.accepted_memory.PartsFollowed.{parts_followed}
-use Rattle.accepted_places.proofs.ItemStacks.{accepted_in}
-use Rattle.accepted_places.proofs.OperationsRight.{rows_right}
-use Rattle.accepted_places.specs.inner.Cells.{IsDoneAt}
-use Rattle.accepted_places.specs.inner.Located.{IsLocated}
-use Rattle.accepted_places.specs.accepted_values.run_typing.Forms.{OfPlace, OfValue, form_of}
-use Rattle.accepted_places.proofs.accepted_values.Accepted.{in_ownership_form, well_typed}
+use Rattle.held_places.specs.accepted_places.accepted_memory.accepted_trails.inner.Defined.{IsDefinedOn}
+use Rattle.held_places.specs.accepted_places.accepted_memory.holder_model.Data.{AddressOf, ValueOf, references_in}
+use Rattle.held_places.specs.accepted_places.accepted_memory.holder_model.Effects as effects
+use Rattle.held_places.specs.accepted_places.accepted_memory.holder_model.Effects.{Change, effect_of, unchanged}
+use Rattle.held_places.specs.accepted_places.accepted_memory.holder_model.Frames.{Entry, Frame, Operands, any_dead, results_put}
+use Rattle.held_places.specs.accepted_places.accepted_memory.holder_model.MemoryEffects.{asked_before, effect, references_at}
+use Rattle.held_places.specs.accepted_places.accepted_memory.holder_model.ModuleShapes.{shapes_of}
+use Rattle.held_places.specs.accepted_places.accepted_memory.holder_model.States.{Runs, Task, dropping}
+use Rattle.held_places.specs.accepted_places.accepted_memory.holder_model.declared.row_effect.RowEffect.TheVariants as row
+use Rattle.held_places.specs.accepted_places.accepted_memory.memory_accesses.Locations.{cell_by, cell_of, field_cell, location_of, object_built}
+use Rattle.held_places.specs.accepted_places.accepted_memory.memory_accesses.Operations.{access_kind_of, operated, operation_by, operations_of, store_operation}
+use Rattle.held_places.specs.accepted_places.accepted_memory.memory_accesses.Rows.{field_has, has_by, has_operation, is_part}
+use Rattle.held_places.specs.accepted_places.accepted_memory.memory_accesses.Sources.{is_trivial_at, source_at, sources_of}
+use Rattle.held_places.specs.accepted_places.accepted_memory.memory_accesses.declared.access.Operated.{Operated}
+use Rattle.held_places.specs.accepted_places.accepted_memory.memory_accesses.declared.location.Location.{Location}
+use Rattle.held_places.specs.accepted_places.accepted_memory.memory_accesses.declared.source.Source.{Source}
+use Rattle.held_places.specs.accepted_places.accepted_memory.memory_accesses.declared.source.Source.TheVariants as source
+use Rattle.held_places.specs.accepted_places.accepted_memory.memory_parts.Building.{builds, fills, is_object_of}
+use Rattle.held_places.specs.accepted_places.accepted_memory.memory_parts.Contents.{counts_at_part, operation_mark, same_cell}
+use Rattle.held_places.specs.accepted_places.accepted_memory.memory_parts.Switches.{is_turned_on, when}
+use Rattle.held_places.specs.accepted_places.accepted_memory.memory_parts.declared.part.Part.TheVariants.{Building}
+use Rattle.held_places.proofs.accepted_places.accepted_memory.PartsFollowed.{parts_followed}
+use Rattle.held_places.proofs.accepted_places.ItemStacks.{accepted_in}
+use Rattle.held_places.proofs.accepted_places.OperationsRight.{rows_right}
+use Rattle.held_places.specs.accepted_places.inner.Cells.{IsDoneAt}
+use Rattle.held_places.specs.accepted_places.inner.Located.{IsLocated}
+use Rattle.held_places.specs.accepted_places.accepted_values.run_typing.Forms.{OfPlace, OfValue, form_of}
+use Rattle.held_places.proofs.accepted_places.accepted_values.Accepted.{in_ownership_form, well_typed}
 use Rattle.held_objects.specs.built_objects.inner.Building.{IsFieldAddress, IsNewField, IsUnfinished, Progress, address}
 use Rattle.held_objects.specs.built_objects.inner.FrameObjects.{Holds, Names}
 use Rattle.held_objects.specs.built_objects.inner.Laws.{IsRightAt, WhoseField, WritesField}
@@ -49,7 +49,7 @@ use Rattle.item_operands.specs.Roles.{taken_by}
 use Rattle.item_operands.specs.declared.taken.Taken.{Taken}
 use Rattle.memory_cells.specs.inner.Cells.{IsInside}
 use Rattle.memory_cells.proofs.Writes.{filled_changes}
-use Rattle.accepted_places.proofs.owned_run_typing.OwnedInsts.{owned_inst}
+use Rattle.held_places.proofs.accepted_places.owned_run_typing.OwnedInsts.{owned_inst}
 use Rattle.ownership_chains.specs.Facts.{value_of}
 use Rattle.ownership_chains.specs.declared.facts.Facts.{Facts}
 use Rattle.point_checks.proofs.Among.{Among, among_contained, contained_among}
@@ -66,8 +66,8 @@ use Rattle.sil_ast.specs.declared.place.PointId.{PointId}
 use Rattle.sil_ast.specs.declared.place.ValueId.{ValueId}
 use Rattle.sil_cfg.specs.declared.item.Item.TheVariants as item
 use Rattle.type_definitions.specs.Declarations.{declarations_of}
-use Rattle.tracked_frames.proofs.typed_holders.Data.{read_place, read_value}
-use Rattle.tracked_frames.specs.typed_holders.typed_memory.inner.Worlds.{names}
+use Rattle.held_places.proofs.tracked_frames.typed_holders.Data.{read_place, read_value}
+use Rattle.held_places.specs.tracked_frames.typed_holders.typed_memory.inner.Worlds.{names}
 use Rattle.held_objects.specs.whole_objects.inner.Laws.{KeepsWhole}
 use Rattle.held_objects.specs.whole_objects.inner.Whole.{IsWhole, IsWholeMemory, NameWhole}
 use Rattle.held_objects.proofs.whole_objects.Keeping.{filled_whole, read_whole}

@@ -5,16 +5,16 @@ use Rattle.std.proofs.lemmas.Bool.{eqb-true, false≢true, true≢false}
 use Rattle.argument_conventions.specs.declared.row.Content.TheVariants as content
 use Rattle.instruction_table.specs.declared.op.Op.{Op}
 use Rattle.instruction_table.specs.declared.op.Op.TheVariants as op
-use Rattle.accepted_places.specs.accepted_memory.holder_model.Effects.{effect_of}
-use Rattle.accepted_places.specs.accepted_memory.holder_model.Frames.{Entry, results_put}
-use Rattle.accepted_places.specs.accepted_memory.holder_model.MemoryEffects.{asked_before}
-use Rattle.accepted_places.specs.accepted_memory.memory_accesses.Operations.{access_kind_of, store_operation}
-use Rattle.accepted_places.specs.accepted_memory.memory_accesses.Rows.{field_has}
-use Rattle.accepted_places.specs.accepted_memory.memory_accesses.declared.access.Operation.{Operation}
-use Rattle.accepted_places.specs.accepted_memory.memory_accesses.declared.access.Operation.TheVariants as operation
-use Rattle.accepted_places.specs.accepted_memory.memory_accesses.declared.columns.AccessKind.TheVariants as access
-use Rattle.accepted_places.specs.accepted_memory.memory_parts.Contents.{operation_mark}
-use Rattle.accepted_places.specs.accepted_memory.run_trails.inner.Switched.{finds}
+use Rattle.held_places.specs.accepted_places.accepted_memory.holder_model.Effects.{effect_of}
+use Rattle.held_places.specs.accepted_places.accepted_memory.holder_model.Frames.{Entry, results_put}
+use Rattle.held_places.specs.accepted_places.accepted_memory.holder_model.MemoryEffects.{asked_before}
+use Rattle.held_places.specs.accepted_places.accepted_memory.memory_accesses.Operations.{access_kind_of, store_operation}
+use Rattle.held_places.specs.accepted_places.accepted_memory.memory_accesses.Rows.{field_has}
+use Rattle.held_places.specs.accepted_places.accepted_memory.memory_accesses.declared.access.Operation.{Operation}
+use Rattle.held_places.specs.accepted_places.accepted_memory.memory_accesses.declared.access.Operation.TheVariants as operation
+use Rattle.held_places.specs.accepted_places.accepted_memory.memory_accesses.declared.columns.AccessKind.TheVariants as access
+use Rattle.held_places.specs.accepted_places.accepted_memory.memory_parts.Contents.{operation_mark}
+use Rattle.held_places.specs.accepted_places.accepted_memory.run_trails.inner.Switched.{finds}
 use Rattle.memory_cells.proofs.Writes.{object_other}
 use Rattle.ownership_chains.specs.Facts.{value_of}
 use Rattle.ownership_chains.specs.declared.facts.Facts.{Facts}

@@ -4,23 +4,23 @@ use Rattle.std.proofs.Common.{None, eq-eqb}
 use Rattle.std.specs.Prelude.{cond}
 use Rattle.std.specs.List.{list_any}
 use Rattle.std.proofs.lemmas.Bool.{cases_lt, false≢true, true≢false}
-use Rattle.accepted_places.specs.accepted_memory.accepted_trails.inner.Defined.{IsDefinedOn, makes}
-use Rattle.accepted_places.specs.accepted_memory.memory_accesses.Locations.{below, below_by, is_object, upcast_from}
-use Rattle.accepted_places.specs.accepted_memory.memory_accesses.Sources.{source_at, sources_of}
-use Rattle.accepted_places.specs.accepted_memory.memory_accesses.declared.source.Source.{Source}
-use Rattle.accepted_places.specs.accepted_memory.memory_accesses.declared.source.Source.TheVariants as source
-use Rattle.accepted_places.specs.accepted_memory.memory_parts.Building.{builds, is_object_of}
-use Rattle.accepted_places.specs.accepted_memory.run_trails.inner.RunTrails.{IsTurnedTrail}
-use Rattle.accepted_places.proofs.accepted_memory.accepted_trails.Tests.{or_right}
-use Rattle.accepted_places.proofs.accepted_memory.run_trails.TurnedTrails.{turned_older}
-use Rattle.accepted_places.specs.accepted_values.inner.Known.{IsAcceptedBody}
+use Rattle.held_places.specs.accepted_places.accepted_memory.accepted_trails.inner.Defined.{IsDefinedOn, makes}
+use Rattle.held_places.specs.accepted_places.accepted_memory.memory_accesses.Locations.{below, below_by, is_object, upcast_from}
+use Rattle.held_places.specs.accepted_places.accepted_memory.memory_accesses.Sources.{source_at, sources_of}
+use Rattle.held_places.specs.accepted_places.accepted_memory.memory_accesses.declared.source.Source.{Source}
+use Rattle.held_places.specs.accepted_places.accepted_memory.memory_accesses.declared.source.Source.TheVariants as source
+use Rattle.held_places.specs.accepted_places.accepted_memory.memory_parts.Building.{builds, is_object_of}
+use Rattle.held_places.specs.accepted_places.accepted_memory.run_trails.inner.RunTrails.{IsTurnedTrail}
+use Rattle.held_places.proofs.accepted_places.accepted_memory.accepted_trails.Tests.{or_right}
+use Rattle.held_places.proofs.accepted_places.accepted_memory.run_trails.TurnedTrails.{turned_older}
+use Rattle.held_places.specs.accepted_places.accepted_values.inner.Known.{IsAcceptedBody}
 use Rattle.ownership_chains.specs.Facts.{value_of}
 use Rattle.sil_ast.specs.declared.function.Function.{Function}
 use Rattle.sil_ast.specs.declared.module.Module.{Module}
 use Rattle.sil_ast.specs.declared.place.ValueId.{ValueId}
 use Rattle.sil_cfg.specs.declared.item.Item.{Item}
 use Rattle.type_definitions.specs.Declarations.{Declarations, declarations_of}
-use Rattle.accepted_places.proofs.PartsThere.{has_row}
+use Rattle.held_places.proofs.accepted_places.PartsThere.{has_row}
 use Rattle.followed_objects.proofs.About.{before_item, borrow_stays, builder, lends, lent, lent_more, operand_of, taken_for}
 
 -- ---- how many of some numbers pass

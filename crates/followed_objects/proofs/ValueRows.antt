@@ -10,24 +10,24 @@ use Rattle.argument_conventions.specs.Rows.{address_row}
 use Rattle.argument_conventions.specs.declared.row.AddressRow.{AddressRow}
 use Rattle.instruction_table.specs.declared.op.Op.{Op}
 use Rattle.instruction_table.specs.declared.op.Op.TheVariants as op
-use Rattle.accepted_places.specs.accepted_memory.memory_accesses.Operations.{access_kind_of}
-use Rattle.accepted_places.specs.accepted_memory.memory_accesses.Sources.{arg_sources, argument_source_or, borrow_source, element_place, field_source, handed_source, is_trivial_member}
-use Rattle.accepted_places.specs.accepted_memory.memory_accesses.Sources.{loan_source, member_place, object_source, part_source, result_source, result_sources, slot_source}
-use Rattle.accepted_places.specs.accepted_memory.memory_accesses.Sources.{source_at, source_by, sources_of, upcast_source}
-use Rattle.accepted_places.specs.accepted_memory.memory_accesses.declared.columns.AccessKind.{AccessKind}
-use Rattle.accepted_places.specs.accepted_memory.memory_accesses.declared.columns.AccessKind.TheVariants as access
-use Rattle.accepted_places.specs.accepted_memory.memory_accesses.declared.source.Source.{Source}
-use Rattle.accepted_places.specs.accepted_memory.memory_accesses.declared.source.Source.TheVariants as source
-use Rattle.accepted_places.proofs.PartsThere.{has_row}
-use Rattle.accepted_places.specs.accepted_values.inner.Known.{IsAcceptedBody, IsValue}
-use Rattle.accepted_places.specs.accepted_values.inner.Rows.{IsResult, source_of_argument}
-use Rattle.accepted_places.proofs.accepted_values.Accepted.{in_ownership_form, well_typed}
-use Rattle.accepted_places.proofs.accepted_values.Defined.{IsDefined, a_result, an_argument, defined_so}
-use Rattle.accepted_places.proofs.accepted_values.Made.{at_point_of_result}
-use Rattle.accepted_places.proofs.accepted_values.TableRows.{argument_rows, result_rows}
+use Rattle.held_places.specs.accepted_places.accepted_memory.memory_accesses.Operations.{access_kind_of}
+use Rattle.held_places.specs.accepted_places.accepted_memory.memory_accesses.Sources.{arg_sources, argument_source_or, borrow_source, element_place, field_source, handed_source, is_trivial_member}
+use Rattle.held_places.specs.accepted_places.accepted_memory.memory_accesses.Sources.{loan_source, member_place, object_source, part_source, result_source, result_sources, slot_source}
+use Rattle.held_places.specs.accepted_places.accepted_memory.memory_accesses.Sources.{source_at, source_by, sources_of, upcast_source}
+use Rattle.held_places.specs.accepted_places.accepted_memory.memory_accesses.declared.columns.AccessKind.{AccessKind}
+use Rattle.held_places.specs.accepted_places.accepted_memory.memory_accesses.declared.columns.AccessKind.TheVariants as access
+use Rattle.held_places.specs.accepted_places.accepted_memory.memory_accesses.declared.source.Source.{Source}
+use Rattle.held_places.specs.accepted_places.accepted_memory.memory_accesses.declared.source.Source.TheVariants as source
+use Rattle.held_places.proofs.accepted_places.PartsThere.{has_row}
+use Rattle.held_places.specs.accepted_places.accepted_values.inner.Known.{IsAcceptedBody, IsValue}
+use Rattle.held_places.specs.accepted_places.accepted_values.inner.Rows.{IsResult, source_of_argument}
+use Rattle.held_places.proofs.accepted_places.accepted_values.Accepted.{in_ownership_form, well_typed}
+use Rattle.held_places.proofs.accepted_places.accepted_values.Defined.{IsDefined, a_result, an_argument, defined_so}
+use Rattle.held_places.proofs.accepted_places.accepted_values.Made.{at_point_of_result}
+use Rattle.held_places.proofs.accepted_places.accepted_values.TableRows.{argument_rows, result_rows}
 use Rattle.numbered_form.specs.Numbering.{values_of}
-use Rattle.accepted_places.specs.owned_run_typing.inner.OwnedTyped.{OwnedInst}
-use Rattle.accepted_places.proofs.owned_run_typing.OwnedInsts.{owned_inst}
+use Rattle.held_places.specs.accepted_places.owned_run_typing.inner.OwnedTyped.{OwnedInst}
+use Rattle.held_places.proofs.accepted_places.owned_run_typing.OwnedInsts.{owned_inst}
 use Rattle.point_checks.specs.Points.{IsAt}
 use Rattle.sil_ast.specs.declared.function.BlockArg.{BlockArg}
 use Rattle.sil_ast.specs.declared.function.Function.{Function}

@@ -3,20 +3,20 @@ use Rattle.std.proofs.Common.{◌≡◌, inl, inr, ℕ, List, [], ◌∷◌, len
 use Rattle.std.specs.Prelude.{Contains}
 use Rattle.std.proofs.lemmas.Bool.{true≢false}
 use Rattle.std.proofs.lemmas.Option.{none-some, same_Some}
-use Rattle.accepted_places.specs.accepted_memory.holder_model.Calling.{value_count}
-use Rattle.accepted_places.specs.accepted_memory.holder_model.Data.{AddressOf, Datum, FunctionOf, ValueOf, references_in, values_of, with_first}
-use Rattle.accepted_places.specs.accepted_memory.holder_model.Frames.{Frame, Operands}
-use Rattle.accepted_places.specs.accepted_memory.holder_model.ModuleShapes.{shapes_of}
-use Rattle.accepted_places.specs.accepted_memory.holder_model.States.{Task}
-use Rattle.accepted_places.specs.accepted_memory.memory_accesses.Accesses.{allowance_of}
-use Rattle.accepted_places.specs.accepted_memory.memory_accesses.Sources.{sources_of}
-use Rattle.accepted_places.specs.accepted_memory.memory_parts.Building.{builds, takes_borrow, takes_object}
-use Rattle.accepted_places.specs.accepted_memory.memory_accesses.declared.location.Location.{Location}
-use Rattle.accepted_places.specs.accepted_memory.run_trails.inner.RunTrails.{IsTurnedTrail}
-use Rattle.accepted_places.proofs.accepted_memory.run_trails.RunPaths.{are_trails}
-use Rattle.accepted_places.proofs.accepted_memory.run_trails.TurnedTrails.{turned_older}
-use Rattle.accepted_places.proofs.ItemStacks.{accepted_in}
-use Rattle.accepted_places.specs.accepted_values.run_typing.Forms.{Form, OfValue, form_of}
+use Rattle.held_places.specs.accepted_places.accepted_memory.holder_model.Calling.{value_count}
+use Rattle.held_places.specs.accepted_places.accepted_memory.holder_model.Data.{AddressOf, Datum, FunctionOf, ValueOf, references_in, values_of, with_first}
+use Rattle.held_places.specs.accepted_places.accepted_memory.holder_model.Frames.{Frame, Operands}
+use Rattle.held_places.specs.accepted_places.accepted_memory.holder_model.ModuleShapes.{shapes_of}
+use Rattle.held_places.specs.accepted_places.accepted_memory.holder_model.States.{Task}
+use Rattle.held_places.specs.accepted_places.accepted_memory.memory_accesses.Accesses.{allowance_of}
+use Rattle.held_places.specs.accepted_places.accepted_memory.memory_accesses.Sources.{sources_of}
+use Rattle.held_places.specs.accepted_places.accepted_memory.memory_parts.Building.{builds, takes_borrow, takes_object}
+use Rattle.held_places.specs.accepted_places.accepted_memory.memory_accesses.declared.location.Location.{Location}
+use Rattle.held_places.specs.accepted_places.accepted_memory.run_trails.inner.RunTrails.{IsTurnedTrail}
+use Rattle.held_places.proofs.accepted_places.accepted_memory.run_trails.RunPaths.{are_trails}
+use Rattle.held_places.proofs.accepted_places.accepted_memory.run_trails.TurnedTrails.{turned_older}
+use Rattle.held_places.proofs.accepted_places.ItemStacks.{accepted_in}
+use Rattle.held_places.specs.accepted_places.accepted_values.run_typing.Forms.{Form, OfValue, form_of}
 use Rattle.held_objects.specs.built_objects.inner.Building.{IsAbout, IsFieldAddress, address, borrow, itself}
 use Rattle.held_objects.specs.built_objects.inner.FrameObjects.{HoldsObjects, MayName, Names}
 use Rattle.held_objects.specs.built_objects.inner.FrameObjects as frames
@@ -36,8 +36,8 @@ use Rattle.sil_ast.specs.declared.place.ObjectId.{ObjectId}
 use Rattle.sil_ast.specs.declared.place.ValueId.{ValueId}
 use Rattle.sil_cfg.specs.declared.item.Item.{Item}
 use Rattle.type_definitions.specs.Declarations.{declarations_of}
-use Rattle.tracked_frames.specs.typed_holders.inner.TypedStates.{EntriesAre}
-use Rattle.tracked_frames.specs.typed_holders.typed_memory.inner.Worlds.{DatumIs, IsWorldOf, MemoryIs, World}
+use Rattle.held_places.specs.tracked_frames.typed_holders.inner.TypedStates.{EntriesAre}
+use Rattle.held_places.specs.tracked_frames.typed_holders.typed_memory.inner.Worlds.{DatumIs, IsWorldOf, MemoryIs, World}
 use Rattle.held_objects.specs.whole_objects.inner.Whole.{IsWhole, NameWhole}
 use Rattle.held_objects.proofs.whole_objects.Lists.{each_of}
 use Rattle.followed_objects.specs.inner.Said.{IsUnfinishedOn, said}

@@ -2,8 +2,8 @@
 use Rattle.std.proofs.Common.{◌≡◌, ℕ, List, [], ◌∷◌, drop, length, refl, subst, Bool, true, false, Option, Some, None}
 use Rattle.std.specs.Prelude.{◌==◌, cond, option_and_then, option_map}
 use Rattle.std.proofs.lemmas.Option.{none-some, same_Some}
-use Rattle.accepted_places.specs.accepted_memory.holder_model.Data.{AddressOf, Datum, FunctionOf, ValueOf, references_in}
-use Rattle.accepted_places.specs.accepted_memory.holder_model.Edges.{carried_along, carried_by, first_value_of, is_default, payload_data, switched_data}
+use Rattle.held_places.specs.accepted_places.accepted_memory.holder_model.Data.{AddressOf, Datum, FunctionOf, ValueOf, references_in}
+use Rattle.held_places.specs.accepted_places.accepted_memory.holder_model.Edges.{carried_along, carried_by, first_value_of, is_default, payload_data, switched_data}
 use Rattle.instruction_table.specs.Forms.{ending_of}
 use Rattle.instruction_table.specs.declared.entries.Ending.{Ending}
 use Rattle.instruction_table.specs.declared.entries.Ending.TheVariants as ending

@@ -4,17 +4,17 @@ use Rattle.std.specs.Prelude.{replicate, slice_get, unwrap_or}
 use Rattle.sil_ast.specs.declared.decl.Storage.TheVariants as storage
 use Rattle.sil_ast.specs.declared.place.ObjectId.{ObjectId}
 use Rattle.sil_ast.specs.declared.place.ValueId.{ValueId}
-use Rattle.holder_counts.specs.holder_model.Calling.{value_count}
-use Rattle.holder_counts.specs.holder_model.Data.{Datum}
-use Rattle.holder_counts.specs.holder_model.Frames.{Gone, Lent, entry_at, no_entries}
-use Rattle.holder_counts.specs.holder_model.Holders.{in_memory, one_object}
-use Rattle.holder_counts.specs.holder_model.HolderStates.{in_entry, in_task}
-use Rattle.holder_counts.specs.holder_model.Outcomes.{begins}
-use Rattle.holder_counts.specs.holder_model.StepParts.{new_frame}
-use Rattle.holder_counts.specs.holder_model.States.{Runs}
-use Rattle.holder_counts.specs.inner.Moving.{in_tasks}
-use Rattle.holder_counts.specs.inner.Taking.{in_entries}
-use Rattle.holder_counts.proofs.Sums.{total_cons, total_none}
+use Rattle.followed_objects.specs.holder_counts.holder_model.Calling.{value_count}
+use Rattle.followed_objects.specs.holder_counts.holder_model.Data.{Datum}
+use Rattle.followed_objects.specs.holder_counts.holder_model.Frames.{Gone, Lent, entry_at, no_entries}
+use Rattle.followed_objects.specs.holder_counts.holder_model.Holders.{in_memory, one_object}
+use Rattle.followed_objects.specs.holder_counts.holder_model.HolderStates.{in_entry, in_task}
+use Rattle.followed_objects.specs.holder_counts.holder_model.Outcomes.{begins}
+use Rattle.followed_objects.specs.holder_counts.holder_model.StepParts.{new_frame}
+use Rattle.followed_objects.specs.holder_counts.holder_model.States.{Runs}
+use Rattle.followed_objects.specs.holder_counts.inner.Moving.{in_tasks}
+use Rattle.followed_objects.specs.holder_counts.inner.Taking.{in_entries}
+use Rattle.followed_objects.proofs.holder_counts.Sums.{total_cons, total_none}
 use Rattle.guarded_entries.specs.inner.Premises.{BeginGuarded}
 
 no_entry : (n : ℕ) (v : ℕ) → unwrap_or (slice_get (replicate n Gone) v) Gone ≡ Gone

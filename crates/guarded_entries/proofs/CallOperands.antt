@@ -32,17 +32,17 @@ use Rattle.type_definitions.specs.Declarations.{Declarations, declarations_of}
 use Rattle.type_definitions.specs.declared.kind.Kind.{Kind}
 use Rattle.type_definitions.specs.declared.kind.Kind.TheVariants as kind
 use Rattle.run_values.specs.Memory.{Memory}
-use Rattle.scoped_addresses.specs.accepted_values.inner.Handed.{IsToldOf, kind_told}
-use Rattle.scoped_addresses.specs.accepted_values.inner.Known.{IsAcceptedBody, kind_at}
-use Rattle.scoped_addresses.proofs.accepted_values.Accepted.{well_typed}
-use Rattle.scoped_addresses.proofs.accepted_values.Parameters.{entry_told}
-use Rattle.scoped_addresses.proofs.accepted_values.run_typing_laws.CallFacts.{Called, called}
-use Rattle.scoped_addresses.proofs.accepted_values.run_typing_laws.Rows.Points.{is_at}
-use Rattle.holder_counts.specs.holder_model.Data.{Datum, references_in}
-use Rattle.holder_counts.specs.holder_model.Faults.{ConsumesLent, HolderFault, NamesDead}
-use Rattle.holder_counts.specs.holder_model.Frames.{Entry, Gone, Held, Lent, Plain, and_more, any_dead, datum_in, datum_or_fault, ends, entry_at, has_any, is_consumed}
-use Rattle.holder_counts.specs.holder_model.Frames.{operand, operand_data, unless_dead, used_datum}
-use Rattle.holder_counts.proofs.Entries.{chosen_ok, ok_through}
+use Rattle.followed_objects.specs.scoped_addresses.accepted_values.inner.Handed.{IsToldOf, kind_told}
+use Rattle.followed_objects.specs.scoped_addresses.accepted_values.inner.Known.{IsAcceptedBody, kind_at}
+use Rattle.followed_objects.proofs.scoped_addresses.accepted_values.Accepted.{well_typed}
+use Rattle.followed_objects.proofs.scoped_addresses.accepted_values.Parameters.{entry_told}
+use Rattle.followed_objects.proofs.scoped_addresses.accepted_values.run_typing_laws.CallFacts.{Called, called}
+use Rattle.followed_objects.proofs.scoped_addresses.accepted_values.run_typing_laws.Rows.Points.{is_at}
+use Rattle.followed_objects.specs.holder_counts.holder_model.Data.{Datum, references_in}
+use Rattle.followed_objects.specs.holder_counts.holder_model.Faults.{ConsumesLent, HolderFault, NamesDead}
+use Rattle.followed_objects.specs.holder_counts.holder_model.Frames.{Entry, Gone, Held, Lent, Plain, and_more, any_dead, datum_in, datum_or_fault, ends, entry_at, has_any, is_consumed}
+use Rattle.followed_objects.specs.holder_counts.holder_model.Frames.{operand, operand_data, unless_dead, used_datum}
+use Rattle.followed_objects.proofs.holder_counts.Entries.{chosen_ok, ok_through}
 use Rattle.guarded_entries.proofs.Changing.{more_parts}
 use Rattle.guarded_entries.proofs.RowTables.{is_scope_role}
 use Rattle.guarded_entries.proofs.Sources.{each_slice}

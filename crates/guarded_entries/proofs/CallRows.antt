@@ -18,18 +18,18 @@ use Rattle.run_values.specs.Places.{Place, filled, is_there_at, removed, value_a
 use Rattle.run_values.specs.Shapes.{Shape, class_in, storage_in}
 use Rattle.run_values.specs.Values as value
 use Rattle.run_values.specs.Values.{Value, grouped, integer_of, members_of, object_of, references_of}
-use Rattle.holder_counts.specs.holder_model.declared.row_effect.RowEffect.{RowEffect}
-use Rattle.holder_counts.specs.holder_model.declared.row_effect.RowEffect.TheVariants as row
-use Rattle.holder_counts.specs.holder_model.declared.trap.Trap.TheVariants as trap
-use Rattle.holder_counts.specs.holder_model.Operation.{Operation}
-use Rattle.holder_counts.specs.holder_model.Builtins.{builtin_value, is_set}
-use Rattle.holder_counts.specs.holder_model.Data.{AddressOf, Datum, FunctionOf, ValueOf, all_of, as_function, as_place, as_value, values_of}
-use Rattle.holder_counts.specs.holder_model.Effects as effects
-use Rattle.holder_counts.specs.holder_model.Effects.{Calls, Effect, Faults, Makes, Traps, Unfit, effect_by, effect_of, gives, gives_value, only, unchanged, with_some}
-use Rattle.holder_counts.specs.holder_model.Faults.{HolderFault, NotLastSlot}
-use Rattle.holder_counts.specs.holder_model.MemoryEffects as memory
-use Rattle.holder_counts.specs.holder_model.MemoryEffects.{all_live, asked_before, effect, fault_of, holds, loaded_name, named_again, references_at, two, value_and_place}
-use Rattle.holder_counts.specs.holder_model.ModuleShapes.{ModuleShapes, case_place}
+use Rattle.followed_objects.specs.holder_counts.holder_model.declared.row_effect.RowEffect.{RowEffect}
+use Rattle.followed_objects.specs.holder_counts.holder_model.declared.row_effect.RowEffect.TheVariants as row
+use Rattle.followed_objects.specs.holder_counts.holder_model.declared.trap.Trap.TheVariants as trap
+use Rattle.followed_objects.specs.holder_counts.holder_model.Operation.{Operation}
+use Rattle.followed_objects.specs.holder_counts.holder_model.Builtins.{builtin_value, is_set}
+use Rattle.followed_objects.specs.holder_counts.holder_model.Data.{AddressOf, Datum, FunctionOf, ValueOf, all_of, as_function, as_place, as_value, values_of}
+use Rattle.followed_objects.specs.holder_counts.holder_model.Effects as effects
+use Rattle.followed_objects.specs.holder_counts.holder_model.Effects.{Calls, Effect, Faults, Makes, Traps, Unfit, effect_by, effect_of, gives, gives_value, only, unchanged, with_some}
+use Rattle.followed_objects.specs.holder_counts.holder_model.Faults.{HolderFault, NotLastSlot}
+use Rattle.followed_objects.specs.holder_counts.holder_model.MemoryEffects as memory
+use Rattle.followed_objects.specs.holder_counts.holder_model.MemoryEffects.{all_live, asked_before, effect, fault_of, holds, loaded_name, named_again, references_at, two, value_and_place}
+use Rattle.followed_objects.specs.holder_counts.holder_model.ModuleShapes.{ModuleShapes, case_place}
 
 pub calls_apply : (o : Op) → effect_of o ≡ row.CallsFunction → o ≡ op.Apply
 calls_apply op.Apply e = refl

@@ -10,32 +10,32 @@ use Rattle.sil_cfg.specs.Items.{leaves_function}
 use Rattle.sil_cfg.specs.declared.item.Item.{Item}
 use Rattle.sil_cfg.specs.declared.item.Item.TheVariants as item
 use Rattle.type_definitions.specs.Declarations.{Declarations, declarations_of}
-use Rattle.scoped_addresses.specs.accepted_values.accepted_modules.inner.Checked.{IsVerified}
-use Rattle.scoped_addresses.specs.accepted_values.inner.Known.{IsAcceptedBody}
-use Rattle.scoped_addresses.proofs.accepted_values.Facts.{run_facts}
-use Rattle.scoped_addresses.specs.held_entries.accepted_trails.ownership_kinds.Facts.{facts_in}
-use Rattle.scoped_addresses.specs.held_entries.accepted_trails.run_trails.inner.RunTrails.{ComesAt}
-use Rattle.scoped_addresses.proofs.held_entries.accepted_trails.run_trails.WalkEdges.{are_next}
-use Rattle.holder_counts.specs.holder_model.Calling.{value_count}
-use Rattle.holder_counts.specs.holder_model.Data.{Datum}
-use Rattle.holder_counts.specs.holder_model.Edges.{edge_of}
-use Rattle.holder_counts.specs.holder_model.Effects as effects
-use Rattle.holder_counts.specs.holder_model.Effects.{Change}
-use Rattle.holder_counts.specs.holder_model.Faults.{HolderFault, NamesDead}
-use Rattle.holder_counts.specs.holder_model.Frames.{Frame, no_entries, operands_of}
-use Rattle.holder_counts.specs.holder_model.HolderStates.{HolderNext, HolderState}
-use Rattle.holder_counts.specs.holder_model.ModuleFacts.{ModuleFacts, facts_of, facts_told}
-use Rattle.holder_counts.specs.holder_model.Standing.{stands_at}
-use Rattle.holder_counts.specs.holder_model.States.{Ends, Faulted, Goes, OutOfTurns, Returned, Runs, Task, Trapped}
-use Rattle.holder_counts.specs.holder_model.Steps as steps
-use Rattle.holder_counts.specs.holder_steps.inner.Ways.{Acts, DropsOne, Enters, FinishesOne, GoesBehind, Leaves, Performs, Reaches, StepsBy, TakesEdge, operands_in}
-use Rattle.tracked_frames.proofs.typed_holders.holder_steps.StepsTold.{steps_told}
-use Rattle.tracked_frames.proofs.typed_holders.holder_steps.WhichFaults.{IsOperandFault, IsPlaceFault, IsResultFault, effect_faults, operands_err, results_err, slots_err}
-use Rattle.tracked_frames.specs.typed_holders.typed_memory.inner.Worlds.{World}
-use Rattle.tracked_frames.specs.typed_holders.inner.TypedStates.{FrameIs, TasksAre}
-use Rattle.tracked_frames.specs.inner.TrackedStates.{AreTasksTracked, GoesAlong, IsTrackedState}
-use Rattle.tracked_frames.proofs.HowValuesEnd.{accepted_body}
-use Rattle.tracked_frames.proofs.NextItems.{chooses_on, chosen_within, edge_comes, exit_comes, inst_comes, one_edge}
+use Rattle.followed_objects.specs.scoped_addresses.accepted_values.accepted_modules.inner.Checked.{IsVerified}
+use Rattle.followed_objects.specs.scoped_addresses.accepted_values.inner.Known.{IsAcceptedBody}
+use Rattle.followed_objects.proofs.scoped_addresses.accepted_values.Facts.{run_facts}
+use Rattle.followed_objects.specs.scoped_addresses.held_entries.accepted_trails.ownership_kinds.Facts.{facts_in}
+use Rattle.followed_objects.specs.scoped_addresses.held_entries.accepted_trails.run_trails.inner.RunTrails.{ComesAt}
+use Rattle.followed_objects.proofs.scoped_addresses.held_entries.accepted_trails.run_trails.WalkEdges.{are_next}
+use Rattle.followed_objects.specs.holder_counts.holder_model.Calling.{value_count}
+use Rattle.followed_objects.specs.holder_counts.holder_model.Data.{Datum}
+use Rattle.followed_objects.specs.holder_counts.holder_model.Edges.{edge_of}
+use Rattle.followed_objects.specs.holder_counts.holder_model.Effects as effects
+use Rattle.followed_objects.specs.holder_counts.holder_model.Effects.{Change}
+use Rattle.followed_objects.specs.holder_counts.holder_model.Faults.{HolderFault, NamesDead}
+use Rattle.followed_objects.specs.holder_counts.holder_model.Frames.{Frame, no_entries, operands_of}
+use Rattle.followed_objects.specs.holder_counts.holder_model.HolderStates.{HolderNext, HolderState}
+use Rattle.followed_objects.specs.holder_counts.holder_model.ModuleFacts.{ModuleFacts, facts_of, facts_told}
+use Rattle.followed_objects.specs.holder_counts.holder_model.Standing.{stands_at}
+use Rattle.followed_objects.specs.holder_counts.holder_model.States.{Ends, Faulted, Goes, OutOfTurns, Returned, Runs, Task, Trapped}
+use Rattle.followed_objects.specs.holder_counts.holder_model.Steps as steps
+use Rattle.followed_objects.specs.holder_counts.holder_steps.inner.Ways.{Acts, DropsOne, Enters, FinishesOne, GoesBehind, Leaves, Performs, Reaches, StepsBy, TakesEdge, operands_in}
+use Rattle.followed_objects.proofs.tracked_frames.typed_holders.holder_steps.StepsTold.{steps_told}
+use Rattle.followed_objects.proofs.tracked_frames.typed_holders.holder_steps.WhichFaults.{IsOperandFault, IsPlaceFault, IsResultFault, effect_faults, operands_err, results_err, slots_err}
+use Rattle.followed_objects.specs.tracked_frames.typed_holders.typed_memory.inner.Worlds.{World}
+use Rattle.followed_objects.specs.tracked_frames.typed_holders.inner.TypedStates.{FrameIs, TasksAre}
+use Rattle.followed_objects.specs.tracked_frames.inner.TrackedStates.{AreTasksTracked, GoesAlong, IsTrackedState}
+use Rattle.followed_objects.proofs.tracked_frames.HowValuesEnd.{accepted_body}
+use Rattle.followed_objects.proofs.tracked_frames.NextItems.{chooses_on, chosen_within, edge_comes, exit_comes, inst_comes, one_edge}
 use Rattle.guarded_entries.specs.inner.GuardedStates.{IsGuardedState, Loans}
 use Rattle.guarded_entries.specs.inner.Laws.{NoDeadFaults, is_dead_fault}
 use Rattle.guarded_entries.proofs.FramesCurrent.{frames_current}

@@ -12,15 +12,15 @@ use Rattle.sil_cfg.specs.declared.item.Item.TheVariants as item
 use Rattle.type_definitions.specs.Declarations.{Declarations, declarations_of}
 use Rattle.type_definitions.specs.declared.kind.Kind.TheVariants as kind
 use Rattle.value_tables.specs.Borrows.{is_borrow}
-use Rattle.scoped_addresses.specs.held_entries.accepted_trails.inner.Defined.{makes}
-use Rattle.scoped_addresses.specs.held_entries.accepted_trails.inner.Lives.{IsOwnedIn}
-use Rattle.scoped_addresses.specs.held_entries.accepted_trails.ownership_kinds.Facts.{facts_in}
-use Rattle.scoped_addresses.specs.held_entries.inner.Tracked.{IsOwnScope}
-use Rattle.scoped_addresses.specs.accepted_values.inner.Known.{IsAcceptedBody, kind_at}
-use Rattle.scoped_addresses.proofs.accepted_values.Made.{distinct}
-use Rattle.holder_counts.specs.holder_model.Calling.{value_count}
-use Rattle.holder_counts.specs.holder_model.Data.{Datum}
-use Rattle.holder_counts.specs.holder_model.Frames.{Entry, entry_at, made_entry, no_entries, results_put}
+use Rattle.followed_objects.specs.scoped_addresses.held_entries.accepted_trails.inner.Defined.{makes}
+use Rattle.followed_objects.specs.scoped_addresses.held_entries.accepted_trails.inner.Lives.{IsOwnedIn}
+use Rattle.followed_objects.specs.scoped_addresses.held_entries.accepted_trails.ownership_kinds.Facts.{facts_in}
+use Rattle.followed_objects.specs.scoped_addresses.held_entries.inner.Tracked.{IsOwnScope}
+use Rattle.followed_objects.specs.scoped_addresses.accepted_values.inner.Known.{IsAcceptedBody, kind_at}
+use Rattle.followed_objects.proofs.scoped_addresses.accepted_values.Made.{distinct}
+use Rattle.followed_objects.specs.holder_counts.holder_model.Calling.{value_count}
+use Rattle.followed_objects.specs.holder_counts.holder_model.Data.{Datum}
+use Rattle.followed_objects.specs.holder_counts.holder_model.Frames.{Entry, entry_at, made_entry, no_entries, results_put}
 use Rattle.guarded_entries.specs.inner.Following.{GoAlong}
 use Rattle.guarded_entries.specs.inner.Guards.{IsThere}
 use Rattle.guarded_entries.proofs.Entries.{results_made}

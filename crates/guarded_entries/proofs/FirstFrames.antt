@@ -7,11 +7,11 @@ use Rattle.sil_ast.specs.declared.function.Function.{Function}
 use Rattle.sil_ast.specs.declared.module.Module.{Module}
 use Rattle.type_definitions.specs.Declarations.{Declarations, declarations_of}
 use Rattle.run_values.specs.Memory.{Memory}
-use Rattle.scoped_addresses.specs.held_entries.accepted_trails.ownership_kinds.Facts.{facts_in}
-use Rattle.tracked_frames.specs.typed_memory.inner.Worlds.{World}
-use Rattle.tracked_frames.specs.typed_holders.inner.TypedStates.{FrameIs}
-use Rattle.holder_counts.specs.holder_model.Frames.{Entry, Frame, without_ended}
-use Rattle.holder_counts.specs.holder_model.States.{Runs, Task}
+use Rattle.followed_objects.specs.scoped_addresses.held_entries.accepted_trails.ownership_kinds.Facts.{facts_in}
+use Rattle.followed_objects.specs.tracked_frames.typed_memory.inner.Worlds.{World}
+use Rattle.followed_objects.specs.tracked_frames.typed_holders.inner.TypedStates.{FrameIs}
+use Rattle.followed_objects.specs.holder_counts.holder_model.Frames.{Entry, Frame, without_ended}
+use Rattle.followed_objects.specs.holder_counts.holder_model.States.{Runs, Task}
 use Rattle.guarded_entries.specs.inner.Guards.{AreLentGuarded, AreOfKinds}
 use Rattle.guarded_entries.specs.inner.GuardedStates.{IsGuardedFrame, IsGuardedRun, Loans}
 use Rattle.guarded_entries.specs.inner.Stepping.{KeepsBorrowed}

@@ -25,36 +25,36 @@ use Rattle.type_definitions.specs.declared.kind.Kind.{Kind}
 use Rattle.type_definitions.specs.declared.kind.Kind.TheVariants as kind
 use Rattle.run_values.specs.Memory.{Memory}
 use Rattle.value_tables.specs.Borrows.{is_borrow}
-use Rattle.scoped_addresses.specs.held_entries.accepted_trails.inner.Accepted.{IsAcceptedIn}
-use Rattle.scoped_addresses.specs.held_entries.accepted_trails.inner.Bases.{HasBasesAsMade, IsAsMade, IsBaseOf}
-use Rattle.scoped_addresses.specs.held_entries.accepted_trails.inner.Defined.{IsDefinedOn, makes}
-use Rattle.scoped_addresses.specs.held_entries.accepted_trails.inner.Lives.{BorrowsFrom, IsOwnedIn, is_open}
-use Rattle.scoped_addresses.specs.held_entries.accepted_trails.inner.Passing.{IsFoundRight, is_begin, is_end, is_use, left_by, on_behind}
-use Rattle.scoped_addresses.specs.held_entries.accepted_trails.ownership_kinds.Facts.{facts_in}
-use Rattle.scoped_addresses.specs.held_entries.accepted_trails.run_trails.inner.RunTrails.{IsTurnedTrail}
-use Rattle.scoped_addresses.proofs.held_entries.accepted_trails.BasesMade.{bases_as_made}
-use Rattle.scoped_addresses.proofs.held_entries.accepted_trails.BasesOpen.{begins_where_made, scope_begins}
-use Rattle.scoped_addresses.proofs.held_entries.accepted_trails.LivesPassed.{lives_passed}
-use Rattle.scoped_addresses.proofs.held_entries.accepted_trails.ScopesPassed.{bases_kept, scopes_passed}
-use Rattle.scoped_addresses.proofs.held_entries.accepted_trails.Tests.{first_of}
-use Rattle.scoped_addresses.proofs.held_entries.accepted_trails.Unbroken.{are_accepted}
-use Rattle.scoped_addresses.specs.held_entries.inner.Tracked.{AreTracked, IsOwnScope, IsWhile}
-use Rattle.tracked_frames.proofs.accepted_premises.BasesOfTaken.{bases_of_taken}
-use Rattle.tracked_frames.proofs.accepted_premises.MadeAtStops.{made_at_stops, makes_so}
-use Rattle.scoped_addresses.specs.accepted_values.inner.Bases.{IsLender}
-use Rattle.scoped_addresses.specs.accepted_values.inner.Known.{IsAcceptedBody, kind_at}
-use Rattle.scoped_addresses.specs.accepted_values.inner.Operands.{SuitsRole}
-use Rattle.scoped_addresses.proofs.accepted_values.Addresses.{addresses_of_lenders}
-use Rattle.scoped_addresses.proofs.accepted_values.Based.{lenders_own_bases, lent_by_lenders, owned_own_bases, owned_value}
-use Rattle.scoped_addresses.proofs.accepted_values.Borrowed.{number_of_parameter}
-use Rattle.scoped_addresses.proofs.accepted_values.Made.{parameters_of_entry}
-use Rattle.scoped_addresses.proofs.accepted_values.Suited.{suited}
-use Rattle.scoped_addresses.proofs.accepted_values.lowering_laws.Lowerable.{contained}
-use Rattle.holder_counts.specs.holder_model.Data.{Datum}
-use Rattle.holder_counts.specs.holder_model.Frames.{Entry, Gone, Held, Lent, entry_at, has_any, without_ended}
-use Rattle.holder_counts.proofs.Entries.{left_of, was_there}
-use Rattle.scoped_addresses.specs.inner.Addresses.{TakesAddressesInScopes}
-use Rattle.scoped_addresses.proofs.OwnScopes.{lender_kind, own_scope}
+use Rattle.followed_objects.specs.scoped_addresses.held_entries.accepted_trails.inner.Accepted.{IsAcceptedIn}
+use Rattle.followed_objects.specs.scoped_addresses.held_entries.accepted_trails.inner.Bases.{HasBasesAsMade, IsAsMade, IsBaseOf}
+use Rattle.followed_objects.specs.scoped_addresses.held_entries.accepted_trails.inner.Defined.{IsDefinedOn, makes}
+use Rattle.followed_objects.specs.scoped_addresses.held_entries.accepted_trails.inner.Lives.{BorrowsFrom, IsOwnedIn, is_open}
+use Rattle.followed_objects.specs.scoped_addresses.held_entries.accepted_trails.inner.Passing.{IsFoundRight, is_begin, is_end, is_use, left_by, on_behind}
+use Rattle.followed_objects.specs.scoped_addresses.held_entries.accepted_trails.ownership_kinds.Facts.{facts_in}
+use Rattle.followed_objects.specs.scoped_addresses.held_entries.accepted_trails.run_trails.inner.RunTrails.{IsTurnedTrail}
+use Rattle.followed_objects.proofs.scoped_addresses.held_entries.accepted_trails.BasesMade.{bases_as_made}
+use Rattle.followed_objects.proofs.scoped_addresses.held_entries.accepted_trails.BasesOpen.{begins_where_made, scope_begins}
+use Rattle.followed_objects.proofs.scoped_addresses.held_entries.accepted_trails.LivesPassed.{lives_passed}
+use Rattle.followed_objects.proofs.scoped_addresses.held_entries.accepted_trails.ScopesPassed.{bases_kept, scopes_passed}
+use Rattle.followed_objects.proofs.scoped_addresses.held_entries.accepted_trails.Tests.{first_of}
+use Rattle.followed_objects.proofs.scoped_addresses.held_entries.accepted_trails.Unbroken.{are_accepted}
+use Rattle.followed_objects.specs.scoped_addresses.held_entries.inner.Tracked.{AreTracked, IsOwnScope, IsWhile}
+use Rattle.followed_objects.proofs.tracked_frames.accepted_premises.BasesOfTaken.{bases_of_taken}
+use Rattle.followed_objects.proofs.tracked_frames.accepted_premises.MadeAtStops.{made_at_stops, makes_so}
+use Rattle.followed_objects.specs.scoped_addresses.accepted_values.inner.Bases.{IsLender}
+use Rattle.followed_objects.specs.scoped_addresses.accepted_values.inner.Known.{IsAcceptedBody, kind_at}
+use Rattle.followed_objects.specs.scoped_addresses.accepted_values.inner.Operands.{SuitsRole}
+use Rattle.followed_objects.proofs.scoped_addresses.accepted_values.Addresses.{addresses_of_lenders}
+use Rattle.followed_objects.proofs.scoped_addresses.accepted_values.Based.{lenders_own_bases, lent_by_lenders, owned_own_bases, owned_value}
+use Rattle.followed_objects.proofs.scoped_addresses.accepted_values.Borrowed.{number_of_parameter}
+use Rattle.followed_objects.proofs.scoped_addresses.accepted_values.Made.{parameters_of_entry}
+use Rattle.followed_objects.proofs.scoped_addresses.accepted_values.Suited.{suited}
+use Rattle.followed_objects.proofs.scoped_addresses.accepted_values.lowering_laws.Lowerable.{contained}
+use Rattle.followed_objects.specs.holder_counts.holder_model.Data.{Datum}
+use Rattle.followed_objects.specs.holder_counts.holder_model.Frames.{Entry, Gone, Held, Lent, entry_at, has_any, without_ended}
+use Rattle.followed_objects.proofs.holder_counts.Entries.{left_of, was_there}
+use Rattle.followed_objects.specs.scoped_addresses.inner.Addresses.{TakesAddressesInScopes}
+use Rattle.followed_objects.proofs.scoped_addresses.OwnScopes.{lender_kind, own_scope}
 use Rattle.guarded_entries.specs.inner.Following.{AreArgumentsOfEntry, AreBorrowedKept, AreOperandsCurrent, AreScopesNotRenewed, GoAlong}
 use Rattle.guarded_entries.specs.inner.Guards.{IsArgument, IsCurrent, IsThere, Lending}
 use Rattle.guarded_entries.proofs.Ended.{ended_gone, unended_stays}

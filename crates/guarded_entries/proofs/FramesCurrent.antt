@@ -1,9 +1,9 @@
 -- The operands of the item at which a tracked frame stands are current: the scopes of addresses among them are open.
 use Rattle.std.proofs.Common.{◌∷◌}
 use Rattle.type_definitions.specs.Declarations.{declarations_of}
-use Rattle.scoped_addresses.proofs.held_entries.accepted_trails.Unbroken.{are_accepted}
-use Rattle.scoped_addresses.proofs.held_entries.accepted_trails.run_trails.RunPaths.{are_trails}
-use Rattle.scoped_addresses.proofs.AddressScopes.{addresses_in_scopes}
+use Rattle.followed_objects.proofs.scoped_addresses.held_entries.accepted_trails.Unbroken.{are_accepted}
+use Rattle.followed_objects.proofs.scoped_addresses.held_entries.accepted_trails.run_trails.RunPaths.{are_trails}
+use Rattle.followed_objects.proofs.scoped_addresses.AddressScopes.{addresses_in_scopes}
 use Rattle.guarded_entries.specs.inner.Premises.{AreFramesCurrent}
 use Rattle.guarded_entries.proofs.Following.{operands_current}
 use Rattle.guarded_entries.proofs.Given.{tracked_along}

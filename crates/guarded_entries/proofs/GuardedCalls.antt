@@ -18,28 +18,28 @@ use Rattle.type_definitions.specs.Declarations.{Declarations, declarations_of}
 use Rattle.type_definitions.specs.declared.kind.Kind.TheVariants as kind
 use Rattle.run_values.specs.Memory.{Memory}
 use Rattle.run_values.specs.Shapes.{Shape}
-use Rattle.scoped_addresses.specs.held_entries.accepted_trails.ownership_kinds.Facts.{facts_in}
-use Rattle.scoped_addresses.specs.owned_run_typing.inner.OwnedTyped.{OwnedFunction, OwnedInst}
-use Rattle.scoped_addresses.specs.accepted_values.inner.Known.{IsAcceptedBody, kind_at}
-use Rattle.scoped_addresses.specs.accepted_values.run_typing.EndForms.{value_in}
-use Rattle.scoped_addresses.specs.accepted_values.run_typing.Forms.{OfFunction, form_by, form_of}
-use Rattle.scoped_addresses.proofs.accepted_values.Accepted.{typed, well_typed}
-use Rattle.scoped_addresses.proofs.accepted_values.run_typing_laws.CallFacts.{Called, function_only}
-use Rattle.scoped_addresses.proofs.accepted_values.run_typing_laws.Rows.Points.{is_at}
-use Rattle.tracked_frames.specs.typed_memory.inner.Worlds.{World}
-use Rattle.tracked_frames.specs.typed_holders.inner.TypedStates.{EntriesAre}
-use Rattle.tracked_frames.proofs.typed_holders.Data.{read_function}
-use Rattle.tracked_frames.proofs.typed_holders.Entries.{FitEach, Fits, operands_fit}
-use Rattle.tracked_frames.proofs.typed_holders.GoesOn.{typed_module}
-use Rattle.holder_counts.specs.holder_model.Calling.{as_argument}
-use Rattle.holder_counts.specs.holder_model.Data.{Datum, FunctionOf, as_function, references_in}
-use Rattle.holder_counts.specs.holder_model.Effects as effects
-use Rattle.holder_counts.specs.holder_model.Frames.{Entry, Frame, Lent, LentPlace, Operands, datum_in, entry_at, made_entry, operand_data, operands_of, without_ended}
-use Rattle.holder_counts.specs.holder_model.MemoryEffects.{effect}
-use Rattle.holder_counts.specs.holder_model.ModuleShapes.{ModuleShapes}
-use Rattle.holder_counts.specs.holder_model.States.{Runs, Task}
-use Rattle.holder_counts.proofs.Entries.{IsLeftOf, left_of, was_there}
-use Rattle.holder_counts.proofs.Moves.{operands_are}
+use Rattle.followed_objects.specs.scoped_addresses.held_entries.accepted_trails.ownership_kinds.Facts.{facts_in}
+use Rattle.followed_objects.specs.scoped_addresses.owned_run_typing.inner.OwnedTyped.{OwnedFunction, OwnedInst}
+use Rattle.followed_objects.specs.scoped_addresses.accepted_values.inner.Known.{IsAcceptedBody, kind_at}
+use Rattle.followed_objects.specs.scoped_addresses.accepted_values.run_typing.EndForms.{value_in}
+use Rattle.followed_objects.specs.scoped_addresses.accepted_values.run_typing.Forms.{OfFunction, form_by, form_of}
+use Rattle.followed_objects.proofs.scoped_addresses.accepted_values.Accepted.{typed, well_typed}
+use Rattle.followed_objects.proofs.scoped_addresses.accepted_values.run_typing_laws.CallFacts.{Called, function_only}
+use Rattle.followed_objects.proofs.scoped_addresses.accepted_values.run_typing_laws.Rows.Points.{is_at}
+use Rattle.followed_objects.specs.tracked_frames.typed_memory.inner.Worlds.{World}
+use Rattle.followed_objects.specs.tracked_frames.typed_holders.inner.TypedStates.{EntriesAre}
+use Rattle.followed_objects.proofs.tracked_frames.typed_holders.Data.{read_function}
+use Rattle.followed_objects.proofs.tracked_frames.typed_holders.Entries.{FitEach, Fits, operands_fit}
+use Rattle.followed_objects.proofs.tracked_frames.typed_holders.GoesOn.{typed_module}
+use Rattle.followed_objects.specs.holder_counts.holder_model.Calling.{as_argument}
+use Rattle.followed_objects.specs.holder_counts.holder_model.Data.{Datum, FunctionOf, as_function, references_in}
+use Rattle.followed_objects.specs.holder_counts.holder_model.Effects as effects
+use Rattle.followed_objects.specs.holder_counts.holder_model.Frames.{Entry, Frame, Lent, LentPlace, Operands, datum_in, entry_at, made_entry, operand_data, operands_of, without_ended}
+use Rattle.followed_objects.specs.holder_counts.holder_model.MemoryEffects.{effect}
+use Rattle.followed_objects.specs.holder_counts.holder_model.ModuleShapes.{ModuleShapes}
+use Rattle.followed_objects.specs.holder_counts.holder_model.States.{Runs, Task}
+use Rattle.followed_objects.proofs.holder_counts.Entries.{IsLeftOf, left_of, was_there}
+use Rattle.followed_objects.proofs.holder_counts.Moves.{operands_are}
 use Rattle.guarded_entries.specs.inner.Guards.{AreLentGuarded, AreOfKinds, Guard, IsCurrent, IsNamed, IsThere, owner}
 use Rattle.guarded_entries.specs.inner.GuardedStates.{IsGuardedIn, IsGuardedRun, Loans}
 use Rattle.guarded_entries.specs.inner.LoansKept.{LendOn}

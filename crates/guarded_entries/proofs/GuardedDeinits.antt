@@ -14,19 +14,19 @@ use Rattle.run_values.specs.declared.phase.Phase.{Phase}
 use Rattle.run_values.specs.declared.phase.Phase.TheVariants.{Dead, Deiniting, Live}
 use Rattle.run_values.specs.Memory.{Memory, is_dead, is_dead_phase, phase_of}
 use Rattle.run_values.specs.Values as value
-use Rattle.scoped_addresses.specs.held_entries.accepted_trails.inner.Bases.{IsBaseOf}
-use Rattle.scoped_addresses.specs.held_entries.accepted_trails.ownership_kinds.Facts.{facts_in}
-use Rattle.scoped_addresses.specs.accepted_values.inner.Known.{IsAcceptedBody, kind_at}
-use Rattle.holder_counts.specs.holder_model.Calling.{value_count}
-use Rattle.holder_counts.specs.holder_model.Data.{Datum, ValueOf, references_in}
-use Rattle.holder_counts.specs.holder_model.Effects.{SameSlots}
-use Rattle.holder_counts.specs.holder_model.Frames.{Entry, Frame, Lent, made_entry, no_entries, results_put}
-use Rattle.holder_counts.specs.holder_model.Holders.{of_references, one_object}
-use Rattle.holder_counts.specs.holder_model.Outcomes.{object_number}
-use Rattle.holder_counts.specs.holder_model.StepParts.{new_frame}
-use Rattle.holder_counts.specs.holder_model.States.{Finishes, Runs, Task}
-use Rattle.holder_counts.specs.inner.Naming.{HoldsNone, in_data, in_datum}
-use Rattle.holder_counts.proofs.Sums.{total_cons}
+use Rattle.followed_objects.specs.scoped_addresses.held_entries.accepted_trails.inner.Bases.{IsBaseOf}
+use Rattle.followed_objects.specs.scoped_addresses.held_entries.accepted_trails.ownership_kinds.Facts.{facts_in}
+use Rattle.followed_objects.specs.scoped_addresses.accepted_values.inner.Known.{IsAcceptedBody, kind_at}
+use Rattle.followed_objects.specs.holder_counts.holder_model.Calling.{value_count}
+use Rattle.followed_objects.specs.holder_counts.holder_model.Data.{Datum, ValueOf, references_in}
+use Rattle.followed_objects.specs.holder_counts.holder_model.Effects.{SameSlots}
+use Rattle.followed_objects.specs.holder_counts.holder_model.Frames.{Entry, Frame, Lent, made_entry, no_entries, results_put}
+use Rattle.followed_objects.specs.holder_counts.holder_model.Holders.{of_references, one_object}
+use Rattle.followed_objects.specs.holder_counts.holder_model.Outcomes.{object_number}
+use Rattle.followed_objects.specs.holder_counts.holder_model.StepParts.{new_frame}
+use Rattle.followed_objects.specs.holder_counts.holder_model.States.{Finishes, Runs, Task}
+use Rattle.followed_objects.specs.holder_counts.inner.Naming.{HoldsNone, in_data, in_datum}
+use Rattle.followed_objects.proofs.holder_counts.Sums.{total_cons}
 use Rattle.guarded_entries.specs.inner.Guards.{IsArgument, IsNamed}
 use Rattle.guarded_entries.specs.inner.GuardedStates.{IsGuardedRun, Loans, finishes_of, is_deiniting_phase}
 use Rattle.guarded_entries.specs.inner.Stepping.{AreArgumentsGuarded}

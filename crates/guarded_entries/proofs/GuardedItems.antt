@@ -15,28 +15,28 @@ use Rattle.type_definitions.specs.Declarations.{Declarations, declarations_of}
 use Rattle.run_values.specs.Memory.{Memory, is_dead}
 use Rattle.run_values.specs.Places.{Place}
 use Rattle.run_values.specs.Values as value
-use Rattle.scoped_addresses.specs.held_entries.accepted_trails.inner.Defined.{makes}
-use Rattle.scoped_addresses.specs.held_entries.accepted_trails.ownership_kinds.Facts.{facts_in}
-use Rattle.scoped_addresses.specs.held_entries.accepted_trails.run_trails.inner.RunTrails.{ComesAt, IsTurnedTrail}
-use Rattle.scoped_addresses.proofs.held_entries.accepted_trails.run_trails.WalkEdges.{are_next}
-use Rattle.scoped_addresses.specs.accepted_values.inner.Known.{IsAcceptedBody, kind_at}
-use Rattle.scoped_addresses.proofs.accepted_values.Facts.{run_facts}
-use Rattle.tracked_frames.specs.typed_memory.inner.Worlds.{MemoryIs, World}
-use Rattle.tracked_frames.specs.typed_holders.inner.TypedStates.{FrameIs}
-use Rattle.tracked_frames.specs.inner.TrackedStates.{GoesAlong}
-use Rattle.tracked_frames.proofs.NextItems.{turned_next}
-use Rattle.holder_counts.specs.holder_model.Data.{Datum, ValueOf, references_in}
-use Rattle.holder_counts.specs.holder_model.Effects.{Change, unchanged}
-use Rattle.holder_counts.specs.holder_model.Frames.{Entry, Frame, Lent, Operands, entry_at, made_entry, operands_of, results_put, without_ended}
-use Rattle.holder_counts.specs.holder_model.Holders.{in_memory, one_object}
-use Rattle.holder_counts.specs.holder_model.HolderStates.{HolderNext, HolderState}
-use Rattle.holder_counts.specs.holder_model.ModuleFacts.{ModuleFacts, facts_of}
-use Rattle.holder_counts.specs.holder_model.Standing.{stands_at}
-use Rattle.holder_counts.specs.holder_model.States.{Ends, Goes, Runs, Task}
-use Rattle.holder_counts.specs.holder_steps.inner.Ways.{GoesBehind, left_with, moved}
-use Rattle.holder_counts.specs.inner.Moving.{in_tasks}
-use Rattle.holder_counts.specs.inner.Naming.{HoldsNone, IsAlive, in_data}
-use Rattle.holder_counts.proofs.Moves.{operands_are}
+use Rattle.followed_objects.specs.scoped_addresses.held_entries.accepted_trails.inner.Defined.{makes}
+use Rattle.followed_objects.specs.scoped_addresses.held_entries.accepted_trails.ownership_kinds.Facts.{facts_in}
+use Rattle.followed_objects.specs.scoped_addresses.held_entries.accepted_trails.run_trails.inner.RunTrails.{ComesAt, IsTurnedTrail}
+use Rattle.followed_objects.proofs.scoped_addresses.held_entries.accepted_trails.run_trails.WalkEdges.{are_next}
+use Rattle.followed_objects.specs.scoped_addresses.accepted_values.inner.Known.{IsAcceptedBody, kind_at}
+use Rattle.followed_objects.proofs.scoped_addresses.accepted_values.Facts.{run_facts}
+use Rattle.followed_objects.specs.tracked_frames.typed_memory.inner.Worlds.{MemoryIs, World}
+use Rattle.followed_objects.specs.tracked_frames.typed_holders.inner.TypedStates.{FrameIs}
+use Rattle.followed_objects.specs.tracked_frames.inner.TrackedStates.{GoesAlong}
+use Rattle.followed_objects.proofs.tracked_frames.NextItems.{turned_next}
+use Rattle.followed_objects.specs.holder_counts.holder_model.Data.{Datum, ValueOf, references_in}
+use Rattle.followed_objects.specs.holder_counts.holder_model.Effects.{Change, unchanged}
+use Rattle.followed_objects.specs.holder_counts.holder_model.Frames.{Entry, Frame, Lent, Operands, entry_at, made_entry, operands_of, results_put, without_ended}
+use Rattle.followed_objects.specs.holder_counts.holder_model.Holders.{in_memory, one_object}
+use Rattle.followed_objects.specs.holder_counts.holder_model.HolderStates.{HolderNext, HolderState}
+use Rattle.followed_objects.specs.holder_counts.holder_model.ModuleFacts.{ModuleFacts, facts_of}
+use Rattle.followed_objects.specs.holder_counts.holder_model.Standing.{stands_at}
+use Rattle.followed_objects.specs.holder_counts.holder_model.States.{Ends, Goes, Runs, Task}
+use Rattle.followed_objects.specs.holder_counts.holder_steps.inner.Ways.{GoesBehind, left_with, moved}
+use Rattle.followed_objects.specs.holder_counts.inner.Moving.{in_tasks}
+use Rattle.followed_objects.specs.holder_counts.inner.Naming.{HoldsNone, IsAlive, in_data}
+use Rattle.followed_objects.proofs.holder_counts.Moves.{operands_are}
 use Rattle.guarded_entries.specs.inner.Guards.{AreLentGuarded, AreOfKinds, IsArgument, IsCurrent, IsNamed, Lending}
 use Rattle.guarded_entries.specs.inner.GuardedStates.{IsGuardedRun, IsGuardedState, Loans}
 use Rattle.guarded_entries.specs.inner.Kept.{IsAnchor, IsNewlyGuarded}

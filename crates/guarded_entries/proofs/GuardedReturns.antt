@@ -18,12 +18,12 @@ use Rattle.type_definitions.specs.declared.kind.Kind.TheVariants as kind
 use Rattle.run_values.specs.Memory.{Memory}
 use Rattle.run_values.specs.Values.{Value}
 use Rattle.value_tables.specs.Borrows.{is_borrow}
-use Rattle.scoped_addresses.specs.held_entries.accepted_trails.inner.Defined.{makes}
-use Rattle.scoped_addresses.specs.accepted_values.inner.Known.{IsAcceptedBody, kind_at}
-use Rattle.scoped_addresses.proofs.accepted_values.Based.{lenders_own_bases}
-use Rattle.tracked_frames.proofs.typed_holders.Performs.{defines_results}
-use Rattle.holder_counts.specs.holder_model.Data.{Datum, ValueOf}
-use Rattle.holder_counts.specs.holder_model.Frames.{Entry, Lent, made_entry}
+use Rattle.followed_objects.specs.scoped_addresses.held_entries.accepted_trails.inner.Defined.{makes}
+use Rattle.followed_objects.specs.scoped_addresses.accepted_values.inner.Known.{IsAcceptedBody, kind_at}
+use Rattle.followed_objects.proofs.scoped_addresses.accepted_values.Based.{lenders_own_bases}
+use Rattle.followed_objects.proofs.tracked_frames.typed_holders.Performs.{defines_results}
+use Rattle.followed_objects.specs.holder_counts.holder_model.Data.{Datum, ValueOf}
+use Rattle.followed_objects.specs.holder_counts.holder_model.Frames.{Entry, Lent, made_entry}
 use Rattle.guarded_entries.specs.inner.Guards.{Lending}
 use Rattle.guarded_entries.specs.inner.Kept.{ArePutRight}
 use Rattle.guarded_entries.specs.inner.LoansKept.{LendOn}

@@ -21,41 +21,41 @@ use Rattle.run_values.specs.declared.phase.Phase.TheVariants.{Deiniting}
 use Rattle.run_values.specs.Memory.{is_dead, object_at}
 use Rattle.run_values.specs.Values as value
 use Rattle.run_values.specs.Values.{Value}
-use Rattle.scoped_addresses.specs.held_entries.accepted_trails.ownership_kinds.Facts.{facts_in}
-use Rattle.scoped_addresses.specs.held_entries.accepted_trails.run_trails.inner.RunTrails.{ComesAt}
-use Rattle.scoped_addresses.specs.accepted_values.accepted_modules.inner.Checked.{IsVerified}
-use Rattle.scoped_addresses.specs.accepted_values.inner.Known.{kind_at}
-use Rattle.scoped_addresses.proofs.accepted_values.Facts.{run_facts}
-use Rattle.tracked_frames.specs.typed_memory.inner.Worlds.{World}
-use Rattle.tracked_frames.specs.typed_holders.inner.TypedStates.{TasksAre, WaitsTyped}
-use Rattle.tracked_frames.proofs.typed_holders.Data.{read_value}
-use Rattle.tracked_frames.proofs.typed_holders.GoesOn.{Running}
-use Rattle.tracked_frames.proofs.typed_holders.Returns.{returned}
-use Rattle.tracked_frames.proofs.typed_holders.Stacks.{BelowTyped}
-use Rattle.tracked_frames.proofs.typed_holders.holder_steps.StepsTold.{steps_told}
-use Rattle.scoped_addresses.specs.accepted_values.run_typing.Forms.{given_shape}
-use Rattle.tracked_frames.specs.inner.TrackedStates.{AreTasksTracked}
-use Rattle.tracked_frames.proofs.ConsumedValues.{owned_typed}
-use Rattle.tracked_frames.proofs.HowValuesEnd.{accepted_body}
-use Rattle.tracked_frames.proofs.NextItems.{chooses_on, chosen_within, edge_comes, one_edge}
-use Rattle.holder_counts.specs.holder_model.Calling.{value_count}
-use Rattle.holder_counts.specs.holder_model.Data.{Datum, ValueOf}
-use Rattle.holder_counts.specs.holder_model.Dropping.{deinits_of, in_phase}
-use Rattle.holder_counts.specs.holder_model.Edges.{edge_of}
-use Rattle.holder_counts.specs.holder_model.Effects as effects
-use Rattle.holder_counts.specs.holder_model.Effects.{only, unchanged}
-use Rattle.holder_counts.specs.holder_model.Faults.{HolderFault}
-use Rattle.holder_counts.specs.holder_model.Frames.{Frame, Operands, has_any, no_entries, operands_of, results_put}
-use Rattle.holder_counts.specs.holder_model.Holders.{one_object}
-use Rattle.holder_counts.specs.holder_model.HolderStates.{HolderNext, HolderState}
-use Rattle.holder_counts.specs.holder_model.ModuleFacts.{ModuleFacts, facts_of}
-use Rattle.holder_counts.specs.holder_model.Standing.{stands_at}
-use Rattle.holder_counts.specs.holder_model.States.{Drops, Finishes, Runs, Task}
-use Rattle.holder_counts.specs.holder_model.Steps as steps
-use Rattle.holder_counts.specs.holder_steps.inner.Ways.{Acts, DropsOne, Enters, FinishesOne, GoesBehind, Leaves, Performs, Reaches, StandsAtEnd, StepsBy, TakesEdge}
-use Rattle.holder_counts.specs.holder_steps.inner.Ways.{left_with, moved, operands_in, with_tasks}
-use Rattle.holder_counts.specs.inner.Naming.{in_data, in_datum}
-use Rattle.holder_counts.proofs.Sums.{total_cons}
+use Rattle.followed_objects.specs.scoped_addresses.held_entries.accepted_trails.ownership_kinds.Facts.{facts_in}
+use Rattle.followed_objects.specs.scoped_addresses.held_entries.accepted_trails.run_trails.inner.RunTrails.{ComesAt}
+use Rattle.followed_objects.specs.scoped_addresses.accepted_values.accepted_modules.inner.Checked.{IsVerified}
+use Rattle.followed_objects.specs.scoped_addresses.accepted_values.inner.Known.{kind_at}
+use Rattle.followed_objects.proofs.scoped_addresses.accepted_values.Facts.{run_facts}
+use Rattle.followed_objects.specs.tracked_frames.typed_memory.inner.Worlds.{World}
+use Rattle.followed_objects.specs.tracked_frames.typed_holders.inner.TypedStates.{TasksAre, WaitsTyped}
+use Rattle.followed_objects.proofs.tracked_frames.typed_holders.Data.{read_value}
+use Rattle.followed_objects.proofs.tracked_frames.typed_holders.GoesOn.{Running}
+use Rattle.followed_objects.proofs.tracked_frames.typed_holders.Returns.{returned}
+use Rattle.followed_objects.proofs.tracked_frames.typed_holders.Stacks.{BelowTyped}
+use Rattle.followed_objects.proofs.tracked_frames.typed_holders.holder_steps.StepsTold.{steps_told}
+use Rattle.followed_objects.specs.scoped_addresses.accepted_values.run_typing.Forms.{given_shape}
+use Rattle.followed_objects.specs.tracked_frames.inner.TrackedStates.{AreTasksTracked}
+use Rattle.followed_objects.proofs.tracked_frames.ConsumedValues.{owned_typed}
+use Rattle.followed_objects.proofs.tracked_frames.HowValuesEnd.{accepted_body}
+use Rattle.followed_objects.proofs.tracked_frames.NextItems.{chooses_on, chosen_within, edge_comes, one_edge}
+use Rattle.followed_objects.specs.holder_counts.holder_model.Calling.{value_count}
+use Rattle.followed_objects.specs.holder_counts.holder_model.Data.{Datum, ValueOf}
+use Rattle.followed_objects.specs.holder_counts.holder_model.Dropping.{deinits_of, in_phase}
+use Rattle.followed_objects.specs.holder_counts.holder_model.Edges.{edge_of}
+use Rattle.followed_objects.specs.holder_counts.holder_model.Effects as effects
+use Rattle.followed_objects.specs.holder_counts.holder_model.Effects.{only, unchanged}
+use Rattle.followed_objects.specs.holder_counts.holder_model.Faults.{HolderFault}
+use Rattle.followed_objects.specs.holder_counts.holder_model.Frames.{Frame, Operands, has_any, no_entries, operands_of, results_put}
+use Rattle.followed_objects.specs.holder_counts.holder_model.Holders.{one_object}
+use Rattle.followed_objects.specs.holder_counts.holder_model.HolderStates.{HolderNext, HolderState}
+use Rattle.followed_objects.specs.holder_counts.holder_model.ModuleFacts.{ModuleFacts, facts_of}
+use Rattle.followed_objects.specs.holder_counts.holder_model.Standing.{stands_at}
+use Rattle.followed_objects.specs.holder_counts.holder_model.States.{Drops, Finishes, Runs, Task}
+use Rattle.followed_objects.specs.holder_counts.holder_model.Steps as steps
+use Rattle.followed_objects.specs.holder_counts.holder_steps.inner.Ways.{Acts, DropsOne, Enters, FinishesOne, GoesBehind, Leaves, Performs, Reaches, StandsAtEnd, StepsBy, TakesEdge}
+use Rattle.followed_objects.specs.holder_counts.holder_steps.inner.Ways.{left_with, moved, operands_in, with_tasks}
+use Rattle.followed_objects.specs.holder_counts.inner.Naming.{in_data, in_datum}
+use Rattle.followed_objects.proofs.holder_counts.Sums.{total_cons}
 use Rattle.guarded_entries.specs.inner.GuardedStates.{IsGuardedRun, IsGuardedState, Loans}
 use Rattle.guarded_entries.specs.inner.Laws.{AreStepsGuarded, AreStepsGuardedWhere, IsEither}
 use Rattle.guarded_entries.specs.inner.LoansKept.{IsPlacedState, LoansAreKept}

@@ -17,30 +17,30 @@ use Rattle.sil_cfg.specs.declared.item.Item.TheVariants as item
 use Rattle.type_definitions.specs.Declarations.{Declarations, declarations_of}
 use Rattle.run_values.specs.Memory.{is_dead}
 use Rattle.run_values.specs.Places.{Inside, OnStack}
-use Rattle.scoped_addresses.specs.held_entries.accepted_trails.ownership_kinds.Facts.{facts_in}
-use Rattle.scoped_addresses.specs.held_entries.accepted_trails.run_trails.inner.RunTrails.{ComesAt}
-use Rattle.scoped_addresses.specs.accepted_values.inner.Known.{IsAcceptedBody}
-use Rattle.scoped_addresses.specs.accepted_values.accepted_modules.inner.Checked.{IsVerified}
-use Rattle.scoped_addresses.proofs.accepted_values.Facts.{run_facts}
-use Rattle.tracked_frames.proofs.HowValuesEnd.{accepted_body}
-use Rattle.tracked_frames.proofs.NextItems.{inst_comes}
-use Rattle.holder_counts.specs.holder_model.Calling.{are_as_before, as_argument, handed_over, lent_places, value_count}
-use Rattle.holder_counts.specs.holder_model.Data.{AddressOf, Datum}
-use Rattle.holder_counts.specs.holder_model.Edges.{carried_along, carried_by}
-use Rattle.holder_counts.specs.holder_model.Effects as effects
-use Rattle.holder_counts.specs.holder_model.Effects.{Change, unchanged}
-use Rattle.holder_counts.specs.holder_model.Frames.{Frame, Lent, LentPlace, Operands, datum_in, entry_at, has_any, no_entries, operands_of, results_put}
-use Rattle.holder_counts.specs.holder_model.Holders.{one_object}
-use Rattle.holder_counts.specs.holder_model.HolderStates.{HolderNext, HolderState}
-use Rattle.holder_counts.specs.holder_model.MemoryEffects.{effect}
-use Rattle.holder_counts.specs.holder_model.ModuleFacts.{ModuleFacts, facts_of}
-use Rattle.holder_counts.specs.holder_model.ModuleShapes.{shapes_in}
-use Rattle.holder_counts.specs.holder_model.Standing.{stands_at}
-use Rattle.holder_counts.specs.holder_model.StepParts.{new_frame}
-use Rattle.holder_counts.specs.holder_model.States.{Runs, Task}
-use Rattle.holder_counts.specs.holder_steps.inner.Ways.{Enters, GoesBehind, left_with, turned, waiting}
-use Rattle.holder_counts.specs.inner.Naming.{LoadsStrongly, in_data, in_datum}
-use Rattle.holder_counts.proofs.Sums.{total_cons}
+use Rattle.followed_objects.specs.scoped_addresses.held_entries.accepted_trails.ownership_kinds.Facts.{facts_in}
+use Rattle.followed_objects.specs.scoped_addresses.held_entries.accepted_trails.run_trails.inner.RunTrails.{ComesAt}
+use Rattle.followed_objects.specs.scoped_addresses.accepted_values.inner.Known.{IsAcceptedBody}
+use Rattle.followed_objects.specs.scoped_addresses.accepted_values.accepted_modules.inner.Checked.{IsVerified}
+use Rattle.followed_objects.proofs.scoped_addresses.accepted_values.Facts.{run_facts}
+use Rattle.followed_objects.proofs.tracked_frames.HowValuesEnd.{accepted_body}
+use Rattle.followed_objects.proofs.tracked_frames.NextItems.{inst_comes}
+use Rattle.followed_objects.specs.holder_counts.holder_model.Calling.{are_as_before, as_argument, handed_over, lent_places, value_count}
+use Rattle.followed_objects.specs.holder_counts.holder_model.Data.{AddressOf, Datum}
+use Rattle.followed_objects.specs.holder_counts.holder_model.Edges.{carried_along, carried_by}
+use Rattle.followed_objects.specs.holder_counts.holder_model.Effects as effects
+use Rattle.followed_objects.specs.holder_counts.holder_model.Effects.{Change, unchanged}
+use Rattle.followed_objects.specs.holder_counts.holder_model.Frames.{Frame, Lent, LentPlace, Operands, datum_in, entry_at, has_any, no_entries, operands_of, results_put}
+use Rattle.followed_objects.specs.holder_counts.holder_model.Holders.{one_object}
+use Rattle.followed_objects.specs.holder_counts.holder_model.HolderStates.{HolderNext, HolderState}
+use Rattle.followed_objects.specs.holder_counts.holder_model.MemoryEffects.{effect}
+use Rattle.followed_objects.specs.holder_counts.holder_model.ModuleFacts.{ModuleFacts, facts_of}
+use Rattle.followed_objects.specs.holder_counts.holder_model.ModuleShapes.{shapes_in}
+use Rattle.followed_objects.specs.holder_counts.holder_model.Standing.{stands_at}
+use Rattle.followed_objects.specs.holder_counts.holder_model.StepParts.{new_frame}
+use Rattle.followed_objects.specs.holder_counts.holder_model.States.{Runs, Task}
+use Rattle.followed_objects.specs.holder_counts.holder_steps.inner.Ways.{Enters, GoesBehind, left_with, turned, waiting}
+use Rattle.followed_objects.specs.holder_counts.inner.Naming.{LoadsStrongly, in_data, in_datum}
+use Rattle.followed_objects.proofs.holder_counts.Sums.{total_cons}
 use Rattle.guarded_entries.specs.inner.GuardedStates.{Loans}
 use Rattle.guarded_entries.specs.inner.LoansKept.{Calls, Does, LoansAreKept}
 use Rattle.guarded_entries.specs.inner.Rows.{HandsValues}

@@ -6,13 +6,13 @@ use Rattle.sil_ast.specs.declared.decl.Storage.{Storage}
 use Rattle.sil_ast.specs.declared.place.ObjectId.{ObjectId}
 use Rattle.run_values.specs.Cells.{Empty, cell_count}
 use Rattle.run_values.specs.Memory.{Memory, is_dead_phase, phase_of}
-use Rattle.holder_counts.specs.holder_model.Calling.{as_argument, emptied_for, handed_over}
-use Rattle.holder_counts.specs.holder_model.Data.{AddressOf, Datum, FunctionOf, ValueOf, references_in}
-use Rattle.holder_counts.specs.holder_model.Frames.{LentPlace}
-use Rattle.holder_counts.specs.holder_model.Holders.{in_memory, of_references}
-use Rattle.holder_counts.specs.inner.Naming.{in_data, in_datum}
-use Rattle.holder_counts.proofs.Most.{emptied_most, place_phases}
-use Rattle.holder_counts.proofs.Sums.{total_cons}
+use Rattle.followed_objects.specs.holder_counts.holder_model.Calling.{as_argument, emptied_for, handed_over}
+use Rattle.followed_objects.specs.holder_counts.holder_model.Data.{AddressOf, Datum, FunctionOf, ValueOf, references_in}
+use Rattle.followed_objects.specs.holder_counts.holder_model.Frames.{LentPlace}
+use Rattle.followed_objects.specs.holder_counts.holder_model.Holders.{in_memory, of_references}
+use Rattle.followed_objects.specs.holder_counts.inner.Naming.{in_data, in_datum}
+use Rattle.followed_objects.proofs.holder_counts.Most.{emptied_most, place_phases}
+use Rattle.followed_objects.proofs.holder_counts.Sums.{total_cons}
 use Rattle.guarded_entries.specs.inner.GuardedStates.{is_deiniting_phase}
 use Rattle.guarded_entries.specs.inner.Stepping.{KeepsPhases}
 

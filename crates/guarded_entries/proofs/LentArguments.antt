@@ -9,8 +9,8 @@ use Rattle.ownership_chains.specs.Facts.{has, known_or, origin_at, told_by}
 use Rattle.ownership_chains.specs.declared.definition.Origin.{Origin}
 use Rattle.ownership_chains.specs.declared.definition.Origin.TheVariants as origin
 use Rattle.ownership_chains.specs.declared.facts.Facts.{Facts}
-use Rattle.scoped_addresses.specs.owned_run_typing.ownership_origins.Origins.{arg_definition_by, definitions_of}
-use Rattle.scoped_addresses.specs.owned_run_typing.ownership_origins.Switched.{switch_to}
+use Rattle.followed_objects.specs.scoped_addresses.owned_run_typing.ownership_origins.Origins.{arg_definition_by, definitions_of}
+use Rattle.followed_objects.specs.scoped_addresses.owned_run_typing.ownership_origins.Switched.{switch_to}
 use Rattle.sil_ast.specs.Blocks.{args_of}
 use Rattle.sil_ast.specs.declared.function.ArgKind.{ArgKind}
 use Rattle.sil_ast.specs.declared.function.ArgKind.TheVariants as annotation
@@ -26,18 +26,18 @@ use Rattle.type_definitions.specs.declared.kind.Kind.{Kind}
 use Rattle.type_definitions.specs.declared.kind.Kind.TheVariants as kind
 use Rattle.run_values.specs.Places.{Home, Inside, OnStack, Place}
 use Rattle.run_values.specs.Values.{references_of}
-use Rattle.scoped_addresses.specs.held_entries.accepted_trails.inner.Bases.{IsBaseOf}
-use Rattle.scoped_addresses.specs.accepted_values.inner.Known.{IsAcceptedBody, facts_at, kind_at}
-use Rattle.scoped_addresses.proofs.accepted_values.Accepted.{counted}
-use Rattle.scoped_addresses.proofs.accepted_values.Based.{lenders_own_bases}
-use Rattle.scoped_addresses.proofs.accepted_values.Borrowed.{number_of_parameter}
-use Rattle.scoped_addresses.proofs.accepted_values.Facts.{facts_so}
-use Rattle.scoped_addresses.proofs.accepted_values.Places.{argument_is_value}
-use Rattle.scoped_addresses.proofs.accepted_values.TableRows.{argument_rows}
-use Rattle.holder_counts.specs.holder_model.Data.{AddressOf, Datum, FunctionOf, ValueOf}
-use Rattle.holder_counts.specs.holder_model.Faults.{WrongShape}
-use Rattle.holder_counts.specs.holder_model.Frames.{Lent, Plain, has_any, made_entry, plain_address, plain_entry}
-use Rattle.holder_counts.proofs.Entries.{chosen_ok}
+use Rattle.followed_objects.specs.scoped_addresses.held_entries.accepted_trails.inner.Bases.{IsBaseOf}
+use Rattle.followed_objects.specs.scoped_addresses.accepted_values.inner.Known.{IsAcceptedBody, facts_at, kind_at}
+use Rattle.followed_objects.proofs.scoped_addresses.accepted_values.Accepted.{counted}
+use Rattle.followed_objects.proofs.scoped_addresses.accepted_values.Based.{lenders_own_bases}
+use Rattle.followed_objects.proofs.scoped_addresses.accepted_values.Borrowed.{number_of_parameter}
+use Rattle.followed_objects.proofs.scoped_addresses.accepted_values.Facts.{facts_so}
+use Rattle.followed_objects.proofs.scoped_addresses.accepted_values.Places.{argument_is_value}
+use Rattle.followed_objects.proofs.scoped_addresses.accepted_values.TableRows.{argument_rows}
+use Rattle.followed_objects.specs.holder_counts.holder_model.Data.{AddressOf, Datum, FunctionOf, ValueOf}
+use Rattle.followed_objects.specs.holder_counts.holder_model.Faults.{WrongShape}
+use Rattle.followed_objects.specs.holder_counts.holder_model.Frames.{Lent, Plain, has_any, made_entry, plain_address, plain_entry}
+use Rattle.followed_objects.proofs.holder_counts.Entries.{chosen_ok}
 use Rattle.guarded_entries.specs.inner.Guards.{IsArgument}
 
 -- ---- what is made lent

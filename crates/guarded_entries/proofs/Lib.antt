@@ -29,4 +29,6 @@ pub mod GuardedItems
 pub mod GuardedWays
 pub mod GuardedDeinits
 pub mod GuardedSteps
-pub use Rattle.holder_counts.proofs as holder_counts
+pub use Rattle.followed_objects.proofs.holder_counts as holder_counts
+pub use Rattle.followed_objects.proofs.held_places as held_places
+pub use Rattle.followed_objects.proofs as followed_objects

@@ -25,24 +25,24 @@ use Rattle.type_definitions.specs.Declarations.{Declarations, declarations_of}
 use Rattle.run_values.specs.Memory.{Memory}
 use Rattle.run_values.specs.Shapes.{Shape}
 use Rattle.run_values.specs.Values.{ChosenCase, Value, case_of}
-use Rattle.scoped_addresses.specs.accepted_values.inner.Known.{IsAcceptedBody}
-use Rattle.scoped_addresses.specs.accepted_values.run_typing.EndForms.{EdgeForms, EndForms, handed_over, value_in}
-use Rattle.scoped_addresses.specs.accepted_values.run_typing.Forms.{Form, OfValue, forms_of}
-use Rattle.scoped_addresses.specs.accepted_values.run_typing.lowered_run.LowStepParts.{taken_value}
-use Rattle.scoped_addresses.specs.accepted_values.accepted_modules.ownership_kinds.Facts.{facts_in}
-use Rattle.scoped_addresses.proofs.accepted_values.Branches.{known_end}
-use Rattle.scoped_addresses.proofs.accepted_values.run_typing_laws.Rows.Finding.{found_behind, mapped_from}
-use Rattle.scoped_addresses.specs.owned_run_typing.inner.OwnedEnds.{OwnedEndForms}
-use Rattle.scoped_addresses.specs.owned_run_typing.inner.OwnedTyped.{OwnedFunction}
-use Rattle.tracked_frames.specs.typed_memory.inner.Worlds.{DatumIs, MemoryIs, World}
-use Rattle.tracked_frames.specs.typed_holders.inner.TypedStates.{EntriesAre}
-use Rattle.tracked_frames.proofs.typed_holders.Data.{DataAre, read_value}
-use Rattle.tracked_frames.proofs.typed_holders.Entries.{FitEach, fit_data, operands_fit}
-use Rattle.tracked_frames.proofs.typed_holders.GoesOn.{typed_module}
-use Rattle.holder_counts.specs.holder_model.Data.{Datum, ValueOf}
-use Rattle.holder_counts.specs.holder_model.Edges.{carried_by, first_value_of, is_default, payload_data, switched_data}
-use Rattle.holder_counts.specs.holder_model.Frames.{Entry, Operands, operands_of}
-use Rattle.holder_counts.specs.inner.Naming.{LoadsStrongly}
+use Rattle.followed_objects.specs.scoped_addresses.accepted_values.inner.Known.{IsAcceptedBody}
+use Rattle.followed_objects.specs.scoped_addresses.accepted_values.run_typing.EndForms.{EdgeForms, EndForms, handed_over, value_in}
+use Rattle.followed_objects.specs.scoped_addresses.accepted_values.run_typing.Forms.{Form, OfValue, forms_of}
+use Rattle.followed_objects.specs.scoped_addresses.accepted_values.run_typing.lowered_run.LowStepParts.{taken_value}
+use Rattle.followed_objects.specs.scoped_addresses.accepted_values.accepted_modules.ownership_kinds.Facts.{facts_in}
+use Rattle.followed_objects.proofs.scoped_addresses.accepted_values.Branches.{known_end}
+use Rattle.followed_objects.proofs.scoped_addresses.accepted_values.run_typing_laws.Rows.Finding.{found_behind, mapped_from}
+use Rattle.followed_objects.specs.scoped_addresses.owned_run_typing.inner.OwnedEnds.{OwnedEndForms}
+use Rattle.followed_objects.specs.scoped_addresses.owned_run_typing.inner.OwnedTyped.{OwnedFunction}
+use Rattle.followed_objects.specs.tracked_frames.typed_memory.inner.Worlds.{DatumIs, MemoryIs, World}
+use Rattle.followed_objects.specs.tracked_frames.typed_holders.inner.TypedStates.{EntriesAre}
+use Rattle.followed_objects.proofs.tracked_frames.typed_holders.Data.{DataAre, read_value}
+use Rattle.followed_objects.proofs.tracked_frames.typed_holders.Entries.{FitEach, fit_data, operands_fit}
+use Rattle.followed_objects.proofs.tracked_frames.typed_holders.GoesOn.{typed_module}
+use Rattle.followed_objects.specs.holder_counts.holder_model.Data.{Datum, ValueOf}
+use Rattle.followed_objects.specs.holder_counts.holder_model.Edges.{carried_by, first_value_of, is_default, payload_data, switched_data}
+use Rattle.followed_objects.specs.holder_counts.holder_model.Frames.{Entry, Operands, operands_of}
+use Rattle.followed_objects.specs.holder_counts.inner.Naming.{LoadsStrongly}
 use Rattle.guarded_entries.specs.inner.EdgesLend.{CarriesValues}
 use Rattle.guarded_entries.specs.inner.Rows.{HandsValues}
 use Rattle.guarded_entries.specs.inner.Premises.{AreTypedForRows, CarryTypedValues}

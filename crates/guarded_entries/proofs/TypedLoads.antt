@@ -17,24 +17,24 @@ use Rattle.run_values.specs.Shapes.{Shape, Shapes, NoMember, Member, Integer, Re
 use Rattle.run_values.specs.Trivial.{itself}
 use Rattle.value_parts.specs.inner.Storages.{holds_no_storage, no_storage_layer}
 use Rattle.value_parts.proofs.Inductions.{InParts, by_parts}
-use Rattle.scoped_addresses.proofs.held_entries.accepted_trails.Tests.{each_of_both}
-use Rattle.scoped_addresses.specs.accepted_values.run_typing.Forms.{Form, OfPlace, has_no_storage}
-use Rattle.scoped_addresses.specs.accepted_values.run_typing.RowForms as lowered
-use Rattle.scoped_addresses.specs.accepted_values.run_typing.RowForms.{RowForms}
-use Rattle.scoped_addresses.specs.owned_run_typing.inner.OwnedRows as owned
-use Rattle.scoped_addresses.specs.owned_run_typing.inner.OwnedRows.{OwnedRowForms}
-use Rattle.tracked_frames.specs.typed_memory.inner.Worlds.{CellIs, DatumIs, IsIn, MemoryIs, PlaceIs, World, cell_shapes, each_cell_shapes, fields_of_class}
-use Rattle.tracked_frames.proofs.typed_memory.CellShapes.{place_within, shape_count}
-use Rattle.tracked_frames.proofs.typed_memory.Homes.{object_is, place_cells}
-use Rattle.tracked_frames.proofs.typed_memory.Zips.{Within}
-use Rattle.tracked_frames.proofs.typed_holders.Data.{read_place}
-use Rattle.holder_counts.specs.holder_model.Data.{AddressOf, Datum, home_references}
-use Rattle.holder_counts.specs.holder_model.Effects.{effect_of}
-use Rattle.holder_counts.specs.holder_model.Frames.{any_dead}
-use Rattle.holder_counts.specs.holder_model.declared.row_effect.RowEffect.{RowEffect}
-use Rattle.holder_counts.specs.holder_model.declared.row_effect.RowEffect.TheVariants as row
-use Rattle.holder_counts.specs.inner.Keeping.{IsAliveAt, IsWithin, KeepsStrongly}
-use Rattle.holder_counts.specs.inner.Naming.{IsAlive, IsReadStrongly}
+use Rattle.followed_objects.proofs.scoped_addresses.held_entries.accepted_trails.Tests.{each_of_both}
+use Rattle.followed_objects.specs.scoped_addresses.accepted_values.run_typing.Forms.{Form, OfPlace, has_no_storage}
+use Rattle.followed_objects.specs.scoped_addresses.accepted_values.run_typing.RowForms as lowered
+use Rattle.followed_objects.specs.scoped_addresses.accepted_values.run_typing.RowForms.{RowForms}
+use Rattle.followed_objects.specs.scoped_addresses.owned_run_typing.inner.OwnedRows as owned
+use Rattle.followed_objects.specs.scoped_addresses.owned_run_typing.inner.OwnedRows.{OwnedRowForms}
+use Rattle.followed_objects.specs.tracked_frames.typed_memory.inner.Worlds.{CellIs, DatumIs, IsIn, MemoryIs, PlaceIs, World, cell_shapes, each_cell_shapes, fields_of_class}
+use Rattle.followed_objects.proofs.tracked_frames.typed_memory.CellShapes.{place_within, shape_count}
+use Rattle.followed_objects.proofs.tracked_frames.typed_memory.Homes.{object_is, place_cells}
+use Rattle.followed_objects.proofs.tracked_frames.typed_memory.Zips.{Within}
+use Rattle.followed_objects.proofs.tracked_frames.typed_holders.Data.{read_place}
+use Rattle.followed_objects.specs.holder_counts.holder_model.Data.{AddressOf, Datum, home_references}
+use Rattle.followed_objects.specs.holder_counts.holder_model.Effects.{effect_of}
+use Rattle.followed_objects.specs.holder_counts.holder_model.Frames.{any_dead}
+use Rattle.followed_objects.specs.holder_counts.holder_model.declared.row_effect.RowEffect.{RowEffect}
+use Rattle.followed_objects.specs.holder_counts.holder_model.declared.row_effect.RowEffect.TheVariants as row
+use Rattle.followed_objects.specs.holder_counts.inner.Keeping.{IsAliveAt, IsWithin, KeepsStrongly}
+use Rattle.followed_objects.specs.holder_counts.inner.Naming.{IsAlive, IsReadStrongly}
 use Rattle.guarded_entries.specs.inner.Premises.{LoadTypedStrongly}
 
 -- ---- shapes without weak and unowned storage

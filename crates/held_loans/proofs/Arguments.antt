@@ -1,24 +1,24 @@
 -- The places of arguments are on the stack: an argument of the entry that is an address is a root.
 use Rattle.std.proofs.Common.{◌≡◌, ℕ, List, [], ◌∷◌, Bool, true, Contains, Option, Some, None, refl, sym, ap, ◌∙◌, subst, slice_get}
 use Rattle.std.proofs.lemmas.Option.{same_Some}
-use Rattle.held_places.specs.accepted_memory.holder_model.Data.{AddressOf}
-use Rattle.held_places.specs.accepted_memory.holder_model.Frames.{Frame, datum_in, entry_at}
-use Rattle.held_places.specs.accepted_memory.holder_model.HolderStates.{HolderState}
-use Rattle.held_places.specs.accepted_memory.holder_model.States.{Runs, Task}
-use Rattle.held_places.specs.accepted_memory.memory_accesses.Sources.{argument_source_or, handed_source, source_at, sources_of}
-use Rattle.held_places.specs.accepted_memory.memory_accesses.declared.source.Source.{Source}
-use Rattle.held_places.specs.accepted_memory.memory_accesses.declared.source.Source.TheVariants as source
-use Rattle.held_places.proofs.accepted_places.Fields.{has_among}
-use Rattle.held_places.proofs.accepted_places.Naming.{MakesAddress, address_made}
-use Rattle.held_places.specs.accepted_places.inner.Located.{IsAddress, IsRoot}
-use Rattle.held_places.proofs.accepted_values.Counted.{stands}
-use Rattle.held_places.specs.accepted_values.accepted_modules.inner.Checked.{IsVerified}
-use Rattle.held_places.specs.accepted_values.inner.Known.{IsAcceptedBody}
+use Rattle.guarded_entries.specs.held_places.accepted_memory.holder_model.Data.{AddressOf}
+use Rattle.guarded_entries.specs.held_places.accepted_memory.holder_model.Frames.{Frame, datum_in, entry_at}
+use Rattle.guarded_entries.specs.held_places.accepted_memory.holder_model.HolderStates.{HolderState}
+use Rattle.guarded_entries.specs.held_places.accepted_memory.holder_model.States.{Runs, Task}
+use Rattle.guarded_entries.specs.held_places.accepted_memory.memory_accesses.Sources.{argument_source_or, handed_source, source_at, sources_of}
+use Rattle.guarded_entries.specs.held_places.accepted_memory.memory_accesses.declared.source.Source.{Source}
+use Rattle.guarded_entries.specs.held_places.accepted_memory.memory_accesses.declared.source.Source.TheVariants as source
+use Rattle.guarded_entries.proofs.held_places.accepted_places.Fields.{has_among}
+use Rattle.guarded_entries.proofs.held_places.accepted_places.Naming.{MakesAddress, address_made}
+use Rattle.guarded_entries.specs.held_places.accepted_places.inner.Located.{IsAddress, IsRoot}
+use Rattle.guarded_entries.proofs.held_places.accepted_values.Counted.{stands}
+use Rattle.guarded_entries.specs.held_places.accepted_values.accepted_modules.inner.Checked.{IsVerified}
+use Rattle.guarded_entries.specs.held_places.accepted_values.inner.Known.{IsAcceptedBody}
 use Rattle.argument_conventions.specs.Arguments.{Told, arguments_of}
 use Rattle.argument_conventions.specs.Rows.{address_row}
 use Rattle.argument_conventions.specs.declared.row.AddressRow.{AddressRow}
 use Rattle.item_operands.specs.Items.{item_defined}
-use Rattle.held_places.proofs.placed_values.ArgumentsTold.{entry_source}
+use Rattle.guarded_entries.proofs.held_places.placed_values.ArgumentsTold.{entry_source}
 use Rattle.point_checks.proofs.Among.{contained_among}
 use Rattle.run_values.specs.Places.{OnStack, Place}
 use Rattle.sil_ast.specs.declared.function.Function.{Function}
@@ -26,16 +26,16 @@ use Rattle.sil_ast.specs.declared.module.Module.{Module}
 use Rattle.sil_ast.specs.declared.place.ValueId.{ValueId}
 use Rattle.sil_cfg.specs.declared.item.Item.TheVariants as item
 use Rattle.type_definitions.specs.Declarations.{Declarations, declarations_of}
-use Rattle.held_places.proofs.typed_holders.GoesOn.{accepted_body}
-use Rattle.held_places.specs.typed_holders.inner.TypedStates.{FrameIs, TasksAre}
+use Rattle.guarded_entries.proofs.held_places.typed_holders.GoesOn.{accepted_body}
+use Rattle.guarded_entries.specs.held_places.typed_holders.inner.TypedStates.{FrameIs, TasksAre}
 use Rattle.guarded_entries.proofs.Following.{argument_made}
 use Rattle.guarded_entries.specs.inner.Guards.{IsArgument}
 use Rattle.guarded_entries.specs.inner.LoansKept.{IsPlacedState}
-use Rattle.held_places.specs.inner.FramePlaces.{HoldsPlaces}
-use Rattle.held_places.specs.inner.PlaceStates.{AreSlotsRight, TasksPlaced}
-use Rattle.held_places.specs.inner.Roots.{IsThere, argument}
-use Rattle.held_places.proofs.Naming.{names_once}
-use Rattle.held_places.proofs.PlainAddresses.{named_address}
+use Rattle.guarded_entries.specs.held_places.inner.FramePlaces.{HoldsPlaces}
+use Rattle.guarded_entries.specs.held_places.inner.PlaceStates.{AreSlotsRight, TasksPlaced}
+use Rattle.guarded_entries.specs.held_places.inner.Roots.{IsThere, argument}
+use Rattle.guarded_entries.proofs.held_places.Naming.{names_once}
+use Rattle.guarded_entries.proofs.held_places.PlainAddresses.{named_address}
 use Rattle.held_loans.specs.inner.Loans.{loans_of}
 
 -- an argument by its signature, or nothing to memory

@@ -1,19 +1,19 @@
 -- A state in which an item comes next: the first frame without the operands that end, and what its open scopes lend.
 use Rattle.std.proofs.Common.{◌≡◌, ℕ, List, [], ◌∷◌, Bool, true, false, Option, Some, Ok, refl, sym, ap, ◌∙◌, subst, slice_get}
 use Rattle.std.proofs.lemmas.Option.{same_Some}
-use Rattle.held_places.specs.accepted_memory.accepted_trails.inner.Defined.{makes}
-use Rattle.held_places.specs.accepted_memory.holder_model.Data.{AddressOf, Datum}
-use Rattle.held_places.specs.accepted_memory.holder_model.Frames.{Entry, Frame, Lent, Operands, datum_in, entry_at, operands_of, results_put, without_ended}
-use Rattle.held_places.specs.accepted_memory.holder_model.HolderStates.{HolderState}
-use Rattle.held_places.specs.accepted_memory.holder_model.Standing.{stands_at}
-use Rattle.held_places.specs.accepted_memory.holder_model.States.{Runs, Task}
-use Rattle.held_places.specs.accepted_memory.run_trails.inner.RunTrails.{GoesOn, IsRunTrail, IsTurnedTrail}
-use Rattle.held_places.specs.accepted_places.inner.Loans.{IsLentOn}
-use Rattle.held_places.specs.accepted_values.accepted_modules.inner.Checked.{IsVerified}
-use Rattle.held_places.specs.accepted_values.inner.Known.{IsAcceptedBody}
-use Rattle.held_places.proofs.held_entries.accepted_trails.run_trails.WalkEdges.{are_next}
-use Rattle.held_places.specs.held_entries.accepted_trails.ownership_kinds.Facts.{facts_in}
-use Rattle.held_places.specs.held_entries.inner.Tracked.{AreTrackedLeft}
+use Rattle.guarded_entries.specs.held_places.accepted_memory.accepted_trails.inner.Defined.{makes}
+use Rattle.guarded_entries.specs.held_places.accepted_memory.holder_model.Data.{AddressOf, Datum}
+use Rattle.guarded_entries.specs.held_places.accepted_memory.holder_model.Frames.{Entry, Frame, Lent, Operands, datum_in, entry_at, operands_of, results_put, without_ended}
+use Rattle.guarded_entries.specs.held_places.accepted_memory.holder_model.HolderStates.{HolderState}
+use Rattle.guarded_entries.specs.held_places.accepted_memory.holder_model.Standing.{stands_at}
+use Rattle.guarded_entries.specs.held_places.accepted_memory.holder_model.States.{Runs, Task}
+use Rattle.guarded_entries.specs.held_places.accepted_memory.run_trails.inner.RunTrails.{GoesOn, IsRunTrail, IsTurnedTrail}
+use Rattle.guarded_entries.specs.held_places.accepted_places.inner.Loans.{IsLentOn}
+use Rattle.guarded_entries.specs.held_places.accepted_values.accepted_modules.inner.Checked.{IsVerified}
+use Rattle.guarded_entries.specs.held_places.accepted_values.inner.Known.{IsAcceptedBody}
+use Rattle.guarded_entries.proofs.held_places.held_entries.accepted_trails.run_trails.WalkEdges.{are_next}
+use Rattle.guarded_entries.specs.held_places.held_entries.accepted_trails.ownership_kinds.Facts.{facts_in}
+use Rattle.guarded_entries.specs.held_places.held_entries.inner.Tracked.{AreTrackedLeft}
 use Rattle.item_operands.specs.Items.{item_defined, item_taken}
 use Rattle.ownership_chains.specs.declared.facts.Facts.{Facts}
 use Rattle.run_values.specs.Memory.{Memory}
@@ -23,23 +23,23 @@ use Rattle.sil_ast.specs.declared.module.Module.{Module}
 use Rattle.sil_ast.specs.declared.place.ValueId.{ValueId}
 use Rattle.sil_cfg.specs.declared.item.Item.{Item}
 use Rattle.type_definitions.specs.Declarations.{declarations_of}
-use Rattle.held_places.proofs.typed_holders.GoesOn.{accepted_body}
-use Rattle.held_places.proofs.typed_holders.Operands.{operands_read}
-use Rattle.held_places.proofs.typed_holders.Stacks.{BelowTyped}
-use Rattle.held_places.specs.typed_holders.inner.TypedStates.{FrameIs, TasksAre}
-use Rattle.held_places.specs.typed_memory.inner.Worlds.{World}
-use Rattle.held_places.proofs.tracked_frames.NextItems.{turned_next}
-use Rattle.held_places.proofs.tracked_frames.OperandsFound.{operands_left, tracked_left}
-use Rattle.held_places.specs.tracked_frames.inner.TrackedStates.{AreTasksTracked, GoesAlong, InFunction}
+use Rattle.guarded_entries.proofs.held_places.typed_holders.GoesOn.{accepted_body}
+use Rattle.guarded_entries.proofs.held_places.typed_holders.Operands.{operands_read}
+use Rattle.guarded_entries.proofs.held_places.typed_holders.Stacks.{BelowTyped}
+use Rattle.guarded_entries.specs.held_places.typed_holders.inner.TypedStates.{FrameIs, TasksAre}
+use Rattle.guarded_entries.specs.held_places.typed_memory.inner.Worlds.{World}
+use Rattle.guarded_entries.proofs.held_places.tracked_frames.NextItems.{turned_next}
+use Rattle.guarded_entries.proofs.held_places.tracked_frames.OperandsFound.{operands_left, tracked_left}
+use Rattle.guarded_entries.specs.held_places.tracked_frames.inner.TrackedStates.{AreTasksTracked, GoesAlong, InFunction}
 use Rattle.value_tables.specs.Borrows.{is_borrow}
-use Rattle.held_places.specs.inner.FramePlaces.{HoldsPlaces, Names}
-use Rattle.held_places.specs.inner.PlaceStates.{AreSlotsRight, BelowPlaced, TasksPlaced}
-use Rattle.held_places.specs.inner.Premises.{ReadsOperands}
-use Rattle.held_places.proofs.EntriesKept.{left_was, results_other}
-use Rattle.held_places.proofs.FirstFrames.{IsFirst, left_first}
-use Rattle.held_places.proofs.Naming.{names_once}
-use Rattle.held_places.proofs.TrailsSo.{trail_laws}
-use Rattle.held_places.proofs.TypingSo.{typing_laws}
+use Rattle.guarded_entries.specs.held_places.inner.FramePlaces.{HoldsPlaces, Names}
+use Rattle.guarded_entries.specs.held_places.inner.PlaceStates.{AreSlotsRight, BelowPlaced, TasksPlaced}
+use Rattle.guarded_entries.specs.held_places.inner.Premises.{ReadsOperands}
+use Rattle.guarded_entries.proofs.held_places.EntriesKept.{left_was, results_other}
+use Rattle.guarded_entries.proofs.held_places.FirstFrames.{IsFirst, left_first}
+use Rattle.guarded_entries.proofs.held_places.Naming.{names_once}
+use Rattle.guarded_entries.proofs.held_places.TrailsSo.{trail_laws}
+use Rattle.guarded_entries.proofs.held_places.TypingSo.{typing_laws}
 use Rattle.held_loans.specs.inner.Loans.{loans_of}
 use Rattle.guarded_entries.specs.inner.LoansKept.{TakesOperands}
 use Rattle.held_loans.proofs.Below.{TrackedBelow}

@@ -1,18 +1,18 @@
 -- What a call lends so that nobody shares it has no cell that an open scope lends.
 use Rattle.std.proofs.Common.{◌≡◌, ℕ, List, [], ◌∷◌, Bool, true, false, not, Some, refl, sym, ap, ◌∙◌, subst}
 use Rattle.std.proofs.lemmas.Bool.{true≢false}
-use Rattle.held_places.specs.accepted_memory.holder_model.Frames.{Frame, LentPlace}
-use Rattle.held_places.specs.accepted_memory.holder_model.States.{Task}
-use Rattle.held_places.specs.accepted_memory.memory_accesses.Operations.{operations_of}
-use Rattle.held_places.specs.accepted_memory.memory_accesses.Rows.{is_part}
-use Rattle.held_places.specs.accepted_memory.memory_accesses.Sources.{sources_of}
-use Rattle.held_places.specs.accepted_memory.memory_accesses.declared.access.Operation.TheVariants.{Handed}
-use Rattle.held_places.specs.accepted_memory.memory_accesses.declared.location.Location.{Location}
-use Rattle.held_places.specs.accepted_memory.memory_parts.Loans.{writes}
-use Rattle.held_places.specs.accepted_memory.run_trails.inner.RunTrails.{IsRunTrail}
-use Rattle.held_places.proofs.accepted_places.Apart.{apart_by_cells}
-use Rattle.held_places.proofs.accepted_places.LoansKept.{loans_unwritten}
-use Rattle.held_places.specs.accepted_values.inner.Known.{IsAcceptedBody}
+use Rattle.guarded_entries.specs.held_places.accepted_memory.holder_model.Frames.{Frame, LentPlace}
+use Rattle.guarded_entries.specs.held_places.accepted_memory.holder_model.States.{Task}
+use Rattle.guarded_entries.specs.held_places.accepted_memory.memory_accesses.Operations.{operations_of}
+use Rattle.guarded_entries.specs.held_places.accepted_memory.memory_accesses.Rows.{is_part}
+use Rattle.guarded_entries.specs.held_places.accepted_memory.memory_accesses.Sources.{sources_of}
+use Rattle.guarded_entries.specs.held_places.accepted_memory.memory_accesses.declared.access.Operation.TheVariants.{Handed}
+use Rattle.guarded_entries.specs.held_places.accepted_memory.memory_accesses.declared.location.Location.{Location}
+use Rattle.guarded_entries.specs.held_places.accepted_memory.memory_parts.Loans.{writes}
+use Rattle.guarded_entries.specs.held_places.accepted_memory.run_trails.inner.RunTrails.{IsRunTrail}
+use Rattle.guarded_entries.proofs.held_places.accepted_places.Apart.{apart_by_cells}
+use Rattle.guarded_entries.proofs.held_places.accepted_places.LoansKept.{loans_unwritten}
+use Rattle.guarded_entries.specs.held_places.accepted_values.inner.Known.{IsAcceptedBody}
 use Rattle.argument_conventions.specs.Rows.{only_reads, row_of}
 use Rattle.argument_conventions.specs.declared.convention.AddressConvention.{AddressConvention}
 use Rattle.argument_conventions.specs.declared.convention.AddressConvention.TheVariants as convention
@@ -26,11 +26,11 @@ use Rattle.sil_ast.specs.declared.module.Module.{Module}
 use Rattle.sil_ast.specs.declared.place.PointId.{PointId}
 use Rattle.sil_cfg.specs.declared.item.Item.TheVariants as item
 use Rattle.type_definitions.specs.Declarations.{declarations_of}
-use Rattle.held_places.specs.inner.FramePlaces.{HoldsPlaces, is_lent}
-use Rattle.held_places.specs.inner.PlaceStates.{AreLentBy}
-use Rattle.held_places.specs.inner.TrailLaws.{TrailLaws}
-use Rattle.held_places.proofs.Calls.{lent_cell}
-use Rattle.held_places.proofs.Lending.{IsCallAt, is_alone, lent_by_one}
+use Rattle.guarded_entries.specs.held_places.inner.FramePlaces.{HoldsPlaces, is_lent}
+use Rattle.guarded_entries.specs.held_places.inner.PlaceStates.{AreLentBy}
+use Rattle.guarded_entries.specs.held_places.inner.TrailLaws.{TrailLaws}
+use Rattle.guarded_entries.proofs.held_places.Calls.{lent_cell}
+use Rattle.guarded_entries.proofs.held_places.Lending.{IsCallAt, is_alone, lent_by_one}
 use Rattle.held_loans.proofs.Clear.{other_location}
 use Rattle.held_loans.proofs.Undisturbed.{IsLentCell}
 

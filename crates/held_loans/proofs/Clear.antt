@@ -2,14 +2,14 @@
 use Rattle.std.proofs.Common.{◌≡◌, ◌⊎◌, ⊎_elim, inl, inr, ◌==◌, ◌&&◌, ◌||◌, ℕ, List, [], ◌∷◌, Bool, true, false, Option, Some, refl, sym, ap, ◌∙◌, subst, arith, eqb-true}
 use Rattle.std.specs.List.{starts_with}
 use Rattle.std.proofs.lemmas.Bool.{or_parts, true≢false}
-use Rattle.held_places.specs.accepted_memory.accepted_trails.inner.Bases.{IsAsMade}
-use Rattle.held_places.specs.accepted_memory.holder_model.Frames.{Frame}
-use Rattle.held_places.specs.accepted_memory.holder_model.States.{Task}
-use Rattle.held_places.specs.accepted_memory.memory_accesses.Locations.{do_overlap, location_of, meet, same_step}
-use Rattle.held_places.specs.accepted_memory.memory_accesses.Rows.{has_steps, is_part}
-use Rattle.held_places.specs.accepted_memory.memory_accesses.Sources.{source_at, sources_of}
-use Rattle.held_places.specs.accepted_memory.memory_accesses.declared.location.Location.{Location}
-use Rattle.held_places.specs.accepted_places.inner.Loans.{AreApartByCells, IsBefore}
+use Rattle.guarded_entries.specs.held_places.accepted_memory.accepted_trails.inner.Bases.{IsAsMade}
+use Rattle.guarded_entries.specs.held_places.accepted_memory.holder_model.Frames.{Frame}
+use Rattle.guarded_entries.specs.held_places.accepted_memory.holder_model.States.{Task}
+use Rattle.guarded_entries.specs.held_places.accepted_memory.memory_accesses.Locations.{do_overlap, location_of, meet, same_step}
+use Rattle.guarded_entries.specs.held_places.accepted_memory.memory_accesses.Rows.{has_steps, is_part}
+use Rattle.guarded_entries.specs.held_places.accepted_memory.memory_accesses.Sources.{source_at, sources_of}
+use Rattle.guarded_entries.specs.held_places.accepted_memory.memory_accesses.declared.location.Location.{Location}
+use Rattle.guarded_entries.specs.held_places.accepted_places.inner.Loans.{AreApartByCells, IsBefore}
 use Rattle.memory_cells.specs.inner.Cells.{has_cell}
 use Rattle.memory_cells.proofs.PlaceCells.{cell_within}
 use Rattle.run_values.specs.Memory.{Memory}
@@ -19,10 +19,10 @@ use Rattle.sil_ast.specs.declared.module.Module.{Module}
 use Rattle.sil_ast.specs.declared.place.ValueId.{ValueId}
 use Rattle.sil_cfg.specs.declared.item.Item.{Item}
 use Rattle.type_definitions.specs.Declarations.{declarations_of}
-use Rattle.held_places.specs.inner.FramePlaces.{HoldsPlaces, Names}
-use Rattle.held_places.specs.inner.Roots.{IsThere, is_shared}
-use Rattle.held_places.proofs.Naming.{names_once}
-use Rattle.held_places.proofs.Reading.{operand_within}
+use Rattle.guarded_entries.specs.held_places.inner.FramePlaces.{HoldsPlaces, Names}
+use Rattle.guarded_entries.specs.held_places.inner.Roots.{IsThere, is_shared}
+use Rattle.guarded_entries.proofs.held_places.Naming.{names_once}
+use Rattle.guarded_entries.proofs.held_places.Reading.{operand_within}
 use Rattle.held_loans.proofs.LoanAt.{LendsCell}
 use Rattle.held_loans.proofs.Reached.{LiesAt, lies_at, lies_within}
 

@@ -2,28 +2,28 @@
 use Rattle.std.proofs.Common.{◌≡◌, ◌⊎◌, ⊎_elim, inl, inr, ◌==◌, ◌&&◌, ◌<◌, ◌++◌, append-nil, ℕ, List, [], ◌∷◌, length, Bool, true, false, cond, Contains, Option, Some, None, refl, sym, ap, ◌∙◌, subst, slice_get, eq-eqb}
 use Rattle.std.proofs.lemmas.Bool.{false_from_ne_true, or_left, true≢false}
 use Rattle.std.proofs.lemmas.List.Elements.{Contains-push}
-use Rattle.held_places.specs.accepted_memory.holder_model.Data.{AddressOf, Datum, ValueOf}
-use Rattle.held_places.specs.accepted_memory.holder_model.Effects as effects
-use Rattle.held_places.specs.accepted_memory.holder_model.Effects.{Change, effect_of}
-use Rattle.held_places.specs.accepted_memory.holder_model.Frames.{Entry, Frame, Operands}
-use Rattle.held_places.specs.accepted_memory.holder_model.MemoryEffects.{after, effect, operation_done, takes}
-use Rattle.held_places.specs.accepted_memory.holder_model.ModuleShapes.{ModuleShapes, field_shapes}
-use Rattle.held_places.specs.accepted_memory.holder_model.HolderStates.{HolderState}
-use Rattle.held_places.specs.accepted_memory.holder_model.States.{Runs, Task}
-use Rattle.held_places.specs.accepted_memory.holder_model.declared.row_effect.RowEffect.TheVariants as row
-use Rattle.held_places.specs.accepted_memory.memory_accesses.Locations.{location_of, whole}
-use Rattle.held_places.specs.accepted_memory.memory_accesses.Operations.{access_kind_of, addresses_of, deallocates, operated, operation_by, operations_of}
-use Rattle.held_places.specs.accepted_memory.memory_accesses.Sources.{is_slot_source, source_at, sources_of}
-use Rattle.held_places.specs.accepted_memory.memory_accesses.declared.access.Operation.{Operation}
-use Rattle.held_places.specs.accepted_memory.memory_accesses.declared.access.Operation.TheVariants.{Take, TrivialStore}
-use Rattle.held_places.specs.accepted_memory.memory_accesses.declared.source.Source.{Source}
-use Rattle.held_places.specs.accepted_memory.memory_accesses.declared.source.Source.TheVariants as source
-use Rattle.held_places.proofs.accepted_places.OperationsRight.{of_slots}
-use Rattle.held_places.specs.accepted_places.inner.Located.{IsAddress}
-use Rattle.held_places.proofs.accepted_values.run_typing_laws.Rows.Points.{is_at}
-use Rattle.held_places.specs.accepted_values.accepted_modules.inner.Checked.{IsVerified}
-use Rattle.held_places.specs.accepted_values.accepted_modules.sil_types.Typing.Shapes.{is_trivial_object, target}
-use Rattle.held_places.specs.accepted_values.inner.Known.{IsAcceptedBody, type_in}
+use Rattle.guarded_entries.specs.held_places.accepted_memory.holder_model.Data.{AddressOf, Datum, ValueOf}
+use Rattle.guarded_entries.specs.held_places.accepted_memory.holder_model.Effects as effects
+use Rattle.guarded_entries.specs.held_places.accepted_memory.holder_model.Effects.{Change, effect_of}
+use Rattle.guarded_entries.specs.held_places.accepted_memory.holder_model.Frames.{Entry, Frame, Operands}
+use Rattle.guarded_entries.specs.held_places.accepted_memory.holder_model.MemoryEffects.{after, effect, operation_done, takes}
+use Rattle.guarded_entries.specs.held_places.accepted_memory.holder_model.ModuleShapes.{ModuleShapes, field_shapes}
+use Rattle.guarded_entries.specs.held_places.accepted_memory.holder_model.HolderStates.{HolderState}
+use Rattle.guarded_entries.specs.held_places.accepted_memory.holder_model.States.{Runs, Task}
+use Rattle.guarded_entries.specs.held_places.accepted_memory.holder_model.declared.row_effect.RowEffect.TheVariants as row
+use Rattle.guarded_entries.specs.held_places.accepted_memory.memory_accesses.Locations.{location_of, whole}
+use Rattle.guarded_entries.specs.held_places.accepted_memory.memory_accesses.Operations.{access_kind_of, addresses_of, deallocates, operated, operation_by, operations_of}
+use Rattle.guarded_entries.specs.held_places.accepted_memory.memory_accesses.Sources.{is_slot_source, source_at, sources_of}
+use Rattle.guarded_entries.specs.held_places.accepted_memory.memory_accesses.declared.access.Operation.{Operation}
+use Rattle.guarded_entries.specs.held_places.accepted_memory.memory_accesses.declared.access.Operation.TheVariants.{Take, TrivialStore}
+use Rattle.guarded_entries.specs.held_places.accepted_memory.memory_accesses.declared.source.Source.{Source}
+use Rattle.guarded_entries.specs.held_places.accepted_memory.memory_accesses.declared.source.Source.TheVariants as source
+use Rattle.guarded_entries.proofs.held_places.accepted_places.OperationsRight.{of_slots}
+use Rattle.guarded_entries.specs.held_places.accepted_places.inner.Located.{IsAddress}
+use Rattle.guarded_entries.proofs.held_places.accepted_values.run_typing_laws.Rows.Points.{is_at}
+use Rattle.guarded_entries.specs.held_places.accepted_values.accepted_modules.inner.Checked.{IsVerified}
+use Rattle.guarded_entries.specs.held_places.accepted_values.accepted_modules.sil_types.Typing.Shapes.{is_trivial_object, target}
+use Rattle.guarded_entries.specs.held_places.accepted_values.inner.Known.{IsAcceptedBody, type_in}
 use Rattle.guarded_entries.proofs.holder_counts.Changes.{changes_told}
 use Rattle.guarded_entries.specs.holder_counts.inner.Doing.{Leaves}
 use Rattle.guarded_entries.specs.holder_counts.inner.Keeping.{with_new_object, with_new_slot}
@@ -51,20 +51,20 @@ use Rattle.sil_ast.specs.declared.place.ValueId.{ValueId}
 use Rattle.sil_ast.specs.declared.type_name.TypeName.{TypeName}
 use Rattle.sil_cfg.specs.declared.item.Item.TheVariants as item
 use Rattle.type_definitions.specs.Declarations.{Declarations, declarations_of}
-use Rattle.held_places.specs.inner.FramePlaces.{HoldsPlaces, IsFree, Names}
-use Rattle.held_places.specs.inner.PlaceStates.{AreSlotsRight}
-use Rattle.held_places.specs.inner.Roots.{IsThere, is_shared, is_shared_source, slot}
-use Rattle.held_places.specs.inner.TakenPlaces.{AreNamedBy}
-use Rattle.held_places.proofs.EffectsAt.{is_at_place, is_reading}
-use Rattle.held_places.proofs.Locating.{IsOperandAt, operand_at}
-use Rattle.held_places.proofs.Naming.{names_once}
-use Rattle.held_places.proofs.OperandsNamed.{operands_named}
-use Rattle.held_places.proofs.Operating.{Fills, Looks}
-use Rattle.held_places.proofs.PlaceRows.{DoesOne, does_first, does_second, looked_after, named_first, place_kept, reading_done, storing_done, taken_after}
-use Rattle.held_places.proofs.PlainAddresses.{named_address, typed_place}
-use Rattle.held_places.proofs.RowsAt.{Removes, is_at_one, is_removal, is_store, not_removed, removal}
-use Rattle.held_places.proofs.StoresFit.{stores_fit}
-use Rattle.held_places.proofs.TrailsSo.{trail_laws}
+use Rattle.guarded_entries.specs.held_places.inner.FramePlaces.{HoldsPlaces, IsFree, Names}
+use Rattle.guarded_entries.specs.held_places.inner.PlaceStates.{AreSlotsRight}
+use Rattle.guarded_entries.specs.held_places.inner.Roots.{IsThere, is_shared, is_shared_source, slot}
+use Rattle.guarded_entries.specs.held_places.inner.TakenPlaces.{AreNamedBy}
+use Rattle.guarded_entries.proofs.held_places.EffectsAt.{is_at_place, is_reading}
+use Rattle.guarded_entries.proofs.held_places.Locating.{IsOperandAt, operand_at}
+use Rattle.guarded_entries.proofs.held_places.Naming.{names_once}
+use Rattle.guarded_entries.proofs.held_places.OperandsNamed.{operands_named}
+use Rattle.guarded_entries.proofs.held_places.Operating.{Fills, Looks}
+use Rattle.guarded_entries.proofs.held_places.PlaceRows.{DoesOne, does_first, does_second, looked_after, named_first, place_kept, reading_done, storing_done, taken_after}
+use Rattle.guarded_entries.proofs.held_places.PlainAddresses.{named_address, typed_place}
+use Rattle.guarded_entries.proofs.held_places.RowsAt.{Removes, is_at_one, is_removal, is_store, not_removed, removal}
+use Rattle.guarded_entries.proofs.held_places.StoresFit.{stores_fit}
+use Rattle.guarded_entries.proofs.held_places.TrailsSo.{trail_laws}
 use Rattle.held_loans.specs.inner.Loans.{loans_of}
 use Rattle.guarded_entries.specs.inner.LoansKept.{TakesOperands}
 use Rattle.held_loans.proofs.AtItems.{IsLentLeft, accepted, left, now, number, reads, run, w}

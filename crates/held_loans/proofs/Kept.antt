@@ -2,19 +2,19 @@
 use Rattle.std.proofs.Common.{◌≡◌, ◌⊎◌, ℕ, List, [], ◌∷◌, Bool, true, false, drop, Option, Some, Ok, refl, sym, ap, ◌∙◌, subst, slice_get}
 use Rattle.std.proofs.lemmas.Bool.{true≢false}
 use Rattle.std.proofs.lemmas.Option.{same_Some, slice_get_within}
-use Rattle.held_places.specs.accepted_memory.holder_model.Calling.{handed_over, lent_places}
-use Rattle.held_places.specs.accepted_memory.holder_model.Data.{Datum}
-use Rattle.held_places.specs.accepted_memory.holder_model.Effects.{Change}
-use Rattle.held_places.specs.accepted_memory.holder_model.Frames.{Entry, Frame, Lent, LentPlace, Operands, entry_at}
-use Rattle.held_places.specs.accepted_memory.holder_model.HolderStates.{HolderState}
-use Rattle.held_places.specs.accepted_memory.holder_model.ModuleFacts.{facts_of}
-use Rattle.held_places.specs.accepted_memory.holder_model.ModuleShapes.{shapes_in}
-use Rattle.held_places.specs.accepted_memory.holder_model.Standing.{stands_at}
-use Rattle.held_places.specs.accepted_memory.holder_model.States.{Runs, Task}
-use Rattle.held_places.specs.accepted_values.accepted_modules.inner.Checked.{IsVerified}
-use Rattle.held_places.specs.accepted_values.inner.Known.{IsAcceptedBody}
-use Rattle.held_places.specs.accepted_places.inner.Loans.{IsLentOn}
-use Rattle.held_places.specs.held_entries.accepted_trails.ownership_kinds.Facts.{facts_in}
+use Rattle.guarded_entries.specs.held_places.accepted_memory.holder_model.Calling.{handed_over, lent_places}
+use Rattle.guarded_entries.specs.held_places.accepted_memory.holder_model.Data.{Datum}
+use Rattle.guarded_entries.specs.held_places.accepted_memory.holder_model.Effects.{Change}
+use Rattle.guarded_entries.specs.held_places.accepted_memory.holder_model.Frames.{Entry, Frame, Lent, LentPlace, Operands, entry_at}
+use Rattle.guarded_entries.specs.held_places.accepted_memory.holder_model.HolderStates.{HolderState}
+use Rattle.guarded_entries.specs.held_places.accepted_memory.holder_model.ModuleFacts.{facts_of}
+use Rattle.guarded_entries.specs.held_places.accepted_memory.holder_model.ModuleShapes.{shapes_in}
+use Rattle.guarded_entries.specs.held_places.accepted_memory.holder_model.Standing.{stands_at}
+use Rattle.guarded_entries.specs.held_places.accepted_memory.holder_model.States.{Runs, Task}
+use Rattle.guarded_entries.specs.held_places.accepted_values.accepted_modules.inner.Checked.{IsVerified}
+use Rattle.guarded_entries.specs.held_places.accepted_values.inner.Known.{IsAcceptedBody}
+use Rattle.guarded_entries.specs.held_places.accepted_places.inner.Loans.{IsLentOn}
+use Rattle.guarded_entries.specs.held_places.held_entries.accepted_trails.ownership_kinds.Facts.{facts_in}
 use Rattle.item_operands.specs.Items.{item_taken}
 use Rattle.memory_cells.specs.inner.Cells.{cell_at}
 use Rattle.run_values.specs.Cells.{Keeps}
@@ -30,18 +30,18 @@ use Rattle.sil_ast.specs.declared.place.ValueId.{ValueId}
 use Rattle.sil_cfg.specs.declared.item.Item.{Item}
 use Rattle.sil_cfg.specs.declared.item.Item.TheVariants as item
 use Rattle.type_definitions.specs.Declarations.{declarations_of}
-use Rattle.held_places.specs.typed_holders.inner.TypedStates.{TasksAre}
-use Rattle.held_places.specs.tracked_frames.inner.TrackedStates.{AreTasksTracked}
+use Rattle.guarded_entries.specs.held_places.typed_holders.inner.TypedStates.{TasksAre}
+use Rattle.guarded_entries.specs.held_places.tracked_frames.inner.TrackedStates.{AreTasksTracked}
 use Rattle.value_tables.specs.Borrows.{is_borrow}
 use Rattle.guarded_entries.specs.inner.Guards.{KeepsAt}
 use Rattle.guarded_entries.specs.inner.Stepping.{KeepLoans, frame_behind, frame_waiting}
-use Rattle.held_places.specs.inner.FramePlaces.{is_lent}
-use Rattle.held_places.specs.inner.PlaceStates.{AreSlotsRight, TasksPlaced}
-use Rattle.held_places.proofs.Calls.{rest_stays, unlent}
-use Rattle.held_places.proofs.CallsPlaced.{CallsBody, accepted, calling}
-use Rattle.held_places.proofs.Lent.{Calling}
-use Rattle.held_places.proofs.TrailsSo.{trail_laws}
-use Rattle.held_places.proofs.TypingSo.{typing_laws}
+use Rattle.guarded_entries.specs.held_places.inner.FramePlaces.{is_lent}
+use Rattle.guarded_entries.specs.held_places.inner.PlaceStates.{AreSlotsRight, TasksPlaced}
+use Rattle.guarded_entries.proofs.held_places.Calls.{rest_stays, unlent}
+use Rattle.guarded_entries.proofs.held_places.CallsPlaced.{CallsBody, accepted, calling}
+use Rattle.guarded_entries.proofs.held_places.Lent.{Calling}
+use Rattle.guarded_entries.proofs.held_places.TrailsSo.{trail_laws}
+use Rattle.guarded_entries.proofs.held_places.TypingSo.{typing_laws}
 use Rattle.held_loans.specs.inner.Laws.{AreLoansKept}
 use Rattle.held_loans.specs.inner.Loans.{loans_of}
 use Rattle.held_loans.proofs.Arguments.{arguments_on_stack}
@@ -77,7 +77,7 @@ module _ (m : Module) (verified : IsVerified m) where
     lending scope y k z borrow lent lends keeps = (
       at.lent_behind m verified s rest frame f (item.Inst (stands_at f frame.trail)) ops x.takes c.results behind x.leads.put slots scope y k borrow lent lends,
       kept.lent k (slice_get_within s.memory.stack k _ keeps)
-      (at.cell_lent_left m verified s rest frame f (item.Inst (stands_at f frame.trail)) ops x.takes scope y k borrow lent lends) ∙ keeps,
+          (at.cell_lent_left m verified s rest frame f (item.Inst (stands_at f frame.trail)) ops x.takes scope y k borrow lent lends) ∙ keeps,
     )
 
     pub below : KeepLoans m (loans_of m) s.memory c.memory rest
@@ -126,11 +126,10 @@ module _ (m : Module) (verified : IsVerified m) where
     pub handed : LendOn f (loans_of m f frame) (loans_of m f (frame_waiting m (loans_of m) frame ops lent)) s.memory (handed_over s.memory lent) ops.left
     handed scope y k z borrow is lends keeps =
         let cell = at.cell_left m verified s rest frame f (item.Inst (stands_at f frame.trail)) ops x.takes scope k lends in
-        let on = at.scope_on m verified s rest frame f (item.Inst (stands_at f frame.trail)) ops x.takes scope y k borrow is lends in
-        (
+        let on = at.scope_on m verified s rest frame f (item.Inst (stands_at f frame.trail)) ops x.takes scope y k borrow is lends in (
           lent_still m f (record frame { entries = ops.left }) (frame_waiting m (loans_of m) frame ops lent) scope k cell cell.root.there cell.names,
           subst (λ ls. cell_at (handed_over s.memory ls) OnStack k ≡ cell_at s.memory OnStack k) x.lends
-          (lent_stays m frame.function.0 f body (stands_at f frame.trail) i s.memory (record frame { entries = ops.left }) rest places of_call scope k cell on) ∙ keeps,
+              (lent_stays m frame.function.0 f body (stands_at f frame.trail) i s.memory (record frame { entries = ops.left }) rest places of_call scope k cell on) ∙ keeps,
         )
 
     pub handed_below : KeepLoans m (loans_of m) s.memory (handed_over s.memory lent) rest

@@ -16,4 +16,5 @@ pub mod Keeping
 pub mod Arguments
 pub mod Loaded
 pub use Rattle.guarded_entries.proofs as guarded_entries
-pub use Rattle.held_places.proofs as held_places
+pub use Rattle.guarded_entries.proofs.held_places as held_places
+pub use Rattle.guarded_entries.proofs.followed_objects as followed_objects

@@ -4,31 +4,31 @@ use Rattle.std.specs.Prelude.{option_map}
 use Rattle.std.proofs.lemmas.Bool.{false≢true, true≢false}
 use Rattle.std.proofs.lemmas.List.Elements.{Contains-push}
 use Rattle.std.proofs.lemmas.Option.{none-some, same_Some}
-use Rattle.held_places.specs.accepted_memory.holder_model.Data.{AddressOf, Datum}
-use Rattle.held_places.specs.accepted_memory.holder_model.Effects as effects
-use Rattle.held_places.specs.accepted_memory.holder_model.Effects.{Change, effect_of}
-use Rattle.held_places.specs.accepted_memory.holder_model.Frames.{Entry, Frame, Operands, datum_in, results_put}
-use Rattle.held_places.specs.accepted_memory.holder_model.HolderStates.{HolderState}
-use Rattle.held_places.specs.accepted_memory.holder_model.MemoryEffects.{after, effect, takes}
-use Rattle.held_places.specs.accepted_memory.holder_model.ModuleShapes.{ModuleShapes}
-use Rattle.held_places.specs.accepted_memory.holder_model.States.{Task}
-use Rattle.held_places.specs.accepted_memory.holder_model.declared.row_effect.RowEffect.{RowEffect}
-use Rattle.held_places.specs.accepted_memory.holder_model.declared.row_effect.RowEffect.TheVariants as row
-use Rattle.held_places.specs.accepted_memory.memory_accesses.Locations.{location_of}
-use Rattle.held_places.specs.accepted_memory.memory_accesses.Operations.{access_kind_of, operated, operation_by, operations_of}
-use Rattle.held_places.specs.accepted_memory.memory_accesses.Rows.{has_by, has_operation, has_steps, is_part}
-use Rattle.held_places.specs.accepted_memory.memory_accesses.Sources.{is_trivial_at, loan_source, result_source, source_at, source_by, sources_of}
-use Rattle.held_places.specs.accepted_memory.memory_accesses.declared.access.Operation.{Operation}
-use Rattle.held_places.specs.accepted_memory.memory_accesses.declared.access.Operation.TheVariants.{Lend}
-use Rattle.held_places.specs.accepted_memory.memory_accesses.declared.location.Location.{Location}
-use Rattle.held_places.specs.accepted_memory.memory_accesses.declared.source.Source.TheVariants as source
-use Rattle.held_places.specs.accepted_places.inner.Located.{IsAddress}
-use Rattle.held_places.specs.accepted_places.inner.Stacks.{keeps_slots, slots_on}
-use Rattle.held_places.proofs.accepted_values.TableRows.{result_rows}
-use Rattle.held_places.proofs.accepted_values.run_typing_laws.Rows.Points.{is_at}
-use Rattle.held_places.specs.accepted_values.accepted_modules.inner.Checked.{IsVerified}
-use Rattle.held_places.specs.accepted_values.inner.Known.{IsAcceptedBody}
-use Rattle.held_places.specs.held_entries.accepted_trails.ownership_kinds.Facts.{facts_in}
+use Rattle.guarded_entries.specs.held_places.accepted_memory.holder_model.Data.{AddressOf, Datum}
+use Rattle.guarded_entries.specs.held_places.accepted_memory.holder_model.Effects as effects
+use Rattle.guarded_entries.specs.held_places.accepted_memory.holder_model.Effects.{Change, effect_of}
+use Rattle.guarded_entries.specs.held_places.accepted_memory.holder_model.Frames.{Entry, Frame, Operands, datum_in, results_put}
+use Rattle.guarded_entries.specs.held_places.accepted_memory.holder_model.HolderStates.{HolderState}
+use Rattle.guarded_entries.specs.held_places.accepted_memory.holder_model.MemoryEffects.{after, effect, takes}
+use Rattle.guarded_entries.specs.held_places.accepted_memory.holder_model.ModuleShapes.{ModuleShapes}
+use Rattle.guarded_entries.specs.held_places.accepted_memory.holder_model.States.{Task}
+use Rattle.guarded_entries.specs.held_places.accepted_memory.holder_model.declared.row_effect.RowEffect.{RowEffect}
+use Rattle.guarded_entries.specs.held_places.accepted_memory.holder_model.declared.row_effect.RowEffect.TheVariants as row
+use Rattle.guarded_entries.specs.held_places.accepted_memory.memory_accesses.Locations.{location_of}
+use Rattle.guarded_entries.specs.held_places.accepted_memory.memory_accesses.Operations.{access_kind_of, operated, operation_by, operations_of}
+use Rattle.guarded_entries.specs.held_places.accepted_memory.memory_accesses.Rows.{has_by, has_operation, has_steps, is_part}
+use Rattle.guarded_entries.specs.held_places.accepted_memory.memory_accesses.Sources.{is_trivial_at, loan_source, result_source, source_at, source_by, sources_of}
+use Rattle.guarded_entries.specs.held_places.accepted_memory.memory_accesses.declared.access.Operation.{Operation}
+use Rattle.guarded_entries.specs.held_places.accepted_memory.memory_accesses.declared.access.Operation.TheVariants.{Lend}
+use Rattle.guarded_entries.specs.held_places.accepted_memory.memory_accesses.declared.location.Location.{Location}
+use Rattle.guarded_entries.specs.held_places.accepted_memory.memory_accesses.declared.source.Source.TheVariants as source
+use Rattle.guarded_entries.specs.held_places.accepted_places.inner.Located.{IsAddress}
+use Rattle.guarded_entries.specs.held_places.accepted_places.inner.Stacks.{keeps_slots, slots_on}
+use Rattle.guarded_entries.proofs.held_places.accepted_values.TableRows.{result_rows}
+use Rattle.guarded_entries.proofs.held_places.accepted_values.run_typing_laws.Rows.Points.{is_at}
+use Rattle.guarded_entries.specs.held_places.accepted_values.accepted_modules.inner.Checked.{IsVerified}
+use Rattle.guarded_entries.specs.held_places.accepted_values.inner.Known.{IsAcceptedBody}
+use Rattle.guarded_entries.specs.held_places.held_entries.accepted_trails.ownership_kinds.Facts.{facts_in}
 use Rattle.guarded_entries.proofs.holder_counts.Changes.{changes_told}
 use Rattle.guarded_entries.specs.holder_counts.inner.Doing.{Leaves}
 use Rattle.guarded_entries.specs.holder_counts.inner.Naming.{IsReadStrongly}
@@ -57,30 +57,30 @@ use Rattle.sil_ast.specs.declared.place.PointId.{PointId}
 use Rattle.sil_ast.specs.declared.place.ValueId.{ValueId}
 use Rattle.sil_cfg.specs.declared.item.Item.TheVariants as item
 use Rattle.type_definitions.specs.Declarations.{declarations_of}
-use Rattle.held_places.proofs.typed_memory.Homes.{place_read}
-use Rattle.held_places.proofs.typed_memory.Trivials.{no_references}
-use Rattle.held_places.specs.typed_memory.inner.Worlds.{Suits, names}
+use Rattle.guarded_entries.proofs.held_places.typed_memory.Homes.{place_read}
+use Rattle.guarded_entries.proofs.held_places.typed_memory.Trivials.{no_references}
+use Rattle.guarded_entries.specs.held_places.typed_memory.inner.Worlds.{Suits, names}
 use Rattle.value_tables.specs.Borrows.{borrow_by, borrows, is_borrow}
 use Rattle.value_tables.specs.FirstValue.{first_value, value_of}
 use Rattle.guarded_entries.proofs.TypedGiven.{typed_for_rows}
 use Rattle.guarded_entries.specs.inner.Guards.{IsNamed, KeepsAt}
 use Rattle.guarded_entries.specs.inner.LoansKept.{TakesOperands}
 use Rattle.guarded_entries.specs.inner.Rows.{LendsLoaded}
-use Rattle.held_places.specs.inner.FramePlaces.{HoldsPlaces, IsNamed as IsNamedAt, Names}
-use Rattle.held_places.specs.inner.PlaceStates.{AreSlotsRight}
-use Rattle.held_places.specs.inner.Roots.{IsThere, argument, slot}
-use Rattle.held_places.specs.inner.TakenPlaces.{AreNamedBy}
-use Rattle.held_places.proofs.EffectsAt.{is_at_place}
-use Rattle.held_places.proofs.EntriesKept.{results_other}
-use Rattle.held_places.proofs.Locating.{IsInObject, IsOperandAt, operand_at}
-use Rattle.held_places.proofs.Naming.{names_once}
-use Rattle.held_places.proofs.OperandsNamed.{operands_named}
-use Rattle.held_places.proofs.PlaceRows.{named_first, place_slots}
-use Rattle.held_places.proofs.PlainAddresses.{named_address, place_typed}
-use Rattle.held_places.proofs.Reading.{operand_within, root_itself}
-use Rattle.held_places.proofs.RootsShaped.{roots_shaped}
-use Rattle.held_places.proofs.RowsAt.{is_at_one, one_operation}
-use Rattle.held_places.proofs.TrailsSo.{trail_laws}
+use Rattle.guarded_entries.specs.held_places.inner.FramePlaces.{HoldsPlaces, IsNamed as IsNamedAt, Names}
+use Rattle.guarded_entries.specs.held_places.inner.PlaceStates.{AreSlotsRight}
+use Rattle.guarded_entries.specs.held_places.inner.Roots.{IsThere, argument, slot}
+use Rattle.guarded_entries.specs.held_places.inner.TakenPlaces.{AreNamedBy}
+use Rattle.guarded_entries.proofs.held_places.EffectsAt.{is_at_place}
+use Rattle.guarded_entries.proofs.held_places.EntriesKept.{results_other}
+use Rattle.guarded_entries.proofs.held_places.Locating.{IsInObject, IsOperandAt, operand_at}
+use Rattle.guarded_entries.proofs.held_places.Naming.{names_once}
+use Rattle.guarded_entries.proofs.held_places.OperandsNamed.{operands_named}
+use Rattle.guarded_entries.proofs.held_places.PlaceRows.{named_first, place_slots}
+use Rattle.guarded_entries.proofs.held_places.PlainAddresses.{named_address, place_typed}
+use Rattle.guarded_entries.proofs.held_places.Reading.{operand_within, root_itself}
+use Rattle.guarded_entries.proofs.held_places.RootsShaped.{roots_shaped}
+use Rattle.guarded_entries.proofs.held_places.RowsAt.{is_at_one, one_operation}
+use Rattle.guarded_entries.proofs.held_places.TrailsSo.{trail_laws}
 use Rattle.held_loans.specs.inner.Loans.{loans_of, reached}
 use Rattle.held_loans.proofs.AtItems.{accepted, first, now, reads, run}
 use Rattle.held_loans.proofs.Keeping.{KeptAt, kept_at}
@@ -272,8 +272,7 @@ module _ (m : Module) (verified : IsVerified m) (s : HolderState) (rest : List (
       lends_it v k y o result is holds_it =
           let kept = kept_at (one_object o) s.memory p y strongly is holds_it in
           let source_is : source_at (sources_of (declarations_of m) f) v ≡ result_source (declarations_of m) i =
-          (result_rows m n f body point.block.0 point.index k i v (is_at f point i here) result).source in
-          (
+          (result_rows m n f body point.block.0 point.index k i v (is_at f point i here) result).source in (
             kept.number,
             kept.value,
             cell_lent m f next v kept.number (record {
@@ -290,7 +289,7 @@ module _ (m : Module) (verified : IsVerified m) (s : HolderState) (rest : List (
               has = found.cells kept.number ∙ kept.of_place;
             }),
             ap (λ cells. slice_get cells kept.number) (lends_still shapes values c (changes_told (declarations_of m) shapes values s.memory i ops.given c makes))
-            ∙ sym (ap (λ h. cell_at s.memory h kept.number) found.home) ∙ kept.there,
+                ∙ sym (ap (λ h. cell_at s.memory h kept.number) found.home) ∙ kept.there,
             kept.weighs,
           )
 

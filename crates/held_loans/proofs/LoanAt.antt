@@ -3,15 +3,15 @@ use Rattle.std.proofs.Common.{◌≡◌, ◌&&◌, ℕ, List, [], ◌∷◌, Boo
 use Rattle.std.specs.Prelude.{option_and_then}
 use Rattle.std.proofs.lemmas.Bool.{and_from, and_parts, false≢true}
 use Rattle.std.proofs.lemmas.Option.{none-some, same_Some}
-use Rattle.held_places.specs.accepted_memory.holder_model.Calling.{place_in}
-use Rattle.held_places.specs.accepted_memory.holder_model.Data.{AddressOf, Datum, FunctionOf, ValueOf}
-use Rattle.held_places.specs.accepted_memory.holder_model.Frames.{Entry, Frame, datum_in, entry_at}
-use Rattle.held_places.specs.accepted_memory.memory_accesses.Locations.{location_of}
-use Rattle.held_places.specs.accepted_memory.memory_accesses.Sources.{is_trivial_at, is_trivial_source, source_at, sources_of}
-use Rattle.held_places.specs.accepted_memory.memory_accesses.declared.location.Location.{Location}
-use Rattle.held_places.specs.accepted_memory.memory_accesses.declared.source.Source.{Source}
-use Rattle.held_places.specs.accepted_memory.memory_accesses.declared.source.Source.TheVariants as source
-use Rattle.held_places.specs.accepted_places.inner.Stacks.{slots_on}
+use Rattle.guarded_entries.specs.held_places.accepted_memory.holder_model.Calling.{place_in}
+use Rattle.guarded_entries.specs.held_places.accepted_memory.holder_model.Data.{AddressOf, Datum, FunctionOf, ValueOf}
+use Rattle.guarded_entries.specs.held_places.accepted_memory.holder_model.Frames.{Entry, Frame, datum_in, entry_at}
+use Rattle.guarded_entries.specs.held_places.accepted_memory.memory_accesses.Locations.{location_of}
+use Rattle.guarded_entries.specs.held_places.accepted_memory.memory_accesses.Sources.{is_trivial_at, is_trivial_source, source_at, sources_of}
+use Rattle.guarded_entries.specs.held_places.accepted_memory.memory_accesses.declared.location.Location.{Location}
+use Rattle.guarded_entries.specs.held_places.accepted_memory.memory_accesses.declared.source.Source.{Source}
+use Rattle.guarded_entries.specs.held_places.accepted_memory.memory_accesses.declared.source.Source.TheVariants as source
+use Rattle.guarded_entries.specs.held_places.accepted_places.inner.Stacks.{slots_on}
 use Rattle.memory_cells.specs.inner.Cells.{has_cell}
 use Rattle.ownership_chains.specs.Facts.{has}
 use Rattle.run_values.specs.Places.{Place}
@@ -20,8 +20,8 @@ use Rattle.sil_ast.specs.declared.module.Module.{Module}
 use Rattle.sil_ast.specs.declared.place.ValueId.{ValueId}
 use Rattle.sil_cfg.specs.declared.item.Item.{Item}
 use Rattle.type_definitions.specs.Declarations.{Declarations, declarations_of}
-use Rattle.held_places.specs.inner.FramePlaces.{Names}
-use Rattle.held_places.specs.inner.Roots.{IsThere, argument, slot}
+use Rattle.guarded_entries.specs.held_places.inner.FramePlaces.{Names}
+use Rattle.guarded_entries.specs.held_places.inner.Roots.{IsThere, argument, slot}
 use Rattle.held_loans.specs.inner.Loans.{has_cell_in, lends_at, lends_by, loans_of, may_lend, place_at, reached}
 
 -- ---- roots

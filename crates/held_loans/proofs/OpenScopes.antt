@@ -3,21 +3,21 @@ use Rattle.std.proofs.Common.{◌≡◌, ◌&&◌, ℕ, List, [], ◌∷◌, Boo
 use Rattle.std.specs.Prelude.{option_map}
 use Rattle.std.specs.List.{list_any}
 use Rattle.std.proofs.lemmas.Bool.{and_parts, false≢true}
-use Rattle.held_places.proofs.accepted_memory.InScopes.{lent_in_scopes}
-use Rattle.held_places.specs.accepted_memory.accepted_trails.inner.Lives.{IsScopeIn, is_open}
-use Rattle.held_places.specs.accepted_memory.accepted_trails.inner.Passing.{IsPassed, is_end, left_by}
-use Rattle.held_places.specs.accepted_memory.memory_accesses.Sources.{source_at, sources_of}
-use Rattle.held_places.specs.accepted_memory.memory_accesses.declared.source.Source.TheVariants as source
-use Rattle.held_places.specs.accepted_memory.run_trails.inner.RunTrails.{IsRunTrail, IsTurnedTrail}
-use Rattle.held_places.proofs.accepted_places.ItemStacks.{accepted_in}
-use Rattle.held_places.proofs.accepted_places.LoansKept.{loans_followed}
-use Rattle.held_places.specs.accepted_places.inner.Loans.{IsLentOn}
-use Rattle.held_places.specs.accepted_values.inner.Known.{IsAcceptedBody}
-use Rattle.held_places.proofs.held_entries.accepted_trails.ScopesPassed.{scopes_passed}
-use Rattle.held_places.specs.held_entries.accepted_trails.ownership_kinds.Facts.{facts_in}
-use Rattle.held_places.specs.held_entries.holder_model.Data.{Datum}
-use Rattle.held_places.specs.held_entries.holder_model.Frames.{Entry, Gone, Lent, entry_at}
-use Rattle.held_places.specs.held_entries.inner.Tracked.{AreTrackedLeft, IsOwnScope, LendsWhile}
+use Rattle.guarded_entries.proofs.held_places.accepted_memory.InScopes.{lent_in_scopes}
+use Rattle.guarded_entries.specs.held_places.accepted_memory.accepted_trails.inner.Lives.{IsScopeIn, is_open}
+use Rattle.guarded_entries.specs.held_places.accepted_memory.accepted_trails.inner.Passing.{IsPassed, is_end, left_by}
+use Rattle.guarded_entries.specs.held_places.accepted_memory.memory_accesses.Sources.{source_at, sources_of}
+use Rattle.guarded_entries.specs.held_places.accepted_memory.memory_accesses.declared.source.Source.TheVariants as source
+use Rattle.guarded_entries.specs.held_places.accepted_memory.run_trails.inner.RunTrails.{IsRunTrail, IsTurnedTrail}
+use Rattle.guarded_entries.proofs.held_places.accepted_places.ItemStacks.{accepted_in}
+use Rattle.guarded_entries.proofs.held_places.accepted_places.LoansKept.{loans_followed}
+use Rattle.guarded_entries.specs.held_places.accepted_places.inner.Loans.{IsLentOn}
+use Rattle.guarded_entries.specs.held_places.accepted_values.inner.Known.{IsAcceptedBody}
+use Rattle.guarded_entries.proofs.held_places.held_entries.accepted_trails.ScopesPassed.{scopes_passed}
+use Rattle.guarded_entries.specs.held_places.held_entries.accepted_trails.ownership_kinds.Facts.{facts_in}
+use Rattle.guarded_entries.specs.held_places.held_entries.holder_model.Data.{Datum}
+use Rattle.guarded_entries.specs.held_places.held_entries.holder_model.Frames.{Entry, Gone, Lent, entry_at}
+use Rattle.guarded_entries.specs.held_places.held_entries.inner.Tracked.{AreTrackedLeft, IsOwnScope, LendsWhile}
 use Rattle.item_operands.specs.Items.{item_taken}
 use Rattle.sil_ast.specs.declared.function.Function.{Function}
 use Rattle.sil_ast.specs.declared.module.Module.{Module}

@@ -7,7 +7,7 @@ use Rattle.memory_cells.proofs.PlaceCells.{cell_from, cell_within}
 use Rattle.run_values.specs.Cells.{cell_count}
 use Rattle.run_values.specs.Places.{Place, member_place, offset, part_of}
 use Rattle.run_values.specs.Shapes.{Shape, Unknown, member_shapes}
-use Rattle.held_places.proofs.typed_memory.Parts.{member_there}
+use Rattle.guarded_entries.proofs.held_places.typed_memory.Parts.{member_there}
 use Rattle.value_parts.specs.inner.Paths.{IsPart, before_along, cells_before, here, inside}
 use Rattle.value_parts.proofs.Paths.{part_cells_fit}
 use Rattle.held_loans.specs.inner.Loans.{reached}

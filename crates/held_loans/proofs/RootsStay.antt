@@ -4,31 +4,31 @@ use Rattle.std.specs.Prelude.{option_and_then}
 use Rattle.std.specs.List.{starts_with}
 use Rattle.std.proofs.lemmas.Bool.{and_from, or_left, or_right, true≢false}
 use Rattle.std.proofs.lemmas.Option.{none-some}
-use Rattle.held_places.proofs.accepted_memory.PartsTurned.{turn_by}
-use Rattle.held_places.proofs.accepted_memory.Turning.{turned_each}
-use Rattle.held_places.specs.accepted_memory.inner.PartTrails.{accesses_in}
-use Rattle.held_places.specs.accepted_memory.memory_accesses.Accesses.{made_by}
-use Rattle.held_places.specs.accepted_memory.memory_accesses.Locations.{do_overlap, location_of, meet, same_step, whole}
-use Rattle.held_places.specs.accepted_memory.memory_accesses.Operations.{addresses_of, deallocates}
-use Rattle.held_places.specs.accepted_memory.memory_accesses.Sources.{is_slot_source, source_at, sources_of}
-use Rattle.held_places.specs.accepted_memory.memory_accesses.declared.access.Access.{Access}
-use Rattle.held_places.specs.accepted_memory.memory_accesses.declared.location.Location.{Location}
-use Rattle.held_places.specs.accepted_memory.memory_accesses.declared.source.Source.{Source}
-use Rattle.held_places.specs.accepted_memory.memory_accesses.declared.source.Source.TheVariants as source
-use Rattle.held_places.specs.accepted_memory.memory_parts.Switches.{is_same, when}
-use Rattle.held_places.specs.accepted_memory.memory_parts.declared.part.Part.TheVariants.{Allocation}
-use Rattle.held_places.specs.accepted_memory.ownership_kinds.Facts.{facts_in}
-use Rattle.held_places.specs.accepted_memory.run_trails.inner.RunTrails.{IsRunTrail}
-use Rattle.held_places.proofs.accepted_places.Fields.{when_turned}
-use Rattle.held_places.proofs.accepted_places.Items.{accesses_each}
-use Rattle.held_places.proofs.accepted_places.Locating.{root_location}
-use Rattle.held_places.proofs.accepted_places.LoansKept.{loans_there}
-use Rattle.held_places.proofs.accepted_places.MadeOnce.{StaysOn, stays_on}
-use Rattle.held_places.proofs.accepted_places.Mentioned.{slot_root}
-use Rattle.held_places.proofs.accepted_places.Stacked.{has_behind}
-use Rattle.held_places.specs.accepted_places.inner.Loans.{IsLentOn}
-use Rattle.held_places.specs.accepted_places.inner.Stacks.{slots_on}
-use Rattle.held_places.specs.accepted_values.inner.Known.{IsAcceptedBody}
+use Rattle.guarded_entries.proofs.held_places.accepted_memory.PartsTurned.{turn_by}
+use Rattle.guarded_entries.proofs.held_places.accepted_memory.Turning.{turned_each}
+use Rattle.guarded_entries.specs.held_places.accepted_memory.inner.PartTrails.{accesses_in}
+use Rattle.guarded_entries.specs.held_places.accepted_memory.memory_accesses.Accesses.{made_by}
+use Rattle.guarded_entries.specs.held_places.accepted_memory.memory_accesses.Locations.{do_overlap, location_of, meet, same_step, whole}
+use Rattle.guarded_entries.specs.held_places.accepted_memory.memory_accesses.Operations.{addresses_of, deallocates}
+use Rattle.guarded_entries.specs.held_places.accepted_memory.memory_accesses.Sources.{is_slot_source, source_at, sources_of}
+use Rattle.guarded_entries.specs.held_places.accepted_memory.memory_accesses.declared.access.Access.{Access}
+use Rattle.guarded_entries.specs.held_places.accepted_memory.memory_accesses.declared.location.Location.{Location}
+use Rattle.guarded_entries.specs.held_places.accepted_memory.memory_accesses.declared.source.Source.{Source}
+use Rattle.guarded_entries.specs.held_places.accepted_memory.memory_accesses.declared.source.Source.TheVariants as source
+use Rattle.guarded_entries.specs.held_places.accepted_memory.memory_parts.Switches.{is_same, when}
+use Rattle.guarded_entries.specs.held_places.accepted_memory.memory_parts.declared.part.Part.TheVariants.{Allocation}
+use Rattle.guarded_entries.specs.held_places.accepted_memory.ownership_kinds.Facts.{facts_in}
+use Rattle.guarded_entries.specs.held_places.accepted_memory.run_trails.inner.RunTrails.{IsRunTrail}
+use Rattle.guarded_entries.proofs.held_places.accepted_places.Fields.{when_turned}
+use Rattle.guarded_entries.proofs.held_places.accepted_places.Items.{accesses_each}
+use Rattle.guarded_entries.proofs.held_places.accepted_places.Locating.{root_location}
+use Rattle.guarded_entries.proofs.held_places.accepted_places.LoansKept.{loans_there}
+use Rattle.guarded_entries.proofs.held_places.accepted_places.MadeOnce.{StaysOn, stays_on}
+use Rattle.guarded_entries.proofs.held_places.accepted_places.Mentioned.{slot_root}
+use Rattle.guarded_entries.proofs.held_places.accepted_places.Stacked.{has_behind}
+use Rattle.guarded_entries.specs.held_places.accepted_places.inner.Loans.{IsLentOn}
+use Rattle.guarded_entries.specs.held_places.accepted_places.inner.Stacks.{slots_on}
+use Rattle.guarded_entries.specs.held_places.accepted_values.inner.Known.{IsAcceptedBody}
 use Rattle.item_operands.specs.Parts.{item_inst}
 use Rattle.numbered_form.specs.Lists.{Each}
 use Rattle.ownership_chains.specs.Facts.{has}
@@ -39,7 +39,7 @@ use Rattle.sil_ast.specs.declared.module.Module.{Module}
 use Rattle.sil_ast.specs.declared.place.ValueId.{ValueId}
 use Rattle.sil_cfg.specs.declared.item.Item.{Item}
 use Rattle.type_definitions.specs.Declarations.{Declarations, declarations_of}
-use Rattle.held_places.specs.inner.Roots.{IsThere, argument, slot}
+use Rattle.guarded_entries.specs.held_places.inner.Roots.{IsThere, argument, slot}
 
 turned_true : (b : Bool) (k : Mark) → k.turns ≡ Some true → option_and_then (λ (x : Mark). x.turns) (when b k) ≡ Some false → ⊥
 turned_true true k is e = let two : Some true ≡ Some false = sym is ∙ e in cc

@@ -3,21 +3,21 @@ use Rattle.std.proofs.Common.{◌≡◌, ℕ, List, refl, sym, ap, ◌∙◌, su
 use Rattle.std.specs.Prelude.{option_and_then, slice_get}
 use Rattle.std.proofs.lemmas.Bool.{not-false}
 use Rattle.std.proofs.lemmas.Option.{none-some, same_Some}
-use Rattle.held_places.specs.accepted_memory.memory_accesses.Operations.{access_kind_of, operation_by, store_operation}
-use Rattle.held_places.specs.accepted_memory.memory_accesses.declared.access.Operation.{Operation}
-use Rattle.held_places.specs.accepted_memory.memory_accesses.declared.access.Operation.TheVariants.{TrivialStore}
-use Rattle.held_places.specs.accepted_values.accepted_modules.sil_types.Typing.FormRules.{has_word_by, has_wrong_qualifier, is_owned_form, is_write_word}
-use Rattle.held_places.specs.accepted_values.accepted_modules.sil_types.Typing.OperandTypes.{is_as_written}
-use Rattle.held_places.specs.accepted_values.accepted_modules.sil_types.Typing.RowTypes.{passes, type_of, written}
-use Rattle.held_places.specs.accepted_values.accepted_modules.sil_types.Typing.Shapes.{is_trivial_object, target}
-use Rattle.held_places.specs.accepted_values.accepted_modules.sil_types.Typing.Typed.{BreaksAtPoint, at_point, point}
-use Rattle.held_places.specs.accepted_values.accepted_modules.sil_types.Typing.Values.{value_types}
-use Rattle.held_places.specs.accepted_values.inner.Known.{IsAcceptedBody, type_in}
-use Rattle.held_places.proofs.accepted_values.Accepted.{in_ownership_form, typed, well_typed}
-use Rattle.held_places.proofs.accepted_values.Written.{written_type}
-use Rattle.held_places.proofs.accepted_values.run_typing_laws.FunctionFacts.{TypedInst}
-use Rattle.held_places.proofs.accepted_values.run_typing_laws.Rows.Finding.{found_behind, never_passes, passed, passes_at}
-use Rattle.held_places.proofs.accepted_values.run_typing_laws.ValueForms.{operands_written}
+use Rattle.guarded_entries.specs.held_places.accepted_memory.memory_accesses.Operations.{access_kind_of, operation_by, store_operation}
+use Rattle.guarded_entries.specs.held_places.accepted_memory.memory_accesses.declared.access.Operation.{Operation}
+use Rattle.guarded_entries.specs.held_places.accepted_memory.memory_accesses.declared.access.Operation.TheVariants.{TrivialStore}
+use Rattle.guarded_entries.specs.held_places.accepted_values.accepted_modules.sil_types.Typing.FormRules.{has_word_by, has_wrong_qualifier, is_owned_form, is_write_word}
+use Rattle.guarded_entries.specs.held_places.accepted_values.accepted_modules.sil_types.Typing.OperandTypes.{is_as_written}
+use Rattle.guarded_entries.specs.held_places.accepted_values.accepted_modules.sil_types.Typing.RowTypes.{passes, type_of, written}
+use Rattle.guarded_entries.specs.held_places.accepted_values.accepted_modules.sil_types.Typing.Shapes.{is_trivial_object, target}
+use Rattle.guarded_entries.specs.held_places.accepted_values.accepted_modules.sil_types.Typing.Typed.{BreaksAtPoint, at_point, point}
+use Rattle.guarded_entries.specs.held_places.accepted_values.accepted_modules.sil_types.Typing.Values.{value_types}
+use Rattle.guarded_entries.specs.held_places.accepted_values.inner.Known.{IsAcceptedBody, type_in}
+use Rattle.guarded_entries.proofs.held_places.accepted_values.Accepted.{in_ownership_form, typed, well_typed}
+use Rattle.guarded_entries.proofs.held_places.accepted_values.Written.{written_type}
+use Rattle.guarded_entries.proofs.held_places.accepted_values.run_typing_laws.FunctionFacts.{TypedInst}
+use Rattle.guarded_entries.proofs.held_places.accepted_values.run_typing_laws.Rows.Finding.{found_behind, never_passes, passed, passes_at}
+use Rattle.guarded_entries.proofs.held_places.accepted_values.run_typing_laws.ValueForms.{operands_written}
 use Rattle.instruction_table.specs.Forms.{type_words_of}
 use Rattle.numbered_form.specs.inner.Parts.{may_have}
 use Rattle.instruction_table.specs.declared.op.Op.{Op}

@@ -3,33 +3,33 @@ use Rattle.std.proofs.Common.{◌≡◌, ◌⊎◌, ⊎_elim, inl, inr, ◌==◌
 use Rattle.std.proofs.lemmas.Bool.{false_from_ne_true, true≢false}
 use Rattle.std.proofs.lemmas.List.Elements.{Contains-push}
 use Rattle.std.proofs.lemmas.Option.{none-some, same_Some}
-use Rattle.held_places.specs.accepted_memory.holder_model.Data.{Datum}
-use Rattle.held_places.specs.accepted_memory.holder_model.Frames.{Frame}
-use Rattle.held_places.specs.accepted_memory.holder_model.States.{Task}
-use Rattle.held_places.specs.accepted_memory.memory_accesses.Locations.{cell_of, do_overlap, location_of}
-use Rattle.held_places.specs.accepted_memory.memory_accesses.Operations.{access_kind_of, deallocates, operated, operation_by, operations_of}
-use Rattle.held_places.specs.accepted_memory.memory_accesses.Rows.{has_operation, is_part}
-use Rattle.held_places.specs.accepted_memory.memory_accesses.Sources.{is_trivial_at, source_at, sources_of}
-use Rattle.held_places.specs.accepted_memory.memory_accesses.declared.access.Operated.{Operated}
-use Rattle.held_places.specs.accepted_memory.memory_accesses.declared.access.Operation.{Operation}
-use Rattle.held_places.specs.accepted_memory.memory_accesses.declared.access.Operation.TheVariants.{FirstWrite, Take, TrivialStore, Write}
-use Rattle.held_places.specs.accepted_memory.memory_accesses.declared.location.Location.{Location}
-use Rattle.held_places.specs.accepted_memory.memory_parts.Loans.{writes}
-use Rattle.held_places.specs.accepted_memory.memory_parts.Parts.{whole_cell}
-use Rattle.held_places.specs.accepted_memory.memory_parts.declared.part.Part.{Part}
-use Rattle.held_places.specs.accepted_memory.memory_parts.declared.part.Part.TheVariants.{Contents}
-use Rattle.held_places.specs.accepted_memory.inner.PartTrails.{IsPartOf, is_on}
-use Rattle.held_places.specs.accepted_memory.run_trails.inner.RunTrails.{GoesOn, IsRunTrail}
-use Rattle.held_places.specs.accepted_memory.run_trails.inner.Switched.{finds}
-use Rattle.held_places.proofs.accepted_places.Apart.{apart_by_cells}
-use Rattle.held_places.proofs.accepted_places.LoansFull.{loans_full}
-use Rattle.held_places.proofs.accepted_places.LoansKept.{loans_unwritten}
-use Rattle.held_places.specs.accepted_places.inner.Cells.{IsDoneAt, mark_at, part_at}
-use Rattle.held_places.specs.accepted_places.inner.Loans.{IsLentOn}
-use Rattle.held_places.specs.accepted_places.inner.Located.{IsAddress}
-use Rattle.held_places.proofs.accepted_values.run_typing_laws.Rows.Points.{is_at}
-use Rattle.held_places.specs.accepted_values.accepted_modules.sil_types.Typing.Shapes.{is_trivial_object, target}
-use Rattle.held_places.specs.accepted_values.inner.Known.{IsAcceptedBody, type_in}
+use Rattle.guarded_entries.specs.held_places.accepted_memory.holder_model.Data.{Datum}
+use Rattle.guarded_entries.specs.held_places.accepted_memory.holder_model.Frames.{Frame}
+use Rattle.guarded_entries.specs.held_places.accepted_memory.holder_model.States.{Task}
+use Rattle.guarded_entries.specs.held_places.accepted_memory.memory_accesses.Locations.{cell_of, do_overlap, location_of}
+use Rattle.guarded_entries.specs.held_places.accepted_memory.memory_accesses.Operations.{access_kind_of, deallocates, operated, operation_by, operations_of}
+use Rattle.guarded_entries.specs.held_places.accepted_memory.memory_accesses.Rows.{has_operation, is_part}
+use Rattle.guarded_entries.specs.held_places.accepted_memory.memory_accesses.Sources.{is_trivial_at, source_at, sources_of}
+use Rattle.guarded_entries.specs.held_places.accepted_memory.memory_accesses.declared.access.Operated.{Operated}
+use Rattle.guarded_entries.specs.held_places.accepted_memory.memory_accesses.declared.access.Operation.{Operation}
+use Rattle.guarded_entries.specs.held_places.accepted_memory.memory_accesses.declared.access.Operation.TheVariants.{FirstWrite, Take, TrivialStore, Write}
+use Rattle.guarded_entries.specs.held_places.accepted_memory.memory_accesses.declared.location.Location.{Location}
+use Rattle.guarded_entries.specs.held_places.accepted_memory.memory_parts.Loans.{writes}
+use Rattle.guarded_entries.specs.held_places.accepted_memory.memory_parts.Parts.{whole_cell}
+use Rattle.guarded_entries.specs.held_places.accepted_memory.memory_parts.declared.part.Part.{Part}
+use Rattle.guarded_entries.specs.held_places.accepted_memory.memory_parts.declared.part.Part.TheVariants.{Contents}
+use Rattle.guarded_entries.specs.held_places.accepted_memory.inner.PartTrails.{IsPartOf, is_on}
+use Rattle.guarded_entries.specs.held_places.accepted_memory.run_trails.inner.RunTrails.{GoesOn, IsRunTrail}
+use Rattle.guarded_entries.specs.held_places.accepted_memory.run_trails.inner.Switched.{finds}
+use Rattle.guarded_entries.proofs.held_places.accepted_places.Apart.{apart_by_cells}
+use Rattle.guarded_entries.proofs.held_places.accepted_places.LoansFull.{loans_full}
+use Rattle.guarded_entries.proofs.held_places.accepted_places.LoansKept.{loans_unwritten}
+use Rattle.guarded_entries.specs.held_places.accepted_places.inner.Cells.{IsDoneAt, mark_at, part_at}
+use Rattle.guarded_entries.specs.held_places.accepted_places.inner.Loans.{IsLentOn}
+use Rattle.guarded_entries.specs.held_places.accepted_places.inner.Located.{IsAddress}
+use Rattle.guarded_entries.proofs.held_places.accepted_values.run_typing_laws.Rows.Points.{is_at}
+use Rattle.guarded_entries.specs.held_places.accepted_values.accepted_modules.sil_types.Typing.Shapes.{is_trivial_object, target}
+use Rattle.guarded_entries.specs.held_places.accepted_values.inner.Known.{IsAcceptedBody, type_in}
 use Rattle.argument_conventions.specs.declared.row.Content.{Content}
 use Rattle.instruction_table.specs.declared.op.Op.TheVariants as op
 use Rattle.item_operands.specs.Items.{item_taken}
@@ -52,18 +52,18 @@ use Rattle.sil_ast.specs.declared.type_name.TypeName.{TypeName}
 use Rattle.sil_cfg.specs.declared.item.Item.{Item}
 use Rattle.sil_cfg.specs.declared.item.Item.TheVariants as item
 use Rattle.type_definitions.specs.Declarations.{declarations_of}
-use Rattle.held_places.specs.inner.FramePlaces.{HoldsPlaces, IsFree, Names}
-use Rattle.held_places.specs.inner.Roots.{IsThere, argument, full_by, is_full_on, is_shared, slot}
-use Rattle.held_places.specs.inner.TrailLaws.{TrailLaws}
-use Rattle.held_places.proofs.AtPlaces.{StandsAt}
-use Rattle.held_places.proofs.AtPlaces as at_places
-use Rattle.held_places.proofs.Contents.{FoundAt, IsOnStack, IsRootPart, OperatesAt, on_stack, own_cell, root_part}
-use Rattle.held_places.proofs.Lending.{off_needed}
-use Rattle.held_places.proofs.Locating.{IsInObject, IsOperandAt, operand_at}
-use Rattle.held_places.proofs.Operating.{Fills, leaves_empty, leaves_full}
-use Rattle.held_places.proofs.Reading.{IsWithin, root_itself}
-use Rattle.held_places.proofs.RootsShaped.{root_trivial}
-use Rattle.held_places.proofs.RowsHeld.{stack_stays}
+use Rattle.guarded_entries.specs.held_places.inner.FramePlaces.{HoldsPlaces, IsFree, Names}
+use Rattle.guarded_entries.specs.held_places.inner.Roots.{IsThere, argument, full_by, is_full_on, is_shared, slot}
+use Rattle.guarded_entries.specs.held_places.inner.TrailLaws.{TrailLaws}
+use Rattle.guarded_entries.proofs.held_places.AtPlaces.{StandsAt}
+use Rattle.guarded_entries.proofs.held_places.AtPlaces as at_places
+use Rattle.guarded_entries.proofs.held_places.Contents.{FoundAt, IsOnStack, IsRootPart, OperatesAt, on_stack, own_cell, root_part}
+use Rattle.guarded_entries.proofs.held_places.Lending.{off_needed}
+use Rattle.guarded_entries.proofs.held_places.Locating.{IsInObject, IsOperandAt, operand_at}
+use Rattle.guarded_entries.proofs.held_places.Operating.{Fills, leaves_empty, leaves_full}
+use Rattle.guarded_entries.proofs.held_places.Reading.{IsWithin, root_itself}
+use Rattle.guarded_entries.proofs.held_places.RootsShaped.{root_trivial}
+use Rattle.guarded_entries.proofs.held_places.RowsHeld.{stack_stays}
 use Rattle.held_loans.proofs.Clear.{other_location, other_root, same_root}
 use Rattle.held_loans.proofs.LoanAt.{LendsCell}
 

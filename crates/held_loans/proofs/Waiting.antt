@@ -2,15 +2,15 @@
 use Rattle.std.proofs.Common.{◌≡◌, ◌⊎◌, ⊎_elim, inl, inr, ◌<◌, ℕ, List, [], ◌∷◌, length, Bool, true, false, Option, Some, Ok, refl, sym, ap, ◌∙◌, subst, slice_get}
 use Rattle.std.proofs.lemmas.Bool.{false≢true}
 use Rattle.std.proofs.lemmas.Option.{same_Some, slice_get_within}
-use Rattle.held_places.specs.accepted_memory.holder_model.Data.{Datum}
-use Rattle.held_places.specs.accepted_memory.holder_model.Frames.{Entry, Frame, Lent, datum_in, entry_at, results_put}
-use Rattle.held_places.specs.accepted_memory.holder_model.Standing.{stands_at}
-use Rattle.held_places.specs.accepted_memory.holder_model.States.{Drops, Finishes, Runs, Task}
-use Rattle.held_places.specs.accepted_memory.run_trails.inner.RunTrails.{IsRunTrail, IsTurnedTrail}
-use Rattle.held_places.specs.accepted_values.accepted_modules.inner.Checked.{IsVerified}
-use Rattle.held_places.specs.accepted_values.inner.Known.{IsAcceptedBody}
-use Rattle.held_places.proofs.held_entries.accepted_trails.run_trails.WalkEdges.{are_next}
-use Rattle.held_places.specs.holder_steps.inner.Stacks.{Below, Going}
+use Rattle.guarded_entries.specs.held_places.accepted_memory.holder_model.Data.{Datum}
+use Rattle.guarded_entries.specs.held_places.accepted_memory.holder_model.Frames.{Entry, Frame, Lent, datum_in, entry_at, results_put}
+use Rattle.guarded_entries.specs.held_places.accepted_memory.holder_model.Standing.{stands_at}
+use Rattle.guarded_entries.specs.held_places.accepted_memory.holder_model.States.{Drops, Finishes, Runs, Task}
+use Rattle.guarded_entries.specs.held_places.accepted_memory.run_trails.inner.RunTrails.{IsRunTrail, IsTurnedTrail}
+use Rattle.guarded_entries.specs.held_places.accepted_values.accepted_modules.inner.Checked.{IsVerified}
+use Rattle.guarded_entries.specs.held_places.accepted_values.inner.Known.{IsAcceptedBody}
+use Rattle.guarded_entries.proofs.held_places.held_entries.accepted_trails.run_trails.WalkEdges.{are_next}
+use Rattle.guarded_entries.specs.held_places.holder_steps.inner.Stacks.{Below, Going}
 use Rattle.memory_cells.specs.inner.Cells.{cell_at, has_cell}
 use Rattle.item_operands.specs.Parts.{inst_at}
 use Rattle.run_values.specs.Cells.{Keeps}
@@ -25,31 +25,31 @@ use Rattle.sil_ast.specs.declared.place.ValueId.{ValueId}
 use Rattle.sil_cfg.specs.declared.item.Item.{Item}
 use Rattle.sil_cfg.specs.declared.item.Item.TheVariants as item
 use Rattle.type_definitions.specs.Declarations.{declarations_of}
-use Rattle.held_places.proofs.typed_holders.GoesOn.{accepted_body}
-use Rattle.held_places.proofs.typed_holders.Stacks.{BelowTyped}
-use Rattle.held_places.specs.typed_holders.inner.TypedStates.{EntriesAre, FrameIs, TasksAre, WaitsTyped}
-use Rattle.held_places.specs.typed_memory.inner.Worlds.{World}
-use Rattle.held_places.proofs.tracked_frames.NextItems.{inst_comes, turned_next}
-use Rattle.held_places.specs.tracked_frames.inner.TrackedStates.{AreTasksTracked, GoesAlong, InFunction, WaitsAlong}
+use Rattle.guarded_entries.proofs.held_places.typed_holders.GoesOn.{accepted_body}
+use Rattle.guarded_entries.proofs.held_places.typed_holders.Stacks.{BelowTyped}
+use Rattle.guarded_entries.specs.held_places.typed_holders.inner.TypedStates.{EntriesAre, FrameIs, TasksAre, WaitsTyped}
+use Rattle.guarded_entries.specs.held_places.typed_memory.inner.Worlds.{World}
+use Rattle.guarded_entries.proofs.held_places.tracked_frames.NextItems.{inst_comes, turned_next}
+use Rattle.guarded_entries.specs.held_places.tracked_frames.inner.TrackedStates.{AreTasksTracked, GoesAlong, InFunction, WaitsAlong}
 use Rattle.value_tables.specs.Borrows.{is_borrow}
 use Rattle.guarded_entries.specs.inner.Guards.{KeepsAt}
 use Rattle.guarded_entries.specs.inner.Stepping.{KeepLoans, KeepsLoans}
-use Rattle.held_places.specs.inner.FramePlaces.{Frees, HoldsPlaces, IsFree, is_lent}
-use Rattle.held_places.specs.inner.PlaceStates.{BelowPlaced, GoesPlaced, TasksPlaced, WaitsPlaced}
-use Rattle.held_places.specs.inner.TrailLaws.{TrailLaws}
-use Rattle.held_places.proofs.ComesToCalls.{comes_to_call}
-use Rattle.held_places.proofs.Lending.{IsCallAt}
-use Rattle.held_places.proofs.TrailsSo.{trail_laws}
+use Rattle.guarded_entries.specs.held_places.inner.FramePlaces.{Frees, HoldsPlaces, IsFree, is_lent}
+use Rattle.guarded_entries.specs.held_places.inner.PlaceStates.{BelowPlaced, GoesPlaced, TasksPlaced, WaitsPlaced}
+use Rattle.guarded_entries.specs.held_places.inner.TrailLaws.{TrailLaws}
+use Rattle.guarded_entries.proofs.held_places.ComesToCalls.{comes_to_call}
+use Rattle.guarded_entries.proofs.held_places.Lending.{IsCallAt}
+use Rattle.guarded_entries.proofs.held_places.TrailsSo.{trail_laws}
 use Rattle.held_loans.specs.inner.Loans.{loans_of}
 use Rattle.held_loans.proofs.OpenScopes.{lent_on}
 use Rattle.item_operands.specs.Items.{item_defined}
-use Rattle.held_places.specs.held_entries.accepted_trails.ownership_kinds.Facts.{facts_in}
+use Rattle.guarded_entries.specs.held_places.held_entries.accepted_trails.ownership_kinds.Facts.{facts_in}
 use Rattle.run_values.specs.Places.{Place}
-use Rattle.held_places.proofs.EntriesKept.{results_other}
+use Rattle.guarded_entries.proofs.held_places.EntriesKept.{results_other}
 use Rattle.held_loans.proofs.CallsClear.{not_lent}
 use Rattle.held_loans.proofs.LoanAt.{LendsCell, lends_cell, lent_still}
 use Rattle.held_loans.proofs.RootsStay.{root_there}
-use Rattle.held_places.specs.accepted_places.inner.Loans.{IsLentOn}
+use Rattle.guarded_entries.specs.held_places.accepted_places.inner.Loans.{IsLentOn}
 
 module _ (m : Module) (verified : IsVerified m) (memory : Memory) (w : World) (callee frame : Frame) (rest : List (Task Frame)) (typed : WaitsTyped m w callee frame rest)
     (placed : WaitsPlaced m memory callee frame rest) (f : Function) (is : slice_get m.functions frame.function.0 ≡ Some f) (along : WaitsAlong (declarations_of m) f frame) where

@@ -5,13 +5,13 @@ use Rattle.std.specs.List.{flat_map}
 use Rattle.std.specs.Option.{option_or, option_to_list}
 use Rattle.std.specs.Prelude.{Contains, option_map}
 use Rattle.std.proofs.lemmas.Option.{none-some, same_Some}
-use Rattle.placed_values.specs.accepted_memory.holder_model.Effects.{effect_of}
-use Rattle.placed_values.specs.accepted_memory.holder_model.declared.row_effect.RowEffect.TheVariants.{CallsFunction}
-use Rattle.placed_values.specs.accepted_memory.memory_accesses.Operations.{access_kind_of, deallocates, deallocates_by, is_address_role, operated, operated_at, operations_of}
-use Rattle.placed_values.specs.accepted_memory.memory_accesses.declared.access.Operated.{Operated}
-use Rattle.placed_values.specs.accepted_memory.memory_accesses.declared.access.Operation.TheVariants.{Handed}
-use Rattle.placed_values.specs.accepted_memory.memory_accesses.declared.columns.AccessKind.TheVariants as access
-use Rattle.placed_values.specs.accepted_places.inner.Stacks.{keeps_slots, keeps_slots_by}
+use Rattle.tracked_frames.specs.placed_values.accepted_memory.holder_model.Effects.{effect_of}
+use Rattle.tracked_frames.specs.placed_values.accepted_memory.holder_model.declared.row_effect.RowEffect.TheVariants.{CallsFunction}
+use Rattle.tracked_frames.specs.placed_values.accepted_memory.memory_accesses.Operations.{access_kind_of, deallocates, deallocates_by, is_address_role, operated, operated_at, operations_of}
+use Rattle.tracked_frames.specs.placed_values.accepted_memory.memory_accesses.declared.access.Operated.{Operated}
+use Rattle.tracked_frames.specs.placed_values.accepted_memory.memory_accesses.declared.access.Operation.TheVariants.{Handed}
+use Rattle.tracked_frames.specs.placed_values.accepted_memory.memory_accesses.declared.columns.AccessKind.TheVariants as access
+use Rattle.tracked_frames.specs.placed_values.accepted_places.inner.Stacks.{keeps_slots, keeps_slots_by}
 use Rattle.argument_conventions.specs.Rows.{address_row, row_of}
 use Rattle.argument_conventions.specs.declared.convention.AddressConvention.{AddressConvention}
 use Rattle.argument_conventions.specs.declared.convention.ArgumentConvention.{ArgumentConvention}

@@ -1,27 +1,27 @@
 -- A frame that stands at an instruction whose operands are found: behind those that end it holds its places, and all that typing says of the instruction is there.
 use Rattle.std.proofs.Common.{◌≡◌, ℕ, List, [], ◌∷◌, map, length, ◌<◌, Option, Ok, refl, sym, ap, ◌∙◌, subst}
 use Rattle.std.proofs.lemmas.Option.{same_Some}
-use Rattle.placed_values.specs.accepted_memory.holder_model.Data.{AddressOf, Datum}
-use Rattle.placed_values.specs.accepted_memory.holder_model.Effects as effects
-use Rattle.placed_values.specs.accepted_memory.holder_model.Effects.{Change, Makes, effect_by, effect_of}
-use Rattle.placed_values.specs.accepted_memory.holder_model.Faults.{HolderFault}
-use Rattle.placed_values.specs.accepted_memory.holder_model.Frames.{Entry, Frame, Operands, results_put}
-use Rattle.placed_values.specs.accepted_memory.holder_model.HolderStates.{HolderState}
-use Rattle.placed_values.specs.accepted_memory.holder_model.MemoryEffects.{at_places}
-use Rattle.placed_values.specs.accepted_memory.holder_model.ModuleFacts.{facts_of, facts_told}
-use Rattle.placed_values.specs.accepted_memory.holder_model.ModuleShapes.{shapes_in, shapes_of}
-use Rattle.placed_values.specs.accepted_memory.holder_model.Standing.{stands_at}
-use Rattle.placed_values.specs.accepted_memory.holder_model.StepParts.{slots_behind}
-use Rattle.placed_values.specs.accepted_memory.holder_model.States.{Runs, Task}
-use Rattle.placed_values.specs.accepted_memory.holder_model.declared.row_effect.RowEffect.TheVariants as row
-use Rattle.placed_values.specs.accepted_memory.memory_accesses.Sources.{sources_of}
-use Rattle.placed_values.specs.accepted_memory.run_trails.inner.RunTrails.{IsRunTrail}
-use Rattle.placed_values.specs.accepted_places.inner.Located.{IsAddress}
-use Rattle.placed_values.specs.accepted_values.inner.Known.{IsAcceptedBody}
-use Rattle.placed_values.specs.accepted_values.owned_run_typing.inner.OwnedTyped.{OwnedFunction, OwnedInst}
-use Rattle.placed_values.specs.accepted_values.run_typing.EndForms.{value_in}
-use Rattle.placed_values.specs.accepted_values.run_typing.Forms.{Form, OfPlace, form_of, forms_of}
-use Rattle.placed_values.proofs.held_entries.accepted_trails.run_trails.WalkEdges.{are_next}
+use Rattle.tracked_frames.specs.placed_values.accepted_memory.holder_model.Data.{AddressOf, Datum}
+use Rattle.tracked_frames.specs.placed_values.accepted_memory.holder_model.Effects as effects
+use Rattle.tracked_frames.specs.placed_values.accepted_memory.holder_model.Effects.{Change, Makes, effect_by, effect_of}
+use Rattle.tracked_frames.specs.placed_values.accepted_memory.holder_model.Faults.{HolderFault}
+use Rattle.tracked_frames.specs.placed_values.accepted_memory.holder_model.Frames.{Entry, Frame, Operands, results_put}
+use Rattle.tracked_frames.specs.placed_values.accepted_memory.holder_model.HolderStates.{HolderState}
+use Rattle.tracked_frames.specs.placed_values.accepted_memory.holder_model.MemoryEffects.{at_places}
+use Rattle.tracked_frames.specs.placed_values.accepted_memory.holder_model.ModuleFacts.{facts_of, facts_told}
+use Rattle.tracked_frames.specs.placed_values.accepted_memory.holder_model.ModuleShapes.{shapes_in, shapes_of}
+use Rattle.tracked_frames.specs.placed_values.accepted_memory.holder_model.Standing.{stands_at}
+use Rattle.tracked_frames.specs.placed_values.accepted_memory.holder_model.StepParts.{slots_behind}
+use Rattle.tracked_frames.specs.placed_values.accepted_memory.holder_model.States.{Runs, Task}
+use Rattle.tracked_frames.specs.placed_values.accepted_memory.holder_model.declared.row_effect.RowEffect.TheVariants as row
+use Rattle.tracked_frames.specs.placed_values.accepted_memory.memory_accesses.Sources.{sources_of}
+use Rattle.tracked_frames.specs.placed_values.accepted_memory.run_trails.inner.RunTrails.{IsRunTrail}
+use Rattle.tracked_frames.specs.placed_values.accepted_places.inner.Located.{IsAddress}
+use Rattle.tracked_frames.specs.placed_values.accepted_values.inner.Known.{IsAcceptedBody}
+use Rattle.tracked_frames.specs.placed_values.accepted_values.owned_run_typing.inner.OwnedTyped.{OwnedFunction, OwnedInst}
+use Rattle.tracked_frames.specs.placed_values.accepted_values.run_typing.EndForms.{value_in}
+use Rattle.tracked_frames.specs.placed_values.accepted_values.run_typing.Forms.{Form, OfPlace, form_of, forms_of}
+use Rattle.tracked_frames.proofs.placed_values.held_entries.accepted_trails.run_trails.WalkEdges.{are_next}
 use Rattle.tracked_frames.specs.holder_steps.inner.Ways.{left_with}
 use Rattle.item_operands.specs.Items.{item_defined, item_taken}
 use Rattle.numbered_form.specs.Lists.{Each}

@@ -3,10 +3,10 @@ use Rattle.std.proofs.Common.{◌≡◌, ℕ, zero, suc, List, [], ◌∷◌, Bo
 use Rattle.std.specs.Prelude.{unwrap_or}
 use Rattle.std.proofs.lemmas.Bool.{and_parts, false≢true}
 use Rattle.std.proofs.lemmas.Option.{none-some}
-use Rattle.placed_values.specs.accepted_memory.holder_model.Calling.{argument_data, given_places, places_given, value_count}
-use Rattle.placed_values.specs.accepted_memory.holder_model.Frames.{Entry, Gone, LentPlace, has_any, no_entries}
-use Rattle.placed_values.specs.accepted_memory.holder_model.Outcomes.{begins, may_start}
-use Rattle.placed_values.specs.accepted_values.inner.Known.{IsAcceptedBody}
+use Rattle.tracked_frames.specs.placed_values.accepted_memory.holder_model.Calling.{argument_data, given_places, places_given, value_count}
+use Rattle.tracked_frames.specs.placed_values.accepted_memory.holder_model.Frames.{Entry, Gone, LentPlace, has_any, no_entries}
+use Rattle.tracked_frames.specs.placed_values.accepted_memory.holder_model.Outcomes.{begins, may_start}
+use Rattle.tracked_frames.specs.placed_values.accepted_values.inner.Known.{IsAcceptedBody}
 use Rattle.argument_conventions.specs.Arguments.{arguments_of}
 use Rattle.item_operands.specs.Items.{item_defined}
 use Rattle.point_checks.proofs.Among.{Among}

@@ -5,15 +5,15 @@ use Rattle.std.specs.declared.result.Result.{Result}
 use Rattle.std.proofs.lemmas.Bool.{cases_Bool, false≢true, or_cases}
 use Rattle.std.proofs.lemmas.List.{length-replicate}
 use Rattle.std.proofs.lemmas.Option.{none-some, same_Some}
-use Rattle.placed_values.specs.accepted_memory.holder_model.Calling.{argument_data, as_argument, given_places, lent_places, places_given, value_count}
-use Rattle.placed_values.specs.accepted_memory.holder_model.Data.{AddressOf, Datum}
-use Rattle.placed_values.specs.accepted_memory.holder_model.Faults.{HolderFault}
-use Rattle.placed_values.specs.accepted_memory.holder_model.Frames.{Entry, Gone, datum_in, entry_at, no_entries, result_put, results_put, with_ok}
-use Rattle.placed_values.specs.accepted_memory.memory_accesses.Sources.{source_at, sources_of}
-use Rattle.placed_values.specs.accepted_memory.memory_accesses.declared.source.Source.TheVariants as source
-use Rattle.placed_values.specs.accepted_values.inner.Known.{IsAcceptedBody}
-use Rattle.placed_values.specs.accepted_values.run_typing.CallForms.{IsOf}
-use Rattle.placed_values.proofs.accepted_values.Made.{distinct, items_of}
+use Rattle.tracked_frames.specs.placed_values.accepted_memory.holder_model.Calling.{argument_data, as_argument, given_places, lent_places, places_given, value_count}
+use Rattle.tracked_frames.specs.placed_values.accepted_memory.holder_model.Data.{AddressOf, Datum}
+use Rattle.tracked_frames.specs.placed_values.accepted_memory.holder_model.Faults.{HolderFault}
+use Rattle.tracked_frames.specs.placed_values.accepted_memory.holder_model.Frames.{Entry, Gone, datum_in, entry_at, no_entries, result_put, results_put, with_ok}
+use Rattle.tracked_frames.specs.placed_values.accepted_memory.memory_accesses.Sources.{source_at, sources_of}
+use Rattle.tracked_frames.specs.placed_values.accepted_memory.memory_accesses.declared.source.Source.TheVariants as source
+use Rattle.tracked_frames.specs.placed_values.accepted_values.inner.Known.{IsAcceptedBody}
+use Rattle.tracked_frames.specs.placed_values.accepted_values.run_typing.CallForms.{IsOf}
+use Rattle.tracked_frames.proofs.placed_values.accepted_values.Made.{distinct, items_of}
 use Rattle.argument_conventions.specs.Arguments.{Told, arguments_of}
 use Rattle.argument_conventions.specs.Rows.{address_row}
 use Rattle.argument_conventions.specs.declared.row.AddressRow.{AddressRow}
@@ -21,7 +21,7 @@ use Rattle.item_operands.specs.Items.{item_defined}
 use Rattle.item_operands.specs.declared.taken.Taken.{Taken}
 use Rattle.ownership_chains.specs.Facts.{has}
 use Rattle.ownership_chains.specs.declared.facts.Facts.{Facts}
-use Rattle.placed_values.specs.inner.Arguments.{IsTold}
+use Rattle.tracked_frames.specs.placed_values.inner.Arguments.{IsTold}
 use Rattle.run_values.specs.Places.{Place}
 use Rattle.sil_ast.specs.declared.function.Function.{Function}
 use Rattle.sil_ast.specs.declared.module.Module.{Module}

@@ -1,24 +1,24 @@
 -- A function with a body is called: the places that are lent are as their rows ask, and the callee begins with its places.
 use Rattle.std.proofs.Common.{◌≡◌, ⊎_elim, ℕ, List, ◌∷◌, drop, map, true, false, Option, Ok, Some, sym, ap, ◌∙◌, slice_get}
 use Rattle.std.proofs.lemmas.Bool.{true≢false}
-use Rattle.placed_values.specs.accepted_memory.holder_model.Calling.{are_as_before, as_argument, handed_over, lent_places, value_count}
-use Rattle.placed_values.specs.accepted_memory.holder_model.Data.{Datum}
-use Rattle.placed_values.specs.accepted_memory.holder_model.Effects.{Calls}
-use Rattle.placed_values.specs.accepted_memory.holder_model.Frames.{Entry, Frame, LentPlace, Operands, has_any, no_entries, results_put}
-use Rattle.placed_values.specs.accepted_memory.holder_model.HolderStates.{HolderNext, HolderState}
-use Rattle.placed_values.specs.accepted_memory.holder_model.MemoryEffects.{effect}
-use Rattle.placed_values.specs.accepted_memory.holder_model.ModuleFacts.{ModuleFacts, facts_told}
-use Rattle.placed_values.specs.accepted_memory.holder_model.ModuleShapes.{ModuleShapes}
-use Rattle.placed_values.specs.accepted_memory.holder_model.Standing.{stands_at}
-use Rattle.placed_values.specs.accepted_memory.holder_model.StepParts.{new_frame}
-use Rattle.placed_values.specs.accepted_memory.holder_model.States.{Runs, Task}
-use Rattle.placed_values.specs.accepted_memory.memory_accesses.Operations.{operations_of}
-use Rattle.placed_values.specs.accepted_memory.memory_accesses.Rows.{is_part}
-use Rattle.placed_values.specs.accepted_memory.memory_accesses.Sources.{is_trivial_at, sources_of}
-use Rattle.placed_values.specs.accepted_memory.memory_accesses.declared.access.Operated.{Operated}
-use Rattle.placed_values.specs.accepted_memory.run_trails.inner.RunTrails.{IsRunTrail}
-use Rattle.placed_values.specs.accepted_values.accepted_modules.inner.Checked.{IsVerified}
-use Rattle.placed_values.specs.accepted_values.inner.Known.{IsAcceptedBody}
+use Rattle.tracked_frames.specs.placed_values.accepted_memory.holder_model.Calling.{are_as_before, as_argument, handed_over, lent_places, value_count}
+use Rattle.tracked_frames.specs.placed_values.accepted_memory.holder_model.Data.{Datum}
+use Rattle.tracked_frames.specs.placed_values.accepted_memory.holder_model.Effects.{Calls}
+use Rattle.tracked_frames.specs.placed_values.accepted_memory.holder_model.Frames.{Entry, Frame, LentPlace, Operands, has_any, no_entries, results_put}
+use Rattle.tracked_frames.specs.placed_values.accepted_memory.holder_model.HolderStates.{HolderNext, HolderState}
+use Rattle.tracked_frames.specs.placed_values.accepted_memory.holder_model.MemoryEffects.{effect}
+use Rattle.tracked_frames.specs.placed_values.accepted_memory.holder_model.ModuleFacts.{ModuleFacts, facts_told}
+use Rattle.tracked_frames.specs.placed_values.accepted_memory.holder_model.ModuleShapes.{ModuleShapes}
+use Rattle.tracked_frames.specs.placed_values.accepted_memory.holder_model.Standing.{stands_at}
+use Rattle.tracked_frames.specs.placed_values.accepted_memory.holder_model.StepParts.{new_frame}
+use Rattle.tracked_frames.specs.placed_values.accepted_memory.holder_model.States.{Runs, Task}
+use Rattle.tracked_frames.specs.placed_values.accepted_memory.memory_accesses.Operations.{operations_of}
+use Rattle.tracked_frames.specs.placed_values.accepted_memory.memory_accesses.Rows.{is_part}
+use Rattle.tracked_frames.specs.placed_values.accepted_memory.memory_accesses.Sources.{is_trivial_at, sources_of}
+use Rattle.tracked_frames.specs.placed_values.accepted_memory.memory_accesses.declared.access.Operated.{Operated}
+use Rattle.tracked_frames.specs.placed_values.accepted_memory.run_trails.inner.RunTrails.{IsRunTrail}
+use Rattle.tracked_frames.specs.placed_values.accepted_values.accepted_modules.inner.Checked.{IsVerified}
+use Rattle.tracked_frames.specs.placed_values.accepted_values.inner.Known.{IsAcceptedBody}
 use Rattle.tracked_frames.specs.holder_steps.inner.Ways.{Enters}
 use Rattle.tracked_frames.proofs.holder_steps.WhichFaults.{results_err}
 use Rattle.item_operands.specs.Items.{item_defined, item_taken}

@@ -1,20 +1,20 @@
 -- What an instruction's effect leads to: behind each change the tasks hold their places, a slot that goes is the newest, and no place meets a fault.
 use Rattle.std.proofs.Common.{◌≡◌, ◌⊎◌, ⊎_elim, inl, inr, ℕ, List, [], ◌∷◌, Bool, true, false, Option, Some, None, Err, refl, sym, ap, ◌∙◌, subst}
 use Rattle.std.proofs.lemmas.Bool.{false≢true, true≢false}
-use Rattle.placed_values.specs.accepted_memory.holder_model.Data.{AddressOf, Datum, as_function}
-use Rattle.placed_values.specs.accepted_memory.holder_model.Effects as effects
-use Rattle.placed_values.specs.accepted_memory.holder_model.Effects.{Calls, Change, Effect, Faults, Makes, OpensSlot, Unfit, effect_by, effect_of}
-use Rattle.placed_values.specs.accepted_memory.holder_model.Faults.{HolderFault}
-use Rattle.placed_values.specs.accepted_memory.holder_model.Frames.{Entry, Frame}
-use Rattle.placed_values.specs.accepted_memory.holder_model.MemoryEffects.{at_places, effect}
-use Rattle.placed_values.specs.accepted_memory.holder_model.ModuleShapes.{ModuleShapes}
-use Rattle.placed_values.specs.accepted_memory.holder_model.StepParts.{slots_behind}
-use Rattle.placed_values.specs.accepted_memory.holder_model.States.{Task}
-use Rattle.placed_values.specs.accepted_memory.holder_model.declared.row_effect.RowEffect.{RowEffect}
-use Rattle.placed_values.specs.accepted_memory.holder_model.declared.row_effect.RowEffect.TheVariants as row
-use Rattle.placed_values.specs.accepted_memory.memory_accesses.Operations.{access_kind_of}
-use Rattle.placed_values.specs.accepted_memory.memory_accesses.declared.access.Operation.{Operation}
-use Rattle.placed_values.specs.accepted_values.inner.Known.{IsAcceptedBody}
+use Rattle.tracked_frames.specs.placed_values.accepted_memory.holder_model.Data.{AddressOf, Datum, as_function}
+use Rattle.tracked_frames.specs.placed_values.accepted_memory.holder_model.Effects as effects
+use Rattle.tracked_frames.specs.placed_values.accepted_memory.holder_model.Effects.{Calls, Change, Effect, Faults, Makes, OpensSlot, Unfit, effect_by, effect_of}
+use Rattle.tracked_frames.specs.placed_values.accepted_memory.holder_model.Faults.{HolderFault}
+use Rattle.tracked_frames.specs.placed_values.accepted_memory.holder_model.Frames.{Entry, Frame}
+use Rattle.tracked_frames.specs.placed_values.accepted_memory.holder_model.MemoryEffects.{at_places, effect}
+use Rattle.tracked_frames.specs.placed_values.accepted_memory.holder_model.ModuleShapes.{ModuleShapes}
+use Rattle.tracked_frames.specs.placed_values.accepted_memory.holder_model.StepParts.{slots_behind}
+use Rattle.tracked_frames.specs.placed_values.accepted_memory.holder_model.States.{Task}
+use Rattle.tracked_frames.specs.placed_values.accepted_memory.holder_model.declared.row_effect.RowEffect.{RowEffect}
+use Rattle.tracked_frames.specs.placed_values.accepted_memory.holder_model.declared.row_effect.RowEffect.TheVariants as row
+use Rattle.tracked_frames.specs.placed_values.accepted_memory.memory_accesses.Operations.{access_kind_of}
+use Rattle.tracked_frames.specs.placed_values.accepted_memory.memory_accesses.declared.access.Operation.{Operation}
+use Rattle.tracked_frames.specs.placed_values.accepted_values.inner.Known.{IsAcceptedBody}
 use Rattle.ownership_chains.specs.declared.facts.Facts.{Facts}
 use Rattle.run_values.specs.Memory.{Memory}
 use Rattle.run_values.specs.Places.{Place}

@@ -1,13 +1,13 @@
 -- A typed frame that has come to a call of which these places are lent: where its operations are.
 use Rattle.std.proofs.Common.{◌≡◌, ℕ, List, ◌∷◌, Some, sym, ap, subst}
-use Rattle.placed_values.specs.accepted_memory.holder_model.Effects.{effect_of}
-use Rattle.placed_values.specs.accepted_memory.holder_model.Frames.{Entry, LentPlace}
-use Rattle.placed_values.specs.accepted_memory.holder_model.declared.row_effect.RowEffect.TheVariants.{CallsFunction}
-use Rattle.placed_values.specs.accepted_memory.memory_accesses.Operations.{operations_of}
-use Rattle.placed_values.specs.accepted_memory.memory_accesses.declared.access.Operated.{Operated}
-use Rattle.placed_values.specs.accepted_memory.run_trails.inner.RunTrails.{GoesOn, IsRunTrail}
-use Rattle.placed_values.specs.accepted_places.inner.Located.{IsAddress}
-use Rattle.placed_values.specs.accepted_values.inner.Known.{IsAcceptedBody}
+use Rattle.tracked_frames.specs.placed_values.accepted_memory.holder_model.Effects.{effect_of}
+use Rattle.tracked_frames.specs.placed_values.accepted_memory.holder_model.Frames.{Entry, LentPlace}
+use Rattle.tracked_frames.specs.placed_values.accepted_memory.holder_model.declared.row_effect.RowEffect.TheVariants.{CallsFunction}
+use Rattle.tracked_frames.specs.placed_values.accepted_memory.memory_accesses.Operations.{operations_of}
+use Rattle.tracked_frames.specs.placed_values.accepted_memory.memory_accesses.declared.access.Operated.{Operated}
+use Rattle.tracked_frames.specs.placed_values.accepted_memory.run_trails.inner.RunTrails.{GoesOn, IsRunTrail}
+use Rattle.tracked_frames.specs.placed_values.accepted_places.inner.Located.{IsAddress}
+use Rattle.tracked_frames.specs.placed_values.accepted_values.inner.Known.{IsAcceptedBody}
 use Rattle.item_operands.specs.Parts.{inst_at}
 use Rattle.point_checks.proofs.Among.{Among}
 use Rattle.sil_ast.specs.declared.function.Function.{Function}

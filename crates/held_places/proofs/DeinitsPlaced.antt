@@ -1,20 +1,20 @@
 -- A deinitialiser begins with the object alone, which it owns: it was given no place.
 use Rattle.std.proofs.Common.{◌≡◌, ℕ, zero, suc, List, [], ◌∷◌, ◌++◌, map, true, Option, Ok, Some, None, refl, sym, ap, ◌∙◌, subst, slice_get}
 use Rattle.std.proofs.lemmas.Option.{none-some, same_Some}
-use Rattle.placed_values.specs.accepted_memory.holder_model.Calling.{argument_data, given_places, lent_with, place_in, places_given, value_count}
-use Rattle.placed_values.specs.accepted_memory.holder_model.Data.{Datum}
-use Rattle.placed_values.specs.accepted_memory.holder_model.Frames.{Entry, Frame, LentPlace, has_any, no_entries, results_put}
-use Rattle.placed_values.specs.accepted_memory.holder_model.StepParts.{new_frame}
-use Rattle.placed_values.specs.accepted_memory.holder_model.States.{Finishes, Runs, Task}
-use Rattle.placed_values.specs.accepted_values.accepted_modules.inner.Checked.{IsVerified}
-use Rattle.placed_values.specs.accepted_values.inner.Known.{IsAcceptedBody}
-use Rattle.placed_values.specs.accepted_values.run_typing.CallForms.{IsDeinitOf}
-use Rattle.placed_values.specs.accepted_values.run_typing.Forms.{OfValue, entry_forms, form_with}
-use Rattle.placed_values.proofs.accepted_values.Accepted.{well_typed}
-use Rattle.placed_values.proofs.accepted_values.run_typing_laws.FunctionFacts.{typed_function}
-use Rattle.placed_values.proofs.accepted_values.run_typing_laws.Rows.Forms.{typed_form}
-use Rattle.placed_values.proofs.accepted_values.run_typing_laws.Rows.Layers.{target-Address}
-use Rattle.placed_values.proofs.accepted_values.run_typing_laws.SignatureFacts.{entry_forms_are}
+use Rattle.tracked_frames.specs.placed_values.accepted_memory.holder_model.Calling.{argument_data, given_places, lent_with, place_in, places_given, value_count}
+use Rattle.tracked_frames.specs.placed_values.accepted_memory.holder_model.Data.{Datum}
+use Rattle.tracked_frames.specs.placed_values.accepted_memory.holder_model.Frames.{Entry, Frame, LentPlace, has_any, no_entries, results_put}
+use Rattle.tracked_frames.specs.placed_values.accepted_memory.holder_model.StepParts.{new_frame}
+use Rattle.tracked_frames.specs.placed_values.accepted_memory.holder_model.States.{Finishes, Runs, Task}
+use Rattle.tracked_frames.specs.placed_values.accepted_values.accepted_modules.inner.Checked.{IsVerified}
+use Rattle.tracked_frames.specs.placed_values.accepted_values.inner.Known.{IsAcceptedBody}
+use Rattle.tracked_frames.specs.placed_values.accepted_values.run_typing.CallForms.{IsDeinitOf}
+use Rattle.tracked_frames.specs.placed_values.accepted_values.run_typing.Forms.{OfValue, entry_forms, form_with}
+use Rattle.tracked_frames.proofs.placed_values.accepted_values.Accepted.{well_typed}
+use Rattle.tracked_frames.proofs.placed_values.accepted_values.run_typing_laws.FunctionFacts.{typed_function}
+use Rattle.tracked_frames.proofs.placed_values.accepted_values.run_typing_laws.Rows.Forms.{typed_form}
+use Rattle.tracked_frames.proofs.placed_values.accepted_values.run_typing_laws.Rows.Layers.{target-Address}
+use Rattle.tracked_frames.proofs.placed_values.accepted_values.run_typing_laws.SignatureFacts.{entry_forms_are}
 use Rattle.argument_conventions.specs.Arguments.{Told, argument_type, arguments_of, handed_type}
 use Rattle.argument_conventions.specs.Rows.{address_row}
 use Rattle.argument_conventions.specs.declared.convention.ArgumentConvention.{ArgumentConvention}

@@ -1,10 +1,10 @@
 -- Drops and finishes touch no place on the stack.
 use Rattle.std.proofs.Common.{◌≡◌, inr, ℕ, List, length, refl, sym, ap, slice_get, arith}
-use Rattle.placed_values.specs.accepted_memory.holder_model.Frames.{Frame}
-use Rattle.placed_values.specs.accepted_memory.holder_model.HolderStates.{HolderNext, HolderState}
-use Rattle.placed_values.specs.accepted_memory.holder_model.ModuleFacts.{ModuleFacts}
-use Rattle.placed_values.specs.accepted_memory.holder_model.States.{Task}
-use Rattle.placed_values.specs.accepted_memory.holder_model.Dropping.{ended, field_references, in_phase}
+use Rattle.tracked_frames.specs.placed_values.accepted_memory.holder_model.Frames.{Frame}
+use Rattle.tracked_frames.specs.placed_values.accepted_memory.holder_model.HolderStates.{HolderNext, HolderState}
+use Rattle.tracked_frames.specs.placed_values.accepted_memory.holder_model.ModuleFacts.{ModuleFacts}
+use Rattle.tracked_frames.specs.placed_values.accepted_memory.holder_model.States.{Task}
+use Rattle.tracked_frames.specs.placed_values.accepted_memory.holder_model.Dropping.{ended, field_references, in_phase}
 use Rattle.tracked_frames.specs.holder_steps.inner.Ways.{DropsOne, FinishesOne}
 use Rattle.run_values.specs.Memory.{Memory, object_at, with_object}
 use Rattle.run_values.specs.declared.phase.Phase.TheVariants.{Deiniting}

@@ -1,21 +1,21 @@
 -- An edge is taken: nothing is done to places.
 use Rattle.std.proofs.Common.{◌≡◌, ℕ, List, [], ◌∷◌, Bool, true, false, Option, Some, refl, sym, ap, ◌∙◌}
 use Rattle.std.specs.List.{list_any}
-use Rattle.placed_values.specs.accepted_memory.holder_model.Data.{Datum}
-use Rattle.placed_values.specs.accepted_memory.holder_model.Effects.{effect_of, unchanged}
-use Rattle.placed_values.specs.accepted_memory.holder_model.Frames.{Frame}
-use Rattle.placed_values.specs.accepted_memory.holder_model.HolderStates.{HolderNext, HolderState}
-use Rattle.placed_values.specs.accepted_memory.holder_model.ModuleFacts.{ModuleFacts, facts_told}
-use Rattle.placed_values.specs.accepted_memory.holder_model.States.{Task}
-use Rattle.placed_values.specs.accepted_memory.holder_model.declared.row_effect.RowEffect.TheVariants.{NoEffect}
-use Rattle.placed_values.specs.accepted_memory.memory_accesses.Operations.{deallocates, operations_of}
-use Rattle.placed_values.specs.accepted_memory.memory_accesses.Sources.{sources_of}
-use Rattle.placed_values.specs.accepted_memory.memory_parts.Parts.{whole_cell}
-use Rattle.placed_values.specs.accepted_memory.run_trails.inner.RunTrails.{IsRunTrail}
-use Rattle.placed_values.specs.accepted_places.inner.Cells.{operates_on, touches}
-use Rattle.placed_values.specs.accepted_places.inner.Stacks.{keeps_slots}
-use Rattle.placed_values.specs.accepted_values.accepted_modules.inner.Checked.{IsVerified}
-use Rattle.placed_values.specs.accepted_values.inner.Known.{IsAcceptedBody}
+use Rattle.tracked_frames.specs.placed_values.accepted_memory.holder_model.Data.{Datum}
+use Rattle.tracked_frames.specs.placed_values.accepted_memory.holder_model.Effects.{effect_of, unchanged}
+use Rattle.tracked_frames.specs.placed_values.accepted_memory.holder_model.Frames.{Frame}
+use Rattle.tracked_frames.specs.placed_values.accepted_memory.holder_model.HolderStates.{HolderNext, HolderState}
+use Rattle.tracked_frames.specs.placed_values.accepted_memory.holder_model.ModuleFacts.{ModuleFacts, facts_told}
+use Rattle.tracked_frames.specs.placed_values.accepted_memory.holder_model.States.{Task}
+use Rattle.tracked_frames.specs.placed_values.accepted_memory.holder_model.declared.row_effect.RowEffect.TheVariants.{NoEffect}
+use Rattle.tracked_frames.specs.placed_values.accepted_memory.memory_accesses.Operations.{deallocates, operations_of}
+use Rattle.tracked_frames.specs.placed_values.accepted_memory.memory_accesses.Sources.{sources_of}
+use Rattle.tracked_frames.specs.placed_values.accepted_memory.memory_parts.Parts.{whole_cell}
+use Rattle.tracked_frames.specs.placed_values.accepted_memory.run_trails.inner.RunTrails.{IsRunTrail}
+use Rattle.tracked_frames.specs.placed_values.accepted_places.inner.Cells.{operates_on, touches}
+use Rattle.tracked_frames.specs.placed_values.accepted_places.inner.Stacks.{keeps_slots}
+use Rattle.tracked_frames.specs.placed_values.accepted_values.accepted_modules.inner.Checked.{IsVerified}
+use Rattle.tracked_frames.specs.placed_values.accepted_values.inner.Known.{IsAcceptedBody}
 use Rattle.tracked_frames.specs.holder_steps.inner.Ways.{GoesBehind}
 use Rattle.tracked_frames.proofs.holder_steps.WhichFaults.{results_err}
 use Rattle.instruction_table.specs.Forms.{ending_of}

@@ -2,17 +2,17 @@
 use Rattle.std.proofs.Common.{◌≡◌, ◌⊎◌, inl, inr, List, [], ◌∷◌, Bool, true, false, cond, Option, Some, None, refl, sym, subst}
 use Rattle.std.specs.Prelude.{option_and_then}
 use Rattle.std.proofs.lemmas.Bool.{false≢true}
-use Rattle.placed_values.specs.accepted_memory.holder_model.Data.{AddressOf, Datum, FunctionOf, ValueOf, as_place}
-use Rattle.placed_values.specs.accepted_memory.holder_model.Effects.{Change, ClosesSlot, Effect, Faults, Makes, SameSlots, Traps, Unfit, gives_value, only, unchanged, with_some}
-use Rattle.placed_values.specs.accepted_memory.holder_model.Faults.{HolderFault, NotLastSlot}
-use Rattle.placed_values.specs.accepted_memory.holder_model.MemoryEffects as effects
-use Rattle.placed_values.specs.accepted_memory.holder_model.MemoryEffects.{all_live, asked_before, at_places, copies_with, fault_of, holds, loaded_name, named_again, operation_done, references_at, two}
-use Rattle.placed_values.specs.accepted_memory.holder_model.MemoryEffects.{value_and_place, where_held}
-use Rattle.placed_values.specs.accepted_memory.holder_model.ModuleShapes.{ModuleShapes}
-use Rattle.placed_values.specs.accepted_memory.holder_model.declared.row_effect.RowEffect.{RowEffect}
-use Rattle.placed_values.specs.accepted_memory.holder_model.declared.row_effect.RowEffect.TheVariants as row
-use Rattle.placed_values.specs.accepted_memory.holder_model.declared.trap.Trap.TheVariants as trap
-use Rattle.placed_values.specs.accepted_memory.memory_accesses.declared.access.Operation.{Operation}
+use Rattle.tracked_frames.specs.placed_values.accepted_memory.holder_model.Data.{AddressOf, Datum, FunctionOf, ValueOf, as_place}
+use Rattle.tracked_frames.specs.placed_values.accepted_memory.holder_model.Effects.{Change, ClosesSlot, Effect, Faults, Makes, SameSlots, Traps, Unfit, gives_value, only, unchanged, with_some}
+use Rattle.tracked_frames.specs.placed_values.accepted_memory.holder_model.Faults.{HolderFault, NotLastSlot}
+use Rattle.tracked_frames.specs.placed_values.accepted_memory.holder_model.MemoryEffects as effects
+use Rattle.tracked_frames.specs.placed_values.accepted_memory.holder_model.MemoryEffects.{all_live, asked_before, at_places, copies_with, fault_of, holds, loaded_name, named_again, operation_done, references_at, two}
+use Rattle.tracked_frames.specs.placed_values.accepted_memory.holder_model.MemoryEffects.{value_and_place, where_held}
+use Rattle.tracked_frames.specs.placed_values.accepted_memory.holder_model.ModuleShapes.{ModuleShapes}
+use Rattle.tracked_frames.specs.placed_values.accepted_memory.holder_model.declared.row_effect.RowEffect.{RowEffect}
+use Rattle.tracked_frames.specs.placed_values.accepted_memory.holder_model.declared.row_effect.RowEffect.TheVariants as row
+use Rattle.tracked_frames.specs.placed_values.accepted_memory.holder_model.declared.trap.Trap.TheVariants as trap
+use Rattle.tracked_frames.specs.placed_values.accepted_memory.memory_accesses.declared.access.Operation.{Operation}
 use Rattle.argument_conventions.specs.declared.row.Content.{Content}
 use Rattle.argument_conventions.specs.declared.row.Content.TheVariants as content
 use Rattle.run_values.specs.Memory.{Memory}

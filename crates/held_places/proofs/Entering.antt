@@ -3,25 +3,25 @@ use Rattle.std.proofs.Common.{◌≡◌, ⊎_elim, ◌==◌, ◌&&◌, ◌<◌, 
 use Rattle.std.specs.Prelude.{cond}
 use Rattle.std.proofs.lemmas.Bool.{and_right, cases_eq, cases_lt, false≢true, true≢false}
 use Rattle.std.proofs.lemmas.Option.{none-some, same_Some}
-use Rattle.placed_values.specs.accepted_memory.holder_model.Calling.{argument_data, lent_by, places_given}
-use Rattle.placed_values.specs.accepted_memory.holder_model.Frames.{Entry, Frame, Gone, LentPlace, datum_in, entry_at}
-use Rattle.placed_values.specs.accepted_memory.holder_model.StepParts.{new_frame}
-use Rattle.placed_values.specs.accepted_memory.holder_model.States.{Task}
-use Rattle.placed_values.specs.accepted_memory.memory_accesses.Locations.{location_of}
-use Rattle.placed_values.specs.accepted_memory.memory_accesses.Rows.{is_part}
-use Rattle.placed_values.specs.accepted_memory.memory_accesses.Sources.{argument_source_or, handed_source, source_at, sources_of}
-use Rattle.placed_values.specs.accepted_memory.memory_accesses.declared.location.Location.{Location}
-use Rattle.placed_values.specs.accepted_memory.memory_accesses.declared.source.Source.TheVariants as source
-use Rattle.placed_values.specs.accepted_memory.memory_parts.Parts.{whole_cell}
-use Rattle.placed_values.specs.accepted_memory.memory_parts.declared.part.Part.TheVariants.{Contents}
-use Rattle.placed_values.specs.inner.Arguments.{IsTold}
-use Rattle.placed_values.specs.accepted_places.inner.Cells.{is_full, part_by}
-use Rattle.placed_values.specs.accepted_places.inner.Stacks.{slots_on}
-use Rattle.placed_values.proofs.accepted_places.Fields.{has_among}
-use Rattle.placed_values.proofs.accepted_values.Counted.{stands}
-use Rattle.placed_values.specs.accepted_values.accepted_modules.sil_types.Typing.Shapes.{is_trivial_object}
-use Rattle.placed_values.specs.accepted_values.inner.Known.{IsAcceptedBody}
-use Rattle.placed_values.proofs.ArgumentsTold.{entry_source}
+use Rattle.tracked_frames.specs.placed_values.accepted_memory.holder_model.Calling.{argument_data, lent_by, places_given}
+use Rattle.tracked_frames.specs.placed_values.accepted_memory.holder_model.Frames.{Entry, Frame, Gone, LentPlace, datum_in, entry_at}
+use Rattle.tracked_frames.specs.placed_values.accepted_memory.holder_model.StepParts.{new_frame}
+use Rattle.tracked_frames.specs.placed_values.accepted_memory.holder_model.States.{Task}
+use Rattle.tracked_frames.specs.placed_values.accepted_memory.memory_accesses.Locations.{location_of}
+use Rattle.tracked_frames.specs.placed_values.accepted_memory.memory_accesses.Rows.{is_part}
+use Rattle.tracked_frames.specs.placed_values.accepted_memory.memory_accesses.Sources.{argument_source_or, handed_source, source_at, sources_of}
+use Rattle.tracked_frames.specs.placed_values.accepted_memory.memory_accesses.declared.location.Location.{Location}
+use Rattle.tracked_frames.specs.placed_values.accepted_memory.memory_accesses.declared.source.Source.TheVariants as source
+use Rattle.tracked_frames.specs.placed_values.accepted_memory.memory_parts.Parts.{whole_cell}
+use Rattle.tracked_frames.specs.placed_values.accepted_memory.memory_parts.declared.part.Part.TheVariants.{Contents}
+use Rattle.tracked_frames.specs.placed_values.inner.Arguments.{IsTold}
+use Rattle.tracked_frames.specs.placed_values.accepted_places.inner.Cells.{is_full, part_by}
+use Rattle.tracked_frames.specs.placed_values.accepted_places.inner.Stacks.{slots_on}
+use Rattle.tracked_frames.proofs.placed_values.accepted_places.Fields.{has_among}
+use Rattle.tracked_frames.proofs.placed_values.accepted_values.Counted.{stands}
+use Rattle.tracked_frames.specs.placed_values.accepted_values.accepted_modules.sil_types.Typing.Shapes.{is_trivial_object}
+use Rattle.tracked_frames.specs.placed_values.accepted_values.inner.Known.{IsAcceptedBody}
+use Rattle.tracked_frames.proofs.placed_values.ArgumentsTold.{entry_source}
 use Rattle.argument_conventions.specs.Arguments.{Told, arguments_of}
 use Rattle.argument_conventions.specs.Rows.{address_row}
 use Rattle.argument_conventions.specs.declared.convention.AddressConvention.TheVariants as address

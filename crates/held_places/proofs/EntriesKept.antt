@@ -4,11 +4,11 @@ use Rattle.std.specs.declared.result.Result.{Result}
 use Rattle.std.proofs.lemmas.Bool.{cases_Bool, or_parts}
 use Rattle.std.proofs.lemmas.List.{length-set}
 use Rattle.std.proofs.lemmas.Option.{none-some, same_Some}
-use Rattle.placed_values.specs.accepted_memory.holder_model.Data.{AddressOf, Datum, FunctionOf, ValueOf}
-use Rattle.placed_values.specs.accepted_memory.holder_model.Faults.{HolderFault, OverwritesHeld, WrongShape}
-use Rattle.placed_values.specs.accepted_memory.holder_model.Frames.{Entry, Gone, Held, Lent, Plain, datum_in, ended_entry, ends, entry_at, is_held, made_entry, plain_address, put_entry, results_put}
-use Rattle.placed_values.specs.accepted_memory.holder_model.Frames.{result_put, with_ok, without_ended, has_any}
-use Rattle.placed_values.proofs.held_entries.EntriesEnded.{entry_set_other, entry_set_same, other_way}
+use Rattle.tracked_frames.specs.placed_values.accepted_memory.holder_model.Data.{AddressOf, Datum, FunctionOf, ValueOf}
+use Rattle.tracked_frames.specs.placed_values.accepted_memory.holder_model.Faults.{HolderFault, OverwritesHeld, WrongShape}
+use Rattle.tracked_frames.specs.placed_values.accepted_memory.holder_model.Frames.{Entry, Gone, Held, Lent, Plain, datum_in, ended_entry, ends, entry_at, is_held, made_entry, plain_address, put_entry, results_put}
+use Rattle.tracked_frames.specs.placed_values.accepted_memory.holder_model.Frames.{result_put, with_ok, without_ended, has_any}
+use Rattle.tracked_frames.proofs.placed_values.held_entries.EntriesEnded.{entry_set_other, entry_set_same, other_way}
 use Rattle.item_operands.specs.declared.taken.Taken.{Taken}
 use Rattle.ownership_chains.specs.Facts.{has, known_or}
 use Rattle.ownership_chains.specs.declared.facts.Facts.{Facts}

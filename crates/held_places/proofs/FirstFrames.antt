@@ -1,11 +1,11 @@
 -- The frame that goes on: it is typed and holds its places, also without the operands that ended.
 use Rattle.std.proofs.Common.{◌≡◌, List, [], Option, Ok, refl, sym, ◌∙◌, subst}
 use Rattle.std.proofs.lemmas.Option.{same_Some}
-use Rattle.placed_values.specs.accepted_memory.holder_model.Calling.{places_given}
-use Rattle.placed_values.specs.accepted_memory.holder_model.Frames.{Frame, Operands, without_ended}
-use Rattle.placed_values.specs.accepted_memory.holder_model.States.{Task}
-use Rattle.placed_values.specs.accepted_values.accepted_modules.inner.Checked.{IsVerified}
-use Rattle.placed_values.specs.accepted_values.inner.Known.{IsAcceptedBody}
+use Rattle.tracked_frames.specs.placed_values.accepted_memory.holder_model.Calling.{places_given}
+use Rattle.tracked_frames.specs.placed_values.accepted_memory.holder_model.Frames.{Frame, Operands, without_ended}
+use Rattle.tracked_frames.specs.placed_values.accepted_memory.holder_model.States.{Task}
+use Rattle.tracked_frames.specs.placed_values.accepted_values.accepted_modules.inner.Checked.{IsVerified}
+use Rattle.tracked_frames.specs.placed_values.accepted_values.inner.Known.{IsAcceptedBody}
 use Rattle.item_operands.specs.Items.{item_taken}
 use Rattle.ownership_chains.specs.declared.facts.Facts.{Facts}
 use Rattle.run_values.specs.Memory.{Memory}

@@ -3,9 +3,9 @@ use Rattle.std.proofs.Common.{◌≡◌, ⊎_elim, inl, inr, ◌&&◌, ◌++◌,
 use Rattle.std.specs.List.{list_any}
 use Rattle.std.proofs.lemmas.Bool.{or_left, or_right, true≢false}
 use Rattle.std.proofs.lemmas.Option.{none-some, same_Some}
-use Rattle.placed_values.specs.accepted_memory.holder_model.Calling.{given_places, lent_by, lent_with, place_in}
-use Rattle.placed_values.specs.accepted_memory.holder_model.Data.{AddressOf, Datum, FunctionOf, ValueOf}
-use Rattle.placed_values.specs.accepted_memory.holder_model.Frames.{LentPlace}
+use Rattle.tracked_frames.specs.placed_values.accepted_memory.holder_model.Calling.{given_places, lent_by, lent_with, place_in}
+use Rattle.tracked_frames.specs.placed_values.accepted_memory.holder_model.Data.{AddressOf, Datum, FunctionOf, ValueOf}
+use Rattle.tracked_frames.specs.placed_values.accepted_memory.holder_model.Frames.{LentPlace}
 use Rattle.argument_conventions.specs.Arguments.{Told}
 use Rattle.argument_conventions.specs.Rows.{address_row}
 use Rattle.argument_conventions.specs.declared.row.AddressRow.{AddressRow}

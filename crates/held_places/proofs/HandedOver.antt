@@ -2,8 +2,8 @@
 use Rattle.std.proofs.Common.{◌≡◌, ⊎_elim, inl, inr, ℕ, List, [], ◌∷◌, length, Bool, true, false, Some, refl, sym, ap, ◌∙◌, subst, arith}
 use Rattle.std.specs.List.{list_all}
 use Rattle.std.proofs.lemmas.Bool.{and_from}
-use Rattle.placed_values.specs.accepted_memory.holder_model.Calling.{emptied_for, handed_over}
-use Rattle.placed_values.specs.accepted_memory.holder_model.Frames.{LentPlace}
+use Rattle.tracked_frames.specs.placed_values.accepted_memory.holder_model.Calling.{emptied_for, handed_over}
+use Rattle.tracked_frames.specs.placed_values.accepted_memory.holder_model.Frames.{LentPlace}
 use Rattle.argument_conventions.specs.declared.row.Content.{Content}
 use Rattle.argument_conventions.specs.declared.row.Content.TheVariants as content
 use Rattle.memory_cells.specs.inner.Cells.{ChangesAt, IsInside, cell_at, has_cell}

@@ -2,12 +2,12 @@
 use Rattle.std.proofs.Common.{◌≡◌, ◌++◌, List, [], ◌∷◌, map, cond, Option, Some, None, refl, sym, ap, ◌∙◌, subst}
 use Rattle.std.specs.Prelude.{flat_map, option_map}
 use Rattle.std.specs.Option.{option_or, option_to_list}
-use Rattle.placed_values.specs.accepted_memory.holder_model.Calling.{as_argument, given_places, lent_places, lent_with}
-use Rattle.placed_values.specs.accepted_memory.holder_model.Data.{AddressOf, Datum, FunctionOf, ValueOf, as_place}
-use Rattle.placed_values.specs.accepted_memory.holder_model.Frames.{Entry}
-use Rattle.placed_values.specs.accepted_memory.memory_accesses.Operations.{is_address_role, operated, operated_at}
-use Rattle.placed_values.specs.accepted_memory.memory_accesses.declared.access.Operation.TheVariants.{Handed}
-use Rattle.placed_values.specs.accepted_memory.memory_accesses.declared.columns.AccessKind.TheVariants as access
+use Rattle.tracked_frames.specs.placed_values.accepted_memory.holder_model.Calling.{as_argument, given_places, lent_places, lent_with}
+use Rattle.tracked_frames.specs.placed_values.accepted_memory.holder_model.Data.{AddressOf, Datum, FunctionOf, ValueOf, as_place}
+use Rattle.tracked_frames.specs.placed_values.accepted_memory.holder_model.Frames.{Entry}
+use Rattle.tracked_frames.specs.placed_values.accepted_memory.memory_accesses.Operations.{is_address_role, operated, operated_at}
+use Rattle.tracked_frames.specs.placed_values.accepted_memory.memory_accesses.declared.access.Operation.TheVariants.{Handed}
+use Rattle.tracked_frames.specs.placed_values.accepted_memory.memory_accesses.declared.columns.AccessKind.TheVariants as access
 use Rattle.argument_conventions.specs.Arguments.{Told}
 use Rattle.argument_conventions.specs.declared.row.AddressRow.{AddressRow}
 use Rattle.item_operands.specs.declared.taken.Taken.{Taken}

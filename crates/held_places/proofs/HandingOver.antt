@@ -3,27 +3,27 @@ use Rattle.std.proofs.Common.{◌≡◌, ◌++◌, append-nil, ℕ, List, [], �
 use Rattle.std.specs.Prelude.{drop, flat_map, slice_get}
 use Rattle.std.specs.List.{AllZip}
 use Rattle.std.proofs.lemmas.Option.{none-some, same_Some}
-use Rattle.placed_values.specs.accepted_memory.holder_model.Calling.{lent_places}
-use Rattle.placed_values.specs.accepted_memory.holder_model.Data.{AddressOf, Datum, FunctionOf, ValueOf, as_function}
-use Rattle.placed_values.specs.accepted_memory.holder_model.Effects.{Calls, Effect, Unfit, calls, effect_by, effect_of, with_some}
-use Rattle.placed_values.specs.accepted_memory.holder_model.Faults.{HolderFault}
-use Rattle.placed_values.specs.accepted_memory.holder_model.Frames.{Entry, Operands}
-use Rattle.placed_values.specs.accepted_memory.holder_model.MemoryEffects.{at_places}
-use Rattle.placed_values.specs.accepted_memory.holder_model.ModuleShapes.{ModuleShapes}
-use Rattle.placed_values.specs.accepted_memory.holder_model.declared.row_effect.RowEffect.TheVariants as row
-use Rattle.placed_values.specs.accepted_memory.memory_accesses.Operations.{access_kind_of, operated_at, operations_of}
-use Rattle.placed_values.specs.accepted_memory.memory_accesses.declared.columns.AccessKind.TheVariants as access
-use Rattle.placed_values.proofs.accepted_values.Accepted.{well_typed}
-use Rattle.placed_values.proofs.accepted_values.Calls.{calls_handed}
-use Rattle.placed_values.proofs.accepted_values.run_typing_laws.CallFacts.{Called, called}
-use Rattle.placed_values.proofs.accepted_values.run_typing_laws.Rows.Layers.{target-Address}
-use Rattle.placed_values.proofs.accepted_values.run_typing_laws.Rows.Points.{is_at}
-use Rattle.placed_values.specs.accepted_values.accepted_modules.sil_types.Typing.Shapes.{target}
-use Rattle.placed_values.specs.accepted_values.accepted_modules.sil_types.Typing.Values.{function_at, value_functions}
-use Rattle.placed_values.specs.accepted_values.inner.Handed.{IsHanded}
-use Rattle.placed_values.specs.accepted_values.inner.Known.{IsAcceptedBody, type_in}
-use Rattle.placed_values.specs.accepted_values.run_typing.Forms.{Form, OfFunction, OfPlace, form_by, form_of, form_with}
-use Rattle.placed_values.specs.accepted_values.run_typing.lowered_run.LowStepParts.{taken_value}
+use Rattle.tracked_frames.specs.placed_values.accepted_memory.holder_model.Calling.{lent_places}
+use Rattle.tracked_frames.specs.placed_values.accepted_memory.holder_model.Data.{AddressOf, Datum, FunctionOf, ValueOf, as_function}
+use Rattle.tracked_frames.specs.placed_values.accepted_memory.holder_model.Effects.{Calls, Effect, Unfit, calls, effect_by, effect_of, with_some}
+use Rattle.tracked_frames.specs.placed_values.accepted_memory.holder_model.Faults.{HolderFault}
+use Rattle.tracked_frames.specs.placed_values.accepted_memory.holder_model.Frames.{Entry, Operands}
+use Rattle.tracked_frames.specs.placed_values.accepted_memory.holder_model.MemoryEffects.{at_places}
+use Rattle.tracked_frames.specs.placed_values.accepted_memory.holder_model.ModuleShapes.{ModuleShapes}
+use Rattle.tracked_frames.specs.placed_values.accepted_memory.holder_model.declared.row_effect.RowEffect.TheVariants as row
+use Rattle.tracked_frames.specs.placed_values.accepted_memory.memory_accesses.Operations.{access_kind_of, operated_at, operations_of}
+use Rattle.tracked_frames.specs.placed_values.accepted_memory.memory_accesses.declared.columns.AccessKind.TheVariants as access
+use Rattle.tracked_frames.proofs.placed_values.accepted_values.Accepted.{well_typed}
+use Rattle.tracked_frames.proofs.placed_values.accepted_values.Calls.{calls_handed}
+use Rattle.tracked_frames.proofs.placed_values.accepted_values.run_typing_laws.CallFacts.{Called, called}
+use Rattle.tracked_frames.proofs.placed_values.accepted_values.run_typing_laws.Rows.Layers.{target-Address}
+use Rattle.tracked_frames.proofs.placed_values.accepted_values.run_typing_laws.Rows.Points.{is_at}
+use Rattle.tracked_frames.specs.placed_values.accepted_values.accepted_modules.sil_types.Typing.Shapes.{target}
+use Rattle.tracked_frames.specs.placed_values.accepted_values.accepted_modules.sil_types.Typing.Values.{function_at, value_functions}
+use Rattle.tracked_frames.specs.placed_values.accepted_values.inner.Handed.{IsHanded}
+use Rattle.tracked_frames.specs.placed_values.accepted_values.inner.Known.{IsAcceptedBody, type_in}
+use Rattle.tracked_frames.specs.placed_values.accepted_values.run_typing.Forms.{Form, OfFunction, OfPlace, form_by, form_of, form_with}
+use Rattle.tracked_frames.specs.placed_values.accepted_values.run_typing.lowered_run.LowStepParts.{taken_value}
 use Rattle.argument_conventions.specs.Arguments.{Told, arguments_of, conventions_of, handed_type}
 use Rattle.argument_conventions.specs.Rows.{address_row}
 use Rattle.argument_conventions.specs.declared.convention.ArgumentConvention.{ArgumentConvention}

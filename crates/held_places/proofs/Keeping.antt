@@ -1,13 +1,13 @@
 -- A frame behind an item that neither allocates nor deallocates a slot: the same roots are there, and name what they named.
 use Rattle.std.proofs.Common.{◌≡◌, ℕ, ◌==◌, ⊎_elim, List, [], ◌∷◌, Bool, true, false, refl, sym, ap, ◌∙◌, subst, eq-eqb, eqb-true}
 use Rattle.std.proofs.lemmas.Bool.{false≢true, or_cases, or_left, or_right}
-use Rattle.placed_values.specs.accepted_memory.holder_model.Frames.{Entry, Frame, entry_at}
-use Rattle.placed_values.specs.accepted_memory.holder_model.States.{Task}
-use Rattle.placed_values.specs.accepted_memory.memory_accesses.Sources.{is_slot, is_slot_source, source_at, sources_of}
-use Rattle.placed_values.specs.accepted_memory.memory_accesses.declared.source.Source.{Source}
-use Rattle.placed_values.specs.accepted_memory.memory_accesses.declared.source.Source.TheVariants as source
-use Rattle.placed_values.specs.accepted_places.inner.Stacks.{slots_on}
-use Rattle.placed_values.specs.accepted_values.inner.Known.{IsAcceptedBody}
+use Rattle.tracked_frames.specs.placed_values.accepted_memory.holder_model.Frames.{Entry, Frame, entry_at}
+use Rattle.tracked_frames.specs.placed_values.accepted_memory.holder_model.States.{Task}
+use Rattle.tracked_frames.specs.placed_values.accepted_memory.memory_accesses.Sources.{is_slot, is_slot_source, source_at, sources_of}
+use Rattle.tracked_frames.specs.placed_values.accepted_memory.memory_accesses.declared.source.Source.{Source}
+use Rattle.tracked_frames.specs.placed_values.accepted_memory.memory_accesses.declared.source.Source.TheVariants as source
+use Rattle.tracked_frames.specs.placed_values.accepted_places.inner.Stacks.{slots_on}
+use Rattle.tracked_frames.specs.placed_values.accepted_values.inner.Known.{IsAcceptedBody}
 use Rattle.numbered_form.specs.Lists.{Each}
 use Rattle.ownership_chains.specs.Facts.{has}
 use Rattle.run_values.specs.Memory.{Memory}

@@ -65,10 +65,11 @@ pub mod NewParts
 pub mod NamedChanges
 pub mod TypingSo
 pub use Rattle.tracked_frames.proofs.typed_memory as typed_memory
-pub use Rattle.placed_values.proofs.accepted_memory as accepted_memory
+pub use Rattle.tracked_frames.proofs.placed_values.accepted_memory as accepted_memory
 pub use Rattle.tracked_frames.proofs.typed_holders as typed_holders
-pub use Rattle.placed_values.proofs as placed_values
-pub use Rattle.placed_values.proofs.accepted_places as accepted_places
-pub use Rattle.placed_values.proofs.accepted_values as accepted_values
-pub use Rattle.placed_values.proofs.held_entries as held_entries
+pub use Rattle.tracked_frames.proofs.placed_values as placed_values
+pub use Rattle.tracked_frames.proofs.placed_values.accepted_places as accepted_places
+pub use Rattle.tracked_frames.proofs.placed_values.accepted_values as accepted_values
+pub use Rattle.tracked_frames.proofs.placed_values.held_entries as held_entries
 pub use Rattle.tracked_frames.proofs as tracked_frames
+pub use Rattle.tracked_frames.proofs.scoped_addresses as scoped_addresses

@@ -1,7 +1,7 @@
 -- A root that is there isn't made anew by the next item: neither a slot that is allocated nor an argument of the entry is.
 use Rattle.std.specs.Prelude.{◌≡◌, false}
-use Rattle.placed_values.specs.accepted_places.inner.Cells.{AreArgumentsMadeOnce}
-use Rattle.placed_values.specs.accepted_places.inner.Stacks.{AreSlotsMadeOnce}
+use Rattle.tracked_frames.specs.placed_values.accepted_places.inner.Cells.{AreArgumentsMadeOnce}
+use Rattle.tracked_frames.specs.placed_values.accepted_places.inner.Stacks.{AreSlotsMadeOnce}
 use Rattle.item_operands.specs.Items.{item_defined}
 use Rattle.ownership_chains.specs.Facts.{has}
 use Rattle.type_definitions.specs.Declarations.{declarations_of}

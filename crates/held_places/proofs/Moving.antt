@@ -2,21 +2,21 @@
 use Rattle.std.proofs.Common.{◌≡◌, ◌⊎◌, ⊎_elim, inr, ◌≤◌, ◌==◌, ℕ, List, [], ◌∷◌, length, Bool, true, false, Option, Some, Contains, refl, sym, ap, ◌∙◌, subst, slice_get, arith, eqb-true}
 use Rattle.std.proofs.lemmas.Bool.{false_from_ne_true}
 use Rattle.std.proofs.lemmas.List.Elements.{Contains-push}
-use Rattle.placed_values.specs.accepted_memory.holder_model.Calling.{places_given}
-use Rattle.placed_values.specs.accepted_memory.holder_model.Data.{Datum}
-use Rattle.placed_values.specs.accepted_memory.holder_model.Frames.{Entry, Frame}
-use Rattle.placed_values.specs.accepted_memory.holder_model.ModuleShapes.{ModuleShapes}
-use Rattle.placed_values.specs.accepted_memory.holder_model.States.{Runs, Task, dropping}
-use Rattle.placed_values.specs.accepted_memory.memory_accesses.Operations.{operated}
-use Rattle.placed_values.specs.accepted_memory.memory_accesses.Rows.{has_operation}
-use Rattle.placed_values.specs.accepted_memory.memory_accesses.Sources.{source_at, sources_of}
-use Rattle.placed_values.specs.accepted_memory.memory_accesses.declared.access.Operation.{Operation}
-use Rattle.placed_values.specs.accepted_memory.memory_accesses.declared.access.Operation.TheVariants.{Handed, Take}
-use Rattle.placed_values.specs.accepted_memory.memory_accesses.declared.source.Source.TheVariants as source
-use Rattle.placed_values.specs.accepted_memory.memory_parts.Parts.{whole_cell}
-use Rattle.placed_values.specs.accepted_places.inner.Cells.{touches}
-use Rattle.placed_values.specs.accepted_places.inner.Stacks.{keeps_slots, slots_on}
-use Rattle.placed_values.specs.accepted_values.inner.Known.{IsAcceptedBody}
+use Rattle.tracked_frames.specs.placed_values.accepted_memory.holder_model.Calling.{places_given}
+use Rattle.tracked_frames.specs.placed_values.accepted_memory.holder_model.Data.{Datum}
+use Rattle.tracked_frames.specs.placed_values.accepted_memory.holder_model.Frames.{Entry, Frame}
+use Rattle.tracked_frames.specs.placed_values.accepted_memory.holder_model.ModuleShapes.{ModuleShapes}
+use Rattle.tracked_frames.specs.placed_values.accepted_memory.holder_model.States.{Runs, Task, dropping}
+use Rattle.tracked_frames.specs.placed_values.accepted_memory.memory_accesses.Operations.{operated}
+use Rattle.tracked_frames.specs.placed_values.accepted_memory.memory_accesses.Rows.{has_operation}
+use Rattle.tracked_frames.specs.placed_values.accepted_memory.memory_accesses.Sources.{source_at, sources_of}
+use Rattle.tracked_frames.specs.placed_values.accepted_memory.memory_accesses.declared.access.Operation.{Operation}
+use Rattle.tracked_frames.specs.placed_values.accepted_memory.memory_accesses.declared.access.Operation.TheVariants.{Handed, Take}
+use Rattle.tracked_frames.specs.placed_values.accepted_memory.memory_accesses.declared.source.Source.TheVariants as source
+use Rattle.tracked_frames.specs.placed_values.accepted_memory.memory_parts.Parts.{whole_cell}
+use Rattle.tracked_frames.specs.placed_values.accepted_places.inner.Cells.{touches}
+use Rattle.tracked_frames.specs.placed_values.accepted_places.inner.Stacks.{keeps_slots, slots_on}
+use Rattle.tracked_frames.specs.placed_values.accepted_values.inner.Known.{IsAcceptedBody}
 use Rattle.argument_conventions.specs.declared.row.AddressRow.{AddressRow}
 use Rattle.item_operands.specs.Parts.{inst_at, item_inst}
 use Rattle.memory_cells.specs.inner.Cells.{cell_at}

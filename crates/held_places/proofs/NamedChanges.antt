@@ -5,33 +5,33 @@ use Rattle.std.specs.List.{list_any}
 use Rattle.std.proofs.lemmas.Bool.{false≢true, or_cases, or_left, true≢false}
 use Rattle.std.proofs.lemmas.List.Elements.{Contains-push}
 use Rattle.std.proofs.lemmas.Option.{same_Some}
-use Rattle.placed_values.specs.accepted_memory.accepted_trails.inner.Bases.{IsAsMade}
-use Rattle.placed_values.specs.accepted_memory.accepted_trails.inner.Defined.{makes}
-use Rattle.placed_values.specs.accepted_memory.holder_model.Data.{AddressOf, Datum, as_value}
-use Rattle.placed_values.specs.accepted_memory.holder_model.Effects as effects
-use Rattle.placed_values.specs.accepted_memory.holder_model.Effects.{Change, Effect, Makes, effect_by, effect_of, gives, only, part_number, part_number_by, unchanged, with_some}
-use Rattle.placed_values.specs.accepted_memory.holder_model.Faults.{HolderFault}
-use Rattle.placed_values.specs.accepted_memory.holder_model.Frames.{Entry, Operands, datum_in, entry_at, result_put, results_put, with_ok}
+use Rattle.tracked_frames.specs.placed_values.accepted_memory.accepted_trails.inner.Bases.{IsAsMade}
+use Rattle.tracked_frames.specs.placed_values.accepted_memory.accepted_trails.inner.Defined.{makes}
+use Rattle.tracked_frames.specs.placed_values.accepted_memory.holder_model.Data.{AddressOf, Datum, as_value}
+use Rattle.tracked_frames.specs.placed_values.accepted_memory.holder_model.Effects as effects
+use Rattle.tracked_frames.specs.placed_values.accepted_memory.holder_model.Effects.{Change, Effect, Makes, effect_by, effect_of, gives, only, part_number, part_number_by, unchanged, with_some}
+use Rattle.tracked_frames.specs.placed_values.accepted_memory.holder_model.Faults.{HolderFault}
+use Rattle.tracked_frames.specs.placed_values.accepted_memory.holder_model.Frames.{Entry, Operands, datum_in, entry_at, result_put, results_put, with_ok}
 use Rattle.std.specs.declared.result.Result.{Result}
-use Rattle.placed_values.specs.accepted_memory.holder_model.MemoryEffects.{at_places, effect}
-use Rattle.placed_values.specs.accepted_memory.holder_model.ModuleShapes.{ModuleShapes, field_shapes}
-use Rattle.placed_values.specs.accepted_memory.holder_model.declared.row_effect.RowEffect.{RowEffect}
-use Rattle.placed_values.specs.accepted_memory.holder_model.declared.row_effect.RowEffect.TheVariants as row
-use Rattle.placed_values.specs.accepted_memory.memory_accesses.Locations.{extended, location_of}
-use Rattle.placed_values.specs.accepted_memory.memory_accesses.Operations.{access_kind_of}
-use Rattle.placed_values.specs.accepted_memory.memory_accesses.Rows.{has_steps, is_part}
-use Rattle.placed_values.specs.accepted_memory.memory_accesses.Sources.{part_source, source_at, source_by, sources_of}
-use Rattle.placed_values.specs.accepted_memory.memory_accesses.declared.location.Location.{Location}
-use Rattle.placed_values.specs.accepted_memory.memory_accesses.declared.source.Source.{Source}
-use Rattle.placed_values.specs.accepted_memory.memory_accesses.declared.source.Source.TheVariants as source
-use Rattle.placed_values.specs.accepted_memory.run_trails.inner.RunTrails.{IsRunTrail}
-use Rattle.placed_values.proofs.accepted_places.Locating.{members_located}
-use Rattle.placed_values.proofs.accepted_places.RootsMade.{operands_located}
-use Rattle.placed_values.specs.accepted_places.inner.Located.{IsAddress, IsLocated, IsMemberOf, IsRoot}
-use Rattle.placed_values.specs.accepted_values.owned_run_typing.inner.OwnedTyped.{OwnedFunction}
-use Rattle.placed_values.specs.accepted_values.run_typing.CallForms.{IsOf}
-use Rattle.placed_values.specs.accepted_values.run_typing.EndForms.{value_in}
-use Rattle.placed_values.specs.accepted_values.run_typing.Forms.{Form, OfPlace, form_of, forms_of}
+use Rattle.tracked_frames.specs.placed_values.accepted_memory.holder_model.MemoryEffects.{at_places, effect}
+use Rattle.tracked_frames.specs.placed_values.accepted_memory.holder_model.ModuleShapes.{ModuleShapes, field_shapes}
+use Rattle.tracked_frames.specs.placed_values.accepted_memory.holder_model.declared.row_effect.RowEffect.{RowEffect}
+use Rattle.tracked_frames.specs.placed_values.accepted_memory.holder_model.declared.row_effect.RowEffect.TheVariants as row
+use Rattle.tracked_frames.specs.placed_values.accepted_memory.memory_accesses.Locations.{extended, location_of}
+use Rattle.tracked_frames.specs.placed_values.accepted_memory.memory_accesses.Operations.{access_kind_of}
+use Rattle.tracked_frames.specs.placed_values.accepted_memory.memory_accesses.Rows.{has_steps, is_part}
+use Rattle.tracked_frames.specs.placed_values.accepted_memory.memory_accesses.Sources.{part_source, source_at, source_by, sources_of}
+use Rattle.tracked_frames.specs.placed_values.accepted_memory.memory_accesses.declared.location.Location.{Location}
+use Rattle.tracked_frames.specs.placed_values.accepted_memory.memory_accesses.declared.source.Source.{Source}
+use Rattle.tracked_frames.specs.placed_values.accepted_memory.memory_accesses.declared.source.Source.TheVariants as source
+use Rattle.tracked_frames.specs.placed_values.accepted_memory.run_trails.inner.RunTrails.{IsRunTrail}
+use Rattle.tracked_frames.proofs.placed_values.accepted_places.Locating.{members_located}
+use Rattle.tracked_frames.proofs.placed_values.accepted_places.RootsMade.{operands_located}
+use Rattle.tracked_frames.specs.placed_values.accepted_places.inner.Located.{IsAddress, IsLocated, IsMemberOf, IsRoot}
+use Rattle.tracked_frames.specs.placed_values.accepted_values.owned_run_typing.inner.OwnedTyped.{OwnedFunction}
+use Rattle.tracked_frames.specs.placed_values.accepted_values.run_typing.CallForms.{IsOf}
+use Rattle.tracked_frames.specs.placed_values.accepted_values.run_typing.EndForms.{value_in}
+use Rattle.tracked_frames.specs.placed_values.accepted_values.run_typing.Forms.{Form, OfPlace, form_of, forms_of}
 use Rattle.instruction_table.specs.Forms.{detail_of, roles_of}
 use Rattle.instruction_table.specs.declared.op.Op.{Op}
 use Rattle.instruction_table.specs.declared.op.Op.TheVariants as op
@@ -43,7 +43,7 @@ use Rattle.item_operands.specs.declared.taken.Treatment.{Treatment}
 use Rattle.numbered_form.specs.Lists.{Each}
 use Rattle.ownership_chains.specs.Facts.{has}
 use Rattle.ownership_chains.specs.declared.facts.Facts.{Facts}
-use Rattle.placed_values.proofs.RootsTold.{results_told}
+use Rattle.tracked_frames.proofs.placed_values.RootsTold.{results_told}
 use Rattle.run_values.specs.Memory.{Memory}
 use Rattle.run_values.specs.Places.{Inside, OnStack, Place, field_in, part_of}
 use Rattle.run_values.specs.Shapes.{Shape, member_shapes}

@@ -3,8 +3,8 @@ use Rattle.std.proofs.Common.{◌≡◌, ◌<◌, ◌≤◌, ◌==◌, ℕ, List
 use Rattle.std.specs.Prelude.{option_and_then}
 use Rattle.std.proofs.lemmas.Bool.{false_from_ne_true, true≢false}
 use Rattle.std.proofs.lemmas.Option.{same_Some}
-use Rattle.placed_values.specs.accepted_memory.holder_model.Data.{AddressOf, as_place}
-use Rattle.placed_values.specs.accepted_memory.holder_model.Frames.{Entry, datum_in, entry_at}
+use Rattle.tracked_frames.specs.placed_values.accepted_memory.holder_model.Data.{AddressOf, as_place}
+use Rattle.tracked_frames.specs.placed_values.accepted_memory.holder_model.Frames.{Entry, datum_in, entry_at}
 use Rattle.memory_cells.specs.inner.Cells.{IsInside, behind, has_cell}
 use Rattle.memory_cells.proofs.PlaceCells.{cell_within}
 use Rattle.run_values.specs.Memory.{Memory}

@@ -1,22 +1,22 @@
 -- What results name: a member of an address names its part, the address of a field no place on the stack, and other results neither.
 use Rattle.std.proofs.Common.{◌≡◌, ℕ, List, Bool, true, false, Option, Some, None, refl, sym, ap, ◌∙◌}
 use Rattle.std.proofs.lemmas.Bool.{true≢false}
-use Rattle.placed_values.specs.accepted_memory.holder_model.Effects.{effect_of}
-use Rattle.placed_values.specs.accepted_memory.holder_model.Frames.{Entry}
-use Rattle.placed_values.specs.accepted_memory.holder_model.declared.row_effect.RowEffect.{RowEffect}
-use Rattle.placed_values.specs.accepted_memory.holder_model.declared.row_effect.RowEffect.TheVariants as row
-use Rattle.placed_values.specs.accepted_memory.memory_accesses.Operations.{access_kind_of}
-use Rattle.placed_values.specs.accepted_memory.memory_accesses.Sources.{borrow_source, loan_source, object_source, slot_source}
-use Rattle.placed_values.specs.accepted_memory.memory_accesses.Sources.{source_at, source_by, sources_of, upcast_source}
-use Rattle.placed_values.specs.accepted_memory.memory_accesses.declared.columns.AccessKind.{AccessKind}
-use Rattle.placed_values.specs.accepted_memory.memory_accesses.declared.columns.AccessKind.TheVariants as access
-use Rattle.placed_values.specs.accepted_memory.memory_accesses.declared.source.Source.{Source}
-use Rattle.placed_values.specs.accepted_memory.memory_accesses.declared.source.Source.TheVariants as source
-use Rattle.placed_values.specs.accepted_values.inner.Known.{IsAcceptedBody}
+use Rattle.tracked_frames.specs.placed_values.accepted_memory.holder_model.Effects.{effect_of}
+use Rattle.tracked_frames.specs.placed_values.accepted_memory.holder_model.Frames.{Entry}
+use Rattle.tracked_frames.specs.placed_values.accepted_memory.holder_model.declared.row_effect.RowEffect.{RowEffect}
+use Rattle.tracked_frames.specs.placed_values.accepted_memory.holder_model.declared.row_effect.RowEffect.TheVariants as row
+use Rattle.tracked_frames.specs.placed_values.accepted_memory.memory_accesses.Operations.{access_kind_of}
+use Rattle.tracked_frames.specs.placed_values.accepted_memory.memory_accesses.Sources.{borrow_source, loan_source, object_source, slot_source}
+use Rattle.tracked_frames.specs.placed_values.accepted_memory.memory_accesses.Sources.{source_at, source_by, sources_of, upcast_source}
+use Rattle.tracked_frames.specs.placed_values.accepted_memory.memory_accesses.declared.columns.AccessKind.{AccessKind}
+use Rattle.tracked_frames.specs.placed_values.accepted_memory.memory_accesses.declared.columns.AccessKind.TheVariants as access
+use Rattle.tracked_frames.specs.placed_values.accepted_memory.memory_accesses.declared.source.Source.{Source}
+use Rattle.tracked_frames.specs.placed_values.accepted_memory.memory_accesses.declared.source.Source.TheVariants as source
+use Rattle.tracked_frames.specs.placed_values.accepted_values.inner.Known.{IsAcceptedBody}
 use Rattle.instruction_table.specs.declared.op.Op.{Op}
 use Rattle.instruction_table.specs.declared.op.Op.TheVariants as op
 use Rattle.item_operands.specs.Parts.{inst_at}
-use Rattle.placed_values.proofs.RootsTold.{begun_told, results_told}
+use Rattle.tracked_frames.proofs.placed_values.RootsTold.{begun_told, results_told}
 use Rattle.sil_ast.specs.declared.function.Function.{Function}
 use Rattle.sil_ast.specs.declared.inst.Inst.{Inst}
 use Rattle.sil_ast.specs.declared.module.Module.{Module}

@@ -2,12 +2,12 @@
 use Rattle.std.proofs.Common.{◌≡◌, ◌≤◌, ◌+◌, ◌++◌, ◌⊎◌, inl, inr, ◌==◌, ◌&&◌, ℕ, List, [], length, Bool, true, false, Some, refl, sym, ap, ◌∙◌, subst, arith, eq-eqb, eqb-true}
 use Rattle.std.proofs.lemmas.Bool.{and_right, true≢false}
 use Rattle.std.proofs.lemmas.Option.{same_Some}
-use Rattle.placed_values.specs.accepted_memory.memory_accesses.Sources.{source_at, sources_of}
-use Rattle.placed_values.specs.accepted_memory.memory_accesses.declared.source.Source.TheVariants as source
-use Rattle.placed_values.specs.accepted_places.inner.Stacks.{slots_on}
+use Rattle.tracked_frames.specs.placed_values.accepted_memory.memory_accesses.Sources.{source_at, sources_of}
+use Rattle.tracked_frames.specs.placed_values.accepted_memory.memory_accesses.declared.source.Source.TheVariants as source
+use Rattle.tracked_frames.specs.placed_values.accepted_places.inner.Stacks.{slots_on}
 use Rattle.argument_conventions.specs.declared.row.AddressRow.{AddressRow}
-use Rattle.placed_values.specs.accepted_memory.holder_model.Frames.{Frame, entry_at}
-use Rattle.placed_values.specs.accepted_memory.holder_model.States.{Task}
+use Rattle.tracked_frames.specs.placed_values.accepted_memory.holder_model.Frames.{Frame, entry_at}
+use Rattle.tracked_frames.specs.placed_values.accepted_memory.holder_model.States.{Task}
 use Rattle.memory_cells.specs.inner.Cells.{ChangesAt, IsCell, cell_at, has_cell}
 use Rattle.memory_cells.proofs.PlaceCells.{cell_within, not_cell, offset_of}
 use Rattle.memory_cells.proofs.Writes.{slots_new}

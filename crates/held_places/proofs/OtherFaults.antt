@@ -1,6 +1,6 @@
 -- Faults of operands and of results are none of places.
 use Rattle.std.proofs.Common.{◌≡◌, false, refl}
-use Rattle.placed_values.specs.accepted_memory.holder_model.Faults.{HolderFault}
+use Rattle.tracked_frames.specs.placed_values.accepted_memory.holder_model.Faults.{HolderFault}
 use Rattle.tracked_frames.proofs.holder_steps.WhichFaults.{IsOperandFault, IsResultFault}
 use Rattle.held_places.specs.inner.Items.{is_place_fault}
 

@@ -3,23 +3,23 @@ use Rattle.std.proofs.Common.{◌≡◌, ◌++◌, ℕ, List, [], ◌∷◌, map
 use Rattle.std.proofs.lemmas.Bool.{and_parts}
 use Rattle.std.proofs.lemmas.Option.{same_Some}
 use Rattle.std.specs.Prelude.{not}
-use Rattle.placed_values.specs.accepted_memory.holder_model.Calling.{as_argument}
-use Rattle.placed_values.specs.accepted_memory.holder_model.Data.{Datum, ValueOf}
-use Rattle.placed_values.specs.accepted_memory.holder_model.Effects as effects
-use Rattle.placed_values.specs.accepted_memory.holder_model.Edges.{edge_of}
-use Rattle.placed_values.specs.accepted_memory.holder_model.Faults.{HolderFault}
-use Rattle.placed_values.specs.accepted_memory.holder_model.Frames.{Frame, Operands, has_any}
-use Rattle.placed_values.specs.accepted_memory.holder_model.HolderStates.{HolderNext, HolderState}
-use Rattle.placed_values.specs.accepted_memory.holder_model.ModuleFacts.{ModuleFacts, facts_of, facts_told}
-use Rattle.placed_values.specs.accepted_memory.holder_model.Standing.{stands_at}
-use Rattle.placed_values.specs.accepted_memory.holder_model.States.{Runs, Task}
-use Rattle.placed_values.specs.accepted_memory.holder_model.Steps as steps
-use Rattle.placed_values.specs.accepted_memory.holder_model.declared.event.Event.TheVariants as event
-use Rattle.placed_values.specs.accepted_memory.run_trails.inner.RunTrails.{ComesAt, IsRunTrail}
-use Rattle.placed_values.specs.accepted_values.accepted_modules.inner.Checked.{IsVerified}
-use Rattle.placed_values.specs.accepted_values.inner.Known.{IsAcceptedBody}
+use Rattle.tracked_frames.specs.placed_values.accepted_memory.holder_model.Calling.{as_argument}
+use Rattle.tracked_frames.specs.placed_values.accepted_memory.holder_model.Data.{Datum, ValueOf}
+use Rattle.tracked_frames.specs.placed_values.accepted_memory.holder_model.Effects as effects
+use Rattle.tracked_frames.specs.placed_values.accepted_memory.holder_model.Edges.{edge_of}
+use Rattle.tracked_frames.specs.placed_values.accepted_memory.holder_model.Faults.{HolderFault}
+use Rattle.tracked_frames.specs.placed_values.accepted_memory.holder_model.Frames.{Frame, Operands, has_any}
+use Rattle.tracked_frames.specs.placed_values.accepted_memory.holder_model.HolderStates.{HolderNext, HolderState}
+use Rattle.tracked_frames.specs.placed_values.accepted_memory.holder_model.ModuleFacts.{ModuleFacts, facts_of, facts_told}
+use Rattle.tracked_frames.specs.placed_values.accepted_memory.holder_model.Standing.{stands_at}
+use Rattle.tracked_frames.specs.placed_values.accepted_memory.holder_model.States.{Runs, Task}
+use Rattle.tracked_frames.specs.placed_values.accepted_memory.holder_model.Steps as steps
+use Rattle.tracked_frames.specs.placed_values.accepted_memory.holder_model.declared.event.Event.TheVariants as event
+use Rattle.tracked_frames.specs.placed_values.accepted_memory.run_trails.inner.RunTrails.{ComesAt, IsRunTrail}
+use Rattle.tracked_frames.specs.placed_values.accepted_values.accepted_modules.inner.Checked.{IsVerified}
+use Rattle.tracked_frames.specs.placed_values.accepted_values.inner.Known.{IsAcceptedBody}
 use Rattle.argument_conventions.specs.Arguments.{arguments_of}
-use Rattle.placed_values.proofs.held_entries.accepted_trails.run_trails.WalkEdges.{are_next}
+use Rattle.tracked_frames.proofs.placed_values.held_entries.accepted_trails.run_trails.WalkEdges.{are_next}
 use Rattle.tracked_frames.specs.holder_steps.inner.Ways.{Acts, Chooses, Performs, StepsBy, TakesEdge, left_with, operands_in, turned}
 use Rattle.tracked_frames.proofs.holder_steps.StepsTold.{steps_told}
 use Rattle.tracked_frames.proofs.holder_steps.WhichFaults.{operands_err}

@@ -1,18 +1,18 @@
 -- A place that is found as the operation asks meets no fault; on the stack it is found so by what the frame holds.
 use Rattle.std.proofs.Common.{◌≡◌, ⊎_elim, ℕ, List, [], ◌∷◌, true, cond, Contains, Option, Some, None, refl, sym, ap, ◌∙◌, subst}
 use Rattle.std.proofs.lemmas.List.Elements.{Contains-push}
-use Rattle.placed_values.specs.accepted_memory.holder_model.Effects.{Faults}
-use Rattle.placed_values.specs.accepted_memory.holder_model.Faults.{NotLastSlot}
-use Rattle.placed_values.specs.accepted_memory.holder_model.Frames.{Frame}
-use Rattle.placed_values.specs.accepted_memory.holder_model.MemoryEffects.{asked_before, fault_of, holds, where_held}
-use Rattle.placed_values.specs.accepted_memory.holder_model.ModuleShapes.{ModuleShapes}
-use Rattle.placed_values.specs.accepted_memory.holder_model.States.{Task}
-use Rattle.placed_values.specs.accepted_memory.memory_accesses.Operations.{operated}
-use Rattle.placed_values.specs.accepted_memory.memory_accesses.declared.access.Operation.{Operation}
-use Rattle.placed_values.specs.accepted_memory.memory_accesses.declared.access.Operation.TheVariants.{Handed}
-use Rattle.placed_values.specs.accepted_memory.memory_accesses.declared.location.Location.{Location}
-use Rattle.placed_values.specs.accepted_memory.run_trails.inner.RunTrails.{GoesOn, IsRunTrail}
-use Rattle.placed_values.specs.accepted_values.inner.Known.{IsAcceptedBody}
+use Rattle.tracked_frames.specs.placed_values.accepted_memory.holder_model.Effects.{Faults}
+use Rattle.tracked_frames.specs.placed_values.accepted_memory.holder_model.Faults.{NotLastSlot}
+use Rattle.tracked_frames.specs.placed_values.accepted_memory.holder_model.Frames.{Frame}
+use Rattle.tracked_frames.specs.placed_values.accepted_memory.holder_model.MemoryEffects.{asked_before, fault_of, holds, where_held}
+use Rattle.tracked_frames.specs.placed_values.accepted_memory.holder_model.ModuleShapes.{ModuleShapes}
+use Rattle.tracked_frames.specs.placed_values.accepted_memory.holder_model.States.{Task}
+use Rattle.tracked_frames.specs.placed_values.accepted_memory.memory_accesses.Operations.{operated}
+use Rattle.tracked_frames.specs.placed_values.accepted_memory.memory_accesses.declared.access.Operation.{Operation}
+use Rattle.tracked_frames.specs.placed_values.accepted_memory.memory_accesses.declared.access.Operation.TheVariants.{Handed}
+use Rattle.tracked_frames.specs.placed_values.accepted_memory.memory_accesses.declared.location.Location.{Location}
+use Rattle.tracked_frames.specs.placed_values.accepted_memory.run_trails.inner.RunTrails.{GoesOn, IsRunTrail}
+use Rattle.tracked_frames.specs.placed_values.accepted_values.inner.Known.{IsAcceptedBody}
 use Rattle.argument_conventions.specs.declared.row.AddressRow.{AddressRow}
 use Rattle.argument_conventions.specs.declared.row.Content.{Content}
 use Rattle.item_operands.specs.Parts.{inst_at}

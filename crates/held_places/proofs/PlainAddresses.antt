@@ -2,15 +2,15 @@
 use Rattle.std.proofs.Common.{◌≡◌, ◌<◌, ℕ, List, Option, Some, None, refl, sym, ap, ◌∙◌, subst}
 use Rattle.std.specs.Prelude.{slice_get, unwrap_or}
 use Rattle.std.proofs.lemmas.Option.{none-some, same_Some, slice_get_within}
-use Rattle.placed_values.specs.accepted_memory.holder_model.Data.{AddressOf, Datum}
-use Rattle.placed_values.specs.accepted_memory.holder_model.Frames.{Entry, Gone, datum_in, entry_at, made_entry, plain_address}
-use Rattle.placed_values.specs.accepted_values.accepted_modules.sil_types.Typing.Shapes.{target}
-use Rattle.placed_values.specs.accepted_values.accepted_modules.sil_types.Typing.Values.{function_at, value_functions}
-use Rattle.placed_values.specs.accepted_values.inner.Known.{IsAcceptedBody, kind_at, type_in}
-use Rattle.placed_values.specs.accepted_values.run_typing.CallForms.{IsOf}
-use Rattle.placed_values.specs.accepted_values.run_typing.Forms.{Form, OfPlace, form_by, form_of, form_with}
-use Rattle.placed_values.proofs.accepted_values.Addresses.{addresses_plain}
-use Rattle.placed_values.specs.accepted_places.inner.Located.{IsAddress}
+use Rattle.tracked_frames.specs.placed_values.accepted_memory.holder_model.Data.{AddressOf, Datum}
+use Rattle.tracked_frames.specs.placed_values.accepted_memory.holder_model.Frames.{Entry, Gone, datum_in, entry_at, made_entry, plain_address}
+use Rattle.tracked_frames.specs.placed_values.accepted_values.accepted_modules.sil_types.Typing.Shapes.{target}
+use Rattle.tracked_frames.specs.placed_values.accepted_values.accepted_modules.sil_types.Typing.Values.{function_at, value_functions}
+use Rattle.tracked_frames.specs.placed_values.accepted_values.inner.Known.{IsAcceptedBody, kind_at, type_in}
+use Rattle.tracked_frames.specs.placed_values.accepted_values.run_typing.CallForms.{IsOf}
+use Rattle.tracked_frames.specs.placed_values.accepted_values.run_typing.Forms.{Form, OfPlace, form_by, form_of, form_with}
+use Rattle.tracked_frames.proofs.placed_values.accepted_values.Addresses.{addresses_plain}
+use Rattle.tracked_frames.specs.placed_values.accepted_places.inner.Located.{IsAddress}
 use Rattle.run_values.specs.Places.{Place}
 use Rattle.sil_ast.specs.declared.function.Function.{Function}
 use Rattle.sil_ast.specs.declared.module.Module.{Module}

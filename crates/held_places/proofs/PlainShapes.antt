@@ -5,10 +5,10 @@ use Rattle.std.specs.List.{flat_map, list_all}
 use Rattle.std.specs.Option.{option_to_list}
 use Rattle.std.proofs.lemmas.Bool.{and_parts, false≢true}
 use Rattle.std.proofs.lemmas.Option.{none-some}
-use Rattle.placed_values.proofs.accepted_values.run_typing_laws.Opened.{Proved, by_layer, fold-Unowned, fold-Weak, type_in, types_in}
-use Rattle.placed_values.proofs.accepted_values.run_typing_laws.Rows.Addresses.{no_target}
-use Rattle.placed_values.proofs.accepted_values.run_typing_laws.Rows.Layers.{is_unowned, is_weak}
-use Rattle.placed_values.specs.accepted_values.accepted_modules.sil_types.Typing.Shapes.{is_object, is_object_layer, is_trivial_object, target_in}
+use Rattle.tracked_frames.proofs.placed_values.accepted_values.run_typing_laws.Opened.{Proved, by_layer, fold-Unowned, fold-Weak, type_in, types_in}
+use Rattle.tracked_frames.proofs.placed_values.accepted_values.run_typing_laws.Rows.Addresses.{no_target}
+use Rattle.tracked_frames.proofs.placed_values.accepted_values.run_typing_laws.Rows.Layers.{is_unowned, is_weak}
+use Rattle.tracked_frames.specs.placed_values.accepted_values.accepted_modules.sil_types.Typing.Shapes.{is_object, is_object_layer, is_trivial_object, target_in}
 use Rattle.numbered_form.specs.Names.{Name}
 use Rattle.run_values.specs.Layers.{case_with, decl_with, field_with, named_within, over, type_with}
 use Rattle.run_values.specs.Shapes.{CaseShapes, Shape, cases_by_layers, cases_of, each_by_layers, members_of, shape_of, shape_with, with_case}

@@ -3,15 +3,15 @@ use Rattle.std.proofs.Common.{◌≡◌, ◌≤◌, ◌++◌, ◌⊎◌, inl, in
 use Rattle.std.specs.Prelude.{option_map}
 use Rattle.std.proofs.lemmas.Bool.{true≢false}
 use Rattle.std.proofs.lemmas.Option.{none-some, same_Some}
-use Rattle.placed_values.specs.accepted_memory.accepted_trails.inner.Bases.{IsAsMade}
-use Rattle.placed_values.specs.accepted_memory.holder_model.Frames.{Frame}
-use Rattle.placed_values.specs.accepted_memory.holder_model.States.{Task}
-use Rattle.placed_values.specs.accepted_memory.memory_accesses.Locations.{extended, locate, located_by, location_of, whole}
-use Rattle.placed_values.specs.accepted_memory.memory_accesses.Rows.{has_steps, is_part}
-use Rattle.placed_values.specs.accepted_memory.memory_accesses.Sources.{source_at, sources_of}
-use Rattle.placed_values.specs.accepted_memory.memory_accesses.declared.location.Location.{Location}
-use Rattle.placed_values.specs.accepted_memory.memory_accesses.declared.source.Source.{Source}
-use Rattle.placed_values.specs.accepted_memory.memory_accesses.declared.source.Source.TheVariants as source
+use Rattle.tracked_frames.specs.placed_values.accepted_memory.accepted_trails.inner.Bases.{IsAsMade}
+use Rattle.tracked_frames.specs.placed_values.accepted_memory.holder_model.Frames.{Frame}
+use Rattle.tracked_frames.specs.placed_values.accepted_memory.holder_model.States.{Task}
+use Rattle.tracked_frames.specs.placed_values.accepted_memory.memory_accesses.Locations.{extended, locate, located_by, location_of, whole}
+use Rattle.tracked_frames.specs.placed_values.accepted_memory.memory_accesses.Rows.{has_steps, is_part}
+use Rattle.tracked_frames.specs.placed_values.accepted_memory.memory_accesses.Sources.{source_at, sources_of}
+use Rattle.tracked_frames.specs.placed_values.accepted_memory.memory_accesses.declared.location.Location.{Location}
+use Rattle.tracked_frames.specs.placed_values.accepted_memory.memory_accesses.declared.source.Source.{Source}
+use Rattle.tracked_frames.specs.placed_values.accepted_memory.memory_accesses.declared.source.Source.TheVariants as source
 use Rattle.memory_cells.specs.inner.Cells.{IsCell, IsInside, IsPlace, behind, cell_at, has_cell}
 use Rattle.memory_cells.proofs.PlaceCells.{cell_from, cell_within}
 use Rattle.run_values.specs.Memory.{Memory}

@@ -4,28 +4,28 @@ use Rattle.std.specs.Prelude.{cond, unwrap_or}
 use Rattle.std.specs.List.{list_any}
 use Rattle.std.proofs.lemmas.Bool.{and_parts, and_right, false≢true, or_left, true≢false}
 use Rattle.std.proofs.lemmas.Option.{none-some, same_Some}
-use Rattle.placed_values.specs.accepted_memory.holder_model.Calling.{are_as_after, argument_data, is_as_after, places_given}
-use Rattle.placed_values.specs.accepted_memory.holder_model.Data.{AddressOf}
-use Rattle.placed_values.specs.accepted_memory.holder_model.Frames.{Frame, LentPlace, datum_in, entry_at}
-use Rattle.placed_values.specs.accepted_memory.holder_model.MemoryEffects.{holds}
-use Rattle.placed_values.specs.accepted_memory.holder_model.States.{Task}
-use Rattle.placed_values.specs.accepted_memory.memory_accesses.Operations.{operations_of}
-use Rattle.placed_values.specs.accepted_memory.memory_accesses.Rows.{is_part}
-use Rattle.placed_values.specs.accepted_memory.memory_accesses.Sources.{handed_source, is_trivial_at, source_at, sources_of}
-use Rattle.placed_values.specs.accepted_memory.memory_accesses.declared.access.Operated.{Operated}
-use Rattle.placed_values.specs.accepted_memory.memory_accesses.declared.access.Operation.TheVariants.{Handed}
-use Rattle.placed_values.specs.accepted_memory.memory_accesses.declared.location.Location.{Location}
-use Rattle.placed_values.specs.accepted_memory.memory_accesses.declared.source.Source.TheVariants as source
-use Rattle.placed_values.specs.accepted_memory.memory_parts.Contents.{handed_mark, left_mark, same_cell}
-use Rattle.placed_values.specs.accepted_memory.memory_parts.Parts.{whole_cell}
-use Rattle.placed_values.specs.accepted_memory.memory_parts.Switches.{is_same}
-use Rattle.placed_values.specs.accepted_memory.memory_parts.declared.part.Part.TheVariants.{Contents}
-use Rattle.placed_values.specs.accepted_memory.inner.PartTrails.{IsPartOf, is_on}
-use Rattle.placed_values.specs.accepted_memory.run_trails.inner.RunTrails.{GoesOn, IsRunTrail}
-use Rattle.placed_values.specs.accepted_memory.run_trails.inner.Switched.{finds}
-use Rattle.placed_values.specs.accepted_places.inner.Cells.{is_at_cell, mark_at, operates_on, part_by, touches}
-use Rattle.placed_values.specs.accepted_values.accepted_modules.sil_types.Typing.Shapes.{is_trivial_object}
-use Rattle.placed_values.specs.accepted_values.inner.Known.{IsAcceptedBody}
+use Rattle.tracked_frames.specs.placed_values.accepted_memory.holder_model.Calling.{are_as_after, argument_data, is_as_after, places_given}
+use Rattle.tracked_frames.specs.placed_values.accepted_memory.holder_model.Data.{AddressOf}
+use Rattle.tracked_frames.specs.placed_values.accepted_memory.holder_model.Frames.{Frame, LentPlace, datum_in, entry_at}
+use Rattle.tracked_frames.specs.placed_values.accepted_memory.holder_model.MemoryEffects.{holds}
+use Rattle.tracked_frames.specs.placed_values.accepted_memory.holder_model.States.{Task}
+use Rattle.tracked_frames.specs.placed_values.accepted_memory.memory_accesses.Operations.{operations_of}
+use Rattle.tracked_frames.specs.placed_values.accepted_memory.memory_accesses.Rows.{is_part}
+use Rattle.tracked_frames.specs.placed_values.accepted_memory.memory_accesses.Sources.{handed_source, is_trivial_at, source_at, sources_of}
+use Rattle.tracked_frames.specs.placed_values.accepted_memory.memory_accesses.declared.access.Operated.{Operated}
+use Rattle.tracked_frames.specs.placed_values.accepted_memory.memory_accesses.declared.access.Operation.TheVariants.{Handed}
+use Rattle.tracked_frames.specs.placed_values.accepted_memory.memory_accesses.declared.location.Location.{Location}
+use Rattle.tracked_frames.specs.placed_values.accepted_memory.memory_accesses.declared.source.Source.TheVariants as source
+use Rattle.tracked_frames.specs.placed_values.accepted_memory.memory_parts.Contents.{handed_mark, left_mark, same_cell}
+use Rattle.tracked_frames.specs.placed_values.accepted_memory.memory_parts.Parts.{whole_cell}
+use Rattle.tracked_frames.specs.placed_values.accepted_memory.memory_parts.Switches.{is_same}
+use Rattle.tracked_frames.specs.placed_values.accepted_memory.memory_parts.declared.part.Part.TheVariants.{Contents}
+use Rattle.tracked_frames.specs.placed_values.accepted_memory.inner.PartTrails.{IsPartOf, is_on}
+use Rattle.tracked_frames.specs.placed_values.accepted_memory.run_trails.inner.RunTrails.{GoesOn, IsRunTrail}
+use Rattle.tracked_frames.specs.placed_values.accepted_memory.run_trails.inner.Switched.{finds}
+use Rattle.tracked_frames.specs.placed_values.accepted_places.inner.Cells.{is_at_cell, mark_at, operates_on, part_by, touches}
+use Rattle.tracked_frames.specs.placed_values.accepted_values.accepted_modules.sil_types.Typing.Shapes.{is_trivial_object}
+use Rattle.tracked_frames.specs.placed_values.accepted_values.inner.Known.{IsAcceptedBody}
 use Rattle.argument_conventions.specs.Arguments.{arguments_of}
 use Rattle.argument_conventions.specs.Rows.{address_row, keeps_full, keeps_full_by, row_of}
 use Rattle.argument_conventions.specs.declared.convention.AddressConvention.{AddressConvention}

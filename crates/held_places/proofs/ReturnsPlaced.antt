@@ -1,18 +1,18 @@
 -- A return: what it leaves is as it should be, and what waits below goes on with its places.
 use Rattle.std.proofs.Common.{◌≡◌, ℕ, List, [], ◌∷◌, map, true, Option, Ok, Some, refl, sym, ap, ◌∙◌, subst, slice_get}
 use Rattle.std.proofs.lemmas.Option.{same_Some}
-use Rattle.placed_values.specs.accepted_memory.holder_model.Calling.{places_given}
-use Rattle.placed_values.specs.accepted_memory.holder_model.Data.{Datum}
-use Rattle.placed_values.specs.accepted_memory.holder_model.Effects.{unchanged}
-use Rattle.placed_values.specs.accepted_memory.holder_model.Frames.{Entry, Frame, Operands, results_put}
-use Rattle.placed_values.specs.accepted_memory.holder_model.HolderStates.{HolderNext, HolderState}
-use Rattle.placed_values.specs.accepted_memory.holder_model.ModuleFacts.{ModuleFacts, facts_told}
-use Rattle.placed_values.specs.accepted_memory.holder_model.Standing.{stands_at}
-use Rattle.placed_values.specs.accepted_memory.holder_model.States.{Runs, Task}
-use Rattle.placed_values.specs.accepted_memory.run_trails.inner.RunTrails.{IsRunTrail}
-use Rattle.placed_values.specs.accepted_values.accepted_modules.inner.Checked.{IsVerified}
-use Rattle.placed_values.specs.accepted_values.inner.Known.{IsAcceptedBody}
-use Rattle.placed_values.proofs.held_entries.accepted_trails.run_trails.WalkEdges.{are_next}
+use Rattle.tracked_frames.specs.placed_values.accepted_memory.holder_model.Calling.{places_given}
+use Rattle.tracked_frames.specs.placed_values.accepted_memory.holder_model.Data.{Datum}
+use Rattle.tracked_frames.specs.placed_values.accepted_memory.holder_model.Effects.{unchanged}
+use Rattle.tracked_frames.specs.placed_values.accepted_memory.holder_model.Frames.{Entry, Frame, Operands, results_put}
+use Rattle.tracked_frames.specs.placed_values.accepted_memory.holder_model.HolderStates.{HolderNext, HolderState}
+use Rattle.tracked_frames.specs.placed_values.accepted_memory.holder_model.ModuleFacts.{ModuleFacts, facts_told}
+use Rattle.tracked_frames.specs.placed_values.accepted_memory.holder_model.Standing.{stands_at}
+use Rattle.tracked_frames.specs.placed_values.accepted_memory.holder_model.States.{Runs, Task}
+use Rattle.tracked_frames.specs.placed_values.accepted_memory.run_trails.inner.RunTrails.{IsRunTrail}
+use Rattle.tracked_frames.specs.placed_values.accepted_values.accepted_modules.inner.Checked.{IsVerified}
+use Rattle.tracked_frames.specs.placed_values.accepted_values.inner.Known.{IsAcceptedBody}
+use Rattle.tracked_frames.proofs.placed_values.held_entries.accepted_trails.run_trails.WalkEdges.{are_next}
 use Rattle.tracked_frames.specs.holder_steps.inner.Stacks.{Below}
 use Rattle.tracked_frames.specs.holder_steps.inner.Ways.{GoesBehind, Leaves, Reaches}
 use Rattle.tracked_frames.proofs.holder_steps.WhichFaults.{results_err}

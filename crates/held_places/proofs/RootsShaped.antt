@@ -3,36 +3,36 @@ use Rattle.std.proofs.Common.{◌≡◌, ℕ, zero, suc, List, [], ◌∷◌, ma
 use Rattle.std.specs.Prelude.{option_map, slice_get, unwrap_or}
 use Rattle.std.proofs.lemmas.Bool.{true≢false}
 use Rattle.std.proofs.lemmas.Option.{none-some, same_Some}
-use Rattle.placed_values.specs.accepted_memory.memory_accesses.Operations.{access_kind_of}
-use Rattle.placed_values.specs.accepted_memory.memory_accesses.Sources.{is_slot_source, is_trivial_at, is_trivial_source, result_source, slot_source, source_at, source_by, sources_of}
-use Rattle.placed_values.specs.accepted_memory.memory_accesses.declared.source.Source.{Source}
-use Rattle.placed_values.specs.accepted_memory.memory_accesses.declared.source.Source.TheVariants as source
-use Rattle.placed_values.proofs.accepted_places.Made.{argument_there}
-use Rattle.placed_values.proofs.accepted_places.OperationsRight.{stands_somewhere}
-use Rattle.placed_values.proofs.accepted_places.ItemStacks.{opens_no_slot}
-use Rattle.placed_values.proofs.accepted_values.Accepted.{well_typed}
-use Rattle.placed_values.proofs.accepted_values.Counted.{stands}
-use Rattle.placed_values.proofs.accepted_values.Made.{made_somewhere}
-use Rattle.placed_values.proofs.accepted_values.TableRows.{argument_rows, result_rows}
-use Rattle.placed_values.proofs.accepted_values.run_typing_laws.Rows.Finding.{each_at, if_some}
-use Rattle.placed_values.proofs.accepted_values.run_typing_laws.Rows.Layers.{target-Address}
-use Rattle.placed_values.proofs.accepted_values.run_typing_laws.Rows.Points.{has_types}
-use Rattle.placed_values.proofs.accepted_values.run_typing_laws.Sizes.{no_addresses, plain_type}
-use Rattle.placed_values.specs.accepted_values.accepted_modules.sil_types.Typing.RowTypes.{address_of, given_by, made_types}
-use Rattle.placed_values.specs.accepted_values.accepted_modules.sil_types.Typing.Shapes.{is_trivial_object, target, target_in}
-use Rattle.placed_values.specs.accepted_values.accepted_modules.sil_types.Typing.Values.{function_at, value_functions}
-use Rattle.placed_values.specs.accepted_values.inner.Known.{IsAcceptedBody, type_in}
-use Rattle.placed_values.specs.accepted_values.inner.Making.{IsMadeAt}
-use Rattle.placed_values.specs.accepted_values.run_typing.Forms.{OfPlace, form_by, form_with}
+use Rattle.tracked_frames.specs.placed_values.accepted_memory.memory_accesses.Operations.{access_kind_of}
+use Rattle.tracked_frames.specs.placed_values.accepted_memory.memory_accesses.Sources.{is_slot_source, is_trivial_at, is_trivial_source, result_source, slot_source, source_at, source_by, sources_of}
+use Rattle.tracked_frames.specs.placed_values.accepted_memory.memory_accesses.declared.source.Source.{Source}
+use Rattle.tracked_frames.specs.placed_values.accepted_memory.memory_accesses.declared.source.Source.TheVariants as source
+use Rattle.tracked_frames.proofs.placed_values.accepted_places.Made.{argument_there}
+use Rattle.tracked_frames.proofs.placed_values.accepted_places.OperationsRight.{stands_somewhere}
+use Rattle.tracked_frames.proofs.placed_values.accepted_places.ItemStacks.{opens_no_slot}
+use Rattle.tracked_frames.proofs.placed_values.accepted_values.Accepted.{well_typed}
+use Rattle.tracked_frames.proofs.placed_values.accepted_values.Counted.{stands}
+use Rattle.tracked_frames.proofs.placed_values.accepted_values.Made.{made_somewhere}
+use Rattle.tracked_frames.proofs.placed_values.accepted_values.TableRows.{argument_rows, result_rows}
+use Rattle.tracked_frames.proofs.placed_values.accepted_values.run_typing_laws.Rows.Finding.{each_at, if_some}
+use Rattle.tracked_frames.proofs.placed_values.accepted_values.run_typing_laws.Rows.Layers.{target-Address}
+use Rattle.tracked_frames.proofs.placed_values.accepted_values.run_typing_laws.Rows.Points.{has_types}
+use Rattle.tracked_frames.proofs.placed_values.accepted_values.run_typing_laws.Sizes.{no_addresses, plain_type}
+use Rattle.tracked_frames.specs.placed_values.accepted_values.accepted_modules.sil_types.Typing.RowTypes.{address_of, given_by, made_types}
+use Rattle.tracked_frames.specs.placed_values.accepted_values.accepted_modules.sil_types.Typing.Shapes.{is_trivial_object, target, target_in}
+use Rattle.tracked_frames.specs.placed_values.accepted_values.accepted_modules.sil_types.Typing.Values.{function_at, value_functions}
+use Rattle.tracked_frames.specs.placed_values.accepted_values.inner.Known.{IsAcceptedBody, type_in}
+use Rattle.tracked_frames.specs.placed_values.accepted_values.inner.Making.{IsMadeAt}
+use Rattle.tracked_frames.specs.placed_values.accepted_values.run_typing.Forms.{OfPlace, form_by, form_with}
 use Rattle.argument_conventions.specs.declared.row.AddressRow.{AddressRow}
 use Rattle.instruction_table.specs.declared.op.Op.{Op}
 use Rattle.instruction_table.specs.declared.op.Op.TheVariants as op
 use Rattle.item_operands.specs.Items.{arg_value}
 use Rattle.numbered_form.specs.inner.Types.{HasArgType, HasBlockTypes, HasFunctionTypes, IsPlainType, is_placed_at, is_placed_type, is_plain_type}
-use Rattle.placed_values.proofs.ArgumentsTold.{arguments_told, is_value}
-use Rattle.placed_values.proofs.RootsTold.{roots_trivial}
-use Rattle.placed_values.proofs.Sourcing.{argument_no_slot, result_no_slot}
-use Rattle.placed_values.specs.inner.Arguments.{IsStackRoot}
+use Rattle.tracked_frames.proofs.placed_values.ArgumentsTold.{arguments_told, is_value}
+use Rattle.tracked_frames.proofs.placed_values.RootsTold.{roots_trivial}
+use Rattle.tracked_frames.proofs.placed_values.Sourcing.{argument_no_slot, result_no_slot}
+use Rattle.tracked_frames.specs.placed_values.inner.Arguments.{IsStackRoot}
 use Rattle.point_checks.specs.Points.{IsAt}
 use Rattle.run_values.specs.Shapes.{Shape, shape_of}
 use Rattle.run_values.specs.Trivial.{is_trivial}

@@ -4,18 +4,18 @@ use Rattle.std.specs.Prelude.{ℕ, map, option_and_then}
 use Rattle.std.proofs.lemmas.Bool.{false≢true, true≢false}
 use Rattle.argument_conventions.specs.declared.row.Content.{Content}
 use Rattle.argument_conventions.specs.declared.row.Content.TheVariants as content
-use Rattle.placed_values.specs.accepted_memory.holder_model.Builtins.{builtin_value, is_set}
-use Rattle.placed_values.specs.accepted_memory.holder_model.Data.{AddressOf, Datum, FunctionOf, ValueOf, all_of, as_place, as_value, values_of}
-use Rattle.placed_values.specs.accepted_memory.holder_model.Effects as effects
-use Rattle.placed_values.specs.accepted_memory.holder_model.Effects.{Calls, Effect, Faults, Makes, Traps, Unfit, effect_by, effect_of, gives, only, part_number, unchanged, with_some}
-use Rattle.placed_values.specs.accepted_memory.holder_model.Faults.{HolderFault, NotLastSlot}
-use Rattle.placed_values.specs.accepted_memory.holder_model.MemoryEffects as memory
-use Rattle.placed_values.specs.accepted_memory.holder_model.MemoryEffects.{all_live, asked_before, effect, fault_of, holds, loaded_name, named_again, two, value_and_place}
-use Rattle.placed_values.specs.accepted_memory.holder_model.ModuleShapes.{ModuleShapes, case_place}
-use Rattle.placed_values.specs.accepted_memory.holder_model.declared.row_effect.RowEffect.{RowEffect}
-use Rattle.placed_values.specs.accepted_memory.holder_model.declared.row_effect.RowEffect.TheVariants as row
-use Rattle.placed_values.specs.accepted_memory.holder_model.declared.trap.Trap.TheVariants as trap
-use Rattle.placed_values.specs.accepted_memory.memory_accesses.declared.access.Operation.{Operation}
+use Rattle.tracked_frames.specs.placed_values.accepted_memory.holder_model.Builtins.{builtin_value, is_set}
+use Rattle.tracked_frames.specs.placed_values.accepted_memory.holder_model.Data.{AddressOf, Datum, FunctionOf, ValueOf, all_of, as_place, as_value, values_of}
+use Rattle.tracked_frames.specs.placed_values.accepted_memory.holder_model.Effects as effects
+use Rattle.tracked_frames.specs.placed_values.accepted_memory.holder_model.Effects.{Calls, Effect, Faults, Makes, Traps, Unfit, effect_by, effect_of, gives, only, part_number, unchanged, with_some}
+use Rattle.tracked_frames.specs.placed_values.accepted_memory.holder_model.Faults.{HolderFault, NotLastSlot}
+use Rattle.tracked_frames.specs.placed_values.accepted_memory.holder_model.MemoryEffects as memory
+use Rattle.tracked_frames.specs.placed_values.accepted_memory.holder_model.MemoryEffects.{all_live, asked_before, effect, fault_of, holds, loaded_name, named_again, two, value_and_place}
+use Rattle.tracked_frames.specs.placed_values.accepted_memory.holder_model.ModuleShapes.{ModuleShapes, case_place}
+use Rattle.tracked_frames.specs.placed_values.accepted_memory.holder_model.declared.row_effect.RowEffect.{RowEffect}
+use Rattle.tracked_frames.specs.placed_values.accepted_memory.holder_model.declared.row_effect.RowEffect.TheVariants as row
+use Rattle.tracked_frames.specs.placed_values.accepted_memory.holder_model.declared.trap.Trap.TheVariants as trap
+use Rattle.tracked_frames.specs.placed_values.accepted_memory.memory_accesses.declared.access.Operation.{Operation}
 use Rattle.run_values.specs.Memory.{Memory}
 use Rattle.run_values.specs.Places as places
 use Rattle.run_values.specs.Places.{Place, is_there_at, value_at}

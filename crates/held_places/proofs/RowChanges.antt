@@ -2,22 +2,22 @@
 use Rattle.std.proofs.Common.{◌≡◌, ℕ, List, [], ◌∷◌, Bool, true, false, cond, Option, Some, None, refl}
 use Rattle.std.specs.Prelude.{map, option_and_then, unwrap_or}
 use Rattle.std.proofs.lemmas.Bool.{false≢true, true≢false}
-use Rattle.placed_values.specs.accepted_memory.holder_model.Builtins.{builtin_value, is_set}
-use Rattle.placed_values.specs.accepted_memory.holder_model.Data.{AddressOf, Datum, FunctionOf, ValueOf, all_of, as_function, as_place, as_value, values_of}
-use Rattle.placed_values.specs.accepted_memory.holder_model.Effects as effects
-use Rattle.placed_values.specs.accepted_memory.holder_model.Effects.{Calls, Change, Effect, Faults, Makes, SameSlots, Traps, Unfit, effect_by, effect_of, gives, gives_value, only, with_some}
-use Rattle.placed_values.specs.accepted_memory.holder_model.Faults.{HolderFault}
-use Rattle.placed_values.specs.accepted_memory.holder_model.ModuleShapes.{ModuleShapes, case_place}
-use Rattle.placed_values.specs.accepted_memory.holder_model.declared.trap.Trap.TheVariants as trap
-use Rattle.placed_values.specs.accepted_memory.holder_model.declared.row_effect.RowEffect.{RowEffect}
-use Rattle.placed_values.specs.accepted_memory.holder_model.declared.row_effect.RowEffect.TheVariants as row
-use Rattle.placed_values.specs.accepted_memory.memory_accesses.Operations.{access_kind_of}
-use Rattle.placed_values.specs.accepted_memory.memory_accesses.Sources.{borrow_source, field_source, loan_source, member_place, object_source, slot_source, source_by, upcast_source}
-use Rattle.placed_values.specs.accepted_memory.memory_accesses.declared.columns.AccessKind.{AccessKind}
-use Rattle.placed_values.specs.accepted_memory.memory_accesses.declared.columns.AccessKind.TheVariants as access
-use Rattle.placed_values.specs.accepted_memory.memory_accesses.declared.source.Source.{Source}
-use Rattle.placed_values.specs.accepted_memory.memory_accesses.declared.source.Source.TheVariants as source
-use Rattle.placed_values.specs.accepted_places.inner.Stacks.{keeps_slots_by}
+use Rattle.tracked_frames.specs.placed_values.accepted_memory.holder_model.Builtins.{builtin_value, is_set}
+use Rattle.tracked_frames.specs.placed_values.accepted_memory.holder_model.Data.{AddressOf, Datum, FunctionOf, ValueOf, all_of, as_function, as_place, as_value, values_of}
+use Rattle.tracked_frames.specs.placed_values.accepted_memory.holder_model.Effects as effects
+use Rattle.tracked_frames.specs.placed_values.accepted_memory.holder_model.Effects.{Calls, Change, Effect, Faults, Makes, SameSlots, Traps, Unfit, effect_by, effect_of, gives, gives_value, only, with_some}
+use Rattle.tracked_frames.specs.placed_values.accepted_memory.holder_model.Faults.{HolderFault}
+use Rattle.tracked_frames.specs.placed_values.accepted_memory.holder_model.ModuleShapes.{ModuleShapes, case_place}
+use Rattle.tracked_frames.specs.placed_values.accepted_memory.holder_model.declared.trap.Trap.TheVariants as trap
+use Rattle.tracked_frames.specs.placed_values.accepted_memory.holder_model.declared.row_effect.RowEffect.{RowEffect}
+use Rattle.tracked_frames.specs.placed_values.accepted_memory.holder_model.declared.row_effect.RowEffect.TheVariants as row
+use Rattle.tracked_frames.specs.placed_values.accepted_memory.memory_accesses.Operations.{access_kind_of}
+use Rattle.tracked_frames.specs.placed_values.accepted_memory.memory_accesses.Sources.{borrow_source, field_source, loan_source, member_place, object_source, slot_source, source_by, upcast_source}
+use Rattle.tracked_frames.specs.placed_values.accepted_memory.memory_accesses.declared.columns.AccessKind.{AccessKind}
+use Rattle.tracked_frames.specs.placed_values.accepted_memory.memory_accesses.declared.columns.AccessKind.TheVariants as access
+use Rattle.tracked_frames.specs.placed_values.accepted_memory.memory_accesses.declared.source.Source.{Source}
+use Rattle.tracked_frames.specs.placed_values.accepted_memory.memory_accesses.declared.source.Source.TheVariants as source
+use Rattle.tracked_frames.specs.placed_values.accepted_places.inner.Stacks.{keeps_slots_by}
 use Rattle.instruction_table.specs.declared.op.Op.{Op}
 use Rattle.instruction_table.specs.declared.op.Op.TheVariants as op
 use Rattle.run_values.specs.Memory.{Memory}

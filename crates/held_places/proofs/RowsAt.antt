@@ -4,13 +4,13 @@ use Rattle.std.specs.Prelude.{flat_map, option_map, option_to_list}
 use Rattle.std.specs.Option.{option_or}
 use Rattle.std.specs.List.{list_any}
 use Rattle.std.proofs.lemmas.Bool.{false≢true, or_parts, true≢false}
-use Rattle.placed_values.specs.accepted_memory.holder_model.Effects.{effect_of}
-use Rattle.placed_values.specs.accepted_memory.holder_model.declared.row_effect.RowEffect.{RowEffect}
-use Rattle.placed_values.specs.accepted_memory.holder_model.declared.row_effect.RowEffect.TheVariants as row
-use Rattle.placed_values.specs.accepted_memory.memory_accesses.Operations.{access_kind_of, address_of, addresses_of, deallocates, deallocates_by, is_address_role, operated, operated_at, operation_by, operations_of}
-use Rattle.placed_values.specs.accepted_memory.memory_accesses.declared.access.Operation.{Operation}
-use Rattle.placed_values.specs.accepted_memory.memory_accesses.declared.access.Operation.TheVariants.{Handed}
-use Rattle.placed_values.specs.accepted_memory.memory_accesses.declared.columns.AccessKind.{AccessKind}
+use Rattle.tracked_frames.specs.placed_values.accepted_memory.holder_model.Effects.{effect_of}
+use Rattle.tracked_frames.specs.placed_values.accepted_memory.holder_model.declared.row_effect.RowEffect.{RowEffect}
+use Rattle.tracked_frames.specs.placed_values.accepted_memory.holder_model.declared.row_effect.RowEffect.TheVariants as row
+use Rattle.tracked_frames.specs.placed_values.accepted_memory.memory_accesses.Operations.{access_kind_of, address_of, addresses_of, deallocates, deallocates_by, is_address_role, operated, operated_at, operation_by, operations_of}
+use Rattle.tracked_frames.specs.placed_values.accepted_memory.memory_accesses.declared.access.Operation.{Operation}
+use Rattle.tracked_frames.specs.placed_values.accepted_memory.memory_accesses.declared.access.Operation.TheVariants.{Handed}
+use Rattle.tracked_frames.specs.placed_values.accepted_memory.memory_accesses.declared.columns.AccessKind.{AccessKind}
 use Rattle.argument_conventions.specs.declared.convention.ArgumentConvention.{ArgumentConvention}
 use Rattle.instruction_table.specs.Forms.{roles_of}
 use Rattle.instruction_table.specs.declared.entries.Role.{Role}

@@ -1,14 +1,14 @@
 -- What loads, stores and destroys do where their place is as they ask: no fault, and the change that they leave.
 use Rattle.std.proofs.Common.{◌≡◌, List, [], ◌∷◌, cond, Some, refl, ap, ◌∙◌}
-use Rattle.placed_values.specs.accepted_memory.holder_model.Data.{AddressOf, Datum, ValueOf}
-use Rattle.placed_values.specs.accepted_memory.holder_model.Effects.{ClosesSlot, Effect, Makes, effect_by, effect_of, unchanged, with_some}
-use Rattle.placed_values.specs.accepted_memory.holder_model.Faults.{HolderFault}
-use Rattle.placed_values.specs.accepted_memory.holder_model.MemoryEffects as effects
-use Rattle.placed_values.specs.accepted_memory.holder_model.MemoryEffects.{asked_before, at_places, copies_with, effect, loaded_name, operation_done, references_at, takes, two, value_and_place, where_held}
-use Rattle.placed_values.specs.accepted_memory.holder_model.ModuleShapes.{ModuleShapes}
-use Rattle.placed_values.specs.accepted_memory.holder_model.declared.row_effect.RowEffect.{RowEffect}
-use Rattle.placed_values.specs.accepted_memory.holder_model.declared.row_effect.RowEffect.TheVariants as row
-use Rattle.placed_values.specs.accepted_memory.memory_accesses.declared.access.Operation.{Operation}
+use Rattle.tracked_frames.specs.placed_values.accepted_memory.holder_model.Data.{AddressOf, Datum, ValueOf}
+use Rattle.tracked_frames.specs.placed_values.accepted_memory.holder_model.Effects.{ClosesSlot, Effect, Makes, effect_by, effect_of, unchanged, with_some}
+use Rattle.tracked_frames.specs.placed_values.accepted_memory.holder_model.Faults.{HolderFault}
+use Rattle.tracked_frames.specs.placed_values.accepted_memory.holder_model.MemoryEffects as effects
+use Rattle.tracked_frames.specs.placed_values.accepted_memory.holder_model.MemoryEffects.{asked_before, at_places, copies_with, effect, loaded_name, operation_done, references_at, takes, two, value_and_place, where_held}
+use Rattle.tracked_frames.specs.placed_values.accepted_memory.holder_model.ModuleShapes.{ModuleShapes}
+use Rattle.tracked_frames.specs.placed_values.accepted_memory.holder_model.declared.row_effect.RowEffect.{RowEffect}
+use Rattle.tracked_frames.specs.placed_values.accepted_memory.holder_model.declared.row_effect.RowEffect.TheVariants as row
+use Rattle.tracked_frames.specs.placed_values.accepted_memory.memory_accesses.declared.access.Operation.{Operation}
 use Rattle.argument_conventions.specs.declared.row.Content.TheVariants as content
 use Rattle.run_values.specs.Memory.{Memory}
 use Rattle.run_values.specs.Places.{Home, Inside, OnStack, Place, filled, removed, value_at, with_home_cells}

@@ -1,24 +1,24 @@
 -- The tasks behind an instruction's change: what the frame holds there, by what its row does.
 use Rattle.std.proofs.Common.{◌≡◌, ◌<◌, ⊎_elim, ℕ, List, [], ◌∷◌, ◌++◌, append-nil, length, true, false, Contains, Option, Some, Ok, refl, sym, ap, ◌∙◌, subst, slice_get}
 use Rattle.std.proofs.lemmas.List.Elements.{Contains-push}
-use Rattle.placed_values.specs.accepted_memory.holder_model.Data.{AddressOf, Datum, ValueOf}
-use Rattle.placed_values.specs.accepted_memory.holder_model.Effects.{Change, SameSlots, effect_of}
-use Rattle.placed_values.specs.accepted_memory.holder_model.Frames.{Entry, Frame, results_put}
-use Rattle.placed_values.specs.accepted_memory.holder_model.MemoryEffects.{operation_done}
-use Rattle.placed_values.specs.accepted_memory.holder_model.ModuleShapes.{ModuleShapes}
-use Rattle.placed_values.specs.accepted_memory.holder_model.StepParts.{slots_behind}
-use Rattle.placed_values.specs.accepted_memory.holder_model.States.{Runs, Task, dropping}
-use Rattle.placed_values.specs.accepted_memory.holder_model.declared.row_effect.RowEffect.TheVariants as row
-use Rattle.placed_values.specs.accepted_memory.memory_accesses.Operations.{access_kind_of, deallocates, operations_of}
-use Rattle.placed_values.specs.accepted_memory.memory_accesses.Sources.{is_trivial_at, sources_of}
-use Rattle.placed_values.specs.accepted_memory.memory_accesses.declared.access.Operation.{Operation}
-use Rattle.placed_values.specs.accepted_memory.memory_accesses.declared.access.Operation.TheVariants.{Take}
-use Rattle.placed_values.specs.accepted_memory.memory_parts.Parts.{whole_cell}
-use Rattle.placed_values.specs.accepted_memory.run_trails.inner.RunTrails.{GoesOn, IsRunTrail}
-use Rattle.placed_values.specs.accepted_places.inner.Cells.{touches}
-use Rattle.placed_values.specs.accepted_places.inner.Located.{IsAddress}
-use Rattle.placed_values.specs.accepted_places.inner.Stacks.{keeps_slots, keeps_slots_by}
-use Rattle.placed_values.specs.accepted_values.inner.Known.{IsAcceptedBody}
+use Rattle.tracked_frames.specs.placed_values.accepted_memory.holder_model.Data.{AddressOf, Datum, ValueOf}
+use Rattle.tracked_frames.specs.placed_values.accepted_memory.holder_model.Effects.{Change, SameSlots, effect_of}
+use Rattle.tracked_frames.specs.placed_values.accepted_memory.holder_model.Frames.{Entry, Frame, results_put}
+use Rattle.tracked_frames.specs.placed_values.accepted_memory.holder_model.MemoryEffects.{operation_done}
+use Rattle.tracked_frames.specs.placed_values.accepted_memory.holder_model.ModuleShapes.{ModuleShapes}
+use Rattle.tracked_frames.specs.placed_values.accepted_memory.holder_model.StepParts.{slots_behind}
+use Rattle.tracked_frames.specs.placed_values.accepted_memory.holder_model.States.{Runs, Task, dropping}
+use Rattle.tracked_frames.specs.placed_values.accepted_memory.holder_model.declared.row_effect.RowEffect.TheVariants as row
+use Rattle.tracked_frames.specs.placed_values.accepted_memory.memory_accesses.Operations.{access_kind_of, deallocates, operations_of}
+use Rattle.tracked_frames.specs.placed_values.accepted_memory.memory_accesses.Sources.{is_trivial_at, sources_of}
+use Rattle.tracked_frames.specs.placed_values.accepted_memory.memory_accesses.declared.access.Operation.{Operation}
+use Rattle.tracked_frames.specs.placed_values.accepted_memory.memory_accesses.declared.access.Operation.TheVariants.{Take}
+use Rattle.tracked_frames.specs.placed_values.accepted_memory.memory_parts.Parts.{whole_cell}
+use Rattle.tracked_frames.specs.placed_values.accepted_memory.run_trails.inner.RunTrails.{GoesOn, IsRunTrail}
+use Rattle.tracked_frames.specs.placed_values.accepted_places.inner.Cells.{touches}
+use Rattle.tracked_frames.specs.placed_values.accepted_places.inner.Located.{IsAddress}
+use Rattle.tracked_frames.specs.placed_values.accepted_places.inner.Stacks.{keeps_slots, keeps_slots_by}
+use Rattle.tracked_frames.specs.placed_values.accepted_values.inner.Known.{IsAcceptedBody}
 use Rattle.item_operands.specs.Items.{item_defined, item_taken, taken_in}
 use Rattle.item_operands.specs.Parts.{inst_at}
 use Rattle.item_operands.specs.Roles.{taken_by}

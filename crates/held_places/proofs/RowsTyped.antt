@@ -1,11 +1,11 @@
 -- What typing says of the operands and results of rows that name places, store, or call.
 use Rattle.std.proofs.Common.{◌≡◌, ℕ, List, [], ◌∷◌, refl, sym, subst, true, Some, slice_get}
-use Rattle.placed_values.specs.accepted_memory.holder_model.Effects.{effect_of, part_number}
-use Rattle.placed_values.specs.accepted_memory.holder_model.declared.row_effect.RowEffect.{RowEffect}
-use Rattle.placed_values.specs.accepted_memory.holder_model.declared.row_effect.RowEffect.TheVariants as row
-use Rattle.placed_values.specs.accepted_values.owned_run_typing.inner.OwnedRows.{OwnedRowForms}
-use Rattle.placed_values.specs.accepted_values.run_typing.Forms.{Form, OfFunction, OfPlace, OfValue}
-use Rattle.placed_values.specs.accepted_values.run_typing.RowForms.{RowForms}
+use Rattle.tracked_frames.specs.placed_values.accepted_memory.holder_model.Effects.{effect_of, part_number}
+use Rattle.tracked_frames.specs.placed_values.accepted_memory.holder_model.declared.row_effect.RowEffect.{RowEffect}
+use Rattle.tracked_frames.specs.placed_values.accepted_memory.holder_model.declared.row_effect.RowEffect.TheVariants as row
+use Rattle.tracked_frames.specs.placed_values.accepted_values.owned_run_typing.inner.OwnedRows.{OwnedRowForms}
+use Rattle.tracked_frames.specs.placed_values.accepted_values.run_typing.Forms.{Form, OfFunction, OfPlace, OfValue}
+use Rattle.tracked_frames.specs.placed_values.accepted_values.run_typing.RowForms.{RowForms}
 use Rattle.run_values.specs.Fits.{fits}
 use Rattle.run_values.specs.Shapes.{Shape, Stored, member_shapes}
 use Rattle.run_values.specs.Values.{Value}

@@ -3,26 +3,26 @@ use Rattle.std.proofs.Common.{◌≡◌, ◌<◌, ◌==◌, eq-eqb, ℕ, List, [
 use Rattle.std.specs.declared.result.Result.{Result}
 use Rattle.std.proofs.lemmas.Bool.{false≢true, or_left}
 use Rattle.std.proofs.lemmas.List.Elements.{Contains-push}
-use Rattle.placed_values.specs.accepted_memory.holder_model.Calling.{places_given}
-use Rattle.placed_values.specs.accepted_memory.holder_model.Data.{AddressOf, Datum}
-use Rattle.placed_values.specs.accepted_memory.holder_model.Effects.{Change, ClosesSlot, Effect, OpensSlot, effect_of}
-use Rattle.placed_values.specs.accepted_memory.holder_model.Faults.{HolderFault}
-use Rattle.placed_values.specs.accepted_memory.holder_model.Frames.{Entry, Frame, entry_at, result_put, results_put, with_ok}
-use Rattle.placed_values.specs.accepted_memory.holder_model.MemoryEffects.{where_held}
-use Rattle.placed_values.specs.accepted_memory.holder_model.ModuleShapes.{ModuleShapes}
-use Rattle.placed_values.specs.accepted_memory.holder_model.StepParts as parts
-use Rattle.placed_values.specs.accepted_memory.holder_model.States.{Runs, Task, dropping}
-use Rattle.placed_values.specs.accepted_memory.holder_model.declared.row_effect.RowEffect.TheVariants as row
-use Rattle.placed_values.specs.accepted_memory.memory_accesses.Operations.{access_kind_of}
-use Rattle.placed_values.specs.accepted_memory.memory_accesses.Sources.{is_slot_source, is_trivial_source, slot_source, source_at, source_by, sources_of}
-use Rattle.placed_values.specs.accepted_memory.memory_accesses.declared.access.Operation.TheVariants as operation
-use Rattle.placed_values.specs.accepted_memory.memory_accesses.declared.columns.AccessKind.TheVariants as access
-use Rattle.placed_values.specs.accepted_memory.memory_accesses.declared.source.Source.{Source}
-use Rattle.placed_values.specs.accepted_memory.memory_accesses.declared.source.Source.TheVariants as source
-use Rattle.placed_values.specs.accepted_places.inner.Located.{IsRoot}
-use Rattle.placed_values.proofs.accepted_places.Naming.{MakesAddress, address_made, makes_member, makes_root}
-use Rattle.placed_values.proofs.accepted_places.OperationsRight.{of_slots}
-use Rattle.placed_values.specs.accepted_values.inner.Known.{IsAcceptedBody}
+use Rattle.tracked_frames.specs.placed_values.accepted_memory.holder_model.Calling.{places_given}
+use Rattle.tracked_frames.specs.placed_values.accepted_memory.holder_model.Data.{AddressOf, Datum}
+use Rattle.tracked_frames.specs.placed_values.accepted_memory.holder_model.Effects.{Change, ClosesSlot, Effect, OpensSlot, effect_of}
+use Rattle.tracked_frames.specs.placed_values.accepted_memory.holder_model.Faults.{HolderFault}
+use Rattle.tracked_frames.specs.placed_values.accepted_memory.holder_model.Frames.{Entry, Frame, entry_at, result_put, results_put, with_ok}
+use Rattle.tracked_frames.specs.placed_values.accepted_memory.holder_model.MemoryEffects.{where_held}
+use Rattle.tracked_frames.specs.placed_values.accepted_memory.holder_model.ModuleShapes.{ModuleShapes}
+use Rattle.tracked_frames.specs.placed_values.accepted_memory.holder_model.StepParts as parts
+use Rattle.tracked_frames.specs.placed_values.accepted_memory.holder_model.States.{Runs, Task, dropping}
+use Rattle.tracked_frames.specs.placed_values.accepted_memory.holder_model.declared.row_effect.RowEffect.TheVariants as row
+use Rattle.tracked_frames.specs.placed_values.accepted_memory.memory_accesses.Operations.{access_kind_of}
+use Rattle.tracked_frames.specs.placed_values.accepted_memory.memory_accesses.Sources.{is_slot_source, is_trivial_source, slot_source, source_at, source_by, sources_of}
+use Rattle.tracked_frames.specs.placed_values.accepted_memory.memory_accesses.declared.access.Operation.TheVariants as operation
+use Rattle.tracked_frames.specs.placed_values.accepted_memory.memory_accesses.declared.columns.AccessKind.TheVariants as access
+use Rattle.tracked_frames.specs.placed_values.accepted_memory.memory_accesses.declared.source.Source.{Source}
+use Rattle.tracked_frames.specs.placed_values.accepted_memory.memory_accesses.declared.source.Source.TheVariants as source
+use Rattle.tracked_frames.specs.placed_values.accepted_places.inner.Located.{IsRoot}
+use Rattle.tracked_frames.proofs.placed_values.accepted_places.Naming.{MakesAddress, address_made, makes_member, makes_root}
+use Rattle.tracked_frames.proofs.placed_values.accepted_places.OperationsRight.{of_slots}
+use Rattle.tracked_frames.specs.placed_values.accepted_values.inner.Known.{IsAcceptedBody}
 use Rattle.argument_conventions.specs.declared.row.Content.TheVariants as content
 use Rattle.instruction_table.specs.declared.op.Op.{Op}
 use Rattle.instruction_table.specs.declared.op.Op.TheVariants as op

@@ -6,3 +6,4 @@ pub use Rattle.accepted_places.proofs as accepted_places
 pub use Rattle.accepted_places.proofs.accepted_values as accepted_values
 pub use Rattle.accepted_places.proofs.held_entries as held_entries
 pub use Rattle.accepted_places.proofs.accepted_memory as accepted_memory
+pub use Rattle.accepted_places.proofs.accepted_premises as accepted_premises

@@ -35,42 +35,42 @@ use Rattle.type_definitions.specs.declared.kind.Kind.TheVariants as kind
 use Rattle.value_tables.specs.Borrows.{borrow_by, borrows, is_borrow}
 use Rattle.value_tables.specs.FirstValue as values
 use Rattle.value_tables.specs.declared.borrows.Borrow.TheVariants.{NoBorrow}
-use Rattle.accepted_places.specs.accepted_memory.accepted_trails.inner.Bases.{IsBaseOf}
-use Rattle.accepted_places.specs.accepted_memory.memory_accesses.Operations.{access_kind_of}
-use Rattle.accepted_places.specs.accepted_memory.memory_accesses.Sources.{borrow_source, element_place, field_source, is_slot, is_trivial_member, loan_source, member_place, part_source}
-use Rattle.accepted_places.specs.accepted_memory.memory_accesses.Sources.{result_source, slot_source, source_at, source_by, sources_of}
-use Rattle.accepted_places.specs.accepted_memory.memory_accesses.declared.source.Source.{Source}
-use Rattle.accepted_places.specs.accepted_memory.memory_accesses.declared.source.Source.TheVariants as source
-use Rattle.accepted_places.specs.accepted_memory.memory_parts.Parts.{is_scope, is_scope_source}
-use Rattle.accepted_places.specs.accepted_memory.ownership_origins.Origins.{arg_definition_by, chain_operands, definitions_of, is_zero, result_origin}
-use Rattle.accepted_places.specs.accepted_memory.ownership_origins.Switched.{switch_to}
-use Rattle.accepted_places.specs.accepted_memory.ownership_origins.declared.switched.Switched.{Switched}
-use Rattle.accepted_places.specs.inner.Located.{IsAddress, IsNamed, member, root}
-use Rattle.accepted_places.proofs.ItemStacks.{none_made, opens_no_slot, opens_none}
-use Rattle.accepted_places.proofs.Naming.{MakesAddress, address_made, makes_member, makes_root}
-use Rattle.accepted_places.proofs.PartsThere.{each_where_among}
-use Rattle.accepted_places.specs.accepted_values.inner.Known.{IsAcceptedBody, facts_at, kind_at, told_in_function}
-use Rattle.accepted_places.specs.accepted_values.run_typing.Forms.{Form, OfPlace, form_of, forms_of}
-use Rattle.accepted_places.specs.accepted_values.run_typing.RowForms as rows
-use Rattle.accepted_places.specs.accepted_values.run_typing.RowForms.{RowForms}
-use Rattle.accepted_places.proofs.accepted_values.Accepted.{in_ownership_form, typed, well_typed}
-use Rattle.accepted_places.proofs.accepted_values.Based.{based}
-use Rattle.accepted_places.proofs.accepted_values.Borrowed.{borrow_is_value}
-use Rattle.accepted_places.proofs.accepted_values.Counted.{nothing_in}
-use Rattle.accepted_places.proofs.accepted_values.Defined.{IsDefined, a_result, an_argument, defined_so}
-use Rattle.accepted_places.proofs.accepted_values.Facts.{facts_so}
-use Rattle.accepted_places.proofs.accepted_values.Made.{at_point_of_result}
-use Rattle.accepted_places.proofs.accepted_values.TableRows.{argument_rows, result_rows}
-use Rattle.accepted_places.proofs.accepted_values.Told.{BaseFrom, addressed, base_from, itself, lent}
-use Rattle.accepted_places.proofs.accepted_values.lowering_laws.Lowerable.{contained}
-use Rattle.accepted_places.proofs.accepted_values.run_typing_laws.EndFacts.{no_operand, one_operand}
-use Rattle.accepted_places.specs.owned_run_typing.inner.OwnedRows as owned
-use Rattle.accepted_places.specs.owned_run_typing.inner.OwnedRows.{OwnedRowForms}
-use Rattle.accepted_places.proofs.owned_run_typing.OwnedInsts.{owned_inst}
+use Rattle.placed_values.specs.accepted_places.accepted_memory.accepted_trails.inner.Bases.{IsBaseOf}
+use Rattle.placed_values.specs.accepted_places.accepted_memory.memory_accesses.Operations.{access_kind_of}
+use Rattle.placed_values.specs.accepted_places.accepted_memory.memory_accesses.Sources.{borrow_source, element_place, field_source, is_slot, is_trivial_member, loan_source, member_place, part_source}
+use Rattle.placed_values.specs.accepted_places.accepted_memory.memory_accesses.Sources.{result_source, slot_source, source_at, source_by, sources_of}
+use Rattle.placed_values.specs.accepted_places.accepted_memory.memory_accesses.declared.source.Source.{Source}
+use Rattle.placed_values.specs.accepted_places.accepted_memory.memory_accesses.declared.source.Source.TheVariants as source
+use Rattle.placed_values.specs.accepted_places.accepted_memory.memory_parts.Parts.{is_scope, is_scope_source}
+use Rattle.placed_values.specs.accepted_places.accepted_memory.ownership_origins.Origins.{arg_definition_by, chain_operands, definitions_of, is_zero, result_origin}
+use Rattle.placed_values.specs.accepted_places.accepted_memory.ownership_origins.Switched.{switch_to}
+use Rattle.placed_values.specs.accepted_places.accepted_memory.ownership_origins.declared.switched.Switched.{Switched}
+use Rattle.placed_values.specs.accepted_places.inner.Located.{IsAddress, IsNamed, member, root}
+use Rattle.placed_values.proofs.accepted_places.ItemStacks.{none_made, opens_no_slot, opens_none}
+use Rattle.placed_values.proofs.accepted_places.Naming.{MakesAddress, address_made, makes_member, makes_root}
+use Rattle.placed_values.proofs.accepted_places.PartsThere.{each_where_among}
+use Rattle.placed_values.specs.accepted_places.accepted_values.inner.Known.{IsAcceptedBody, facts_at, kind_at, told_in_function}
+use Rattle.placed_values.specs.accepted_places.accepted_values.run_typing.Forms.{Form, OfPlace, form_of, forms_of}
+use Rattle.placed_values.specs.accepted_places.accepted_values.run_typing.RowForms as rows
+use Rattle.placed_values.specs.accepted_places.accepted_values.run_typing.RowForms.{RowForms}
+use Rattle.placed_values.proofs.accepted_places.accepted_values.Accepted.{in_ownership_form, typed, well_typed}
+use Rattle.placed_values.proofs.accepted_places.accepted_values.Based.{based}
+use Rattle.placed_values.proofs.accepted_places.accepted_values.Borrowed.{borrow_is_value}
+use Rattle.placed_values.proofs.accepted_places.accepted_values.Counted.{nothing_in}
+use Rattle.placed_values.proofs.accepted_places.accepted_values.Defined.{IsDefined, a_result, an_argument, defined_so}
+use Rattle.placed_values.proofs.accepted_places.accepted_values.Facts.{facts_so}
+use Rattle.placed_values.proofs.accepted_places.accepted_values.Made.{at_point_of_result}
+use Rattle.placed_values.proofs.accepted_places.accepted_values.TableRows.{argument_rows, result_rows}
+use Rattle.placed_values.proofs.accepted_places.accepted_values.Told.{BaseFrom, addressed, base_from, itself, lent}
+use Rattle.placed_values.proofs.accepted_places.accepted_values.lowering_laws.Lowerable.{contained}
+use Rattle.placed_values.proofs.accepted_places.accepted_values.run_typing_laws.EndFacts.{no_operand, one_operand}
+use Rattle.placed_values.specs.accepted_places.owned_run_typing.inner.OwnedRows as owned
+use Rattle.placed_values.specs.accepted_places.owned_run_typing.inner.OwnedRows.{OwnedRowForms}
+use Rattle.placed_values.proofs.accepted_places.owned_run_typing.OwnedInsts.{owned_inst}
 use Rattle.run_values.specs.Shapes.{Shape}
-use Rattle.accepted_places.specs.accepted_memory.holder_model.Effects.{effect_of}
-use Rattle.accepted_places.specs.accepted_memory.holder_model.declared.row_effect.RowEffect.{RowEffect}
-use Rattle.accepted_places.specs.accepted_memory.holder_model.declared.row_effect.RowEffect.TheVariants as row
+use Rattle.placed_values.specs.accepted_places.accepted_memory.holder_model.Effects.{effect_of}
+use Rattle.placed_values.specs.accepted_places.accepted_memory.holder_model.declared.row_effect.RowEffect.{RowEffect}
+use Rattle.placed_values.specs.accepted_places.accepted_memory.holder_model.declared.row_effect.RowEffect.TheVariants as row
 use Rattle.scoped_addresses.specs.inner.Addresses.{AreBorrowsScopes, ArePlainInScopesNamed, HaveSlotsNoBases}
 
 -- ---- what borrows is a scope to memory

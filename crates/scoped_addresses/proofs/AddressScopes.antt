@@ -25,28 +25,28 @@ use Rattle.sil_ast.specs.declared.place.ValueId.{ValueId}
 use Rattle.sil_cfg.specs.declared.item.Item.{Item}
 use Rattle.sil_cfg.specs.declared.item.Item.TheVariants as item
 use Rattle.type_definitions.specs.Declarations.{Declarations, declarations_of}
-use Rattle.accepted_places.specs.accepted_memory.accepted_trails.inner.Bases.{IsBaseOf}
-use Rattle.accepted_places.specs.accepted_memory.accepted_trails.inner.Lives.{is_open}
-use Rattle.accepted_places.specs.accepted_memory.memory_accesses.Operations.{access_kind_of, address_of, addresses_of, deallocates, deallocates_by}
-use Rattle.accepted_places.specs.accepted_memory.memory_accesses.Sources.{is_slot}
-use Rattle.accepted_places.specs.accepted_memory.memory_accesses.Sources.{source_at, sources_of}
-use Rattle.accepted_places.specs.accepted_memory.memory_accesses.declared.source.Source.{Source}
-use Rattle.accepted_places.specs.accepted_memory.memory_accesses.declared.source.Source.TheVariants as source
-use Rattle.accepted_places.specs.accepted_memory.memory_parts.Parts.{is_scope, scope_part, scope_parts}
-use Rattle.accepted_places.specs.accepted_memory.memory_parts.declared.part.Part.TheVariants.{InScope}
-use Rattle.accepted_places.specs.accepted_memory.run_trails.inner.RunTrails.{IsRunTrail}
-use Rattle.accepted_places.specs.accepted_memory.inner.PartTrails.{IsPartOf}
-use Rattle.accepted_places.proofs.accepted_memory.InScopes.{in_scopes}
-use Rattle.accepted_places.specs.inner.Located.{IsNamed, IsRoot, argument, field, member, root, slot}
-use Rattle.accepted_places.proofs.Fields.{has_among}
-use Rattle.accepted_places.proofs.ItemStacks.{accepted_in}
-use Rattle.accepted_places.proofs.Mentioned.{are_in_open_scopes}
-use Rattle.accepted_places.proofs.OperationsRight.{of_slots, stands_somewhere}
-use Rattle.accepted_places.proofs.PartsThere.{part_there}
-use Rattle.accepted_places.specs.accepted_values.inner.Known.{IsAcceptedBody, facts_at}
-use Rattle.accepted_places.proofs.accepted_values.Accepted.{typed}
-use Rattle.accepted_places.proofs.accepted_values.Counted.{nothing_in}
-use Rattle.accepted_places.proofs.accepted_values.run_typing_laws.EndFacts.{one_operand}
+use Rattle.placed_values.specs.accepted_places.accepted_memory.accepted_trails.inner.Bases.{IsBaseOf}
+use Rattle.placed_values.specs.accepted_places.accepted_memory.accepted_trails.inner.Lives.{is_open}
+use Rattle.placed_values.specs.accepted_places.accepted_memory.memory_accesses.Operations.{access_kind_of, address_of, addresses_of, deallocates, deallocates_by}
+use Rattle.placed_values.specs.accepted_places.accepted_memory.memory_accesses.Sources.{is_slot}
+use Rattle.placed_values.specs.accepted_places.accepted_memory.memory_accesses.Sources.{source_at, sources_of}
+use Rattle.placed_values.specs.accepted_places.accepted_memory.memory_accesses.declared.source.Source.{Source}
+use Rattle.placed_values.specs.accepted_places.accepted_memory.memory_accesses.declared.source.Source.TheVariants as source
+use Rattle.placed_values.specs.accepted_places.accepted_memory.memory_parts.Parts.{is_scope, scope_part, scope_parts}
+use Rattle.placed_values.specs.accepted_places.accepted_memory.memory_parts.declared.part.Part.TheVariants.{InScope}
+use Rattle.placed_values.specs.accepted_places.accepted_memory.run_trails.inner.RunTrails.{IsRunTrail}
+use Rattle.placed_values.specs.accepted_places.accepted_memory.inner.PartTrails.{IsPartOf}
+use Rattle.placed_values.proofs.accepted_places.accepted_memory.InScopes.{in_scopes}
+use Rattle.placed_values.specs.accepted_places.inner.Located.{IsNamed, IsRoot, argument, field, member, root, slot}
+use Rattle.placed_values.proofs.accepted_places.Fields.{has_among}
+use Rattle.placed_values.proofs.accepted_places.ItemStacks.{accepted_in}
+use Rattle.placed_values.proofs.accepted_places.Mentioned.{are_in_open_scopes}
+use Rattle.placed_values.proofs.accepted_places.OperationsRight.{of_slots, stands_somewhere}
+use Rattle.placed_values.proofs.accepted_places.PartsThere.{part_there}
+use Rattle.placed_values.specs.accepted_places.accepted_values.inner.Known.{IsAcceptedBody, facts_at}
+use Rattle.placed_values.proofs.accepted_places.accepted_values.Accepted.{typed}
+use Rattle.placed_values.proofs.accepted_places.accepted_values.Counted.{nothing_in}
+use Rattle.placed_values.proofs.accepted_places.accepted_values.run_typing_laws.EndFacts.{one_operand}
 use Rattle.scoped_addresses.specs.inner.Addresses.{AreAddressesInScopes, TakesAddressesInScopes}
 use Rattle.scoped_addresses.proofs.OwnScopes.{own_scope}
 use Rattle.scoped_addresses.proofs.AddressRows.{borrows_scopes, plain_in_scopes_named, slots_no_bases}

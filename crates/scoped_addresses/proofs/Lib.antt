@@ -1,5 +1,7 @@
 pub mod OwnScopes
 pub mod AddressRows
 pub mod AddressScopes
-pub use Rattle.accepted_places.proofs.accepted_values as accepted_values
-pub use Rattle.accepted_places.proofs.held_entries as held_entries
+pub use Rattle.placed_values.proofs.accepted_places.accepted_values as accepted_values
+pub use Rattle.placed_values.proofs.accepted_places.held_entries as held_entries
+pub use Rattle.placed_values.proofs.accepted_premises as accepted_premises
+pub use Rattle.placed_values.proofs as placed_values

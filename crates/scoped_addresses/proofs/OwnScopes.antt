@@ -8,9 +8,9 @@ use Rattle.type_definitions.specs.Declarations.{Declarations, declarations_of}
 use Rattle.type_definitions.specs.declared.kind.Kind.{Kind}
 use Rattle.type_definitions.specs.declared.kind.Kind.TheVariants as kind
 use Rattle.value_tables.specs.Borrows.{is_borrow}
-use Rattle.accepted_places.specs.accepted_values.inner.Bases.{IsLender}
-use Rattle.accepted_places.specs.accepted_values.inner.Known.{kind_at}
-use Rattle.accepted_places.proofs.accepted_values.Based.{guaranteed_value, lenders_own_bases}
+use Rattle.placed_values.specs.accepted_places.accepted_values.inner.Bases.{IsLender}
+use Rattle.placed_values.specs.accepted_places.accepted_values.inner.Known.{kind_at}
+use Rattle.placed_values.proofs.accepted_places.accepted_values.Based.{guaranteed_value, lenders_own_bases}
 use Rattle.scoped_addresses.specs.inner.Addresses.{AreBorrowsOwnScopes}
 
 pub lender_kind : (d : Declarations) (f : Function) (b : ValueId) → IsLender d f b → kind_at d f b ≡ kind.Guaranteed

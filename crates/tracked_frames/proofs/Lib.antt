@@ -9,4 +9,6 @@ pub mod Begun
 pub use Rattle.typed_holders.proofs as typed_holders
 pub use Rattle.typed_holders.proofs.typed_memory as typed_memory
 pub use Rattle.typed_holders.proofs.holder_steps as holder_steps
-pub use Rattle.accepted_premises.proofs as accepted_premises
+pub use Rattle.typed_holders.proofs.accepted_premises as accepted_premises
+pub use Rattle.typed_holders.proofs.placed_values as placed_values
+pub use Rattle.typed_holders.proofs.scoped_addresses as scoped_addresses

@@ -1,11 +1,11 @@
 -- States of a run by holders of an accepted module: what holds of each state that a run comes to.
 use Rattle.sil_ast.specs.declared.module.Module.{Module}
-use Rattle.followed_objects.specs.held_entries.holder_model.HolderStates.{HolderState}
-use Rattle.followed_objects.specs.typed_holders.inner.TypedStates.{IsTypedState}
-use Rattle.followed_objects.specs.tracked_frames.inner.TrackedStates.{IsTrackedState}
+use Rattle.held_loans.specs.followed_objects.held_entries.holder_model.HolderStates.{HolderState}
+use Rattle.held_loans.specs.followed_objects.typed_holders.inner.TypedStates.{IsTypedState}
+use Rattle.held_loans.specs.followed_objects.tracked_frames.inner.TrackedStates.{IsTrackedState}
 use Rattle.held_loans.specs.held_places.inner.PlaceStates.{AreSlotsRight}
-use Rattle.followed_objects.specs.inner.Said.{said}
-use Rattle.followed_objects.specs.held_objects.inner.ObjectStates.{AreObjectsRight}
+use Rattle.held_loans.specs.followed_objects.inner.Said.{said}
+use Rattle.held_loans.specs.followed_objects.held_objects.inner.ObjectStates.{AreObjectsRight}
 use Rattle.held_loans.specs.guarded_entries.inner.GuardedStates.{IsGuardedState}
 use Rattle.held_loans.specs.inner.Loans.{loans_of}
 

@@ -1,20 +1,20 @@
 -- Laws of the objects of runs by holders of accepted modules: they are whole, but for those that frames are building as their trails say.
 use Rattle.std.specs.Prelude.{◌≡◌, ℕ, List, ◌∷◌, Bool, true, Contains, Some, slice_get}
-use Rattle.accepted_places.specs.accepted_memory.accepted_modules.inner.Checked.{IsVerified}
-use Rattle.accepted_places.specs.accepted_memory.holder_model.Data.{AddressOf}
-use Rattle.accepted_places.specs.accepted_memory.holder_model.Effects.{effect_of}
-use Rattle.accepted_places.specs.accepted_memory.holder_model.Frames.{Frame}
-use Rattle.accepted_places.specs.accepted_memory.holder_model.HolderStates.{HolderState}
-use Rattle.accepted_places.specs.accepted_memory.holder_model.ModuleFacts.{facts_of}
-use Rattle.accepted_places.specs.accepted_memory.holder_model.Outcomes.{begins, may_start}
-use Rattle.accepted_places.specs.accepted_memory.holder_model.Standing.{stands_at}
-use Rattle.accepted_places.specs.accepted_memory.holder_model.States.{Goes, Runs, Task}
-use Rattle.accepted_places.specs.accepted_memory.holder_model.Steps.{step}
-use Rattle.accepted_places.specs.accepted_memory.holder_model.declared.row_effect.RowEffect.TheVariants as row
-use Rattle.accepted_places.specs.accepted_memory.memory_accesses.Locations.{location_of}
-use Rattle.accepted_places.specs.accepted_memory.memory_accesses.Sources.{source_at, sources_of}
-use Rattle.accepted_places.specs.accepted_memory.memory_accesses.declared.location.Location.{Location}
-use Rattle.accepted_places.specs.accepted_memory.memory_accesses.declared.source.Source.TheVariants as source
+use Rattle.held_places.specs.accepted_places.accepted_memory.accepted_modules.inner.Checked.{IsVerified}
+use Rattle.held_places.specs.accepted_places.accepted_memory.holder_model.Data.{AddressOf}
+use Rattle.held_places.specs.accepted_places.accepted_memory.holder_model.Effects.{effect_of}
+use Rattle.held_places.specs.accepted_places.accepted_memory.holder_model.Frames.{Frame}
+use Rattle.held_places.specs.accepted_places.accepted_memory.holder_model.HolderStates.{HolderState}
+use Rattle.held_places.specs.accepted_places.accepted_memory.holder_model.ModuleFacts.{facts_of}
+use Rattle.held_places.specs.accepted_places.accepted_memory.holder_model.Outcomes.{begins, may_start}
+use Rattle.held_places.specs.accepted_places.accepted_memory.holder_model.Standing.{stands_at}
+use Rattle.held_places.specs.accepted_places.accepted_memory.holder_model.States.{Goes, Runs, Task}
+use Rattle.held_places.specs.accepted_places.accepted_memory.holder_model.Steps.{step}
+use Rattle.held_places.specs.accepted_places.accepted_memory.holder_model.declared.row_effect.RowEffect.TheVariants as row
+use Rattle.held_places.specs.accepted_places.accepted_memory.memory_accesses.Locations.{location_of}
+use Rattle.held_places.specs.accepted_places.accepted_memory.memory_accesses.Sources.{source_at, sources_of}
+use Rattle.held_places.specs.accepted_places.accepted_memory.memory_accesses.declared.location.Location.{Location}
+use Rattle.held_places.specs.accepted_places.accepted_memory.memory_accesses.declared.source.Source.TheVariants as source
 use Rattle.held_objects.specs.built_objects.inner.FrameObjects.{Names}
 use Rattle.held_objects.specs.inner.ObjectStates.{AreObjectsRight}
 use Rattle.item_operands.specs.Items.{item_taken}
@@ -28,8 +28,8 @@ use Rattle.sil_ast.specs.declared.place.FuncId.{FuncId}
 use Rattle.sil_ast.specs.declared.place.ValueId.{ValueId}
 use Rattle.sil_cfg.specs.declared.item.Item.TheVariants as item
 use Rattle.type_definitions.specs.Declarations.{declarations_of}
-use Rattle.tracked_frames.specs.inner.TrackedStates.{IsTrackedState}
-use Rattle.tracked_frames.specs.typed_holders.inner.TypedStates.{IsTypedState}
+use Rattle.held_places.specs.tracked_frames.inner.TrackedStates.{IsTrackedState}
+use Rattle.held_places.specs.tracked_frames.typed_holders.inner.TypedStates.{IsTypedState}
 use Rattle.followed_objects.specs.inner.Said.{said}
 
 -- what the first frame's instruction takes by an address that is neither one of a field of an object, nor of what lies in one, is on the stack

@@ -1,16 +1,16 @@
 -- What the addresses of fields and of members name: a place within the field of an object, where the operand names the object, or a place in the field.
 use Rattle.std.specs.Prelude.{◌≡◌, ℕ, List, true, Contains, Some, length, slice_get}
-use Rattle.accepted_places.specs.accepted_memory.holder_model.Data.{ValueOf}
-use Rattle.accepted_places.specs.accepted_memory.holder_model.Effects.{effect_of, part_number}
-use Rattle.accepted_places.specs.accepted_memory.holder_model.Frames.{Entry}
-use Rattle.accepted_places.specs.accepted_memory.holder_model.ModuleShapes.{field_shapes, shapes_of}
-use Rattle.accepted_places.specs.accepted_memory.holder_model.declared.row_effect.RowEffect.TheVariants as row
-use Rattle.accepted_places.specs.accepted_memory.memory_accesses.Rows.{is_part}
-use Rattle.accepted_places.specs.accepted_memory.memory_accesses.Sources.{source_at, sources_of}
-use Rattle.accepted_places.specs.accepted_memory.memory_accesses.declared.location.Location.{Location}
-use Rattle.accepted_places.specs.accepted_memory.memory_accesses.declared.source.Source.TheVariants as source
-use Rattle.accepted_places.specs.accepted_values.inner.Known.{InAccepted, IsAcceptedBody}
-use Rattle.accepted_places.specs.accepted_values.run_typing.Forms.{OfValue, form_of}
+use Rattle.held_places.specs.accepted_places.accepted_memory.holder_model.Data.{ValueOf}
+use Rattle.held_places.specs.accepted_places.accepted_memory.holder_model.Effects.{effect_of, part_number}
+use Rattle.held_places.specs.accepted_places.accepted_memory.holder_model.Frames.{Entry}
+use Rattle.held_places.specs.accepted_places.accepted_memory.holder_model.ModuleShapes.{field_shapes, shapes_of}
+use Rattle.held_places.specs.accepted_places.accepted_memory.holder_model.declared.row_effect.RowEffect.TheVariants as row
+use Rattle.held_places.specs.accepted_places.accepted_memory.memory_accesses.Rows.{is_part}
+use Rattle.held_places.specs.accepted_places.accepted_memory.memory_accesses.Sources.{source_at, sources_of}
+use Rattle.held_places.specs.accepted_places.accepted_memory.memory_accesses.declared.location.Location.{Location}
+use Rattle.held_places.specs.accepted_places.accepted_memory.memory_accesses.declared.source.Source.TheVariants as source
+use Rattle.held_places.specs.accepted_places.accepted_values.inner.Known.{InAccepted, IsAcceptedBody}
+use Rattle.held_places.specs.accepted_places.accepted_values.run_typing.Forms.{OfValue, form_of}
 use Rattle.held_objects.specs.built_objects.inner.Building.{IsFieldAddress}
 use Rattle.held_objects.specs.built_objects.inner.FrameObjects.{IsInField, Names}
 use Rattle.item_operands.specs.Items.{item_defined}
@@ -29,8 +29,8 @@ use Rattle.sil_ast.specs.declared.place.PointId.{PointId}
 use Rattle.sil_ast.specs.declared.place.ValueId.{ValueId}
 use Rattle.sil_cfg.specs.declared.item.Item.TheVariants as item
 use Rattle.type_definitions.specs.Declarations.{declarations_of}
-use Rattle.tracked_frames.specs.typed_holders.inner.TypedStates.{EntriesAre}
-use Rattle.tracked_frames.specs.typed_holders.typed_memory.inner.Worlds.{IsWorldOf, MemoryIs, World}
+use Rattle.held_places.specs.tracked_frames.typed_holders.inner.TypedStates.{EntriesAre}
+use Rattle.held_places.specs.tracked_frames.typed_holders.typed_memory.inner.Worlds.{IsWorldOf, MemoryIs, World}
 use Rattle.value_tables.specs.FirstValue.{first_value}
 
 -- a new object has as many fields as its class

@@ -1,20 +1,20 @@
 -- Where a frame stands at an instruction whose operands it has read, the fields at which the instruction does something are there, and as its operations ask.
 use Rattle.std.specs.Prelude.{◌≡◌, ℕ, List, ◌∷◌, Bool, true, Contains, Ok, Some, slice_get}
-use Rattle.accepted_places.specs.accepted_memory.accepted_modules.inner.Checked.{IsVerified}
-use Rattle.accepted_places.specs.accepted_memory.holder_model.Data.{AddressOf}
-use Rattle.accepted_places.specs.accepted_memory.holder_model.Frames.{Frame, Operands}
-use Rattle.accepted_places.specs.accepted_memory.holder_model.HolderStates.{HolderState}
-use Rattle.accepted_places.specs.accepted_memory.holder_model.MemoryEffects.{asked_before, holds}
-use Rattle.accepted_places.specs.accepted_memory.holder_model.ModuleFacts.{facts_of}
-use Rattle.accepted_places.specs.accepted_memory.holder_model.Standing.{stands_at}
-use Rattle.accepted_places.specs.accepted_memory.holder_model.States.{Runs, Task}
-use Rattle.accepted_places.specs.accepted_memory.memory_accesses.Locations.{location_of}
-use Rattle.accepted_places.specs.accepted_memory.memory_accesses.Operations.{operations_of}
-use Rattle.accepted_places.specs.accepted_memory.memory_accesses.Sources.{source_at, sources_of}
-use Rattle.accepted_places.specs.accepted_memory.memory_accesses.declared.access.Operated.{Operated}
-use Rattle.accepted_places.specs.accepted_memory.memory_accesses.declared.access.Operation.{Operation}
-use Rattle.accepted_places.specs.accepted_memory.memory_accesses.declared.location.Location.{Location}
-use Rattle.accepted_places.specs.accepted_memory.memory_accesses.declared.source.Source.TheVariants as source
+use Rattle.held_places.specs.accepted_places.accepted_memory.accepted_modules.inner.Checked.{IsVerified}
+use Rattle.held_places.specs.accepted_places.accepted_memory.holder_model.Data.{AddressOf}
+use Rattle.held_places.specs.accepted_places.accepted_memory.holder_model.Frames.{Frame, Operands}
+use Rattle.held_places.specs.accepted_places.accepted_memory.holder_model.HolderStates.{HolderState}
+use Rattle.held_places.specs.accepted_places.accepted_memory.holder_model.MemoryEffects.{asked_before, holds}
+use Rattle.held_places.specs.accepted_places.accepted_memory.holder_model.ModuleFacts.{facts_of}
+use Rattle.held_places.specs.accepted_places.accepted_memory.holder_model.Standing.{stands_at}
+use Rattle.held_places.specs.accepted_places.accepted_memory.holder_model.States.{Runs, Task}
+use Rattle.held_places.specs.accepted_places.accepted_memory.memory_accesses.Locations.{location_of}
+use Rattle.held_places.specs.accepted_places.accepted_memory.memory_accesses.Operations.{operations_of}
+use Rattle.held_places.specs.accepted_places.accepted_memory.memory_accesses.Sources.{source_at, sources_of}
+use Rattle.held_places.specs.accepted_places.accepted_memory.memory_accesses.declared.access.Operated.{Operated}
+use Rattle.held_places.specs.accepted_places.accepted_memory.memory_accesses.declared.access.Operation.{Operation}
+use Rattle.held_places.specs.accepted_places.accepted_memory.memory_accesses.declared.location.Location.{Location}
+use Rattle.held_places.specs.accepted_places.accepted_memory.memory_accesses.declared.source.Source.TheVariants as source
 use Rattle.argument_conventions.specs.declared.row.Content.{Content}
 use Rattle.held_objects.specs.built_objects.inner.FrameObjects.{Names}
 use Rattle.held_objects.specs.inner.ObjectStates.{AreObjectsRight}
@@ -27,8 +27,8 @@ use Rattle.sil_ast.specs.declared.module.Module.{Module}
 use Rattle.sil_ast.specs.declared.place.ValueId.{ValueId}
 use Rattle.sil_cfg.specs.declared.item.Item.TheVariants as item
 use Rattle.type_definitions.specs.Declarations.{declarations_of}
-use Rattle.tracked_frames.specs.typed_holders.holder_steps.inner.Ways.{operands_in}
-use Rattle.tracked_frames.specs.typed_holders.inner.TypedStates.{IsTypedState}
+use Rattle.held_places.specs.tracked_frames.typed_holders.holder_steps.inner.Ways.{operands_in}
+use Rattle.held_places.specs.tracked_frames.typed_holders.inner.TypedStates.{IsTypedState}
 use Rattle.followed_objects.specs.inner.Said.{said}
 
 -- the place is there, and as the operation asks

@@ -1,14 +1,14 @@
 -- What items do with the new objects of an accepted function: operations at their fields, and what takes an unfinished one.
 use Rattle.std.specs.Prelude.{◌≡◌, ℕ, List, ◌∷◌, true, false, Contains, Some}
-use Rattle.accepted_places.specs.accepted_memory.memory_accesses.Accesses.{allowance_of}
-use Rattle.accepted_places.specs.accepted_memory.memory_accesses.Operations.{deallocates}
-use Rattle.accepted_places.specs.accepted_memory.memory_accesses.Sources.{sources_of}
-use Rattle.accepted_places.specs.accepted_memory.memory_accesses.declared.access.Operated.{Operated}
-use Rattle.accepted_places.specs.accepted_memory.memory_accesses.declared.location.Location.{Location}
-use Rattle.accepted_places.specs.accepted_memory.memory_parts.Building.{builds, goes_by_borrow, takes_borrow, takes_object}
-use Rattle.accepted_places.specs.accepted_memory.run_trails.inner.RunTrails.{IsRunTrail}
-use Rattle.accepted_places.specs.inner.Cells.{IsDoneAt}
-use Rattle.accepted_places.specs.accepted_values.inner.Known.{InAccepted, facts_at}
+use Rattle.held_places.specs.accepted_places.accepted_memory.memory_accesses.Accesses.{allowance_of}
+use Rattle.held_places.specs.accepted_places.accepted_memory.memory_accesses.Operations.{deallocates}
+use Rattle.held_places.specs.accepted_places.accepted_memory.memory_accesses.Sources.{sources_of}
+use Rattle.held_places.specs.accepted_places.accepted_memory.memory_accesses.declared.access.Operated.{Operated}
+use Rattle.held_places.specs.accepted_places.accepted_memory.memory_accesses.declared.location.Location.{Location}
+use Rattle.held_places.specs.accepted_places.accepted_memory.memory_parts.Building.{builds, goes_by_borrow, takes_borrow, takes_object}
+use Rattle.held_places.specs.accepted_places.accepted_memory.run_trails.inner.RunTrails.{IsRunTrail}
+use Rattle.held_places.specs.accepted_places.inner.Cells.{IsDoneAt}
+use Rattle.held_places.specs.accepted_places.accepted_values.inner.Known.{InAccepted, facts_at}
 use Rattle.held_objects.specs.built_objects.inner.Building.{IsFieldAddress, IsNewField}
 use Rattle.held_objects.specs.built_objects.inner.Laws.{IsRightAt}
 use Rattle.item_operands.specs.Items.{item_taken}

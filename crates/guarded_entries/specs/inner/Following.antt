@@ -12,15 +12,15 @@ use Rattle.sil_cfg.specs.declared.item.Item.TheVariants as item
 use Rattle.type_definitions.specs.Declarations.{Declarations, declarations_of}
 use Rattle.run_values.specs.Memory.{Memory}
 use Rattle.value_tables.specs.Borrows.{is_borrow}
-use Rattle.scoped_addresses.specs.held_entries.accepted_trails.inner.Defined.{IsDefinedOn, makes}
-use Rattle.scoped_addresses.specs.held_entries.accepted_trails.inner.Lives.{BorrowsFrom, IsOwnedIn}
-use Rattle.scoped_addresses.specs.held_entries.accepted_trails.ownership_kinds.Facts.{facts_in}
-use Rattle.scoped_addresses.specs.held_entries.accepted_trails.run_trails.inner.RunTrails.{IsTurnedTrail}
-use Rattle.scoped_addresses.specs.held_entries.inner.Tracked.{AreTracked, IsOwnScope}
-use Rattle.scoped_addresses.specs.accepted_values.inner.Known.{IsAcceptedBody}
-use Rattle.holder_counts.specs.holder_model.Data.{Datum}
-use Rattle.holder_counts.specs.holder_model.Frames.{Entry, Lent, entry_at, without_ended}
-use Rattle.scoped_addresses.specs.inner.Addresses.{TakesAddressesInScopes}
+use Rattle.followed_objects.specs.scoped_addresses.held_entries.accepted_trails.inner.Defined.{IsDefinedOn, makes}
+use Rattle.followed_objects.specs.scoped_addresses.held_entries.accepted_trails.inner.Lives.{BorrowsFrom, IsOwnedIn}
+use Rattle.followed_objects.specs.scoped_addresses.held_entries.accepted_trails.ownership_kinds.Facts.{facts_in}
+use Rattle.followed_objects.specs.scoped_addresses.held_entries.accepted_trails.run_trails.inner.RunTrails.{IsTurnedTrail}
+use Rattle.followed_objects.specs.scoped_addresses.held_entries.inner.Tracked.{AreTracked, IsOwnScope}
+use Rattle.followed_objects.specs.scoped_addresses.accepted_values.inner.Known.{IsAcceptedBody}
+use Rattle.followed_objects.specs.holder_counts.holder_model.Data.{Datum}
+use Rattle.followed_objects.specs.holder_counts.holder_model.Frames.{Entry, Lent, entry_at, without_ended}
+use Rattle.followed_objects.specs.scoped_addresses.inner.Addresses.{TakesAddressesInScopes}
 use Rattle.guarded_entries.specs.inner.Guards.{IsArgument, IsCurrent, IsThere, Lending}
 
 -- a value that is neither Owned nor a scope is there once the trail has made it

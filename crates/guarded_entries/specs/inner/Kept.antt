@@ -13,19 +13,19 @@ use Rattle.type_definitions.specs.Declarations.{Declarations, declarations_of}
 use Rattle.run_values.specs.Memory.{Memory, is_dead}
 use Rattle.run_values.specs.Values.{Value, references_of}
 use Rattle.value_tables.specs.Borrows.{is_borrow}
-use Rattle.scoped_addresses.specs.held_entries.accepted_trails.inner.Bases.{IsBaseOf}
-use Rattle.scoped_addresses.specs.held_entries.accepted_trails.inner.Defined.{makes}
-use Rattle.scoped_addresses.specs.held_entries.accepted_trails.inner.Lives.{BorrowsFrom}
-use Rattle.scoped_addresses.specs.held_entries.accepted_trails.ownership_kinds.Facts.{facts_in}
-use Rattle.scoped_addresses.specs.accepted_values.inner.Known.{kind_at}
-use Rattle.holder_counts.specs.holder_model.Data.{Datum, references_in}
-use Rattle.holder_counts.specs.holder_model.Faults.{NamesDead}
-use Rattle.holder_counts.specs.holder_model.Frames.{Entry, Frame, Held, Lent, entry_at, made_entry, operands_of, results_put, without_ended}
-use Rattle.holder_counts.specs.holder_model.Holders.{in_memory, one_object}
-use Rattle.holder_counts.specs.holder_model.HolderStates.{HolderState}
-use Rattle.holder_counts.specs.holder_model.States.{Runs, Task}
-use Rattle.holder_counts.specs.inner.Moving.{in_tasks}
-use Rattle.holder_counts.specs.inner.Taking.{in_entries}
+use Rattle.followed_objects.specs.scoped_addresses.held_entries.accepted_trails.inner.Bases.{IsBaseOf}
+use Rattle.followed_objects.specs.scoped_addresses.held_entries.accepted_trails.inner.Defined.{makes}
+use Rattle.followed_objects.specs.scoped_addresses.held_entries.accepted_trails.inner.Lives.{BorrowsFrom}
+use Rattle.followed_objects.specs.scoped_addresses.held_entries.accepted_trails.ownership_kinds.Facts.{facts_in}
+use Rattle.followed_objects.specs.scoped_addresses.accepted_values.inner.Known.{kind_at}
+use Rattle.followed_objects.specs.holder_counts.holder_model.Data.{Datum, references_in}
+use Rattle.followed_objects.specs.holder_counts.holder_model.Faults.{NamesDead}
+use Rattle.followed_objects.specs.holder_counts.holder_model.Frames.{Entry, Frame, Held, Lent, entry_at, made_entry, operands_of, results_put, without_ended}
+use Rattle.followed_objects.specs.holder_counts.holder_model.Holders.{in_memory, one_object}
+use Rattle.followed_objects.specs.holder_counts.holder_model.HolderStates.{HolderState}
+use Rattle.followed_objects.specs.holder_counts.holder_model.States.{Runs, Task}
+use Rattle.followed_objects.specs.holder_counts.inner.Moving.{in_tasks}
+use Rattle.followed_objects.specs.holder_counts.inner.Taking.{in_entries}
 use Rattle.guarded_entries.specs.inner.Guards.{AreLentGuarded, AreOfKinds, Guard, IsArgument, IsCurrent, IsNamed, IsThere, KeepsAt, Lending}
 use Rattle.guarded_entries.specs.inner.GuardedStates.{BelowIsGuarded, IsGuardedIn, IsGuardedState, KeepsBelow, Loans, finishes_of}
 

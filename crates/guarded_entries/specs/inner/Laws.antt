@@ -1,15 +1,15 @@
 -- Laws of guards in a run by holders: steps keep states guarded, and no step ends where an operand names a dead object.
 use Rattle.std.specs.Prelude.{◌≡◌, ◌⊎◌, ℕ, Bool, true, false}
 use Rattle.sil_ast.specs.declared.module.Module.{Module}
-use Rattle.scoped_addresses.specs.accepted_values.accepted_modules.inner.Checked.{IsVerified}
-use Rattle.holder_counts.specs.holder_model.Faults.{ConsumesLent, EmptyPlace, FullPlace, HolderFault, LeavesHeld, LeavesPlace, LeavesSlot, NamesDead, NoEntry}
-use Rattle.holder_counts.specs.holder_model.Faults.{NotLastSlot, OverwritesHeld, PlaceNotAsAsked, WrongShape}
-use Rattle.holder_counts.specs.holder_model.HolderStates.{HolderState}
-use Rattle.holder_counts.specs.holder_model.ModuleFacts.{facts_of}
-use Rattle.holder_counts.specs.holder_model.States.{Ends, Faulted, Goes}
-use Rattle.holder_counts.specs.holder_model.Steps.{step}
-use Rattle.tracked_frames.specs.typed_holders.inner.TypedStates.{IsTypedState}
-use Rattle.tracked_frames.specs.inner.TrackedStates.{IsTrackedState}
+use Rattle.followed_objects.specs.scoped_addresses.accepted_values.accepted_modules.inner.Checked.{IsVerified}
+use Rattle.followed_objects.specs.holder_counts.holder_model.Faults.{ConsumesLent, EmptyPlace, FullPlace, HolderFault, LeavesHeld, LeavesPlace, LeavesSlot, NamesDead, NoEntry}
+use Rattle.followed_objects.specs.holder_counts.holder_model.Faults.{NotLastSlot, OverwritesHeld, PlaceNotAsAsked, WrongShape}
+use Rattle.followed_objects.specs.holder_counts.holder_model.HolderStates.{HolderState}
+use Rattle.followed_objects.specs.holder_counts.holder_model.ModuleFacts.{facts_of}
+use Rattle.followed_objects.specs.holder_counts.holder_model.States.{Ends, Faulted, Goes}
+use Rattle.followed_objects.specs.holder_counts.holder_model.Steps.{step}
+use Rattle.followed_objects.specs.tracked_frames.typed_holders.inner.TypedStates.{IsTypedState}
+use Rattle.followed_objects.specs.tracked_frames.inner.TrackedStates.{IsTrackedState}
 use Rattle.guarded_entries.specs.inner.GuardedStates.{IsGuardedState, Loans}
 use Rattle.guarded_entries.specs.inner.LoansKept.{IsPlacedState, LoansAreKept}
 

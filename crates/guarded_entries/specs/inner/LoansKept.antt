@@ -15,22 +15,22 @@ use Rattle.run_values.specs.Memory.{Memory}
 use Rattle.run_values.specs.Places.{OnStack, Place}
 use Rattle.run_values.specs.Values.{Value}
 use Rattle.value_tables.specs.Borrows.{is_borrow}
-use Rattle.scoped_addresses.specs.held_entries.accepted_trails.ownership_kinds.Facts.{facts_in}
-use Rattle.scoped_addresses.specs.held_entries.accepted_trails.run_trails.inner.RunTrails.{ComesAt}
-use Rattle.holder_counts.specs.holder_model.Calling.{are_as_before, handed_over, lent_places}
-use Rattle.holder_counts.specs.holder_model.Data.{AddressOf, Datum}
-use Rattle.holder_counts.specs.holder_model.Effects as effects
-use Rattle.holder_counts.specs.holder_model.Effects.{Change, SameSlots}
-use Rattle.holder_counts.specs.holder_model.Frames.{Entry, Frame, Lent, LentPlace, Operands, datum_in, entry_at, has_any, operands_of, results_put}
-use Rattle.holder_counts.specs.holder_model.HolderStates.{HolderState}
-use Rattle.holder_counts.specs.holder_model.MemoryEffects.{effect}
-use Rattle.holder_counts.specs.holder_model.ModuleFacts.{facts_of}
-use Rattle.holder_counts.specs.holder_model.ModuleShapes.{shapes_in}
-use Rattle.holder_counts.specs.holder_model.Standing.{stands_at}
-use Rattle.holder_counts.specs.holder_model.StepParts.{slots_behind}
-use Rattle.holder_counts.specs.holder_model.States.{Runs, Task, dropping}
-use Rattle.tracked_frames.specs.typed_holders.inner.TypedStates.{IsTypedState}
-use Rattle.tracked_frames.specs.inner.TrackedStates.{IsTrackedState}
+use Rattle.followed_objects.specs.scoped_addresses.held_entries.accepted_trails.ownership_kinds.Facts.{facts_in}
+use Rattle.followed_objects.specs.scoped_addresses.held_entries.accepted_trails.run_trails.inner.RunTrails.{ComesAt}
+use Rattle.followed_objects.specs.holder_counts.holder_model.Calling.{are_as_before, handed_over, lent_places}
+use Rattle.followed_objects.specs.holder_counts.holder_model.Data.{AddressOf, Datum}
+use Rattle.followed_objects.specs.holder_counts.holder_model.Effects as effects
+use Rattle.followed_objects.specs.holder_counts.holder_model.Effects.{Change, SameSlots}
+use Rattle.followed_objects.specs.holder_counts.holder_model.Frames.{Entry, Frame, Lent, LentPlace, Operands, datum_in, entry_at, has_any, operands_of, results_put}
+use Rattle.followed_objects.specs.holder_counts.holder_model.HolderStates.{HolderState}
+use Rattle.followed_objects.specs.holder_counts.holder_model.MemoryEffects.{effect}
+use Rattle.followed_objects.specs.holder_counts.holder_model.ModuleFacts.{facts_of}
+use Rattle.followed_objects.specs.holder_counts.holder_model.ModuleShapes.{shapes_in}
+use Rattle.followed_objects.specs.holder_counts.holder_model.Standing.{stands_at}
+use Rattle.followed_objects.specs.holder_counts.holder_model.StepParts.{slots_behind}
+use Rattle.followed_objects.specs.holder_counts.holder_model.States.{Runs, Task, dropping}
+use Rattle.followed_objects.specs.tracked_frames.typed_holders.inner.TypedStates.{IsTypedState}
+use Rattle.followed_objects.specs.tracked_frames.inner.TrackedStates.{IsTrackedState}
 use Rattle.guarded_entries.specs.inner.Guards.{IsArgument, KeepsAt, Lending}
 use Rattle.guarded_entries.specs.inner.GuardedStates.{Loans}
 use Rattle.guarded_entries.specs.inner.Rows.{LendsLoaded}

@@ -16,20 +16,20 @@ use Rattle.sil_cfg.specs.declared.item.Item.{Item}
 use Rattle.sil_cfg.specs.declared.item.Item.TheVariants as item
 use Rattle.type_definitions.specs.Declarations.{declarations_of}
 use Rattle.run_values.specs.Memory.{Memory}
-use Rattle.scoped_addresses.specs.held_entries.accepted_trails.ownership_kinds.Facts.{facts_in}
-use Rattle.scoped_addresses.specs.held_entries.accepted_trails.run_trails.inner.RunTrails.{IsRunTrail}
-use Rattle.scoped_addresses.specs.accepted_values.accepted_modules.inner.Checked.{IsVerified}
-use Rattle.scoped_addresses.specs.accepted_values.inner.Known.{IsAcceptedBody}
-use Rattle.scoped_addresses.specs.accepted_values.run_typing.Forms.{Form}
-use Rattle.scoped_addresses.specs.owned_run_typing.inner.OwnedRows.{OwnedRowForms}
-use Rattle.tracked_frames.specs.typed_memory.inner.Worlds.{DatumIs, MemoryIs, World}
-use Rattle.tracked_frames.specs.typed_holders.inner.TypedStates.{EntriesAre}
-use Rattle.tracked_frames.specs.inner.TrackedStates.{GoesAlong}
-use Rattle.holder_counts.specs.holder_model.Data.{Datum}
-use Rattle.holder_counts.specs.holder_model.Edges.{carried_along}
-use Rattle.holder_counts.specs.holder_model.Frames.{Entry, Frame, Operands, operands_of}
-use Rattle.holder_counts.specs.holder_model.Outcomes.{begins, may_start}
-use Rattle.holder_counts.specs.inner.Naming.{IsAlive, LoadsStrongly}
+use Rattle.followed_objects.specs.scoped_addresses.held_entries.accepted_trails.ownership_kinds.Facts.{facts_in}
+use Rattle.followed_objects.specs.scoped_addresses.held_entries.accepted_trails.run_trails.inner.RunTrails.{IsRunTrail}
+use Rattle.followed_objects.specs.scoped_addresses.accepted_values.accepted_modules.inner.Checked.{IsVerified}
+use Rattle.followed_objects.specs.scoped_addresses.accepted_values.inner.Known.{IsAcceptedBody}
+use Rattle.followed_objects.specs.scoped_addresses.accepted_values.run_typing.Forms.{Form}
+use Rattle.followed_objects.specs.scoped_addresses.owned_run_typing.inner.OwnedRows.{OwnedRowForms}
+use Rattle.followed_objects.specs.tracked_frames.typed_memory.inner.Worlds.{DatumIs, MemoryIs, World}
+use Rattle.followed_objects.specs.tracked_frames.typed_holders.inner.TypedStates.{EntriesAre}
+use Rattle.followed_objects.specs.tracked_frames.inner.TrackedStates.{GoesAlong}
+use Rattle.followed_objects.specs.holder_counts.holder_model.Data.{Datum}
+use Rattle.followed_objects.specs.holder_counts.holder_model.Edges.{carried_along}
+use Rattle.followed_objects.specs.holder_counts.holder_model.Frames.{Entry, Frame, Operands, operands_of}
+use Rattle.followed_objects.specs.holder_counts.holder_model.Outcomes.{begins, may_start}
+use Rattle.followed_objects.specs.holder_counts.inner.Naming.{IsAlive, LoadsStrongly}
 use Rattle.guarded_entries.specs.inner.EdgesLend.{CarriesValues}
 use Rattle.guarded_entries.specs.inner.GuardedStates.{IsGuardedState, Loans}
 use Rattle.guarded_entries.specs.inner.Guards.{IsCurrent, Lending}

@@ -1,7 +1,7 @@
 -- The law of loans: in a run of an accepted module steps keep what open scopes lend.
 use Rattle.sil_ast.specs.declared.module.Module.{Module}
-use Rattle.held_places.specs.accepted_values.accepted_modules.inner.Checked.{IsVerified}
-use Rattle.held_places.specs.inner.PlaceStates.{AreSlotsRight}
+use Rattle.guarded_entries.specs.held_places.accepted_values.accepted_modules.inner.Checked.{IsVerified}
+use Rattle.guarded_entries.specs.held_places.inner.PlaceStates.{AreSlotsRight}
 use Rattle.held_loans.specs.inner.Loans.{loans_of}
 use Rattle.guarded_entries.specs.inner.LoansKept.{LoansAreKept}
 

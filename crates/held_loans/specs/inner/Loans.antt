@@ -1,13 +1,13 @@
 -- Which cells the open scopes of a frame lend: those of the place that a scope's load named, found by its location in the place of the root.
 use Rattle.std.specs.Prelude.{ℕ, List, [], ◌∷◌, Bool, true, false, not, ◌&&◌, Option, Some, None, option_and_then}
-use Rattle.held_places.specs.accepted_memory.memory_accesses.Locations.{location_of}
-use Rattle.held_places.specs.accepted_memory.memory_accesses.Sources.{source_at, sources_of}
-use Rattle.held_places.specs.accepted_memory.memory_accesses.declared.location.Location.{Location}
-use Rattle.held_places.specs.accepted_memory.memory_accesses.declared.source.Source.{Source}
-use Rattle.held_places.specs.accepted_memory.memory_accesses.declared.source.Source.TheVariants as source
-use Rattle.held_places.specs.accepted_memory.holder_model.Calling.{place_in}
-use Rattle.held_places.specs.accepted_memory.holder_model.Frames.{Frame, datum_in, entry_at}
-use Rattle.held_places.specs.accepted_places.inner.Stacks.{slots_on}
+use Rattle.guarded_entries.specs.held_places.accepted_memory.memory_accesses.Locations.{location_of}
+use Rattle.guarded_entries.specs.held_places.accepted_memory.memory_accesses.Sources.{source_at, sources_of}
+use Rattle.guarded_entries.specs.held_places.accepted_memory.memory_accesses.declared.location.Location.{Location}
+use Rattle.guarded_entries.specs.held_places.accepted_memory.memory_accesses.declared.source.Source.{Source}
+use Rattle.guarded_entries.specs.held_places.accepted_memory.memory_accesses.declared.source.Source.TheVariants as source
+use Rattle.guarded_entries.specs.held_places.accepted_memory.holder_model.Calling.{place_in}
+use Rattle.guarded_entries.specs.held_places.accepted_memory.holder_model.Frames.{Frame, datum_in, entry_at}
+use Rattle.guarded_entries.specs.held_places.accepted_places.inner.Stacks.{slots_on}
 use Rattle.guarded_entries.specs.inner.GuardedStates.{Loans}
 use Rattle.memory_cells.specs.inner.Cells.{has_cell}
 use Rattle.ownership_chains.specs.Facts.{has}

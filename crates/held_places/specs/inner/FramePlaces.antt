@@ -1,18 +1,18 @@
 -- The places of a frame: what its roots name, what is in their cells, and which of them it has lent.
 use Rattle.std.specs.Prelude.{◌≡◌, ◌+◌, ◌==◌, ◌&&◌, ℕ, List, [], ◌∷◌, Bool, true, false, not, Some, slice_get}
 use Rattle.std.specs.List.{list_any}
-use Rattle.placed_values.specs.accepted_memory.accepted_trails.inner.Bases.{IsAsMade}
-use Rattle.placed_values.specs.accepted_memory.memory_accesses.Locations.{location_of}
-use Rattle.placed_values.specs.accepted_memory.memory_accesses.Rows.{is_part}
-use Rattle.placed_values.specs.accepted_memory.memory_accesses.Sources.{source_at, sources_of}
-use Rattle.placed_values.specs.accepted_memory.memory_accesses.declared.location.Location.{Location}
-use Rattle.placed_values.specs.accepted_memory.memory_accesses.declared.source.Source.{Source}
-use Rattle.placed_values.specs.accepted_memory.memory_accesses.declared.source.Source.TheVariants as source
-use Rattle.placed_values.specs.accepted_places.inner.Stacks.{slots_on}
+use Rattle.tracked_frames.specs.placed_values.accepted_memory.accepted_trails.inner.Bases.{IsAsMade}
+use Rattle.tracked_frames.specs.placed_values.accepted_memory.memory_accesses.Locations.{location_of}
+use Rattle.tracked_frames.specs.placed_values.accepted_memory.memory_accesses.Rows.{is_part}
+use Rattle.tracked_frames.specs.placed_values.accepted_memory.memory_accesses.Sources.{source_at, sources_of}
+use Rattle.tracked_frames.specs.placed_values.accepted_memory.memory_accesses.declared.location.Location.{Location}
+use Rattle.tracked_frames.specs.placed_values.accepted_memory.memory_accesses.declared.source.Source.{Source}
+use Rattle.tracked_frames.specs.placed_values.accepted_memory.memory_accesses.declared.source.Source.TheVariants as source
+use Rattle.tracked_frames.specs.placed_values.accepted_places.inner.Stacks.{slots_on}
 use Rattle.argument_conventions.specs.declared.row.AddressRow.{AddressRow}
-use Rattle.placed_values.specs.accepted_memory.holder_model.Data.{AddressOf}
-use Rattle.placed_values.specs.accepted_memory.holder_model.Frames.{Entry, Frame, LentPlace, datum_in, entry_at}
-use Rattle.placed_values.specs.accepted_memory.holder_model.States.{Drops, Finishes, Runs, Task}
+use Rattle.tracked_frames.specs.placed_values.accepted_memory.holder_model.Data.{AddressOf}
+use Rattle.tracked_frames.specs.placed_values.accepted_memory.holder_model.Frames.{Entry, Frame, LentPlace, datum_in, entry_at}
+use Rattle.tracked_frames.specs.placed_values.accepted_memory.holder_model.States.{Drops, Finishes, Runs, Task}
 use Rattle.memory_cells.specs.inner.Cells.{AreApart, IsCell, IsInside, cell_at, has_cell}
 use Rattle.run_values.specs.Memory.{Memory}
 use Rattle.run_values.specs.Places.{OnStack, Place}

@@ -1,27 +1,27 @@
 -- An instruction that isn't a call of a function with a body: the frame behind it holds its places, and no fault of places comes.
 use Rattle.std.specs.Prelude.{◌≡◌, ℕ, ℤ, List, [], ◌∷◌, Bool, true, false, Contains, Ok, Some, slice_get}
-use Rattle.placed_values.specs.accepted_memory.holder_model.Data.{Datum, ValueOf}
-use Rattle.placed_values.specs.accepted_memory.holder_model.Effects as effects
-use Rattle.placed_values.specs.accepted_memory.holder_model.Effects.{Change, unchanged}
-use Rattle.placed_values.specs.accepted_memory.holder_model.Faults.{ConsumesLent, EmptyPlace, FullPlace, HolderFault, LeavesHeld, LeavesPlace, LeavesSlot, NamesDead, NoEntry}
-use Rattle.placed_values.specs.accepted_memory.holder_model.Faults.{NotLastSlot, OverwritesHeld, PlaceNotAsAsked, WrongShape}
-use Rattle.placed_values.specs.accepted_memory.holder_model.Frames.{Frame, Operands, has_any}
-use Rattle.placed_values.specs.accepted_memory.holder_model.HolderStates.{HolderNext, HolderState}
-use Rattle.placed_values.specs.accepted_memory.holder_model.MemoryEffects.{asked_before, holds}
-use Rattle.placed_values.specs.accepted_memory.holder_model.ModuleFacts.{facts_of}
-use Rattle.placed_values.specs.accepted_memory.holder_model.Standing.{stands_at}
-use Rattle.placed_values.specs.accepted_memory.holder_model.States.{Ends, Faulted, Goes, OutOfTurns, Returned, Runs, Task, Trapped}
-use Rattle.placed_values.specs.accepted_memory.holder_model.Steps.{effect_in, numbers_of}
-use Rattle.placed_values.specs.accepted_memory.holder_model.declared.event.Event.{Event}
-use Rattle.placed_values.specs.accepted_memory.memory_accesses.Locations.{location_of}
-use Rattle.placed_values.specs.accepted_memory.memory_accesses.Operations.{operations_of}
-use Rattle.placed_values.specs.accepted_memory.memory_accesses.Sources.{source_at, sources_of}
-use Rattle.placed_values.specs.accepted_memory.memory_accesses.declared.access.Operated.{Operated}
-use Rattle.placed_values.specs.accepted_memory.memory_accesses.declared.access.Operation.{Operation}
-use Rattle.placed_values.specs.accepted_memory.memory_accesses.declared.access.Operation.TheVariants.{Handed}
-use Rattle.placed_values.specs.accepted_memory.memory_accesses.declared.location.Location.{Location}
-use Rattle.placed_values.specs.accepted_memory.memory_accesses.declared.source.Source.TheVariants as source
-use Rattle.placed_values.specs.accepted_values.accepted_modules.inner.Checked.{IsVerified}
+use Rattle.tracked_frames.specs.placed_values.accepted_memory.holder_model.Data.{Datum, ValueOf}
+use Rattle.tracked_frames.specs.placed_values.accepted_memory.holder_model.Effects as effects
+use Rattle.tracked_frames.specs.placed_values.accepted_memory.holder_model.Effects.{Change, unchanged}
+use Rattle.tracked_frames.specs.placed_values.accepted_memory.holder_model.Faults.{ConsumesLent, EmptyPlace, FullPlace, HolderFault, LeavesHeld, LeavesPlace, LeavesSlot, NamesDead, NoEntry}
+use Rattle.tracked_frames.specs.placed_values.accepted_memory.holder_model.Faults.{NotLastSlot, OverwritesHeld, PlaceNotAsAsked, WrongShape}
+use Rattle.tracked_frames.specs.placed_values.accepted_memory.holder_model.Frames.{Frame, Operands, has_any}
+use Rattle.tracked_frames.specs.placed_values.accepted_memory.holder_model.HolderStates.{HolderNext, HolderState}
+use Rattle.tracked_frames.specs.placed_values.accepted_memory.holder_model.MemoryEffects.{asked_before, holds}
+use Rattle.tracked_frames.specs.placed_values.accepted_memory.holder_model.ModuleFacts.{facts_of}
+use Rattle.tracked_frames.specs.placed_values.accepted_memory.holder_model.Standing.{stands_at}
+use Rattle.tracked_frames.specs.placed_values.accepted_memory.holder_model.States.{Ends, Faulted, Goes, OutOfTurns, Returned, Runs, Task, Trapped}
+use Rattle.tracked_frames.specs.placed_values.accepted_memory.holder_model.Steps.{effect_in, numbers_of}
+use Rattle.tracked_frames.specs.placed_values.accepted_memory.holder_model.declared.event.Event.{Event}
+use Rattle.tracked_frames.specs.placed_values.accepted_memory.memory_accesses.Locations.{location_of}
+use Rattle.tracked_frames.specs.placed_values.accepted_memory.memory_accesses.Operations.{operations_of}
+use Rattle.tracked_frames.specs.placed_values.accepted_memory.memory_accesses.Sources.{source_at, sources_of}
+use Rattle.tracked_frames.specs.placed_values.accepted_memory.memory_accesses.declared.access.Operated.{Operated}
+use Rattle.tracked_frames.specs.placed_values.accepted_memory.memory_accesses.declared.access.Operation.{Operation}
+use Rattle.tracked_frames.specs.placed_values.accepted_memory.memory_accesses.declared.access.Operation.TheVariants.{Handed}
+use Rattle.tracked_frames.specs.placed_values.accepted_memory.memory_accesses.declared.location.Location.{Location}
+use Rattle.tracked_frames.specs.placed_values.accepted_memory.memory_accesses.declared.source.Source.TheVariants as source
+use Rattle.tracked_frames.specs.placed_values.accepted_values.accepted_modules.inner.Checked.{IsVerified}
 use Rattle.argument_conventions.specs.declared.row.AddressRow.{AddressRow}
 use Rattle.argument_conventions.specs.declared.row.Content.{Content}
 use Rattle.tracked_frames.specs.holder_steps.inner.Ways.{GoesBehind, left_with, operands_in, turned}

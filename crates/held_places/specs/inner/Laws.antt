@@ -1,12 +1,12 @@
 -- Laws of the places on the stack in a run by holders.
 use Rattle.std.specs.Prelude.{◌≡◌, ℕ, true, false, Some, slice_get}
-use Rattle.placed_values.specs.accepted_memory.holder_model.Faults.{HolderFault}
-use Rattle.placed_values.specs.accepted_memory.holder_model.HolderStates.{HolderState}
-use Rattle.placed_values.specs.accepted_memory.holder_model.ModuleFacts.{facts_of}
-use Rattle.placed_values.specs.accepted_memory.holder_model.Outcomes.{begins, may_start}
-use Rattle.placed_values.specs.accepted_memory.holder_model.States.{Ends, Faulted, Goes}
-use Rattle.placed_values.specs.accepted_memory.holder_model.Steps.{step}
-use Rattle.placed_values.specs.accepted_values.accepted_modules.inner.Checked.{IsVerified}
+use Rattle.tracked_frames.specs.placed_values.accepted_memory.holder_model.Faults.{HolderFault}
+use Rattle.tracked_frames.specs.placed_values.accepted_memory.holder_model.HolderStates.{HolderState}
+use Rattle.tracked_frames.specs.placed_values.accepted_memory.holder_model.ModuleFacts.{facts_of}
+use Rattle.tracked_frames.specs.placed_values.accepted_memory.holder_model.Outcomes.{begins, may_start}
+use Rattle.tracked_frames.specs.placed_values.accepted_memory.holder_model.States.{Ends, Faulted, Goes}
+use Rattle.tracked_frames.specs.placed_values.accepted_memory.holder_model.Steps.{step}
+use Rattle.tracked_frames.specs.placed_values.accepted_values.accepted_modules.inner.Checked.{IsVerified}
 use Rattle.sil_ast.specs.declared.function.Function.{Function}
 use Rattle.sil_ast.specs.declared.module.Module.{Module}
 use Rattle.sil_ast.specs.declared.place.FuncId.{FuncId}

@@ -1,14 +1,14 @@
 -- Addresses of parts and of fields: what they name in a frame where its trail has come to, and what those name that an item makes.
 use Rattle.std.specs.Prelude.{◌≡◌, ℕ, List, ◌∷◌, Bool, true, false, Some}
-use Rattle.placed_values.specs.accepted_memory.accepted_trails.inner.Bases.{IsAsMade}
-use Rattle.placed_values.specs.accepted_memory.accepted_trails.inner.Defined.{makes}
-use Rattle.placed_values.specs.accepted_memory.holder_model.Frames.{Entry}
-use Rattle.placed_values.specs.accepted_memory.memory_accesses.Locations.{location_of}
-use Rattle.placed_values.specs.accepted_memory.memory_accesses.Rows.{is_part}
-use Rattle.placed_values.specs.accepted_memory.memory_accesses.Sources.{source_at}
-use Rattle.placed_values.specs.accepted_memory.memory_accesses.declared.location.Location.{Location}
-use Rattle.placed_values.specs.accepted_memory.memory_accesses.declared.source.Source.{Source}
-use Rattle.placed_values.specs.accepted_memory.memory_accesses.declared.source.Source.TheVariants as source
+use Rattle.tracked_frames.specs.placed_values.accepted_memory.accepted_trails.inner.Bases.{IsAsMade}
+use Rattle.tracked_frames.specs.placed_values.accepted_memory.accepted_trails.inner.Defined.{makes}
+use Rattle.tracked_frames.specs.placed_values.accepted_memory.holder_model.Frames.{Entry}
+use Rattle.tracked_frames.specs.placed_values.accepted_memory.memory_accesses.Locations.{location_of}
+use Rattle.tracked_frames.specs.placed_values.accepted_memory.memory_accesses.Rows.{is_part}
+use Rattle.tracked_frames.specs.placed_values.accepted_memory.memory_accesses.Sources.{source_at}
+use Rattle.tracked_frames.specs.placed_values.accepted_memory.memory_accesses.declared.location.Location.{Location}
+use Rattle.tracked_frames.specs.placed_values.accepted_memory.memory_accesses.declared.source.Source.{Source}
+use Rattle.tracked_frames.specs.placed_values.accepted_memory.memory_accesses.declared.source.Source.TheVariants as source
 use Rattle.run_values.specs.Places.{OnStack, Place}
 use Rattle.sil_ast.specs.declared.function.Function.{Function}
 use Rattle.sil_ast.specs.declared.place.ValueId.{ValueId}

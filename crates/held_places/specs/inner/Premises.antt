@@ -1,16 +1,16 @@
 -- What typing says of the places that operands and results name: the premises of the laws of steps.
 use Rattle.std.specs.Prelude.{◌≡◌, ℕ, List, [], ◌∷◌, true, Option, Some, Ok, drop, slice_get}
-use Rattle.placed_values.specs.accepted_memory.holder_model.Data.{AddressOf, Datum, ValueOf}
-use Rattle.placed_values.specs.accepted_memory.holder_model.Calling.{lent_places}
-use Rattle.placed_values.specs.accepted_memory.holder_model.Effects.{Calls, Change, Makes, effect_of}
-use Rattle.placed_values.specs.accepted_memory.holder_model.Frames.{Entry, Operands, entry_at, operands_of, plain_address, results_put}
-use Rattle.placed_values.specs.accepted_memory.holder_model.MemoryEffects.{effect}
-use Rattle.placed_values.specs.accepted_memory.holder_model.ModuleShapes.{ModuleShapes}
-use Rattle.placed_values.specs.accepted_memory.holder_model.declared.row_effect.RowEffect.TheVariants as row
-use Rattle.placed_values.specs.accepted_memory.memory_accesses.Operations.{operations_of}
-use Rattle.placed_values.specs.accepted_memory.memory_accesses.Sources.{is_trivial_at, sources_of}
-use Rattle.placed_values.specs.accepted_memory.run_trails.inner.RunTrails.{IsRunTrail}
-use Rattle.placed_values.specs.accepted_values.inner.Known.{IsAcceptedBody}
+use Rattle.tracked_frames.specs.placed_values.accepted_memory.holder_model.Data.{AddressOf, Datum, ValueOf}
+use Rattle.tracked_frames.specs.placed_values.accepted_memory.holder_model.Calling.{lent_places}
+use Rattle.tracked_frames.specs.placed_values.accepted_memory.holder_model.Effects.{Calls, Change, Makes, effect_of}
+use Rattle.tracked_frames.specs.placed_values.accepted_memory.holder_model.Frames.{Entry, Operands, entry_at, operands_of, plain_address, results_put}
+use Rattle.tracked_frames.specs.placed_values.accepted_memory.holder_model.MemoryEffects.{effect}
+use Rattle.tracked_frames.specs.placed_values.accepted_memory.holder_model.ModuleShapes.{ModuleShapes}
+use Rattle.tracked_frames.specs.placed_values.accepted_memory.holder_model.declared.row_effect.RowEffect.TheVariants as row
+use Rattle.tracked_frames.specs.placed_values.accepted_memory.memory_accesses.Operations.{operations_of}
+use Rattle.tracked_frames.specs.placed_values.accepted_memory.memory_accesses.Sources.{is_trivial_at, sources_of}
+use Rattle.tracked_frames.specs.placed_values.accepted_memory.run_trails.inner.RunTrails.{IsRunTrail}
+use Rattle.tracked_frames.specs.placed_values.accepted_values.inner.Known.{IsAcceptedBody}
 use Rattle.argument_conventions.specs.Arguments.{arguments_of}
 use Rattle.item_operands.specs.Items.{item_defined, item_taken}
 use Rattle.item_operands.specs.Parts.{inst_at}

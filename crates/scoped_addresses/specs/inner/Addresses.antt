@@ -9,15 +9,15 @@ use Rattle.sil_cfg.specs.declared.item.Item.{Item}
 use Rattle.type_definitions.specs.Declarations.{Declarations}
 use Rattle.type_definitions.specs.declared.kind.Kind.TheVariants as kind
 use Rattle.value_tables.specs.Borrows.{is_borrow}
-use Rattle.accepted_places.specs.held_entries.accepted_trails.inner.Bases.{IsBaseOf}
-use Rattle.accepted_places.specs.held_entries.accepted_trails.inner.Lives.{is_open}
-use Rattle.accepted_places.specs.held_entries.accepted_trails.memory_accesses.Sources.{is_slot, source_at, sources_of}
-use Rattle.accepted_places.specs.held_entries.accepted_trails.memory_accesses.declared.source.Source.TheVariants.{Argument}
-use Rattle.accepted_places.specs.held_entries.accepted_trails.memory_parts.Parts.{is_scope}
-use Rattle.accepted_places.specs.held_entries.accepted_trails.run_trails.inner.RunTrails.{IsRunTrail}
-use Rattle.accepted_places.specs.held_entries.inner.Tracked.{IsOwnScope}
-use Rattle.accepted_places.specs.inner.Located.{IsNamed}
-use Rattle.accepted_places.specs.accepted_values.inner.Known.{InAccepted, kind_at}
+use Rattle.placed_values.specs.accepted_places.held_entries.accepted_trails.inner.Bases.{IsBaseOf}
+use Rattle.placed_values.specs.accepted_places.held_entries.accepted_trails.inner.Lives.{is_open}
+use Rattle.placed_values.specs.accepted_places.held_entries.accepted_trails.memory_accesses.Sources.{is_slot, source_at, sources_of}
+use Rattle.placed_values.specs.accepted_places.held_entries.accepted_trails.memory_accesses.declared.source.Source.TheVariants.{Argument}
+use Rattle.placed_values.specs.accepted_places.held_entries.accepted_trails.memory_parts.Parts.{is_scope}
+use Rattle.placed_values.specs.accepted_places.held_entries.accepted_trails.run_trails.inner.RunTrails.{IsRunTrail}
+use Rattle.placed_values.specs.accepted_places.held_entries.inner.Tracked.{IsOwnScope}
+use Rattle.placed_values.specs.accepted_places.inner.Located.{IsNamed}
+use Rattle.placed_values.specs.accepted_places.accepted_values.inner.Known.{InAccepted, kind_at}
 
 -- what borrows is a scope of its own
 abbrev pub AreBorrowsOwnScopes : Type 0
