@@ -17,7 +17,8 @@ use Rattle.held_places.specs.accepted_places.accepted_memory.accepted_trails.inn
 use Rattle.held_places.specs.accepted_places.accepted_memory.memory_accesses.Locations.{below, below_by, is_object, locate, located_by, object_lent, upcast_from, whole}
 use Rattle.held_places.specs.accepted_places.accepted_memory.memory_accesses.Operations.{access_kind_of}
 use Rattle.held_places.specs.accepted_places.accepted_memory.memory_accesses.Sources.{argument_source_or, borrow_source, element_place, field_source, handed_source, is_trivial_member}
-use Rattle.held_places.specs.accepted_places.accepted_memory.memory_accesses.Sources.{loan_source, member_place, object_source, part_source, result_source, slot_source, source_at, source_by, sources_of}
+use Rattle.held_places.specs.accepted_places.accepted_memory.memory_accesses.Sources.{loan_source, member_place, object_source, part_source}
+use Rattle.held_places.specs.accepted_places.accepted_memory.memory_accesses.Sources.{result_source, slot_source, source_at, source_by, sources_of}
 use Rattle.held_places.specs.accepted_places.accepted_memory.memory_accesses.Sources.{upcast_source}
 use Rattle.held_places.specs.accepted_places.accepted_memory.memory_accesses.declared.columns.AccessKind.{AccessKind}
 use Rattle.held_places.specs.accepted_places.accepted_memory.memory_accesses.declared.columns.AccessKind.TheVariants as access

@@ -9,7 +9,8 @@ use Rattle.std.proofs.lemmas.Option.{none-some, slice_get_within}
 use Rattle.held_places.specs.accepted_places.accepted_memory.holder_model.Data.{AddressOf, Datum, FunctionOf, ValueOf, references_in}
 use Rattle.held_places.specs.accepted_places.accepted_memory.holder_model.Faults.{ConsumesLent, HolderFault, NamesDead, OverwritesHeld, WrongShape}
 use Rattle.held_places.specs.accepted_places.accepted_memory.holder_model.Frames.{Entry, Gone, Held, Lent, Operands, Plain, any_dead, datum_in, datum_or_fault, ends, entry_at, has_any}
-use Rattle.held_places.specs.accepted_places.accepted_memory.holder_model.Frames.{is_consumed, is_held, made_entry, operand, operand_data, operands_of, plain_address, plain_entry, put_entry, result_put}
+use Rattle.held_places.specs.accepted_places.accepted_memory.holder_model.Frames.{is_consumed, is_held, made_entry, operand, operand_data}
+use Rattle.held_places.specs.accepted_places.accepted_memory.holder_model.Frames.{operands_of, plain_address, plain_entry, put_entry, result_put}
 use Rattle.held_places.specs.accepted_places.accepted_memory.holder_model.Frames.{results_put, unless_dead, used_datum, with_ok}
 use Rattle.held_objects.specs.built_objects.inner.FrameObjects.{Names}
 use Rattle.held_places.proofs.accepted_places.held_entries.EntriesEnded.{entry_set_other, entry_set_same}

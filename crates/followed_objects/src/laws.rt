@@ -58,7 +58,8 @@ pub fn fields_are_found()
     ensures { FindFields }
 {}
 
-/// The address of a field names a place of the operand's object, and that of a member one within the place that its operand names. An object has the fields of its class.
+/// The address of a field names a place of the operand's object, and that of a member one within the place that its operand names.
+/// An object has the fields of its class.
 pub fn fields_are_placed()
     ensures counted { AreObjectsCounted }
     ensures fields { AreFieldsPlaced }

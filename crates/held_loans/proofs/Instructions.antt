@@ -1,5 +1,6 @@
 -- An instruction that leaves a change: of the stack it changes no cell that an open scope lends, and none that a frame below keeps for itself.
-use Rattle.std.proofs.Common.{◌≡◌, ◌⊎◌, ⊎_elim, inl, inr, ◌==◌, ◌&&◌, ◌<◌, ◌++◌, append-nil, ℕ, List, [], ◌∷◌, length, Bool, true, false, cond, Contains, Option, Some, None, refl, sym, ap, ◌∙◌, subst, slice_get, eq-eqb}
+use Rattle.std.proofs.Common.{◌≡◌, ◌⊎◌, ⊎_elim, inl, inr, ◌==◌, ◌&&◌, ◌<◌, ◌++◌, append-nil, ℕ, List, [], ◌∷◌, length}
+use Rattle.std.proofs.Common.{Bool, true, false, cond, Contains, Option, Some, None, refl, sym, ap, ◌∙◌, subst, slice_get, eq-eqb}
 use Rattle.std.proofs.lemmas.Bool.{false_from_ne_true, or_left, true≢false}
 use Rattle.std.proofs.lemmas.List.Elements.{Contains-push}
 use Rattle.guarded_entries.specs.held_places.accepted_memory.holder_model.Data.{AddressOf, Datum, ValueOf}

@@ -1,5 +1,6 @@
 -- A scope that is opened over a place lends the cells that keep what is loaded.
-use Rattle.std.proofs.Common.{◌≡◌, ◌⊎◌, ⊎_elim, inl, inr, ◌<◌, ◌++◌, append-nil, ℕ, List, [], ◌∷◌, Bool, true, false, cond, Contains, Option, Some, None, Ok, refl, sym, ap, ◌∙◌, subst, slice_get, arith}
+use Rattle.std.proofs.Common.{◌≡◌, ◌⊎◌, ⊎_elim, inl, inr, ◌<◌, ◌++◌, append-nil, ℕ, List, [], ◌∷◌, Bool, true}
+use Rattle.std.proofs.Common.{false, cond, Contains, Option, Some, None, Ok, refl, sym, ap, ◌∙◌, subst, slice_get, arith}
 use Rattle.std.specs.Prelude.{option_map}
 use Rattle.std.proofs.lemmas.Bool.{false≢true, true≢false}
 use Rattle.std.proofs.lemmas.List.Elements.{Contains-push}

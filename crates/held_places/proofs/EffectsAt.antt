@@ -6,7 +6,8 @@ use Rattle.tracked_frames.specs.placed_values.accepted_memory.holder_model.Data.
 use Rattle.tracked_frames.specs.placed_values.accepted_memory.holder_model.Effects.{Change, ClosesSlot, Effect, Faults, Makes, SameSlots, Traps, Unfit, gives_value, only, unchanged, with_some}
 use Rattle.tracked_frames.specs.placed_values.accepted_memory.holder_model.Faults.{HolderFault, NotLastSlot}
 use Rattle.tracked_frames.specs.placed_values.accepted_memory.holder_model.MemoryEffects as effects
-use Rattle.tracked_frames.specs.placed_values.accepted_memory.holder_model.MemoryEffects.{all_live, asked_before, at_places, copies_with, fault_of, holds, loaded_name, named_again, operation_done, references_at, two}
+use Rattle.tracked_frames.specs.placed_values.accepted_memory.holder_model.MemoryEffects.{all_live, asked_before, at_places, copies_with, fault_of}
+use Rattle.tracked_frames.specs.placed_values.accepted_memory.holder_model.MemoryEffects.{holds, loaded_name, named_again, operation_done, references_at, two}
 use Rattle.tracked_frames.specs.placed_values.accepted_memory.holder_model.MemoryEffects.{value_and_place, where_held}
 use Rattle.tracked_frames.specs.placed_values.accepted_memory.holder_model.ModuleShapes.{ModuleShapes}
 use Rattle.tracked_frames.specs.placed_values.accepted_memory.holder_model.declared.row_effect.RowEffect.{RowEffect}

@@ -1,12 +1,14 @@
 -- What becomes of entries: an item takes those of operands that end, and puts its results.
-use Rattle.std.proofs.Common.{◌≡◌, ◌⊎◌, ⊎_elim, inl, inr, ◌==◌, ◌<◌, ℕ, zero, suc, List, [], ◌∷◌, length, set, Bool, true, false, cond, Option, Some, Ok, Err, refl, sym, ap, ◌∙◌, subst, slice_get, eqb-true, arith}
+use Rattle.std.proofs.Common.{◌≡◌, ◌⊎◌, ⊎_elim, inl, inr, ◌==◌, ◌<◌, ℕ, zero, suc, List, [], ◌∷◌, length, set}
+use Rattle.std.proofs.Common.{Bool, true, false, cond, Option, Some, Ok, Err, refl, sym, ap, ◌∙◌, subst, slice_get, eqb-true, arith}
 use Rattle.std.specs.declared.result.Result.{Result}
 use Rattle.std.proofs.lemmas.Bool.{cases_Bool, or_parts}
 use Rattle.std.proofs.lemmas.List.{length-set}
 use Rattle.std.proofs.lemmas.Option.{none-some, same_Some}
 use Rattle.tracked_frames.specs.placed_values.accepted_memory.holder_model.Data.{AddressOf, Datum, FunctionOf, ValueOf}
 use Rattle.tracked_frames.specs.placed_values.accepted_memory.holder_model.Faults.{HolderFault, OverwritesHeld, WrongShape}
-use Rattle.tracked_frames.specs.placed_values.accepted_memory.holder_model.Frames.{Entry, Gone, Held, Lent, Plain, datum_in, ended_entry, ends, entry_at, is_held, made_entry, plain_address, put_entry, results_put}
+use Rattle.tracked_frames.specs.placed_values.accepted_memory.holder_model.Frames.{Entry, Gone, Held, Lent, Plain, datum_in, ended_entry}
+use Rattle.tracked_frames.specs.placed_values.accepted_memory.holder_model.Frames.{ends, entry_at, is_held, made_entry, plain_address, put_entry, results_put}
 use Rattle.tracked_frames.specs.placed_values.accepted_memory.holder_model.Frames.{result_put, with_ok, without_ended, has_any}
 use Rattle.tracked_frames.proofs.placed_values.held_entries.EntriesEnded.{entry_set_other, entry_set_same, other_way}
 use Rattle.item_operands.specs.declared.taken.Taken.{Taken}

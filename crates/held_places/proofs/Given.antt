@@ -1,5 +1,6 @@
 -- The places that a function was given, by its arguments: which argument has which, and that those of two arguments are apart.
-use Rattle.std.proofs.Common.{◌≡◌, ⊎_elim, inl, inr, ◌&&◌, ◌++◌, ◌==◌, ◌<◌, ℕ, zero, suc, List, [], ◌∷◌, Bool, true, false, Option, Some, None, refl, sym, ap, ◌∙◌, subst, arith, map, slice_get, eq-eqb}
+use Rattle.std.proofs.Common.{◌≡◌, ⊎_elim, inl, inr, ◌&&◌, ◌++◌, ◌==◌, ◌<◌, ℕ, zero, suc, List, [], ◌∷◌}
+use Rattle.std.proofs.Common.{Bool, true, false, Option, Some, None, refl, sym, ap, ◌∙◌, subst, arith, map, slice_get, eq-eqb}
 use Rattle.std.specs.List.{list_any}
 use Rattle.std.proofs.lemmas.Bool.{or_left, or_right, true≢false}
 use Rattle.std.proofs.lemmas.Option.{none-some, same_Some}

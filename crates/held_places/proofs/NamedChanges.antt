@@ -189,7 +189,8 @@ module _ (m : Module) (number : ℕ) (f : Function) (w : World) (facts : ValueId
     field_named (Some named) None o h = absurd (cc)
     field_named (Some named) (Some k) o h = at (slice_get (field_shapes shapes named.owner) k) h
       where
-        at : (z : Option Shape) → ◌≡◌ {A = Effect HolderFault} (with_some (λ q. gives memory (AddressOf q ∷ [])) (option_map (field_in o (field_shapes shapes named.owner) k) z)) (Makes c) → NamesInside
+        at : (z : Option Shape) → ◌≡◌ {A = Effect HolderFault} (with_some (λ q. gives memory (AddressOf q ∷ [])) (option_map (field_in o (field_shapes shapes named.owner) k) z)) (Makes c)
+            → NamesInside
         at None h = absurd (cc)
         at (Some u) h = record {
           place = field_in o (field_shapes shapes named.owner) k u;

@@ -4,7 +4,8 @@ use Rattle.std.specs.Prelude.{Err}
 use Rattle.std.specs.declared.result.Result.{Result}
 use Rattle.tracked_frames.specs.placed_values.accepted_memory.holder_model.Data.{Datum}
 use Rattle.tracked_frames.specs.placed_values.accepted_memory.holder_model.Faults.{HolderFault}
-use Rattle.tracked_frames.specs.placed_values.accepted_memory.holder_model.Frames.{Entry, and_more, datum_in, datum_or_fault, ends, entry_at, has_any, operand, operand_data, unless_dead, used_datum, with_ok}
+use Rattle.tracked_frames.specs.placed_values.accepted_memory.holder_model.Frames.{Entry, and_more, datum_in, datum_or_fault, ends, entry_at}
+use Rattle.tracked_frames.specs.placed_values.accepted_memory.holder_model.Frames.{has_any, operand, operand_data, unless_dead, used_datum, with_ok}
 use Rattle.tracked_frames.specs.placed_values.accepted_memory.memory_accesses.Marks.{ended_by, ended_with}
 use Rattle.instruction_table.specs.declared.entries.Role.{Role}
 use Rattle.instruction_table.specs.declared.entries.Role.TheVariants as role

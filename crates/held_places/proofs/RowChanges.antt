@@ -5,7 +5,8 @@ use Rattle.std.proofs.lemmas.Bool.{false≢true, true≢false}
 use Rattle.tracked_frames.specs.placed_values.accepted_memory.holder_model.Builtins.{builtin_value, is_set}
 use Rattle.tracked_frames.specs.placed_values.accepted_memory.holder_model.Data.{AddressOf, Datum, FunctionOf, ValueOf, all_of, as_function, as_place, as_value, values_of}
 use Rattle.tracked_frames.specs.placed_values.accepted_memory.holder_model.Effects as effects
-use Rattle.tracked_frames.specs.placed_values.accepted_memory.holder_model.Effects.{Calls, Change, Effect, Faults, Makes, SameSlots, Traps, Unfit, effect_by, effect_of, gives, gives_value, only, with_some}
+use Rattle.tracked_frames.specs.placed_values.accepted_memory.holder_model.Effects.{Calls, Change, Effect, Faults, Makes, SameSlots, Traps}
+use Rattle.tracked_frames.specs.placed_values.accepted_memory.holder_model.Effects.{Unfit, effect_by, effect_of, gives, gives_value, only, with_some}
 use Rattle.tracked_frames.specs.placed_values.accepted_memory.holder_model.Faults.{HolderFault}
 use Rattle.tracked_frames.specs.placed_values.accepted_memory.holder_model.ModuleShapes.{ModuleShapes, case_place}
 use Rattle.tracked_frames.specs.placed_values.accepted_memory.holder_model.declared.trap.Trap.TheVariants as trap

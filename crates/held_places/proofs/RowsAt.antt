@@ -7,7 +7,8 @@ use Rattle.std.proofs.lemmas.Bool.{false≢true, or_parts, true≢false}
 use Rattle.tracked_frames.specs.placed_values.accepted_memory.holder_model.Effects.{effect_of}
 use Rattle.tracked_frames.specs.placed_values.accepted_memory.holder_model.declared.row_effect.RowEffect.{RowEffect}
 use Rattle.tracked_frames.specs.placed_values.accepted_memory.holder_model.declared.row_effect.RowEffect.TheVariants as row
-use Rattle.tracked_frames.specs.placed_values.accepted_memory.memory_accesses.Operations.{access_kind_of, address_of, addresses_of, deallocates, deallocates_by, is_address_role, operated, operated_at, operation_by, operations_of}
+use Rattle.tracked_frames.specs.placed_values.accepted_memory.memory_accesses.Operations.{access_kind_of, address_of, addresses_of, deallocates, deallocates_by}
+use Rattle.tracked_frames.specs.placed_values.accepted_memory.memory_accesses.Operations.{is_address_role, operated, operated_at, operation_by, operations_of}
 use Rattle.tracked_frames.specs.placed_values.accepted_memory.memory_accesses.declared.access.Operation.{Operation}
 use Rattle.tracked_frames.specs.placed_values.accepted_memory.memory_accesses.declared.access.Operation.TheVariants.{Handed}
 use Rattle.tracked_frames.specs.placed_values.accepted_memory.memory_accesses.declared.columns.AccessKind.{AccessKind}

@@ -4,7 +4,8 @@ use Rattle.tracked_frames.specs.placed_values.accepted_memory.holder_model.Data.
 use Rattle.tracked_frames.specs.placed_values.accepted_memory.holder_model.Effects.{ClosesSlot, Effect, Makes, effect_by, effect_of, unchanged, with_some}
 use Rattle.tracked_frames.specs.placed_values.accepted_memory.holder_model.Faults.{HolderFault}
 use Rattle.tracked_frames.specs.placed_values.accepted_memory.holder_model.MemoryEffects as effects
-use Rattle.tracked_frames.specs.placed_values.accepted_memory.holder_model.MemoryEffects.{asked_before, at_places, copies_with, effect, loaded_name, operation_done, references_at, takes, two, value_and_place, where_held}
+use Rattle.tracked_frames.specs.placed_values.accepted_memory.holder_model.MemoryEffects.{asked_before, at_places, copies_with, effect, loaded_name}
+use Rattle.tracked_frames.specs.placed_values.accepted_memory.holder_model.MemoryEffects.{operation_done, references_at, takes, two, value_and_place, where_held}
 use Rattle.tracked_frames.specs.placed_values.accepted_memory.holder_model.ModuleShapes.{ModuleShapes}
 use Rattle.tracked_frames.specs.placed_values.accepted_memory.holder_model.declared.row_effect.RowEffect.{RowEffect}
 use Rattle.tracked_frames.specs.placed_values.accepted_memory.holder_model.declared.row_effect.RowEffect.TheVariants as row

@@ -62,7 +62,8 @@ module _ (weight : ObjectId → ℕ) (how : Storage) where
       at true = omega arith
       at false = put
 
-  home_most : (m : Memory) (home : Home) (i : ℕ) (new : List Cell) → in_memory weight how (with_home_cells m home (put_cells (home_cells m home) i new)) ≤ in_memory weight how m + in_cells weight how new
+  home_most : (m : Memory) (home : Home) (i : ℕ) (new : List Cell)
+      → in_memory weight how (with_home_cells m home (put_cells (home_cells m home) i new)) ≤ in_memory weight how m + in_cells weight how new
   home_most m OnStack i new =
       let put : in_cells weight how (put_cells m.stack i new) ≤ in_cells weight how m.stack + in_cells weight how new = put_most (in_cell weight how) m.stack i new in
       omega (arith, put)

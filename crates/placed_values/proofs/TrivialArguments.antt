@@ -33,7 +33,8 @@ use Rattle.accepted_places.specs.accepted_memory.inner.PartTrails.{IsPartOf, acc
 use Rattle.accepted_places.proofs.accepted_memory.PartsTurned.{turn_by}
 use Rattle.accepted_places.specs.accepted_values.accepted_modules.sil_types.Typing.FormRules.{has_word_by, has_wrong_qualifier, is_owned_form, is_read_word}
 use Rattle.accepted_places.specs.accepted_values.accepted_modules.sil_types.Typing.RowTypes.{given_by, passes, type_of, written}
-use Rattle.accepted_places.specs.accepted_values.accepted_modules.sil_types.Typing.Shapes.{in_unowned, in_weak, is_nontrivial, is_object, is_object_layer, is_storage, is_storage_layer, is_trivial_object}
+use Rattle.accepted_places.specs.accepted_values.accepted_modules.sil_types.Typing.Shapes.{in_unowned, in_weak, is_nontrivial, is_object}
+use Rattle.accepted_places.specs.accepted_values.accepted_modules.sil_types.Typing.Shapes.{is_object_layer, is_storage, is_storage_layer, is_trivial_object}
 use Rattle.accepted_places.specs.accepted_values.accepted_modules.sil_types.Typing.Shapes.{target, unowned_at, unowned_in, weak_at, weak_in, where_it}
 use Rattle.accepted_places.specs.accepted_values.accepted_modules.sil_types.Typing.OperandTypes.{is_as_written}
 use Rattle.accepted_places.specs.accepted_values.accepted_modules.sil_types.Typing.Typed.{BreaksAtPoint, at_point, point}

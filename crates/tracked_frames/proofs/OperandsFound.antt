@@ -39,8 +39,10 @@ use Rattle.typed_holders.specs.accepted_premises.held_entries.accepted_trails.ru
 use Rattle.typed_holders.specs.accepted_premises.held_entries.holder_model.Calling.{value_count}
 use Rattle.typed_holders.specs.accepted_premises.held_entries.holder_model.Data.{AddressOf, Datum, FunctionOf, ValueOf}
 use Rattle.typed_holders.specs.accepted_premises.held_entries.holder_model.Faults.{ConsumesLent, HolderFault, NamesDead, WrongShape}
-use Rattle.typed_holders.specs.accepted_premises.held_entries.holder_model.Frames.{Entry, Gone, Held, Lent, Operands, Plain, and_more, any_dead, datum_in, datum_or_fault, ends, entry_at, has_any, is_consumed, is_held}
-use Rattle.typed_holders.specs.accepted_premises.held_entries.holder_model.Frames.{made_entry, operand, operand_data, operands_of, plain_address, plain_entry, unless_dead, used_datum, with_ok, without_ended}
+use Rattle.typed_holders.specs.accepted_premises.held_entries.holder_model.Frames.{Entry, Gone, Held, Lent, Operands, Plain, and_more}
+use Rattle.typed_holders.specs.accepted_premises.held_entries.holder_model.Frames.{any_dead, datum_in, datum_or_fault, ends, entry_at, has_any, is_consumed, is_held}
+use Rattle.typed_holders.specs.accepted_premises.held_entries.holder_model.Frames.{made_entry, operand, operand_data, operands_of, plain_address}
+use Rattle.typed_holders.specs.accepted_premises.held_entries.holder_model.Frames.{plain_entry, unless_dead, used_datum, with_ok, without_ended}
 use Rattle.typed_holders.specs.accepted_premises.held_entries.holder_model.Data.{references_in}
 use Rattle.typed_holders.specs.accepted_premises.held_entries.ownership_kinds.Facts.{facts_in}
 use Rattle.typed_holders.specs.accepted_premises.held_entries.inner.Entries.{AreEnded, CanEnd, End, MayEnd}

@@ -27,7 +27,8 @@ use Rattle.typed_holders.specs.accepted_premises.held_entries.accepted_trails.ru
 use Rattle.typed_holders.specs.accepted_premises.held_entries.holder_model.Calling.{value_count}
 use Rattle.typed_holders.specs.accepted_premises.held_entries.holder_model.Data.{AddressOf, Datum, FunctionOf, ValueOf}
 use Rattle.typed_holders.specs.accepted_premises.held_entries.holder_model.Faults.{HolderFault, OverwritesHeld, WrongShape}
-use Rattle.typed_holders.specs.accepted_premises.held_entries.holder_model.Frames.{Entry, Gone, Held, Lent, Plain, entry_at, has_any, is_held, made_entry, plain_address, plain_entry, put_entry, results_put, with_ok}
+use Rattle.typed_holders.specs.accepted_premises.held_entries.holder_model.Frames.{Entry, Gone, Held, Lent, Plain, entry_at, has_any}
+use Rattle.typed_holders.specs.accepted_premises.held_entries.holder_model.Frames.{is_held, made_entry, plain_address, plain_entry, put_entry, results_put, with_ok}
 use Rattle.typed_holders.specs.accepted_premises.held_entries.ownership_kinds.Facts.{facts_in}
 use Rattle.typed_holders.specs.accepted_premises.held_entries.inner.Entries.{AreMade, Begin, HasEach, MayBegin}
 use Rattle.typed_holders.specs.accepted_premises.held_entries.inner.Tracked.{AreTracked, AreTrackedLeft}

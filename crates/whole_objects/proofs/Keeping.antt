@@ -224,7 +224,8 @@ new_whole m h class fields = (record { there = gone; kept = kept }, stay)
     still c = each_of (IsWhole m) (IsWhole (with_new m (record { class = class; phase = Live; cells = empty_fields fields }))) stay (cell_references c)
 
     kept : (g : Home)
-        → Each (Named (with_new m (record { class = class; phase = Live; cells = empty_fields fields }))) (home_cells (with_new m (record { class = class; phase = Live; cells = empty_fields fields })) g)
+        → Each (Named (with_new m (record { class = class; phase = Live; cells = empty_fields fields })))
+        (home_cells (with_new m (record { class = class; phase = Live; cells = empty_fields fields })) g)
     kept OnStack = each_of (Named m) _ still m.stack (h.kept OnStack)
     kept (Inside q) = each_of (Named m) _ still (object_at (with_new m (record { class = class; phase = Live; cells = empty_fields fields })) q).cells
         (cells_with_new (Named m) m (record { class = class; phase = Live; cells = empty_fields fields }) q (each_replicate (Named m) _ Empty tt) (h.kept (Inside q)))

@@ -158,14 +158,16 @@ AreObjectsBegun = (shapes : ModuleShapes) (sources : List Source) (said now : Pr
 -- ---- other results
 
 -- what a result may be
-pub record MayBegin (shapes : ModuleShapes) (sources : List Source) (said : Progress) (memory : Memory) (entries : List Entry) (v : ValueId) (x : Datum) : Type 0 where
+pub record MayBegin (shapes : ModuleShapes) (sources : List Source) (said : Progress) (memory : Memory) (entries : List Entry)
+    (v : ValueId) (x : Datum) : Type 0 where
   pub named : Each (MayName shapes sources said memory entries v) (references_in x)
   pub same : (object : ValueId) → (v ≡ object → ⊥) → IsAbout sources object v → (o : ObjectId) → Holds entries object o → references_in x ≡ o ∷ []
   pub placed : (l : Location) (of : ValueId) (k : ℕ) → IsFieldAddress sources v l of k → (p : Place) → x ≡ AddressOf p
       → (o : ObjectId) × IsInField shapes o (object_at memory o) l k p
 
 -- the entry is as it was, or of such a result
-pub data Begins (shapes : ModuleShapes) (sources : List Source) (said now : Progress) (memory : Memory) (entries behind : List Entry) (v : ValueId) : Type 0 where
+pub data Begins (shapes : ModuleShapes) (sources : List Source) (said now : Progress) (memory : Memory) (entries behind : List Entry)
+    (v : ValueId) : Type 0 where
   stays : entry_at behind v ≡ entry_at entries v → ((w : ValueId) → now.as_made w v ≡ true → said.as_made w v ≡ true)
       → Begins shapes sources said now memory entries behind v
   begins : ((x : Datum) → Names behind v x → MayBegin shapes sources said memory entries v x) → Begins shapes sources said now memory entries behind v

@@ -2,7 +2,8 @@
 use Rattle.std.specs.Prelude.{◌≡◌, ◌⊎◌, ℕ, Bool, true, false}
 use Rattle.sil_ast.specs.declared.module.Module.{Module}
 use Rattle.followed_objects.specs.scoped_addresses.accepted_values.accepted_modules.inner.Checked.{IsVerified}
-use Rattle.followed_objects.specs.holder_counts.holder_model.Faults.{ConsumesLent, EmptyPlace, FullPlace, HolderFault, LeavesHeld, LeavesPlace, LeavesSlot, NamesDead, NoEntry}
+use Rattle.followed_objects.specs.holder_counts.holder_model.Faults.{ConsumesLent, EmptyPlace, FullPlace, HolderFault}
+use Rattle.followed_objects.specs.holder_counts.holder_model.Faults.{LeavesHeld, LeavesPlace, LeavesSlot, NamesDead, NoEntry}
 use Rattle.followed_objects.specs.holder_counts.holder_model.Faults.{NotLastSlot, OverwritesHeld, PlaceNotAsAsked, WrongShape}
 use Rattle.followed_objects.specs.holder_counts.holder_model.HolderStates.{HolderState}
 use Rattle.followed_objects.specs.holder_counts.holder_model.ModuleFacts.{facts_of}

@@ -21,7 +21,8 @@ use Rattle.followed_objects.specs.holder_counts.holder_model.Calling.{are_as_bef
 use Rattle.followed_objects.specs.holder_counts.holder_model.Data.{AddressOf, Datum}
 use Rattle.followed_objects.specs.holder_counts.holder_model.Effects as effects
 use Rattle.followed_objects.specs.holder_counts.holder_model.Effects.{Change, SameSlots}
-use Rattle.followed_objects.specs.holder_counts.holder_model.Frames.{Entry, Frame, Lent, LentPlace, Operands, datum_in, entry_at, has_any, operands_of, results_put}
+use Rattle.followed_objects.specs.holder_counts.holder_model.Frames.{Entry, Frame, Lent, LentPlace, Operands}
+use Rattle.followed_objects.specs.holder_counts.holder_model.Frames.{datum_in, entry_at, has_any, operands_of, results_put}
 use Rattle.followed_objects.specs.holder_counts.holder_model.HolderStates.{HolderState}
 use Rattle.followed_objects.specs.holder_counts.holder_model.MemoryEffects.{effect}
 use Rattle.followed_objects.specs.holder_counts.holder_model.ModuleFacts.{facts_of}

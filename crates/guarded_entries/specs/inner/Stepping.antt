@@ -23,7 +23,8 @@ use Rattle.followed_objects.specs.scoped_addresses.accepted_values.inner.Known.{
 use Rattle.followed_objects.specs.holder_counts.holder_model.Calling.{value_count}
 use Rattle.followed_objects.specs.holder_counts.holder_model.Data.{Datum, references_in}
 use Rattle.followed_objects.specs.holder_counts.holder_model.Dropping.{ended, field_references, in_phase}
-use Rattle.followed_objects.specs.holder_counts.holder_model.Frames.{Entry, Frame, Lent, LentPlace, Operands, entry_at, made_entry, no_entries, operands_of, results_put}
+use Rattle.followed_objects.specs.holder_counts.holder_model.Frames.{Entry, Frame, Lent, LentPlace, Operands}
+use Rattle.followed_objects.specs.holder_counts.holder_model.Frames.{entry_at, made_entry, no_entries, operands_of, results_put}
 use Rattle.followed_objects.specs.holder_counts.holder_model.Holders.{in_memory, one_object}
 use Rattle.followed_objects.specs.holder_counts.holder_model.StepParts.{new_frame}
 use Rattle.followed_objects.specs.holder_counts.holder_model.States.{Drops, Finishes, Runs, Task, dropping}

@@ -110,7 +110,8 @@ module _ (m : Module) (said : Function → List Item → Progress) where
   IsOnStack memory l = (l.place.home ≡ OnStack) × IsInside memory l.place
 
   abbrev pub AreCallsRight : Type 0
-  AreCallsRight = (memory : Memory) (rest : List (Task Frame)) (frame : Frame) (f : Function) (left : List Entry) (lent : List LentPlace) (g : FuncId) (callee : Function)
+  AreCallsRight = (memory : Memory) (rest : List (Task Frame)) (frame : Frame) (f : Function) (left : List Entry)
+      (lent : List LentPlace) (g : FuncId) (callee : Function)
       (entries : List Entry) → Stands memory rest frame f → LosesEntries (sources_in f) (said f frame.trail) frame.entries left → Each (IsOnStack memory) lent
       → slice_get m.functions g.0 ≡ Some callee → AreEntered memory callee entries
       → IsWholeMemory (handed_over memory lent)

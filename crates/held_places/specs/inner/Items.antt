@@ -3,7 +3,8 @@ use Rattle.std.specs.Prelude.{◌≡◌, ℕ, ℤ, List, [], ◌∷◌, Bool, tr
 use Rattle.tracked_frames.specs.placed_values.accepted_memory.holder_model.Data.{Datum, ValueOf}
 use Rattle.tracked_frames.specs.placed_values.accepted_memory.holder_model.Effects as effects
 use Rattle.tracked_frames.specs.placed_values.accepted_memory.holder_model.Effects.{Change, unchanged}
-use Rattle.tracked_frames.specs.placed_values.accepted_memory.holder_model.Faults.{ConsumesLent, EmptyPlace, FullPlace, HolderFault, LeavesHeld, LeavesPlace, LeavesSlot, NamesDead, NoEntry}
+use Rattle.tracked_frames.specs.placed_values.accepted_memory.holder_model.Faults.{ConsumesLent, EmptyPlace, FullPlace, HolderFault}
+use Rattle.tracked_frames.specs.placed_values.accepted_memory.holder_model.Faults.{LeavesHeld, LeavesPlace, LeavesSlot, NamesDead, NoEntry}
 use Rattle.tracked_frames.specs.placed_values.accepted_memory.holder_model.Faults.{NotLastSlot, OverwritesHeld, PlaceNotAsAsked, WrongShape}
 use Rattle.tracked_frames.specs.placed_values.accepted_memory.holder_model.Frames.{Frame, Operands, has_any}
 use Rattle.tracked_frames.specs.placed_values.accepted_memory.holder_model.HolderStates.{HolderNext, HolderState}
@@ -71,7 +72,8 @@ AreFieldsFound m bound s = (frame : Frame) (rest : List (Task Frame)) (f : Funct
 
 -- and so is each place on the stack
 abbrev pub AreSlotsFound : Module → HolderState → Type 0
-AreSlotsFound m s = (frame : Frame) (rest : List (Task Frame)) (f : Function) (i : Inst) → s.tasks ≡ Runs frame ∷ rest → slice_get m.functions frame.function.0 ≡ Some f
+AreSlotsFound m s = (frame : Frame) (rest : List (Task Frame)) (f : Function) (i : Inst) → s.tasks ≡ Runs frame ∷ rest
+    → slice_get m.functions frame.function.0 ≡ Some f
     → inst_at f (stands_at f frame.trail) ≡ Some i → (o : Operated) → Contains (operations_of i) o → ((row : AddressRow) → o.operation ≡ Handed row → ⊥)
     → (p : Place) → Names frame.entries o.address p → p.home ≡ OnStack → IsFoundSo s.memory p o.operation
 
@@ -107,10 +109,12 @@ module _ (m : Module) (bound : ℕ) (s : HolderState) (frame : Frame) (rest : Li
         → GoesBehind m (facts_of m) bound s rest (left_with m (facts_of m) bound frame ops) f (item.Inst (stands_at f frame.trail)) c next
         → PlacedNext (AreFieldsFound m bound s) m next
     -- a function without a body is called
-    pub calls_out : (g : FuncId) (args : List Datum) (callee : Function) (numbers : List ℤ) (events : List Event) (next : HolderNext) → effect_here ≡ effects.Calls g args
+    pub calls_out : (g : FuncId) (args : List Datum) (callee : Function) (numbers : List ℤ) (events : List Event) (next : HolderNext)
+        → effect_here ≡ effects.Calls g args
         → slice_get m.functions g.0 ≡ Some callee → has_any callee.blocks ≡ false
         → numbers_of m (facts_of m) bound args ≡ Some numbers
-        → GoesBehind m (facts_of m) bound (record (turned s) { events = events }) rest (left_with m (facts_of m) bound frame ops) f (item.Inst (stands_at f frame.trail))
+        → GoesBehind m (facts_of m) bound (record (turned s) { events = events }) rest (left_with m (facts_of m) bound frame ops) f
+        (item.Inst (stands_at f frame.trail))
         (record (unchanged s.memory) { results = ValueOf (value.Group value.NoValue) ∷ [] }) next
         → PlacedNext (AreFieldsFound m bound s) m next
     pub faults : (x : HolderFault) → effect_here ≡ effects.Faults x → AreFieldsFound m bound s → is_place_fault x ≡ false

@@ -63,17 +63,20 @@ pub record ReadsOperands (m : Module) (number : ℕ) (f : Function) (w : World) 
 
 -- behind the ends typing holds still
 abbrev pub AreLeftTyped : Type 0
-AreLeftTyped = (m : Module) (number : ℕ) (f : Function) (w : World) (facts : ValueId → Option Facts) (memory : Memory) (entries : List Entry) (i : Item) (ops : Operands)
+AreLeftTyped = (m : Module) (number : ℕ) (f : Function) (w : World) (facts : ValueId → Option Facts)
+    (memory : Memory) (entries : List Entry) (i : Item) (ops : Operands)
     → ReadsOperands m number f w facts memory entries i ops → EntriesAre m w f ops.left
 
 -- each operand that is an address by its row names its place
 abbrev pub AreOperandsNamed : Type 0
-AreOperandsNamed = (m : Module) (number : ℕ) (f : Function) (w : World) (facts : ValueId → Option Facts) (memory : Memory) (entries : List Entry) (i : Item) (ops : Operands)
+AreOperandsNamed = (m : Module) (number : ℕ) (f : Function) (w : World) (facts : ValueId → Option Facts)
+    (memory : Memory) (entries : List Entry) (i : Item) (ops : Operands)
     → ReadsOperands m number f w facts memory entries i ops → AreNamedBy ops.left (item_taken f i) ops.given
 
 -- what is stored fits the place
 abbrev pub AreStoresFit : Type 0
-AreStoresFit = (m : Module) (number : ℕ) (f : Function) (w : World) (facts : ValueId → Option Facts) (memory : Memory) (entries : List Entry) (p : PointId) (ops : Operands)
+AreStoresFit = (m : Module) (number : ℕ) (f : Function) (w : World) (facts : ValueId → Option Facts)
+    (memory : Memory) (entries : List Entry) (p : PointId) (ops : Operands)
     → ReadsOperands m number f w facts memory entries (item.Inst p) ops → (x : Inst) → inst_at f p ≡ Some x → effect_of x.op ≡ row.StoresValue
     → (y : Value) (q : Place) → ops.given ≡ ValueOf y ∷ AddressOf q ∷ [] → fits q.shape y ≡ true
 
@@ -84,7 +87,8 @@ pub record HandsOver (f : Function) (p : PointId) (x : Inst) (left : List Entry)
   pub lent : AreLentBy left (operations_of x) (lent_places (drop 1 (item_taken f (item.Inst p))) args)
 
 abbrev pub AreCallsHandingOver : Type 0
-AreCallsHandingOver = (m : Module) (number : ℕ) (f : Function) (w : World) (facts : ValueId → Option Facts) (memory : Memory) (entries : List Entry) (p : PointId) (ops : Operands)
+AreCallsHandingOver = (m : Module) (number : ℕ) (f : Function) (w : World) (facts : ValueId → Option Facts)
+    (memory : Memory) (entries : List Entry) (p : PointId) (ops : Operands)
     → ReadsOperands m number f w facts memory entries (item.Inst p) ops → (x : Inst) → inst_at f p ≡ Some x
     → (shapes : ModuleShapes) (values : List Shape) (g : FuncId) (args : List Datum) (callee : Function)
     → effect (declarations_of m) shapes values memory x ops.given ≡ Calls g args → slice_get m.functions g.0 ≡ Some callee
@@ -94,7 +98,8 @@ AreCallsHandingOver = (m : Module) (number : ℕ) (f : Function) (w : World) (fa
 
 -- an instruction that leaves a change: of all its results those that name parts and fields name what they should
 abbrev pub AreChangesNamed : Type 0
-AreChangesNamed = (m : Module) (number : ℕ) (f : Function) (w : World) (facts : ValueId → Option Facts) (memory : Memory) (entries : List Entry) (p : PointId) (ops : Operands)
+AreChangesNamed = (m : Module) (number : ℕ) (f : Function) (w : World) (facts : ValueId → Option Facts)
+    (memory : Memory) (entries : List Entry) (p : PointId) (ops : Operands)
     → ReadsOperands m number f w facts memory entries (item.Inst p) ops → (x : Inst) → inst_at f p ≡ Some x
     → (t : List Item) → IsRunTrail f (item.Inst p ∷ t) → ArePartsNamed (sources_of (declarations_of m) f) f t ops.left
     → (shapes : ModuleShapes) (values : List Shape) (c : Change) (new : List Entry)

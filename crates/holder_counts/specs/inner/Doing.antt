@@ -45,13 +45,17 @@ module _ (d : Declarations) (shapes : ModuleShapes) (values : List Shape) (m : M
     drops : (x : Datum) → effect_of i.op ≡ row.DropsOperand → xs ≡ x ∷ [] → Leaves (record (unchanged m) { dropped = references_in x })
     loads : (o : Operation) (p : Place) (x : Value) → effect_of i.op ≡ row.LoadsValue → operation_done d shapes values m i ≡ Some o → xs ≡ AddressOf p ∷ []
         → value_at m p ≡ Some x
-        → Leaves (record (unchanged (after d shapes values m i o p)) { results = ValueOf x ∷ []; retained = cond (copies_with i.qualifier) (references_of x) [] })
+        → Leaves (record (unchanged (after d shapes values m i o p)) {
+          results = ValueOf x ∷ [];
+          retained = cond (copies_with i.qualifier) (references_of x) [];
+        })
     names : (o : Operation) (p : Place) (x : Value) → effect_of i.op ≡ row.LoadsName → operation_done d shapes values m i ≡ Some o → xs ≡ AddressOf p ∷ []
         → value_at m p ≡ Some x → all_live m (references_of x) ≡ true
         → Leaves (record (unchanged (after d shapes values m i o p)) { results = ValueOf x ∷ []; retained = references_of x })
     names_none : (o : Operation) (p : Place) → effect_of i.op ≡ row.LoadsName → operation_done d shapes values m i ≡ Some o → xs ≡ AddressOf p ∷ []
         → Leaves (giving (after d shapes values m i o p) (ValueOf (value.Case 0) ∷ []))
-    stores : (o : Operation) (x : Value) (p : Place) → effect_of i.op ≡ row.StoresValue → operation_done d shapes values m i ≡ Some o → xs ≡ ValueOf x ∷ AddressOf p ∷ []
+    stores : (o : Operation) (x : Value) (p : Place) → effect_of i.op ≡ row.StoresValue → operation_done d shapes values m i ≡ Some o
+        → xs ≡ ValueOf x ∷ AddressOf p ∷ []
         → Leaves (record (unchanged (filled m p x)) { dropped = references_at m p })
     destroys : (o : Operation) (p : Place) → effect_of i.op ≡ row.DestroysPlace → operation_done d shapes values m i ≡ Some o → xs ≡ AddressOf p ∷ []
         → Leaves (record (unchanged (after d shapes values m i o p)) { dropped = references_at m p })
@@ -61,7 +65,8 @@ module _ (d : Declarations) (shapes : ModuleShapes) (values : List Shape) (m : M
         → Leaves (giving m (ValueOf y ∷ []))
     members : (x : Value) (ys : List Value) → effect_of i.op ≡ row.GivesMembers → xs ≡ ValueOf x ∷ [] → members_of x ≡ Some ys
         → Leaves (giving m (map ValueOf ys))
-    part : (k : ℕ) (p q : Place) → effect_of i.op ≡ row.AddressesMember → xs ≡ AddressOf p ∷ [] → member_place p k ≡ Some q → Leaves (giving m (AddressOf q ∷ []))
+    part : (k : ℕ) (p q : Place) → effect_of i.op ≡ row.AddressesMember → xs ≡ AddressOf p ∷ [] → member_place p k ≡ Some q
+        → Leaves (giving m (AddressOf q ∷ []))
     field : (x : Value) (o : ObjectId) (q : Place) → effect_of i.op ≡ row.AddressesField → xs ≡ ValueOf x ∷ [] → object_of x ≡ Some o → q.home ≡ Inside o
         → Leaves (giving m (AddressOf q ∷ []))
 

@@ -68,7 +68,8 @@ module _ (m : Module) (told : ModuleFacts) (bound : ℕ) where
 
   -- a function that is entered holds what its arguments bring
   abbrev pub AreEntriesCounted : Type 0
-  AreEntriesCounted = (weight : ObjectId → ℕ) (s : HolderState) (rest : List (Task Frame)) (g : FuncId) (callee : Function) (args : List Datum) (entries : List Entry)
+  AreEntriesCounted = (weight : ObjectId → ℕ) (s : HolderState) (rest : List (Task Frame)) (g : FuncId) (callee : Function) (args : List Datum)
+      (entries : List Entry)
       → results_put (facts_told told g) (item_defined callee item.Entry) args (no_entries (value_count callee)) ≡ Ok entries
       → Each (IsBelow (value_count callee)) (item_defined callee item.Entry)
       → in_state weight (record (turned s) { tasks = Runs (new_frame g entries) ∷ rest })

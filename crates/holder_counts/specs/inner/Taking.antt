@@ -43,7 +43,8 @@ IsBelow count v = v.0 < count
 
 -- operands that end take away what they held
 abbrev pub AreEndsCounted : Type 0
-AreEndsCounted = (weight : ObjectId → ℕ) (facts : ValueId → Option Facts) (ts : List Taken) (entries left : List Entry) → without_ended facts ts entries ≡ Ok left
+AreEndsCounted = (weight : ObjectId → ℕ) (facts : ValueId → Option Facts) (ts : List Taken) (entries left : List Entry)
+    → without_ended facts ts entries ≡ Ok left
     → in_entries weight left + of_references weight (references_ended facts entries ts) ≡ in_entries weight entries
 
 -- results bring what they hold

@@ -44,7 +44,8 @@ AreArgumentsTold = InAccepted (λ d f. (v : ValueId) (row : AddressRow) (trivial
 
 -- and back: what the signature tells of an argument of the entry is its source
 abbrev pub AreToldArguments : Type 0
-AreToldArguments = InAccepted (λ d f. (k : ℕ) (v : ValueId) (a : Told) → slice_get (item_defined f item.Entry) k ≡ Some v → slice_get (arguments_of f.signature) k ≡ Some a
+AreToldArguments = InAccepted (λ d f. (k : ℕ) (v : ValueId) (a : Told) → slice_get (item_defined f item.Entry) k ≡ Some v
+    → slice_get (arguments_of f.signature) k ≡ Some a
     → source_at (sources_of d f) v ≡ argument_source d a)
 
 -- no argument of the entry is a part of another one

@@ -3,7 +3,8 @@ use Rattle.std.specs.Prelude.{◌≡◌, ℕ, Bool, true, false, Some, slice_get
 use Rattle.sil_ast.specs.declared.function.Function.{Function}
 use Rattle.sil_ast.specs.declared.module.Module.{Module}
 use Rattle.sil_ast.specs.declared.place.FuncId.{FuncId}
-use Rattle.typed_holders.specs.accepted_premises.held_entries.holder_model.Faults.{ConsumesLent, EmptyPlace, FullPlace, HolderFault, LeavesHeld, LeavesPlace, LeavesSlot, NamesDead, NoEntry}
+use Rattle.typed_holders.specs.accepted_premises.held_entries.holder_model.Faults.{ConsumesLent, EmptyPlace, FullPlace, HolderFault}
+use Rattle.typed_holders.specs.accepted_premises.held_entries.holder_model.Faults.{LeavesHeld, LeavesPlace, LeavesSlot, NamesDead, NoEntry}
 use Rattle.typed_holders.specs.accepted_premises.held_entries.holder_model.Faults.{NotLastSlot, OverwritesHeld, PlaceNotAsAsked, WrongShape}
 use Rattle.typed_holders.specs.accepted_premises.held_entries.holder_model.HolderStates.{HolderState}
 use Rattle.typed_holders.specs.accepted_premises.held_entries.holder_model.ModuleFacts.{facts_of}

@@ -1,2 +1,0 @@
-pub mod LowTold
-pub mod LowTaken
