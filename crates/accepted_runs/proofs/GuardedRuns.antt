@@ -13,17 +13,17 @@ use Rattle.held_loans.proofs.guarded_entries.GuardedSteps.{steps_stay_guarded_wh
 use Rattle.accepted_runs.specs.inner.Kept.{IsKept}
 use Rattle.accepted_runs.proofs.KeptOnRuns.{And, Nothing}
 
--- which cells scopes lend may go by the module
-module _ (loans : Module → Loans) (Placed : Module → HolderState → Type 0) (kept : (m : Module) → IsVerified m → LoansAreKept m (loans m) (Placed m)) where
+-- which cells scopes lend may go by the module. Of the places and objects of a state only what holds of its places is needed
+module _ (loans : Module → Loans) (Placed Built : Module → HolderState → Type 0) (kept : (m : Module) → IsVerified m → LoansAreKept m (loans m) (Placed m)) where
   abbrev pub Guarded : Module → HolderState → Type 0
   Guarded m s = IsGuardedState m (loans m) s
 
-  pub guarded_kept : IsKept (And (And (And Nothing IsTypedState) IsTrackedState) Placed) Guarded is_dead_fault
+  pub guarded_kept : IsKept (And (And (And Nothing IsTypedState) IsTrackedState) (And Placed Built)) Guarded is_dead_fault
   guarded_kept = record {
     begin = λ m e f v there may. begin_guarded m (loans m) e f v there may;
     goes = λ m bound s next v before then is by.
         steps_stay_guarded_where m (loans m) (Placed m) bound s next v (kept m v)
-        (record { typed = before.0.0.1; tracked = before.0.1; placed = before.1 })
-        (record { typed = then.0.0.1; tracked = then.0.1; placed = then.1 }) is by;
+        (record { typed = before.0.0.1; tracked = before.0.1; placed = before.1.0 })
+        (record { typed = then.0.0.1; tracked = then.0.1; placed = then.1.0 }) is by;
     faults = λ m bound s last x v before is by. no_dead_faults m (loans m) bound s last x v before.0.0.1 before.0.1 is by;
   }

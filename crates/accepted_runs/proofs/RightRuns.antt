@@ -26,7 +26,7 @@ use Rattle.held_loans.specs.followed_objects.held_objects.inner.ObjectStates.{Ar
 use Rattle.held_loans.specs.guarded_entries.inner.GuardedStates.{IsGuardedState}
 use Rattle.held_loans.specs.guarded_entries.inner.Laws.{is_dead_fault}
 use Rattle.held_loans.specs.inner.Loans.{loans_of}
-use Rattle.held_loans.proofs.LoansKept.{loans_are_kept}
+use Rattle.held_loans.proofs.Kept.{loans_kept}
 use Rattle.accepted_runs.proofs.GuardedRuns.{guarded_kept}
 use Rattle.accepted_runs.proofs.PlacesServe.{places_serve}
 use Rattle.accepted_runs.specs.inner.Kept.{IsKept}
@@ -102,7 +102,7 @@ placed_kept = record {
 -- ---- dead objects
 
 guarded_kept_here : IsKept (And (And (And Nothing IsTypedState) IsTrackedState) (And AreSlotsRight IsBuiltState)) IsLentState is_dead_fault
-guarded_kept_here = guarded_kept loans_of (And AreSlotsRight IsBuiltState) loans_are_kept
+guarded_kept_here = guarded_kept loans_of AreSlotsRight IsBuiltState loans_kept
 
 -- ---- all parts
 
