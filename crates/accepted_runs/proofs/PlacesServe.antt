@@ -32,8 +32,8 @@ module _ (m : Module) (s : HolderState) (verified : IsVerified m) (is_typed : Is
   others_on_stack : AreOthersOnStack m s
   others_on_stack frame rest f i is there here y among l at other p names =
       ⊎_elim
-      (λ there. (operand_within m s.memory f frame rest (holds trail_laws m s verified is_typed placed frame rest f i is there here) y.value operand.location operand.is
-      there operand.made p names).home)
+      (λ rooted. (operand_within m s.memory f frame rest (holds trail_laws m s verified is_typed placed frame rest f i is there here) y.value operand.location operand.is
+      rooted operand.made p names).home)
       (λ (field : IsInObject trail_laws m frame.function.0 f own operand.location.root). absurd (other field.of field.place field.trivial
       (subst (λ x. source_at (sources_of (declarations_of m) f) x.root ≡ source.Field field.of field.place field.trivial)
       (same_Some operand.location l (sym operand.is ∙ at)) field.source)))

@@ -121,7 +121,7 @@ parts_kept =
     (both_kept (And (And Nothing IsTypedState) IsTrackedState) (And AreSlotsRight IsBuiltState) IsLentState is_place_fault is_dead_fault placed_kept guarded_kept_here))
 
 parted : (m : Module) (s : HolderState) → IsRightState m s → Parts m s
-parted m s is = (is.typed, is.tracked, (is.placed, is.built), is.guarded)
+parted m s is = (is.typed, (is.tracked, ((is.placed, is.built), is.guarded)))
 
 joined : (m : Module) (s : HolderState) → Parts m s → IsRightState m s
 joined m s is = record { typed = is.0; tracked = is.1.0; placed = is.1.1.0.0; built = is.1.1.0.1; guarded = is.1.1.1 }

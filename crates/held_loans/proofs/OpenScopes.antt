@@ -25,7 +25,7 @@ use Rattle.sil_ast.specs.declared.place.ValueId.{ValueId}
 use Rattle.sil_cfg.specs.declared.item.Item.{Item}
 use Rattle.type_definitions.specs.Declarations.{Declarations, declarations_of}
 use Rattle.value_tables.specs.Borrows.{is_borrow}
-use Rattle.guarded_entries.proofs.Following.{own_scope}
+use Rattle.guarded_entries.proofs.followed_objects.scoped_addresses.OwnScopes.{own_scope}
 
 off_or_not : (b : Bool) → not b ≡ true → b ≡ false
 off_or_not true e = absurd (false≢true e)
