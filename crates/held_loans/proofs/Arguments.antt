@@ -1,5 +1,5 @@
 -- The places of arguments are on the stack: an argument of the entry that is an address is a root.
-use Rattle.std.proofs.Common.{◌≡◌, ℕ, List, [], ◌∷◌, Bool, true, Contains, Option, Some, None, refl, sym, ap, ◌∙◌, subst, slice_get}
+use Rattle.std.proofs.Common.{◌≡◌, ℕ, List, ◌∷◌, Bool, Contains, Option, Some, None, refl, sym, ◌∙◌, subst, slice_get}
 use Rattle.std.proofs.lemmas.Option.{same_Some}
 use Rattle.guarded_entries.specs.held_places.accepted_memory.holder_model.Data.{AddressOf}
 use Rattle.guarded_entries.specs.held_places.accepted_memory.holder_model.Frames.{Frame, datum_in, entry_at}
@@ -33,7 +33,7 @@ use Rattle.guarded_entries.specs.inner.Guards.{IsArgument}
 use Rattle.guarded_entries.specs.inner.LoansKept.{IsPlacedState}
 use Rattle.guarded_entries.specs.held_places.inner.FramePlaces.{HoldsPlaces}
 use Rattle.guarded_entries.specs.held_places.inner.PlaceStates.{AreSlotsRight, TasksPlaced}
-use Rattle.guarded_entries.specs.held_places.inner.Roots.{IsThere, argument}
+use Rattle.guarded_entries.specs.held_places.inner.Roots.{argument}
 use Rattle.guarded_entries.proofs.held_places.Naming.{names_once}
 use Rattle.guarded_entries.proofs.held_places.PlainAddresses.{named_address}
 use Rattle.held_loans.specs.inner.Loans.{loans_of}

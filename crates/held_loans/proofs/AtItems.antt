@@ -1,13 +1,11 @@
 -- A state in which an item comes next: the first frame without the operands that end, and what its open scopes lend.
-use Rattle.std.proofs.Common.{◌≡◌, ℕ, List, [], ◌∷◌, Bool, true, false, Option, Some, Ok, refl, sym, ap, ◌∙◌, subst, slice_get}
+use Rattle.std.proofs.Common.{◌≡◌, ℕ, List, [], ◌∷◌, true, Option, Ok, sym, ap, ◌∙◌, subst}
 use Rattle.std.proofs.lemmas.Option.{same_Some}
-use Rattle.guarded_entries.specs.held_places.accepted_memory.accepted_trails.inner.Defined.{makes}
 use Rattle.guarded_entries.specs.held_places.accepted_memory.holder_model.Data.{AddressOf, Datum}
-use Rattle.guarded_entries.specs.held_places.accepted_memory.holder_model.Frames.{Entry, Frame, Lent, Operands, datum_in, entry_at, operands_of, results_put, without_ended}
+use Rattle.guarded_entries.specs.held_places.accepted_memory.holder_model.Frames.{Entry, Frame, Lent, Operands, datum_in, entry_at, results_put, without_ended}
 use Rattle.guarded_entries.specs.held_places.accepted_memory.holder_model.HolderStates.{HolderState}
-use Rattle.guarded_entries.specs.held_places.accepted_memory.holder_model.Standing.{stands_at}
 use Rattle.guarded_entries.specs.held_places.accepted_memory.holder_model.States.{Runs, Task}
-use Rattle.guarded_entries.specs.held_places.accepted_memory.run_trails.inner.RunTrails.{GoesOn, IsRunTrail, IsTurnedTrail}
+use Rattle.guarded_entries.specs.held_places.accepted_memory.run_trails.inner.RunTrails.{IsRunTrail, IsTurnedTrail}
 use Rattle.guarded_entries.specs.held_places.accepted_places.inner.Loans.{IsLentOn}
 use Rattle.guarded_entries.specs.held_places.accepted_values.accepted_modules.inner.Checked.{IsVerified}
 use Rattle.guarded_entries.specs.held_places.accepted_values.inner.Known.{IsAcceptedBody}
@@ -16,7 +14,6 @@ use Rattle.guarded_entries.specs.held_places.held_entries.accepted_trails.owners
 use Rattle.guarded_entries.specs.held_places.held_entries.inner.Tracked.{AreTrackedLeft}
 use Rattle.item_operands.specs.Items.{item_defined, item_taken}
 use Rattle.ownership_chains.specs.declared.facts.Facts.{Facts}
-use Rattle.run_values.specs.Memory.{Memory}
 use Rattle.run_values.specs.Places.{Place}
 use Rattle.sil_ast.specs.declared.function.Function.{Function}
 use Rattle.sil_ast.specs.declared.module.Module.{Module}
@@ -30,10 +27,10 @@ use Rattle.guarded_entries.specs.held_places.typed_holders.inner.TypedStates.{Fr
 use Rattle.guarded_entries.specs.held_places.typed_memory.inner.Worlds.{World}
 use Rattle.guarded_entries.proofs.held_places.tracked_frames.NextItems.{turned_next}
 use Rattle.guarded_entries.proofs.held_places.tracked_frames.OperandsFound.{operands_left, tracked_left}
-use Rattle.guarded_entries.specs.held_places.tracked_frames.inner.TrackedStates.{AreTasksTracked, GoesAlong, InFunction}
+use Rattle.guarded_entries.specs.held_places.tracked_frames.inner.TrackedStates.{AreTasksTracked, GoesAlong}
 use Rattle.value_tables.specs.Borrows.{is_borrow}
 use Rattle.guarded_entries.specs.held_places.inner.FramePlaces.{HoldsPlaces, Names}
-use Rattle.guarded_entries.specs.held_places.inner.PlaceStates.{AreSlotsRight, BelowPlaced, TasksPlaced}
+use Rattle.guarded_entries.specs.held_places.inner.PlaceStates.{AreSlotsRight, TasksPlaced}
 use Rattle.guarded_entries.specs.held_places.inner.Premises.{ReadsOperands}
 use Rattle.guarded_entries.proofs.held_places.EntriesKept.{left_was, results_other}
 use Rattle.guarded_entries.proofs.held_places.FirstFrames.{IsFirst, left_first}

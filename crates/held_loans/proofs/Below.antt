@@ -1,47 +1,28 @@
 -- The frames below: what their open scopes lend no frame above may change, so it is kept.
-use Rattle.std.proofs.Common.{◌≡◌, ◌⊎◌, ⊎_elim, inl, inr, ◌<◌, ℕ, List, [], ◌∷◌, length, Bool, true, false, Option, Some, refl, sym, ap, ◌∙◌, subst, slice_get}
+use Rattle.std.proofs.Common.{◌≡◌, ◌⊎◌, ⊎_elim, inl, inr, ◌<◌, ℕ, List, [], ◌∷◌, length, true, Some, sym, ap, ◌∙◌, subst, slice_get}
 use Rattle.std.proofs.lemmas.Bool.{false≢true}
 use Rattle.std.proofs.lemmas.Option.{same_Some, slice_get_within}
 use Rattle.guarded_entries.specs.held_places.accepted_memory.holder_model.Data.{Datum}
 use Rattle.guarded_entries.specs.held_places.accepted_memory.holder_model.Frames.{Frame, Lent, entry_at}
-use Rattle.guarded_entries.specs.held_places.accepted_memory.holder_model.Standing.{stands_at}
 use Rattle.guarded_entries.specs.held_places.accepted_memory.holder_model.States.{Drops, Finishes, Runs, Task}
-use Rattle.guarded_entries.specs.held_places.accepted_memory.run_trails.inner.RunTrails.{IsRunTrail, IsTurnedTrail}
 use Rattle.guarded_entries.specs.held_places.accepted_values.accepted_modules.inner.Checked.{IsVerified}
-use Rattle.guarded_entries.specs.held_places.accepted_values.inner.Known.{IsAcceptedBody}
-use Rattle.guarded_entries.proofs.held_places.held_entries.accepted_trails.run_trails.WalkEdges.{are_next}
-use Rattle.guarded_entries.specs.held_places.holder_steps.inner.Stacks.{Below, Going}
-use Rattle.memory_cells.specs.inner.Cells.{cell_at, has_cell}
-use Rattle.item_operands.specs.Parts.{inst_at}
-use Rattle.run_values.specs.Cells.{Keeps}
+use Rattle.guarded_entries.specs.held_places.holder_steps.inner.Stacks.{Below}
+use Rattle.memory_cells.specs.inner.Cells.{cell_at}
 use Rattle.run_values.specs.Memory.{Memory}
 use Rattle.run_values.specs.Places.{OnStack}
-use Rattle.run_values.specs.Values.{Value}
 use Rattle.sil_ast.specs.declared.function.Function.{Function}
-use Rattle.sil_ast.specs.declared.inst.Inst.{Inst}
 use Rattle.sil_ast.specs.declared.module.Module.{Module}
-use Rattle.sil_ast.specs.declared.place.PointId.{PointId}
 use Rattle.sil_ast.specs.declared.place.ValueId.{ValueId}
-use Rattle.sil_cfg.specs.declared.item.Item.{Item}
-use Rattle.sil_cfg.specs.declared.item.Item.TheVariants as item
 use Rattle.type_definitions.specs.Declarations.{declarations_of}
-use Rattle.guarded_entries.proofs.held_places.typed_holders.GoesOn.{accepted_body}
 use Rattle.guarded_entries.proofs.held_places.typed_holders.Stacks.{BelowTyped}
-use Rattle.guarded_entries.specs.held_places.typed_holders.inner.TypedStates.{EntriesAre, FrameIs, TasksAre, WaitsTyped}
+use Rattle.guarded_entries.specs.held_places.typed_holders.inner.TypedStates.{TasksAre, WaitsTyped}
 use Rattle.guarded_entries.specs.held_places.typed_memory.inner.Worlds.{World}
-use Rattle.guarded_entries.proofs.held_places.tracked_frames.NextItems.{inst_comes, turned_next}
 use Rattle.guarded_entries.specs.held_places.tracked_frames.inner.TrackedStates.{AreTasksTracked, GoesAlong, InFunction, WaitsAlong}
 use Rattle.value_tables.specs.Borrows.{is_borrow}
-use Rattle.guarded_entries.specs.inner.Guards.{KeepsAt}
 use Rattle.guarded_entries.specs.inner.Stepping.{KeepLoans, KeepsLoans}
 use Rattle.guarded_entries.specs.held_places.inner.FramePlaces.{Frees, HoldsPlaces, IsFree, is_lent}
 use Rattle.guarded_entries.specs.held_places.inner.PlaceStates.{BelowPlaced, GoesPlaced, TasksPlaced, WaitsPlaced}
-use Rattle.guarded_entries.specs.held_places.inner.TrailLaws.{TrailLaws}
-use Rattle.guarded_entries.proofs.held_places.ComesToCalls.{comes_to_call}
-use Rattle.guarded_entries.proofs.held_places.Lending.{IsCallAt}
-use Rattle.guarded_entries.proofs.held_places.TrailsSo.{trail_laws}
 use Rattle.held_loans.specs.inner.Loans.{loans_of}
-use Rattle.held_loans.proofs.CallsClear.{not_lent}
 use Rattle.held_loans.proofs.Clear.{in_root}
 use Rattle.held_loans.proofs.LoanAt.{LendsCell, lends_cell}
 use Rattle.held_loans.proofs.Waiting.{waiting_holds, waiting_not_lent}

@@ -1,31 +1,24 @@
 -- What a call lends so that nobody shares it has no cell that an open scope lends.
-use Rattle.std.proofs.Common.{◌≡◌, ℕ, List, [], ◌∷◌, Bool, true, false, not, Some, refl, sym, ap, ◌∙◌, subst}
+use Rattle.std.proofs.Common.{◌≡◌, ℕ, List, true, false, not, refl, sym, ap, ◌∙◌}
 use Rattle.std.proofs.lemmas.Bool.{true≢false}
 use Rattle.guarded_entries.specs.held_places.accepted_memory.holder_model.Frames.{Frame, LentPlace}
 use Rattle.guarded_entries.specs.held_places.accepted_memory.holder_model.States.{Task}
 use Rattle.guarded_entries.specs.held_places.accepted_memory.memory_accesses.Operations.{operations_of}
 use Rattle.guarded_entries.specs.held_places.accepted_memory.memory_accesses.Rows.{is_part}
-use Rattle.guarded_entries.specs.held_places.accepted_memory.memory_accesses.Sources.{sources_of}
-use Rattle.guarded_entries.specs.held_places.accepted_memory.memory_accesses.declared.access.Operation.TheVariants.{Handed}
-use Rattle.guarded_entries.specs.held_places.accepted_memory.memory_accesses.declared.location.Location.{Location}
 use Rattle.guarded_entries.specs.held_places.accepted_memory.memory_parts.Loans.{writes}
-use Rattle.guarded_entries.specs.held_places.accepted_memory.run_trails.inner.RunTrails.{IsRunTrail}
 use Rattle.guarded_entries.proofs.held_places.accepted_places.Apart.{apart_by_cells}
 use Rattle.guarded_entries.proofs.held_places.accepted_places.LoansKept.{loans_unwritten}
 use Rattle.guarded_entries.specs.held_places.accepted_values.inner.Known.{IsAcceptedBody}
 use Rattle.argument_conventions.specs.Rows.{only_reads, row_of}
 use Rattle.argument_conventions.specs.declared.convention.AddressConvention.{AddressConvention}
 use Rattle.argument_conventions.specs.declared.convention.AddressConvention.TheVariants as convention
-use Rattle.argument_conventions.specs.declared.row.AddressRow.{AddressRow}
-use Rattle.memory_cells.specs.inner.Cells.{has_cell}
-use Rattle.point_checks.proofs.Among.{Among, contained_among}
+use Rattle.point_checks.proofs.Among.{contained_among}
 use Rattle.run_values.specs.Memory.{Memory}
 use Rattle.sil_ast.specs.declared.function.Function.{Function}
 use Rattle.sil_ast.specs.declared.inst.Inst.{Inst}
 use Rattle.sil_ast.specs.declared.module.Module.{Module}
 use Rattle.sil_ast.specs.declared.place.PointId.{PointId}
 use Rattle.sil_cfg.specs.declared.item.Item.TheVariants as item
-use Rattle.type_definitions.specs.Declarations.{declarations_of}
 use Rattle.guarded_entries.specs.held_places.inner.FramePlaces.{HoldsPlaces, is_lent}
 use Rattle.guarded_entries.specs.held_places.inner.PlaceStates.{AreLentBy}
 use Rattle.guarded_entries.specs.held_places.inner.TrailLaws.{TrailLaws}

@@ -1,13 +1,13 @@
 -- A place and a loan's cell: apart where their roots are, and where their locations don't overlap.
-use Rattle.std.proofs.Common.{◌≡◌, ◌⊎◌, ⊎_elim, inl, inr, ◌==◌, ◌&&◌, ◌||◌, ℕ, List, [], ◌∷◌, Bool, true, false, Option, Some, refl, sym, ap, ◌∙◌, subst, arith, eqb-true}
+use Rattle.std.proofs.Common.{◌≡◌, ◌⊎◌, inl, inr, ◌==◌, ◌&&◌, ◌||◌, ℕ, List, [], ◌∷◌, Bool, true, false, Some, refl, sym, ap, ◌∙◌, subst, arith, eqb-true}
 use Rattle.std.specs.List.{starts_with}
 use Rattle.std.proofs.lemmas.Bool.{or_parts, true≢false}
 use Rattle.guarded_entries.specs.held_places.accepted_memory.accepted_trails.inner.Bases.{IsAsMade}
 use Rattle.guarded_entries.specs.held_places.accepted_memory.holder_model.Frames.{Frame}
 use Rattle.guarded_entries.specs.held_places.accepted_memory.holder_model.States.{Task}
 use Rattle.guarded_entries.specs.held_places.accepted_memory.memory_accesses.Locations.{do_overlap, location_of, meet, same_step}
-use Rattle.guarded_entries.specs.held_places.accepted_memory.memory_accesses.Rows.{has_steps, is_part}
-use Rattle.guarded_entries.specs.held_places.accepted_memory.memory_accesses.Sources.{source_at, sources_of}
+use Rattle.guarded_entries.specs.held_places.accepted_memory.memory_accesses.Rows.{has_steps}
+use Rattle.guarded_entries.specs.held_places.accepted_memory.memory_accesses.Sources.{sources_of}
 use Rattle.guarded_entries.specs.held_places.accepted_memory.memory_accesses.declared.location.Location.{Location}
 use Rattle.guarded_entries.specs.held_places.accepted_places.inner.Loans.{AreApartByCells, IsBefore}
 use Rattle.memory_cells.specs.inner.Cells.{has_cell}
@@ -17,7 +17,6 @@ use Rattle.run_values.specs.Places.{Place}
 use Rattle.sil_ast.specs.declared.function.Function.{Function}
 use Rattle.sil_ast.specs.declared.module.Module.{Module}
 use Rattle.sil_ast.specs.declared.place.ValueId.{ValueId}
-use Rattle.sil_cfg.specs.declared.item.Item.{Item}
 use Rattle.type_definitions.specs.Declarations.{declarations_of}
 use Rattle.guarded_entries.specs.held_places.inner.FramePlaces.{HoldsPlaces, Names}
 use Rattle.guarded_entries.specs.held_places.inner.Roots.{IsThere, is_shared}

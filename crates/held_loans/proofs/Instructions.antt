@@ -1,19 +1,18 @@
 -- An instruction that leaves a change: of the stack it changes no cell that an open scope lends, and none that a frame below keeps for itself.
 use Rattle.std.proofs.Common.{◌≡◌, ◌⊎◌, ⊎_elim, inl, inr, ◌==◌, ◌&&◌, ◌<◌, ◌++◌, append-nil, ℕ, List, [], ◌∷◌, length}
-use Rattle.std.proofs.Common.{Bool, true, false, cond, Contains, Option, Some, None, refl, sym, ap, ◌∙◌, subst, slice_get, eq-eqb}
+use Rattle.std.proofs.Common.{Bool, true, false, cond, Contains, Some, refl, sym, ap, ◌∙◌, subst, slice_get, eq-eqb}
 use Rattle.std.proofs.lemmas.Bool.{false_from_ne_true, or_left, true≢false}
 use Rattle.std.proofs.lemmas.List.Elements.{Contains-push}
 use Rattle.guarded_entries.specs.held_places.accepted_memory.holder_model.Data.{AddressOf, Datum, ValueOf}
 use Rattle.guarded_entries.specs.held_places.accepted_memory.holder_model.Effects as effects
 use Rattle.guarded_entries.specs.held_places.accepted_memory.holder_model.Effects.{Change, effect_of}
 use Rattle.guarded_entries.specs.held_places.accepted_memory.holder_model.Frames.{Entry, Frame, Operands}
-use Rattle.guarded_entries.specs.held_places.accepted_memory.holder_model.MemoryEffects.{after, effect, operation_done, takes}
+use Rattle.guarded_entries.specs.held_places.accepted_memory.holder_model.MemoryEffects.{effect, operation_done, takes}
 use Rattle.guarded_entries.specs.held_places.accepted_memory.holder_model.ModuleShapes.{ModuleShapes, field_shapes}
 use Rattle.guarded_entries.specs.held_places.accepted_memory.holder_model.HolderStates.{HolderState}
-use Rattle.guarded_entries.specs.held_places.accepted_memory.holder_model.States.{Runs, Task}
+use Rattle.guarded_entries.specs.held_places.accepted_memory.holder_model.States.{Task}
 use Rattle.guarded_entries.specs.held_places.accepted_memory.holder_model.declared.row_effect.RowEffect.TheVariants as row
-use Rattle.guarded_entries.specs.held_places.accepted_memory.memory_accesses.Locations.{location_of, whole}
-use Rattle.guarded_entries.specs.held_places.accepted_memory.memory_accesses.Operations.{access_kind_of, addresses_of, deallocates, operated, operation_by, operations_of}
+use Rattle.guarded_entries.specs.held_places.accepted_memory.memory_accesses.Operations.{addresses_of, deallocates}
 use Rattle.guarded_entries.specs.held_places.accepted_memory.memory_accesses.Sources.{is_slot_source, source_at, sources_of}
 use Rattle.guarded_entries.specs.held_places.accepted_memory.memory_accesses.declared.access.Operation.{Operation}
 use Rattle.guarded_entries.specs.held_places.accepted_memory.memory_accesses.declared.access.Operation.TheVariants.{Take, TrivialStore}
@@ -68,11 +67,11 @@ use Rattle.guarded_entries.proofs.held_places.StoresFit.{stores_fit}
 use Rattle.guarded_entries.proofs.held_places.TrailsSo.{trail_laws}
 use Rattle.held_loans.specs.inner.Loans.{loans_of}
 use Rattle.guarded_entries.specs.inner.LoansKept.{TakesOperands}
-use Rattle.held_loans.proofs.AtItems.{IsLentLeft, accepted, left, now, number, reads, run, w}
+use Rattle.held_loans.proofs.AtItems.{IsLentLeft, accepted, now, reads, run}
 use Rattle.held_loans.proofs.Clear.{other_root, same_root}
 use Rattle.held_loans.proofs.RootsStay.{never_closed}
 use Rattle.held_loans.proofs.TrivialStores.{has_word, stored_trivial, trivial_row}
-use Rattle.held_loans.proofs.Undisturbed.{DoesThere, IsLentCell, IsUndisturbed, emptied_undisturbed, filled_undisturbed}
+use Rattle.held_loans.proofs.Undisturbed.{DoesThere, IsUndisturbed, emptied_undisturbed, filled_undisturbed}
 
 second_operand : (os : List Operand) (rs : List Treatment) (s t : Taken) → taken_each os rs ≡ s ∷ t ∷ [] → (z : Operand) × (slice_get os 1 ≡ Some z) × (z.value ≡ t.value)
 second_operand [] rs s t e = absurd (cc)

@@ -1,11 +1,10 @@
 -- What steps keep of the loans of open scopes, step by step.
-use Rattle.std.proofs.Common.{◌≡◌, ◌⊎◌, ℕ, List, [], ◌∷◌, Bool, true, false, drop, Option, Some, Ok, refl, sym, ap, ◌∙◌, subst, slice_get}
-use Rattle.std.proofs.lemmas.Bool.{true≢false}
-use Rattle.std.proofs.lemmas.Option.{same_Some, slice_get_within}
+use Rattle.std.proofs.Common.{◌≡◌, ℕ, List, ◌∷◌, Bool, true, false, drop, refl, ◌∙◌, subst}
+use Rattle.std.proofs.lemmas.Option.{slice_get_within}
 use Rattle.guarded_entries.specs.held_places.accepted_memory.holder_model.Calling.{handed_over, lent_places}
 use Rattle.guarded_entries.specs.held_places.accepted_memory.holder_model.Data.{Datum}
 use Rattle.guarded_entries.specs.held_places.accepted_memory.holder_model.Effects.{Change}
-use Rattle.guarded_entries.specs.held_places.accepted_memory.holder_model.Frames.{Entry, Frame, Lent, LentPlace, Operands, entry_at}
+use Rattle.guarded_entries.specs.held_places.accepted_memory.holder_model.Frames.{Entry, Frame, LentPlace, Operands}
 use Rattle.guarded_entries.specs.held_places.accepted_memory.holder_model.HolderStates.{HolderState}
 use Rattle.guarded_entries.specs.held_places.accepted_memory.holder_model.ModuleFacts.{facts_of}
 use Rattle.guarded_entries.specs.held_places.accepted_memory.holder_model.ModuleShapes.{shapes_in}
@@ -17,10 +16,8 @@ use Rattle.guarded_entries.specs.held_places.accepted_places.inner.Loans.{IsLent
 use Rattle.guarded_entries.specs.held_places.held_entries.accepted_trails.ownership_kinds.Facts.{facts_in}
 use Rattle.item_operands.specs.Items.{item_taken}
 use Rattle.memory_cells.specs.inner.Cells.{cell_at}
-use Rattle.run_values.specs.Cells.{Keeps}
 use Rattle.run_values.specs.Memory.{Memory}
 use Rattle.run_values.specs.Places.{OnStack, Place}
-use Rattle.run_values.specs.Values.{Value}
 use Rattle.sil_ast.specs.declared.function.Function.{Function}
 use Rattle.sil_ast.specs.declared.inst.Inst.{Inst}
 use Rattle.sil_ast.specs.declared.module.Module.{Module}
@@ -32,8 +29,6 @@ use Rattle.sil_cfg.specs.declared.item.Item.TheVariants as item
 use Rattle.type_definitions.specs.Declarations.{declarations_of}
 use Rattle.guarded_entries.specs.held_places.typed_holders.inner.TypedStates.{TasksAre}
 use Rattle.guarded_entries.specs.held_places.tracked_frames.inner.TrackedStates.{AreTasksTracked}
-use Rattle.value_tables.specs.Borrows.{is_borrow}
-use Rattle.guarded_entries.specs.inner.Guards.{KeepsAt}
 use Rattle.guarded_entries.specs.inner.Stepping.{KeepLoans, frame_behind, frame_waiting}
 use Rattle.guarded_entries.specs.held_places.inner.FramePlaces.{is_lent}
 use Rattle.guarded_entries.specs.held_places.inner.PlaceStates.{AreSlotsRight, TasksPlaced}
@@ -46,7 +41,7 @@ use Rattle.held_loans.specs.inner.Laws.{AreLoansKept}
 use Rattle.held_loans.specs.inner.Loans.{loans_of}
 use Rattle.held_loans.proofs.Arguments.{arguments_on_stack}
 use Rattle.held_loans.proofs.Loaded.{loads_lent}
-use Rattle.guarded_entries.specs.inner.LoansKept.{Calls, Does, IsPlacedState, LendOn, Resumes, Stays, TakesOperands}
+use Rattle.guarded_entries.specs.inner.LoansKept.{Calls, Does, LendOn, Resumes, Stays}
 use Rattle.held_loans.proofs.AtItems as at
 use Rattle.held_loans.proofs.Below.{below_kept}
 use Rattle.held_loans.proofs.CallsClear.{not_lent}

@@ -1,28 +1,25 @@
 -- A scope that is opened over a place lends the cells that keep what is loaded.
-use Rattle.std.proofs.Common.{◌≡◌, ◌⊎◌, ⊎_elim, inl, inr, ◌<◌, ◌++◌, append-nil, ℕ, List, [], ◌∷◌, Bool, true}
-use Rattle.std.proofs.Common.{false, cond, Contains, Option, Some, None, Ok, refl, sym, ap, ◌∙◌, subst, slice_get, arith}
+use Rattle.std.proofs.Common.{◌≡◌, ⊎_elim, ◌++◌, append-nil, ℕ, List, [], ◌∷◌, Bool, true}
+use Rattle.std.proofs.Common.{false, cond, Contains, Some, Ok, refl, sym, ap, ◌∙◌, subst, slice_get, arith}
 use Rattle.std.specs.Prelude.{option_map}
 use Rattle.std.proofs.lemmas.Bool.{false≢true, true≢false}
 use Rattle.std.proofs.lemmas.List.Elements.{Contains-push}
-use Rattle.std.proofs.lemmas.Option.{none-some, same_Some}
-use Rattle.guarded_entries.specs.held_places.accepted_memory.holder_model.Data.{AddressOf, Datum}
+use Rattle.std.proofs.lemmas.Option.{same_Some}
+use Rattle.guarded_entries.specs.held_places.accepted_memory.holder_model.Data.{AddressOf}
 use Rattle.guarded_entries.specs.held_places.accepted_memory.holder_model.Effects as effects
 use Rattle.guarded_entries.specs.held_places.accepted_memory.holder_model.Effects.{Change, effect_of}
 use Rattle.guarded_entries.specs.held_places.accepted_memory.holder_model.Frames.{Entry, Frame, Operands, datum_in, results_put}
 use Rattle.guarded_entries.specs.held_places.accepted_memory.holder_model.HolderStates.{HolderState}
-use Rattle.guarded_entries.specs.held_places.accepted_memory.holder_model.MemoryEffects.{after, effect, takes}
+use Rattle.guarded_entries.specs.held_places.accepted_memory.holder_model.MemoryEffects.{effect, takes}
 use Rattle.guarded_entries.specs.held_places.accepted_memory.holder_model.ModuleShapes.{ModuleShapes}
 use Rattle.guarded_entries.specs.held_places.accepted_memory.holder_model.States.{Task}
 use Rattle.guarded_entries.specs.held_places.accepted_memory.holder_model.declared.row_effect.RowEffect.{RowEffect}
 use Rattle.guarded_entries.specs.held_places.accepted_memory.holder_model.declared.row_effect.RowEffect.TheVariants as row
-use Rattle.guarded_entries.specs.held_places.accepted_memory.memory_accesses.Locations.{location_of}
 use Rattle.guarded_entries.specs.held_places.accepted_memory.memory_accesses.Operations.{access_kind_of, operated, operation_by, operations_of}
 use Rattle.guarded_entries.specs.held_places.accepted_memory.memory_accesses.Rows.{has_by, has_operation, has_steps, is_part}
 use Rattle.guarded_entries.specs.held_places.accepted_memory.memory_accesses.Sources.{is_trivial_at, loan_source, result_source, source_at, source_by, sources_of}
 use Rattle.guarded_entries.specs.held_places.accepted_memory.memory_accesses.declared.access.Operation.{Operation}
 use Rattle.guarded_entries.specs.held_places.accepted_memory.memory_accesses.declared.access.Operation.TheVariants.{Lend}
-use Rattle.guarded_entries.specs.held_places.accepted_memory.memory_accesses.declared.location.Location.{Location}
-use Rattle.guarded_entries.specs.held_places.accepted_memory.memory_accesses.declared.source.Source.TheVariants as source
 use Rattle.guarded_entries.specs.held_places.accepted_places.inner.Located.{IsAddress}
 use Rattle.guarded_entries.specs.held_places.accepted_places.inner.Stacks.{keeps_slots, slots_on}
 use Rattle.guarded_entries.proofs.held_places.accepted_values.TableRows.{result_rows}
@@ -38,13 +35,12 @@ use Rattle.instruction_table.specs.Forms.{result_kind_of, roles_of}
 use Rattle.instruction_table.specs.declared.op.Op.{Op}
 use Rattle.instruction_table.specs.declared.op.Op.TheVariants as op
 use Rattle.item_operands.specs.Items.{item_defined, item_taken, taken_in}
-use Rattle.item_operands.specs.Parts.{inst_at, item_inst}
+use Rattle.item_operands.specs.Parts.{inst_at}
 use Rattle.item_operands.specs.Roles.{conventions_in, roles_for, taken_as, taken_by, taken_each}
 use Rattle.item_operands.specs.declared.taken.Taken.{Taken}
 use Rattle.item_operands.specs.declared.taken.Treatment.{Treatment}
 use Rattle.memory_cells.specs.inner.Cells.{cell_at, has_cell}
 use Rattle.ownership_chains.specs.Facts.{has}
-use Rattle.run_values.specs.Memory.{Memory}
 use Rattle.run_values.specs.Places.{OnStack, Place, emptied, value_at}
 use Rattle.run_values.specs.Shapes.{Shape}
 use Rattle.run_values.specs.Trivial.{is_trivial}
@@ -61,8 +57,8 @@ use Rattle.type_definitions.specs.Declarations.{declarations_of}
 use Rattle.guarded_entries.proofs.held_places.typed_memory.Homes.{place_read}
 use Rattle.guarded_entries.proofs.held_places.typed_memory.Trivials.{no_references}
 use Rattle.guarded_entries.specs.held_places.typed_memory.inner.Worlds.{Suits, names}
-use Rattle.value_tables.specs.Borrows.{borrow_by, borrows, is_borrow}
-use Rattle.value_tables.specs.FirstValue.{first_value, value_of}
+use Rattle.value_tables.specs.Borrows.{borrow_by, borrows}
+use Rattle.value_tables.specs.FirstValue.{value_of}
 use Rattle.guarded_entries.proofs.TypedGiven.{typed_for_rows}
 use Rattle.guarded_entries.specs.inner.Guards.{IsNamed, KeepsAt}
 use Rattle.guarded_entries.specs.inner.LoansKept.{TakesOperands}
@@ -78,13 +74,13 @@ use Rattle.guarded_entries.proofs.held_places.Naming.{names_once}
 use Rattle.guarded_entries.proofs.held_places.OperandsNamed.{operands_named}
 use Rattle.guarded_entries.proofs.held_places.PlaceRows.{named_first, place_slots}
 use Rattle.guarded_entries.proofs.held_places.PlainAddresses.{named_address, place_typed}
-use Rattle.guarded_entries.proofs.held_places.Reading.{operand_within, root_itself}
+use Rattle.guarded_entries.proofs.held_places.Reading.{root_itself}
 use Rattle.guarded_entries.proofs.held_places.RootsShaped.{roots_shaped}
 use Rattle.guarded_entries.proofs.held_places.RowsAt.{is_at_one, one_operation}
 use Rattle.guarded_entries.proofs.held_places.TrailsSo.{trail_laws}
 use Rattle.held_loans.specs.inner.Loans.{loans_of, reached}
 use Rattle.held_loans.proofs.AtItems.{accepted, first, now, reads, run}
-use Rattle.held_loans.proofs.Keeping.{KeptAt, kept_at}
+use Rattle.held_loans.proofs.Keeping.{kept_at}
 use Rattle.held_loans.proofs.LoanAt.{cell_lent}
 use Rattle.held_loans.proofs.Reached.{reaches, same_cells}
 use Rattle.held_loans.proofs.Trivial.{part_trivial}

@@ -1,10 +1,10 @@
 -- A scope that is there behind the ends of the next item is open, so what it borrows of memory is lent.
-use Rattle.std.proofs.Common.{◌≡◌, ◌&&◌, ℕ, List, [], ◌∷◌, Bool, true, false, not, Option, Some, None, refl, sym, ap, ◌∙◌, subst}
+use Rattle.std.proofs.Common.{◌≡◌, ℕ, List, ◌∷◌, Bool, true, false, not, Some, refl, sym, ap, ◌∙◌}
 use Rattle.std.specs.Prelude.{option_map}
 use Rattle.std.specs.List.{list_any}
 use Rattle.std.proofs.lemmas.Bool.{and_parts, false≢true}
 use Rattle.guarded_entries.proofs.held_places.accepted_memory.InScopes.{lent_in_scopes}
-use Rattle.guarded_entries.specs.held_places.accepted_memory.accepted_trails.inner.Lives.{IsScopeIn, is_open}
+use Rattle.guarded_entries.specs.held_places.accepted_memory.accepted_trails.inner.Lives.{is_open}
 use Rattle.guarded_entries.specs.held_places.accepted_memory.accepted_trails.inner.Passing.{IsPassed, is_end, left_by}
 use Rattle.guarded_entries.specs.held_places.accepted_memory.memory_accesses.Sources.{source_at, sources_of}
 use Rattle.guarded_entries.specs.held_places.accepted_memory.memory_accesses.declared.source.Source.TheVariants as source

@@ -1,11 +1,11 @@
 -- Where a path leads in a place: to the part there, and nowhere else.
-use Rattle.std.proofs.Common.{◌≡◌, ◌+◌, ◌&&◌, ◌≤◌, ◌<◌, ℕ, List, [], ◌∷◌, Bool, true, false, Option, Some, None, refl, sym, ap, ◌∙◌, subst, arith}
+use Rattle.std.proofs.Common.{◌≡◌, ◌+◌, ◌&&◌, ℕ, List, [], ◌∷◌, true, Option, Some, None, refl, ap, ◌∙◌, subst, arith}
 use Rattle.std.specs.Prelude.{nat_le, nat_lt, option_and_then, option_map, slice_get, unwrap_or}
 use Rattle.std.proofs.lemmas.Option.{none-some, same_Some}
-use Rattle.memory_cells.specs.inner.Cells.{behind, has_cell}
+use Rattle.memory_cells.specs.inner.Cells.{has_cell}
 use Rattle.memory_cells.proofs.PlaceCells.{cell_from, cell_within}
 use Rattle.run_values.specs.Cells.{cell_count}
-use Rattle.run_values.specs.Places.{Place, member_place, offset, part_of}
+use Rattle.run_values.specs.Places.{Place, offset, part_of}
 use Rattle.run_values.specs.Shapes.{Shape, Unknown, member_shapes}
 use Rattle.guarded_entries.proofs.held_places.typed_memory.Parts.{member_there}
 use Rattle.value_parts.specs.inner.Paths.{IsPart, before_along, cells_before, here, inside}

@@ -1,14 +1,14 @@
 -- The root of a loan is there behind an item, if the loan stays: the item doesn't deallocate it.
-use Rattle.std.proofs.Common.{◌≡◌, ◌==◌, ◌&&◌, ◌||◌, ℕ, List, [], ◌∷◌, Bool, true, false, Contains, Option, Some, None, refl, sym, ap, ◌∙◌, subst, eq-eqb, eqb-true}
+use Rattle.std.proofs.Common.{◌≡◌, ◌==◌, ◌||◌, ℕ, List, [], ◌∷◌, Bool, true, false, Contains, Some, refl, sym, ap, ◌∙◌, eq-eqb, eqb-true}
 use Rattle.std.specs.Prelude.{option_and_then}
 use Rattle.std.specs.List.{starts_with}
-use Rattle.std.proofs.lemmas.Bool.{and_from, or_left, or_right, true≢false}
+use Rattle.std.proofs.lemmas.Bool.{and_from, or_right, true≢false}
 use Rattle.std.proofs.lemmas.Option.{none-some}
 use Rattle.guarded_entries.proofs.held_places.accepted_memory.PartsTurned.{turn_by}
 use Rattle.guarded_entries.proofs.held_places.accepted_memory.Turning.{turned_each}
 use Rattle.guarded_entries.specs.held_places.accepted_memory.inner.PartTrails.{accesses_in}
 use Rattle.guarded_entries.specs.held_places.accepted_memory.memory_accesses.Accesses.{made_by}
-use Rattle.guarded_entries.specs.held_places.accepted_memory.memory_accesses.Locations.{do_overlap, location_of, meet, same_step, whole}
+use Rattle.guarded_entries.specs.held_places.accepted_memory.memory_accesses.Locations.{location_of, meet, same_step, whole}
 use Rattle.guarded_entries.specs.held_places.accepted_memory.memory_accesses.Operations.{addresses_of, deallocates}
 use Rattle.guarded_entries.specs.held_places.accepted_memory.memory_accesses.Sources.{is_slot_source, source_at, sources_of}
 use Rattle.guarded_entries.specs.held_places.accepted_memory.memory_accesses.declared.access.Access.{Access}

@@ -1,21 +1,16 @@
 -- What an instruction does at the place of an operand leaves the cells that open scopes lend, and those that the frames below keep for themselves.
-use Rattle.std.proofs.Common.{◌≡◌, ◌⊎◌, ⊎_elim, inl, inr, ◌==◌, ◌&&◌, ◌++◌, ℕ, List, [], ◌∷◌, Bool, true, false, Contains, Option, Some, None, refl, sym, ap, ◌∙◌, subst, slice_get}
+use Rattle.std.proofs.Common.{◌≡◌, ◌⊎◌, ⊎_elim, inl, inr, ◌==◌, ◌&&◌, ℕ, List, [], ◌∷◌, Bool, true, false, Contains, Option, Some, refl, sym, ap, ◌∙◌, subst, slice_get}
 use Rattle.std.proofs.lemmas.Bool.{false_from_ne_true, true≢false}
 use Rattle.std.proofs.lemmas.List.Elements.{Contains-push}
-use Rattle.std.proofs.lemmas.Option.{none-some, same_Some}
-use Rattle.guarded_entries.specs.held_places.accepted_memory.holder_model.Data.{Datum}
+use Rattle.std.proofs.lemmas.Option.{same_Some}
 use Rattle.guarded_entries.specs.held_places.accepted_memory.holder_model.Frames.{Frame}
 use Rattle.guarded_entries.specs.held_places.accepted_memory.holder_model.States.{Task}
-use Rattle.guarded_entries.specs.held_places.accepted_memory.memory_accesses.Locations.{cell_of, do_overlap, location_of}
-use Rattle.guarded_entries.specs.held_places.accepted_memory.memory_accesses.Operations.{access_kind_of, deallocates, operated, operation_by, operations_of}
+use Rattle.guarded_entries.specs.held_places.accepted_memory.memory_accesses.Operations.{operated}
 use Rattle.guarded_entries.specs.held_places.accepted_memory.memory_accesses.Rows.{has_operation, is_part}
 use Rattle.guarded_entries.specs.held_places.accepted_memory.memory_accesses.Sources.{is_trivial_at, source_at, sources_of}
-use Rattle.guarded_entries.specs.held_places.accepted_memory.memory_accesses.declared.access.Operated.{Operated}
 use Rattle.guarded_entries.specs.held_places.accepted_memory.memory_accesses.declared.access.Operation.{Operation}
-use Rattle.guarded_entries.specs.held_places.accepted_memory.memory_accesses.declared.access.Operation.TheVariants.{FirstWrite, Take, TrivialStore, Write}
-use Rattle.guarded_entries.specs.held_places.accepted_memory.memory_accesses.declared.location.Location.{Location}
+use Rattle.guarded_entries.specs.held_places.accepted_memory.memory_accesses.declared.access.Operation.TheVariants.{FirstWrite, Take, TrivialStore}
 use Rattle.guarded_entries.specs.held_places.accepted_memory.memory_parts.Loans.{writes}
-use Rattle.guarded_entries.specs.held_places.accepted_memory.memory_parts.Parts.{whole_cell}
 use Rattle.guarded_entries.specs.held_places.accepted_memory.memory_parts.declared.part.Part.{Part}
 use Rattle.guarded_entries.specs.held_places.accepted_memory.memory_parts.declared.part.Part.TheVariants.{Contents}
 use Rattle.guarded_entries.specs.held_places.accepted_memory.inner.PartTrails.{IsPartOf, is_on}
@@ -26,15 +21,9 @@ use Rattle.guarded_entries.proofs.held_places.accepted_places.LoansFull.{loans_f
 use Rattle.guarded_entries.proofs.held_places.accepted_places.LoansKept.{loans_unwritten}
 use Rattle.guarded_entries.specs.held_places.accepted_places.inner.Cells.{IsDoneAt, mark_at, part_at}
 use Rattle.guarded_entries.specs.held_places.accepted_places.inner.Loans.{IsLentOn}
-use Rattle.guarded_entries.specs.held_places.accepted_places.inner.Located.{IsAddress}
-use Rattle.guarded_entries.proofs.held_places.accepted_values.run_typing_laws.Rows.Points.{is_at}
 use Rattle.guarded_entries.specs.held_places.accepted_values.accepted_modules.sil_types.Typing.Shapes.{is_trivial_object, target}
 use Rattle.guarded_entries.specs.held_places.accepted_values.inner.Known.{IsAcceptedBody, type_in}
-use Rattle.argument_conventions.specs.declared.row.Content.{Content}
-use Rattle.instruction_table.specs.declared.op.Op.TheVariants as op
-use Rattle.item_operands.specs.Items.{item_taken}
 use Rattle.item_operands.specs.Parts.{inst_at}
-use Rattle.item_operands.specs.declared.taken.Taken.{Taken}
 use Rattle.memory_cells.specs.inner.Cells.{ChangesAt, cell_at, has_cell}
 use Rattle.memory_cells.proofs.PlaceCells.{not_cell}
 use Rattle.memory_cells.proofs.Writes.{emptied_changes, filled_changes}
@@ -45,7 +34,6 @@ use Rattle.run_values.specs.Values.{Value}
 use Rattle.sil_ast.specs.declared.function.Function.{Function}
 use Rattle.sil_ast.specs.declared.inst.Inst.{Inst}
 use Rattle.sil_ast.specs.declared.module.Module.{Module}
-use Rattle.sil_ast.specs.declared.operands.Operand.{Operand}
 use Rattle.sil_ast.specs.declared.place.PointId.{PointId}
 use Rattle.sil_ast.specs.declared.place.ValueId.{ValueId}
 use Rattle.sil_ast.specs.declared.type_name.TypeName.{TypeName}
@@ -53,13 +41,13 @@ use Rattle.sil_cfg.specs.declared.item.Item.{Item}
 use Rattle.sil_cfg.specs.declared.item.Item.TheVariants as item
 use Rattle.type_definitions.specs.Declarations.{declarations_of}
 use Rattle.guarded_entries.specs.held_places.inner.FramePlaces.{HoldsPlaces, IsFree, Names}
-use Rattle.guarded_entries.specs.held_places.inner.Roots.{IsThere, argument, full_by, is_full_on, is_shared, slot}
+use Rattle.guarded_entries.specs.held_places.inner.Roots.{IsThere, full_by, is_full_on, is_shared}
 use Rattle.guarded_entries.specs.held_places.inner.TrailLaws.{TrailLaws}
 use Rattle.guarded_entries.proofs.held_places.AtPlaces.{StandsAt}
 use Rattle.guarded_entries.proofs.held_places.AtPlaces as at_places
 use Rattle.guarded_entries.proofs.held_places.Contents.{FoundAt, IsOnStack, IsRootPart, OperatesAt, on_stack, own_cell, root_part}
 use Rattle.guarded_entries.proofs.held_places.Lending.{off_needed}
-use Rattle.guarded_entries.proofs.held_places.Locating.{IsInObject, IsOperandAt, operand_at}
+use Rattle.guarded_entries.proofs.held_places.Locating.{IsInObject, IsOperandAt}
 use Rattle.guarded_entries.proofs.held_places.Operating.{Fills, leaves_empty, leaves_full}
 use Rattle.guarded_entries.proofs.held_places.Reading.{IsWithin, root_itself}
 use Rattle.guarded_entries.proofs.held_places.RootsShaped.{root_trivial}

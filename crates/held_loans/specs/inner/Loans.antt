@@ -1,5 +1,5 @@
 -- Which cells the open scopes of a frame lend: those of the place that a scope's load named, found by its location in the place of the root.
-use Rattle.std.specs.Prelude.{ℕ, List, [], ◌∷◌, Bool, true, false, not, ◌&&◌, Option, Some, None, option_and_then}
+use Rattle.std.specs.Prelude.{ℕ, List, [], ◌∷◌, Bool, false, not, ◌&&◌, Option, Some, None, option_and_then}
 use Rattle.guarded_entries.specs.held_places.accepted_memory.memory_accesses.Locations.{location_of}
 use Rattle.guarded_entries.specs.held_places.accepted_memory.memory_accesses.Sources.{source_at, sources_of}
 use Rattle.guarded_entries.specs.held_places.accepted_memory.memory_accesses.declared.location.Location.{Location}
