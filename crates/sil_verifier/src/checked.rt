@@ -38,8 +38,10 @@ impl Checked {
     /// A module of which it is proved that it is accepted, with its own table.
     pub fn of_verified(m: Module, table: TypeTable) -> Checked
         requires { IsVerifiedWith m table }
-        ensures { result ≡ m }
+        ensures value { result ≡ m }
+        ensures runs { NeverFaults result }
     {
+        no_outcome_faults();
         Checked { inner: m, table }
     }
 
