@@ -1,0 +1,2 @@
+pub mod LowTold
+pub mod LowTaken
