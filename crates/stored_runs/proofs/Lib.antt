@@ -4,6 +4,11 @@ pub mod ValuesFor
 pub mod StoredCounts
 pub mod SameRows
 pub mod LoweredCode
+pub mod RenamingRows
+pub mod NamesTaken
+pub mod NamesCurrent
+pub mod LoweredNames
+pub mod LoweredSo
 pub mod Reading
 pub mod StayingSteps
 pub mod NamedSteps

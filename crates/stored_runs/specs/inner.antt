@@ -6,4 +6,6 @@ pub mod Numbers
 pub mod States
 pub mod EffectsFor
 pub mod Lowering
+pub mod Current
+pub mod LoweredSo
 pub mod Runs

@@ -12,7 +12,6 @@ use Rattle.lowering_laws.specs.ownership_origins.Renamings.{renamings_of}
 use Rattle.lowering_laws.specs.lowering_model.Names.{renamed_from, stands_for}
 use Rattle.lowering_laws.specs.lowering_model.LoweredModules.{lowered_body}
 use Rattle.lowering_laws.specs.lowering_model.Numbers.{new_number, numbering_of}
-use Rattle.accepted_trails.specs.inner.Accepted.{IsAcceptedIn}
 use Rattle.accepted_trails.specs.inner.Defined.{makes}
 use Rattle.accepted_trails.specs.run_trails.inner.RunTrails.{IsTurnedTrail}
 use Rattle.accepted_trails.specs.run_trails.inner.Since.{is_none_since}
@@ -48,7 +47,3 @@ IsTakenCurrent f t x = IsCurrent f t x.value
 -- what the next item takes is current
 abbrev pub AreOperandsCurrent : Declarations → Function → Type 0
 AreOperandsCurrent d f = (t : List Item) (i : Item) → IsTurnedTrail f (i ∷ t) → Each (IsTakenCurrent f t) (item_taken f i)
-
--- so it is in each accepted function
-abbrev pub AreAcceptedCurrent : Type 0
-AreAcceptedCurrent = (d : Declarations) (f : Function) → IsAcceptedIn d f → AreOperandsCurrent d f
