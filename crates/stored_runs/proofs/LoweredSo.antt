@@ -1,12 +1,15 @@
 -- Each function with a body of an accepted module is lowered as the run of the lowered module asks.
 use Rattle.std.proofs.Common.{◌≡◌, ℕ, zero, suc, ◌<◌, List, [], ◌∷◌, length, map, refl, sym, ap, ◌∙◌, subst, arith, Bool, true, false, cond, Option, Some, None}
-use Rattle.std.specs.Prelude.{slice_get, unwrap_or}
+use Rattle.std.specs.Prelude.{◌==◌, slice_get, unwrap_or}
+use Rattle.std.proofs.lemmas.Bool.{eqb-true}
 use Rattle.instruction_table.specs.declared.op.Op.{Op}
 use Rattle.numbered_form.specs.Lists.{Each}
+use Rattle.numbered_form.specs.Numbering as numbering
 use Rattle.numbered_form.specs.Numbering.{values_of}
 use Rattle.item_operands.specs.Items.{item_defined, item_taken}
 use Rattle.item_operands.specs.Parts.{inst_at}
 use Rattle.item_operands.specs.declared.taken.Taken.{Taken}
+use Rattle.sil_ast.specs.Blocks.{args_of}
 use Rattle.sil_ast.specs.declared.function.Function.{Function}
 use Rattle.sil_ast.specs.declared.inst.Inst.{Inst}
 use Rattle.sil_ast.specs.declared.module.Module.{Module}
@@ -23,7 +26,8 @@ use Rattle.value_tables.specs.FirstValue.{value_of}
 use Rattle.run_values.specs.Shapes.{Shape, Unknown}
 use Rattle.lowered_run.specs.holder_model.ModuleShapes.{function_shapes, shape_at, shapes_in, shapes_of, value_shape}
 use Rattle.lowering_laws.specs.inner.Lowerable.{HasNoRings, IsLowerable}
-use Rattle.lowering_laws.specs.ownership_origins.Renamings.{renames, renamings_of}
+use Rattle.lowering_laws.specs.ownership_origins.Renamings.{default_operand, renames, renamings_of}
+use Rattle.lowering_laws.specs.ownership_origins.Switched.{switch_to}
 use Rattle.lowering_laws.specs.sil_types.Typing.Values.{type_at, value_types}
 use Rattle.lowering_laws.specs.lowering_model.LoweredModules.{lowered, lowered_body, lowered_by, lowered_function}
 use Rattle.lowering_laws.specs.lowering_model.Names.{renamed_from, stands_for}
@@ -34,12 +38,16 @@ use Rattle.lowering_laws.proofs.Lowerable.{functions_are_lowerable}
 use Rattle.lowering_laws.proofs.Rings.{kinds_have_no_rings}
 use Rattle.lowered_numbering_laws.proofs.Types.{declares_the_same}
 use Rattle.lowered_typing_laws.proofs.Fields.{members_once}
-use Rattle.lowered_typing_laws.proofs.Sound.{Source, sound_function}
+use Rattle.lowered_typing_laws.proofs.Sound.{SoundFunction, Source, sound_function}
+use Rattle.lowered_typing_laws.proofs.Switches.{entry_kept}
 use Rattle.lowered_typing_laws.proofs.Tables.{type_kept}
+use Rattle.accepted_trails.specs.inner.Defined.{makes}
+use Rattle.accepted_trails.proofs.Tests.{picked, same_value}
+use Rattle.accepted_premises.proofs.MadeAtStops.{makes_so}
 use Rattle.accepted_values.specs.inner.Known.{IsAcceptedBody}
 use Rattle.accepted_values.specs.run_typing.CallForms.{IsOf}
 use Rattle.accepted_values.proofs.Accepted.{counted, has_kinds, in_ownership_form, typed}
-use Rattle.accepted_values.proofs.Made.{items_of}
+use Rattle.accepted_values.proofs.Made.{items_of, parameters_of_entry}
 use Rattle.accepted_values.proofs.run_typing_laws.ItemFacts.{values_counted}
 use Rattle.stored_runs.specs.inner.Lowering.{IsOtherName, IsOwnName, IsTakenOld, LowersSo}
 use Rattle.stored_runs.specs.inner.LoweredSo.{AreLoweredSo}
@@ -48,7 +56,7 @@ use Rattle.stored_runs.proofs.LoweredCode.{mapped_at}
 use Rattle.stored_runs.proofs.LoweredNames.{are_named, own_name, same_end}
 use Rattle.stored_runs.proofs.NamesCurrent.{all_current}
 use Rattle.stored_runs.proofs.Reading.{defines_there}
-use Rattle.stored_runs.proofs.RenamingRows.{IsNamedBy, results_named}
+use Rattle.stored_runs.proofs.RenamingRows.{IsNamedBy, args_named, results_named}
 
 -- a column of a table has what the row has there
 in_column : {A B : Type 0} (g : A → B) (x : A) (rows : List A) (n : ℕ) → unwrap_or (slice_get (map g rows) n) (g x) ≡ g (unwrap_or (slice_get rows n) x)
@@ -106,10 +114,29 @@ module _ (m : Module) (g : FuncId) (f : Function) (a : IsAcceptedBody m g.0 f) w
                   ∙ sym (all.through o.value),
             )
 
+  abbrev source_sound : SoundFunction m f
+  source_sound = sound_function m a.verified.numbered a.verified.accepted.types.typed g.0 f a.body.there
+
+  given_own : (v : ValueId) → makes f v items.Entry ≡ true → IsOwnName f v
+  given_own v made =
+      let x = picked (λ (u : ValueId). u.0 == v.0) own (map numbering.value_of (args_of f 0)) entry_named made in
+      let same : x.0 ≡ v = same_value x.0 v (eqb-true x.0.0 v.0 x.1) in
+      let old = picked (λ (u : ValueId). u.0 == v.0) (IsOf f) (item_defined f items.Entry) (items_of m g.0 f a items.Entry).defined made in
+      let is : old.0 ≡ v = same_value old.0 v (eqb-true old.0.0 v.0 old.1) in
+      (old_of v (subst (IsOf f) is old.2), stands_itself (renamings_of f) v (subst own same x.2))
+    where
+      abbrev own : ValueId → Type 0
+      own u = renamed_from (renamings_of f) u ≡ None
+
+      entry_named : Each own (map numbering.value_of (args_of f 0))
+      entry_named =
+          each_weaker (IsNamedBy f (counted m g.0 f a) (default_operand (switch_to f 0))) own (λ u e. e ∙ ap (λ vs. slice_get vs 0) (entry_kept m f source_sound))
+          (map numbering.value_of (args_of f 0)) (args_named f (counted m g.0 f a) 0)
+
   source : Source m f
   source = record {
     owned = in_ownership_form m g.0 f a;
-    sound = sound_function m a.verified.numbered a.verified.accepted.types.typed g.0 f a.body.there;
+    sound = source_sound;
     lowerable = lowerable;
     once = members_once m a.verified.numbered;
   }
@@ -141,6 +168,8 @@ module _ (m : Module) (g : FuncId) (f : Function) (a : IsAcceptedBody m g.0 f) w
     taken = λ i is. taken_old (item_taken f i) (items_of m g.0 f a i).taken;
     results = λ p i e keeps. own_results p i e keeps;
     renamed = λ p i o e names one. other_results p i e o names one;
+    given = given_own;
+    given_once = λ v i made also. parameters_of_entry m g.0 f a i v (makes_so f v items.Entry made) (makes_so f v i also);
     shapes = same_shapes;
   }
 

@@ -4,7 +4,7 @@ use Rattle.std.specs.Prelude.{◌==◌}
 use Rattle.std.specs.List.{AllZip}
 use Rattle.std.proofs.lemmas.Bool.{and_parts, cases_Bool, eqb-false, eqb-true, false≢true, or_cases, true≢false}
 use Rattle.std.proofs.lemmas.List.{append-nil}
-use Rattle.std.proofs.lemmas.Option.{same_Some}
+use Rattle.std.proofs.lemmas.Option.{none-some, same_Some}
 use Rattle.instruction_table.specs.Forms.{roles_of}
 use Rattle.numbered_form.specs.Lists.{Each}
 use Rattle.sil_ast.specs.declared.function.Function.{Function}
@@ -25,18 +25,19 @@ use Rattle.type_definitions.specs.Declarations.{Declarations}
 use Rattle.run_values.specs.Memory.{Memory}
 use Rattle.accepted_trails.specs.inner.Defined.{makes}
 use Rattle.accepted_trails.specs.run_trails.inner.Since.{is_none_since}
-use Rattle.lowered_run.specs.holder_model.Data.{Datum}
+use Rattle.lowered_run.specs.holder_model.Calling.{as_argument}
+use Rattle.lowered_run.specs.holder_model.Data.{AddressOf, Datum, FunctionOf, ValueOf, as_place}
 use Rattle.lowered_run.specs.holder_model.Frames.{Entry, datum_in, entry_at, results_put}
 use Rattle.lowered_run.specs.LowFrames as low_frames
-use Rattle.lowered_run.specs.LowFrames.{read_all}
+use Rattle.lowered_run.specs.LowFrames.{and_others, read_all}
 use Rattle.lowered_run.specs.LowStepParts.{taken_value, values_taken}
 use Rattle.lowering_laws.specs.ownership_origins.Renamings.{renamings_of}
 use Rattle.lowering_laws.specs.lowering_model.Names.{stands_for}
 use Rattle.lowering_laws.specs.lowering_model.Numbers.{renumbered_inst, renumbered_operand}
-use Rattle.stored_runs.specs.inner.Frames.{AreValuesFor}
+use Rattle.stored_runs.specs.inner.Frames.{AreValuesFor, IsDatumFor, IsShownAs}
 use Rattle.stored_runs.specs.inner.Lowering.{IsOwnName, IsTakenOld}
 use Rattle.stored_runs.specs.inner.Names.{AreNamed, IsCurrent, IsOld, IsTakenCurrent, lowered_number}
-use Rattle.stored_runs.proofs.ValuesFor.{IsGivenAlive, OneChanged, Shown, Behind, behind_put, one_put, read_so}
+use Rattle.stored_runs.proofs.ValuesFor.{Behind, IsGivenAlive, OneChanged, Shown, behind_put, one_put}
 
 -- ---- under other numbers an instruction takes the same values
 
@@ -67,21 +68,65 @@ module _ (d : Declarations) (f : Function) (named : AreNamed d f) where
   abbrev number : ValueId → ValueId
   number v = lowered_number d f v
 
+  abbrev pub Like : ValueId → Datum → Datum → Type 0
+  Like v x y = IsDatumFor f v x y
+
+  pub like_itself : (v : ValueId) (x : Datum) → Like v x x
+  like_itself v x = inl refl
+
+  -- each datum that is taken, and what stands for it in the lowered run
+  abbrev pub AreTakenLike : List Taken → List Datum → List Datum → Type 0
+  AreTakenLike [] [] [] = Unit {0}
+  AreTakenLike [] [] (y ∷ ys) = ⊥
+  AreTakenLike [] (x ∷ xs) ys = ⊥
+  AreTakenLike (t ∷ ts) [] ys = ⊥
+  AreTakenLike (t ∷ ts) (x ∷ xs) [] = ⊥
+  AreTakenLike (t ∷ ts) (x ∷ xs) (y ∷ ys) = Like t.value x y × AreTakenLike ts xs ys
+
   -- the data that an item takes are read under the lowered numbers
-  given_for : (t : List Item) (m : Memory) (facts : ValueId → Option Facts) (entries : List Entry) (values : List (Option Datum)) (ts : List Taken) (xs : List Datum)
-      → AreValuesFor d f t entries values → Each (IsTakenOld f) ts → Each (IsTakenCurrent f t) ts → AllZip (IsGivenAlive facts m entries) ts xs
-      → AllZip (λ v x. low_frames.value_at values v ≡ Some x) (map number (map taken_value ts)) xs
-  given_for t m facts entries values [] [] shown old current given = tt
-  given_for t m facts entries values [] (x ∷ xs) shown old current given = absurd given
-  given_for t m facts entries values (y ∷ ts) [] shown old current given = absurd given
-  given_for t m facts entries values (y ∷ ts) (x ∷ xs) shown old current given =
-      (shown y.value x given.0.0 (old.0, current.0), given_for t m facts entries values ts xs shown old.1 current.1 given.1)
+  pub record AreReadSo (values : List (Option Datum)) (ts : List Taken) (xs : List Datum) : Type 0 where
+    pub ys : List Datum
+    pub read : read_all values (map number (map taken_value ts)) ≡ Ok ys
+    pub like : AreTakenLike ts xs ys
 
   pub taken_read : (t : List Item) (m : Memory) (facts : ValueId → Option Facts) (entries : List Entry) (values : List (Option Datum)) (ts : List Taken) (xs : List Datum)
       → AreValuesFor d f t entries values → Each (IsTakenOld f) ts → Each (IsTakenCurrent f t) ts → AllZip (IsGivenAlive facts m entries) ts xs
-      → read_all values (map number (map taken_value ts)) ≡ Ok xs
-  taken_read t m facts entries values ts xs shown old current given =
-      read_so values (map number (map taken_value ts)) xs (given_for t m facts entries values ts xs shown old current given)
+      → AreReadSo values ts xs
+  taken_read t m facts entries values [] [] shown old current given = record { ys = []; read = refl; like = tt }
+  taken_read t m facts entries values [] (x ∷ xs) shown old current given = absurd given
+  taken_read t m facts entries values (y ∷ ts) [] shown old current given = absurd given
+  taken_read t m facts entries values (y ∷ ts) (x ∷ xs) shown old current given =
+      let first = shown y.value x given.0.0 (old.0, current.0) in
+      let rest = taken_read t m facts entries values ts xs shown old.1 current.1 given.1 in
+      record {
+        ys = first.0 ∷ rest.ys;
+        read = ap (λ o. and_others (low_frames.there (number y.value) o) (read_all values (map number (map taken_value ts)))) first.1
+            ∙ ap (and_others (Ok first.0)) rest.read;
+        like = (first.2, rest.like);
+      }
+
+  -- the datum is no address
+  abbrev pub IsNoAddress : Datum → Type 0
+  IsNoAddress x = as_place x ≡ None
+
+  same_argument : (x y : Datum) → IsNoAddress x → as_argument y ≡ x → y ≡ x
+  same_argument x (ValueOf v) none e = e
+  same_argument x (AddressOf p) none e = absurd (none-some _ (sym none ∙ ap as_place (sym e)))
+  same_argument x (FunctionOf g) none e = e
+
+  -- and then the same stands for it
+  pub like_exact : (v : ValueId) (x y : Datum) → IsNoAddress x → Like v x y → y ≡ x
+  like_exact v x y none (inl same) = same
+  like_exact v x y none (inr (made, e)) = same_argument x y none e
+
+  pub taken_exact : (ts : List Taken) (xs ys : List Datum) → AreTakenLike ts xs ys → Each IsNoAddress xs → ys ≡ xs
+  taken_exact [] [] [] like none = refl
+  taken_exact [] [] (y ∷ ys) like none = absurd like
+  taken_exact [] (x ∷ xs) ys like none = absurd like
+  taken_exact (t ∷ ts) [] ys like none = absurd like
+  taken_exact (t ∷ ts) (x ∷ xs) [] like none = absurd like
+  taken_exact (t ∷ ts) (x ∷ xs) (y ∷ ys) like none =
+      ap (λ z. z ∷ ys) (like_exact t.value x y none.0 like.0) ∙ ap (λ zs. x ∷ zs) (taken_exact ts xs ys like.1 none.1)
 
   same_id : (v w : ValueId) → v.0 ≡ w.0 → v ≡ w
   same_id v w e = ap (λ n. record { 0 = n }) e
@@ -102,9 +147,9 @@ module _ (d : Declarations) (f : Function) (named : AreNamed d f) where
   -- behind an item whose results have names of their own, current values are shown
   pub behind_current : (t : List Item) (i : Item) (rs : List ValueId) → item_defined f i ≡ rs → Each (IsOwnName f) rs
       → (entries : List Entry) (values : List (Option Datum))
-      → Shown number (Behind number rs (λ v. IsOld f v × IsCurrent f t v)) entries values → AreValuesFor d f (i ∷ t) entries values
+      → Shown number Like (Behind number Like rs (λ v. IsOld f v × IsCurrent f t v)) entries values → AreValuesFor d f (i ∷ t) entries values
   behind_current t i rs defined own entries values shown v x there ok =
-      shown v x there (behind_put number rs (λ v. IsOld f v × IsCurrent f t v) v (apart_from rs own (λ r h. h))
+      shown v x there (behind_put number Like rs (λ v. IsOld f v × IsCurrent f t v) v (apart_from rs own (λ r h. h))
       (⊎_elim (λ made. inr (among_results made)) (λ kept. inl (ok.0, (and_parts (not (makes f s i)) (is_none_since (makes f s) (makes f v) t) kept).1)) cases))
     where
       s : ValueId
@@ -143,11 +188,11 @@ module _ (d : Declarations) (f : Function) (named : AreNamed d f) where
       one : OneChanged facts left entries r x
       one = one_put facts left entries r x put
 
-      at : ((v.0 == r.0) ≡ true) ⊎ ((v.0 == r.0) ≡ false) → low_frames.value_at values (number v) ≡ Some y
+      at : ((v.0 == r.0) ≡ true) ⊎ ((v.0 == r.0) ≡ false) → IsShownAs f v y (low_frames.value_at values (number v))
       at (inl same) =
           let is : v ≡ r = same_id v r (eqb-true v.0 r.0 same) in
           let worth : x ≡ y = same_Some x y (sym (one.here y (subst (λ u. datum_in (entry_at entries u) ≡ Some y) is there))) in
-          ap (λ u. low_frames.value_at values (number u)) is ∙ under ∙ ap Some worth
+          (x, ap (λ u. low_frames.value_at values (number u)) is ∙ under, inl worth)
       at (inr other) =
           shown v y (ap datum_in (sym (one.others v other)) ∙ there)
           (ok.0, ⊎_elim

@@ -43,7 +43,7 @@ use Rattle.lowered_run.specs.declared.low_fault.LowFault.TheVariants as fault
 use Rattle.lowered_run.specs.LowEffects as low_effects
 use Rattle.lowered_run.specs.LowEffects.{low_effect, stored_behind}
 use Rattle.lowered_run.specs.LowFrames.{LowFrame, put_all, read_all}
-use Rattle.lowered_run.specs.LowStepParts.{LowNext, LowState, numbers_for, slots_behind, values_taken}
+use Rattle.lowered_run.specs.LowStepParts.{LowNext, LowState, numbers_for, slots_behind, taken_value, values_taken}
 use Rattle.lowered_run.specs.LowSteps as steps
 use Rattle.lowered_run.specs.Stored.{changed, each_changed, one_more}
 use Rattle.lowering_laws.specs.lowering_model.LoweredBlocks.{value_with}
@@ -63,9 +63,9 @@ use Rattle.stored_runs.specs.inner.Memories.{IsMemoryFor}
 use Rattle.stored_runs.specs.inner.Names.{AreNamed, IsCurrent, IsOld, lowered_count, lowered_number}
 use Rattle.stored_runs.specs.inner.Points.{lowered_point}
 use Rattle.stored_runs.proofs.LoweredCode.{IsLoweredTo, lowered_inst, mapped_at}
-use Rattle.stored_runs.proofs.Reading.{behind_current, defines_there, taken_read, taken_renumbered, takes_there}
+use Rattle.stored_runs.proofs.Reading.{Like, behind_current, defines_there, like_itself, taken_renumbered, takes_there}
 use Rattle.stored_runs.proofs.SameRows.{none_dead, row_for}
-use Rattle.stored_runs.proofs.ValuesFor.{ArePut, AreTakenSo, IsGivenAlive, err-ok, ok-ok, operands_given, results_shown}
+use Rattle.stored_runs.proofs.ValuesFor.{AreLike, ArePut, AreTakenSo, IsGivenAlive, err-ok, like_same, ok-ok, operands_given, results_shown}
 
 -- ---- parts of steps
 
@@ -238,15 +238,16 @@ module _ (m : Module) (bound : ℕ) where
         (shape : effects.result_shape d low_told (shapes_in low_told top.low.function) l.memory j ≡ effects.result_shape d (shapes_of m) (shapes_in (shapes_of m) frame.function) s.memory i)
         (alive : list_any (is_dead s.memory) c.retained ≡ false)
         (slots : List Place) (slots_left : parts.slots_behind c.slots frame.slots ≡ Ok slots)
-        (entries : List Entry) (put : results_put facts (item_defined f (item.Inst p)) c.results ops.left ≡ Ok entries) where
+        (entries : List Entry) (put : results_put facts (item_defined f (item.Inst p)) c.results ops.left ≡ Ok entries)
+        (ys : List Datum) (reads : read_all top.low.values (map number (map taken_value (item_taken f (item.Inst p)))) ≡ Ok ys)
+        (alike : low_effect d low_told (shapes_in low_told top.low.function) l.memory j ys ≡ low_effect d low_told (shapes_in low_told top.low.function) l.memory j ops.given) where
       taken_so : AreTakenSo facts s.memory frame.entries (item_taken f (item.Inst p)) ops
       taken_so = operands_given facts s.memory frame.entries (item_taken f (item.Inst p)) ops found
 
-      low_read : read_all top.low.values (values_taken lf (item.Inst top.low.at)) ≡ Ok ops.given
+      low_read : read_all top.low.values (values_taken lf (item.Inst top.low.at)) ≡ Ok ys
       low_read =
           ap (read_all top.low.values) (takes_there lf top.low.at j low_here ∙ taken_renumbered number i ∙ ap (map number) (sym (takes_there f p i here)))
-          ∙ taken_read d f lowers.named frame.trail s.memory facts frame.entries top.low.values (item_taken f (item.Inst p)) ops.given frames.values
-          (lowers.taken (item.Inst p) is_item) (lowers.current frame.trail (item.Inst p) turned) taken_so.given
+          ∙ reads
 
       low_change : IsEffectFor (Makes c) (effect_by d low_told (shapes_in low_told top.low.function) l.memory j
           (low_effects.at_places d low_told (shapes_in low_told top.low.function) l.memory j) (effect_of i.op) ops.given)
@@ -263,9 +264,10 @@ module _ (m : Module) (bound : ℕ) where
       so : IsChangeFor c c'
       so = low_change.2
 
-      low_makes : effect_in (lowered m) low_told bound l top.low j ops.given ≡ Makes c'
+      low_makes : effect_in (lowered m) low_told bound l top.low j ys ≡ Makes c'
       low_makes =
-          ap (low_effects.dead_or d low_told (shapes_in low_told top.low.function) l.memory j (effect_by d low_told (shapes_in low_told top.low.function) l.memory j
+          alike
+          ∙ ap (low_effects.dead_or d low_told (shapes_in low_told top.low.function) l.memory j (effect_by d low_told (shapes_in low_told top.low.function) l.memory j
           (low_effects.at_places d low_told (shapes_in low_told top.low.function) l.memory j) (effect_of i.op) ops.given))
           (operated_none d low_told (shapes_in low_told top.low.function) l.memory j ops.given (effect_of i.op)
           (operated_alive s.memory l.memory memory facts frame.entries (item_taken f (item.Inst p)) ops.given taken_so.given))
@@ -274,16 +276,18 @@ module _ (m : Module) (bound : ℕ) where
       own : Each (IsOwnName f) i.results
       own = lowers.results p i here keeps
 
-      putting : ArePut number facts i.results c.results entries top.low.values (λ v. IsOld f v × IsCurrent f frame.trail v)
+      putting : ArePut number (Like d f lowers.named) facts i.results c'.results entries top.low.values (λ v. IsOld f v × IsCurrent f frame.trail v)
       putting =
-          results_shown number facts i.results c.results ops.left entries top.low.values (λ v. IsOld f v × IsCurrent f frame.trail v)
+          results_shown number (Like d f lowers.named) facts i.results c.results c'.results
+          (subst (AreLike number (Like d f lowers.named) i.results c.results) (sym so.results) (like_same number (Like d f lowers.named) (like_itself d f lowers.named) i.results c.results))
+          ops.left entries top.low.values (λ v. IsOld f v × IsCurrent f frame.trail v)
           (each_weaker (IsOwnName f) (λ r. (number r).0 < length top.low.values)
           (λ r o. subst (λ n. (number r).0 < n) (sym frames.size) (lowers.named.few r o.0)) i.results own)
           (ap (λ rs. results_put facts rs c.results ops.left) (sym (defines_there f p i here)) ∙ put)
           (λ v x e ok. frames.values v x (taken_so.stays v x e) ok)
 
       abbrev named : LowState
-      named = steps.with_names (lowered m) low_told bound l top.low j ops.given
+      named = steps.with_names (lowered m) low_told bound l top.low j ys
 
       abbrev next : LowState
       next = moved (lowered m) low_told bound (retained c'.retained named) top.others top.low lf (item.Inst top.low.at) c' slots putting.values'
@@ -292,15 +296,14 @@ module _ (m : Module) (bound : ℕ) where
       goes =
           GoesBehind.goes slots putting.values'
           (ap (slots_behind c'.slots) frames.slots ∙ ap (λ x. slots_behind x frame.slots) so.slots ∙ slots_for c.slots frame.slots slots slots_left)
-          (ap (λ rs. put_all rs c'.results top.low.values) (defines_there lf top.low.at j low_here)
-          ∙ ap (λ xs. put_all (map number i.results) xs top.low.values) so.results ∙ putting.is)
+          (ap (λ rs. put_all rs c'.results top.low.values) (defines_there lf top.low.at j low_here) ∙ putting.is)
           (ap (find (is_dead l.memory)) so.retained ∙ none_dead s.memory l.memory memory c.retained alive)
 
       way : StepsBy (lowered m) low_told bound l (Goes next)
       way =
           StepsBy.runs top.low top.others lf (Goes next) top.is_top
           (ap (λ g. slice_get (lowered m).functions g.0) frames.function ∙ function_there frame.function.0 f there lowers.form)
-          (Acts.does j ops.given (Goes next) low_here low_read
+          (Acts.does j ys (Goes next) low_here low_read
           (subst (λ e. Performs (lowered m) low_told bound named top.others top.low lf (item.Inst top.low.at) e (Goes next)) (sym low_makes)
           (Performs.makes c' (Goes next) goes)))
 
@@ -330,7 +333,7 @@ module _ (m : Module) (bound : ℕ) where
 
       -- the lowered step
       pub staying_step : GoesSo m bound l (dropping c.dropped (Runs (record frame { trail = item.Inst p ∷ frame.trail; entries = entries; slots = slots; lent = [] }) ∷ rest))
-          c.memory c.retained (stored_behind d low_told (shapes_in low_told top.low.function) l.memory j ops.given l.numbers)
+          c.memory c.retained (stored_behind d low_told (shapes_in low_told top.low.function) l.memory j ys l.numbers)
       staying_step = record {
         l' = next;
         step = told_taken (lowered m) low_told bound l (Goes next) way;

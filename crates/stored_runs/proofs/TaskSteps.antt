@@ -63,9 +63,9 @@ alive_within m o alive = at m.objects o.0 alive
     at (x ∷ xs) zero e = omega arith
     at (x ∷ xs) (suc k) e = let r = at xs k e in omega arith
 
-full_parts_same : (m : Module) (low : Memory) (tasks : List (Task Frame)) (os : List ObjectId) (rest : List (Task Frame)) → tasks ≡ Drops os ∷ rest
-    → Each (HasFullParts m low) tasks → Each (HasFullParts m low) rest
-full_parts_same m low tasks os rest is h = (subst (Each (HasFullParts m low)) is h).1
+full_parts_same : (m : Module) (low : Memory) (tasks : List (Task LowFrame)) (os : List ObjectId) (others : List (Task LowFrame)) → tasks ≡ Drops os ∷ others
+    → Each (HasFullParts m low) tasks → Each (HasFullParts m low) others
+full_parts_same m low tasks os others is h = (subst (Each (HasFullParts m low)) is h).1
 
 module _ (m : Module) (bound : ℕ) (s : HolderState) (l : LowState) (related : IsStateFor m s l) (o : ObjectId) (os : List ObjectId) (rest : List (Task Frame))
     (is : s.tasks ≡ Drops (o ∷ os) ∷ rest) (alive : is_dead s.memory o ≡ false) where
@@ -75,7 +75,7 @@ module _ (m : Module) (bound : ℕ) (s : HolderState) (l : LowState) (related : 
 
   module _ (counted : (p : ObjectId) → strong_holders s1 p + one_object p o ≡ strong_holders s p)
       (deinit_counted : is_live s.memory o ≡ true → (p : ObjectId) → holders_of (holder.deinitialising m (facts_of m) bound s1 o) p ≡ holders_of s1 p)
-      (parts_stay : (tasks : List (Task Frame)) → Each (HasFullParts m l.memory) tasks → Each (HasFullParts m (ways.deinitialising (lowered m) (shapes_of (lowered m)) bound l o).memory) tasks) where
+      (parts_stay : (tasks : List (Task LowFrame)) → Each (HasFullParts m l.memory) tasks → Each (HasFullParts m (ways.deinitialising (lowered m) (shapes_of (lowered m)) bound l o).memory) tasks) where
     top : DropsTop m (o ∷ os) rest l
     top = drops_top m (o ∷ os) rest s.tasks l related.tasks is
 
@@ -111,7 +111,7 @@ module _ (m : Module) (bound : ℕ) (s : HolderState) (l : LowState) (related : 
     state = record {
       tasks = (IsTaskFor.drops os, top.rest_for);
       memory = related.memory;
-      parts = (tt, full_parts_same m l.memory s.tasks (o ∷ os) rest is related.parts);
+      parts = (tt, full_parts_same m l.memory l.tasks (o ∷ os) top.others top.is_top related.parts);
       counts = counts;
       events = related.events;
       turns = related.turns;
@@ -124,7 +124,7 @@ module _ (m : Module) (bound : ℕ) (s : HolderState) (l : LowState) (related : 
       tasks = (subst (λ c. IsTaskFor m (Finishes (deinits_of (declarations_of m) (object_at s.memory o).class) o) (Finishes (deinits_of (declarations_of m) c) o)) (sym class)
           (IsTaskFor.finishes (deinits_of (declarations_of m) (object_at s.memory o).class) o), (IsTaskFor.drops os, top.rest_for));
       memory = phase_put s.memory l.memory related.memory _ o;
-      parts = (tt, (tt, parts_stay rest (full_parts_same m l.memory s.tasks (o ∷ os) rest is related.parts)));
+      parts = (tt, (tt, parts_stay top.others (full_parts_same m l.memory l.tasks (o ∷ os) top.others top.is_top related.parts)));
       counts = record { size = counts.size ∙ sym (length-set s.memory.objects o.0 _); each = λ p. counts.each p ∙ sym (deinit_counted live p) };
       events = ap (λ es. es ++ event.Deinit (object_at l.memory o).class o ∷ []) related.events ∙ ap (λ c. s.events ++ event.Deinit c o ∷ []) class;
       turns = ap (λ n. n + 1) related.turns;

@@ -220,10 +220,14 @@ module _ (facts : ValueId → Option Facts) where
       })
 
 
-module _ (number : ValueId → ValueId) where
-  -- each of these values whose entry is there has its datum under its number
+-- what stands under a value's number is like the datum of its entry
+module _ (number : ValueId → ValueId) (Like : ValueId → Datum → Datum → Type 0) where
+  abbrev pub IsLikeAt : ValueId → Datum → Option Datum → Type 0
+  IsLikeAt v x o = (y : Datum) × (o ≡ Some y) × Like v x y
+
+  -- each of these values whose entry is there has a datum under its number that is like that of the entry
   abbrev pub Shown : (ValueId → Type 0) → List Entry → List (Option Datum) → Type 0
-  Shown ok entries values = (v : ValueId) (x : Datum) → datum_in (entry_at entries v) ≡ Some x → ok v → low_frames.value_at values (number v) ≡ Some x
+  Shown ok entries values = (v : ValueId) (x : Datum) → datum_in (entry_at entries v) ≡ Some x → ok v → IsLikeAt v x (low_frames.value_at values (number v))
 
   -- a value's number was written for it, or is kept from before
   abbrev pub OrWritten : ValueId → (ValueId → Type 0) → ValueId → Type 0
@@ -233,49 +237,68 @@ module _ (number : ValueId → ValueId) where
   Behind [] ok = ok
   Behind (r ∷ rs) ok = Behind rs (OrWritten r ok)
 
+  -- so many data, each like that of the run by holders, as far as these are results
+  abbrev pub AreLike : List ValueId → List Datum → List Datum → Type 0
+  AreLike [] [] [] = Unit {0}
+  AreLike [] [] (y ∷ ys) = ⊥
+  AreLike [] (x ∷ xs) ys = Unit {0}
+  AreLike (r ∷ rs) [] ys = Unit {0}
+  AreLike (r ∷ rs) (x ∷ xs) [] = ⊥
+  AreLike (r ∷ rs) (x ∷ xs) (y ∷ ys) = Like r x y × AreLike rs xs ys
+
+  pub like_same : ((v : ValueId) (x : Datum) → Like v x x) → (rs : List ValueId) (xs : List Datum) → AreLike rs xs xs
+  like_same h [] [] = tt
+  like_same h [] (x ∷ xs) = tt
+  like_same h (r ∷ rs) [] = tt
+  like_same h (r ∷ rs) (x ∷ xs) = (h r x, like_same h rs xs)
+
   module _ (facts : ValueId → Option Facts) where
     -- one result is put under its number
-    one_shown : (r : ValueId) (x : Datum) (entries behind : List Entry) (values : List (Option Datum)) (ok : ValueId → Type 0) → (number r).0 < length values
-        → with_ok (put_entry entries r) (made_entry (known_or facts r).kind x) ≡ Ok behind → Shown ok entries values
-        → Shown (OrWritten r ok) behind (set values (number r).0 (Some x))
-    one_shown r x entries behind values ok small is shown v y there so = at (cases_Bool (v.0 == r.0)) so
+    one_shown : (r : ValueId) (x y : Datum) → Like r x y → (entries behind : List Entry) (values : List (Option Datum)) (ok : ValueId → Type 0)
+        → (number r).0 < length values → with_ok (put_entry entries r) (made_entry (known_or facts r).kind x) ≡ Ok behind → Shown ok entries values
+        → Shown (OrWritten r ok) behind (set values (number r).0 (Some y))
+    one_shown r x y like entries behind values ok small is shown v z there so = at (cases_Bool (v.0 == r.0)) so
       where
         parts : (e : Entry) × (made_entry (known_or facts r).kind x ≡ Ok e) × (put_entry entries r e ≡ Ok behind)
         parts = with_parts (put_entry entries r) (made_entry (known_or facts r).kind x) behind is
 
-        there' : datum_in (entry_at (set entries r.0 parts.0) v) ≡ Some y
+        there' : datum_in (entry_at (set entries r.0 parts.0) v) ≡ Some z
         there' = ap (λ es. datum_in (entry_at es v)) (put_set facts entries behind r parts.0 parts.2) ∙ there
 
-        at : ((v.0 == r.0) ≡ true) ⊎ ((v.0 == r.0) ≡ false) → OrWritten r ok v → low_frames.value_at (set values (number r).0 (Some x)) (number v) ≡ Some y
+        at : ((v.0 == r.0) ≡ true) ⊎ ((v.0 == r.0) ≡ false) → OrWritten r ok v → IsLikeAt v z (low_frames.value_at (set values (number r).0 (Some y)) (number v))
         at (inl same) so =
             let one : v.0 ≡ r.0 = eqb-true v.0 r.0 same in
-            let here : datum_in parts.0 ≡ Some y = entry_same entries r.0 parts.0 y (subst (λ n. datum_in (unwrap_or (slice_get (set entries r.0 parts.0) n) Gone) ≡ Some y) one there') in
-            let worth : Some x ≡ Some y = sym (made_datum facts (known_or facts r).kind x parts.0 parts.1) ∙ here in
-            subst (λ u. low_frames.value_at (set values (number r).0 (Some x)) (number u) ≡ Some y) (same_number r v (sym one)) (value_set values (number r) x small ∙ worth)
+            let here : datum_in parts.0 ≡ Some z = entry_same entries r.0 parts.0 z (subst (λ n. datum_in (unwrap_or (slice_get (set entries r.0 parts.0) n) Gone) ≡ Some z) one there') in
+            let worth : x ≡ z = same_Some x z (sym (made_datum facts (known_or facts r).kind x parts.0 parts.1) ∙ here) in
+            subst (λ u. IsLikeAt u z (low_frames.value_at (set values (number r).0 (Some y)) (number u))) (same_number r v (sym one))
+            (y, value_set values (number r) y small, subst (λ w. Like r w y) worth like)
         at (inr other) (inl one) = absurd (eqb-false v.0 r.0 other one)
         at (inr other) (inr (differ, k)) =
-            value_other values (number r) (number v) x differ
-            ∙ shown v y (sym (ap datum_in (entry_other entries r v parts.0 other)) ∙ there') k
+            let was = shown v z (sym (ap datum_in (entry_other entries r v parts.0 other)) ∙ there') k in
+            (was.0, value_other values (number r) (number v) y differ ∙ was.1, was.2)
 
-    pub record ArePut (rs : List ValueId) (xs : List Datum) (behind : List Entry) (values : List (Option Datum)) (ok : ValueId → Type 0) : Type 0 where
+    pub record ArePut (rs : List ValueId) (ys : List Datum) (behind : List Entry) (values : List (Option Datum)) (ok : ValueId → Type 0) : Type 0 where
       pub values' : List (Option Datum)
-      pub is : put_all (map number rs) xs values ≡ Some values'
+      pub is : put_all (map number rs) ys values ≡ Some values'
       pub size : length values' ≡ length values
       pub shown : Shown (Behind rs ok) behind values'
 
     -- results that have names of their own are put under their numbers
-    pub results_shown : (rs : List ValueId) (xs : List Datum) (entries behind : List Entry) (values : List (Option Datum)) (ok : ValueId → Type 0)
+    pub results_shown : (rs : List ValueId) (xs ys : List Datum) → AreLike rs xs ys → (entries behind : List Entry) (values : List (Option Datum)) (ok : ValueId → Type 0)
         → Each (λ r. (number r).0 < length values) rs → results_put facts rs xs entries ≡ Ok behind → Shown ok entries values
-        → ArePut rs xs behind values ok
-    results_shown [] [] entries behind values ok small is shown =
+        → ArePut rs ys behind values ok
+    results_shown [] [] [] like entries behind values ok small is shown =
         record { values' = values; is = refl; size = refl; shown = subst (λ es. Shown ok es values) (ok-ok entries behind is) shown }
-    results_shown [] (x ∷ xs) entries behind values ok small is shown = absurd (err-ok WrongShape behind is)
-    results_shown (r ∷ rs) [] entries behind values ok small is shown = absurd (err-ok WrongShape behind is)
-    results_shown (r ∷ rs) (x ∷ xs) entries behind values ok small is shown =
+    results_shown [] [] (y ∷ ys) like entries behind values ok small is shown = absurd like
+    results_shown [] (x ∷ xs) ys like entries behind values ok small is shown = absurd (err-ok WrongShape behind is)
+    results_shown (r ∷ rs) [] ys like entries behind values ok small is shown = absurd (err-ok WrongShape behind is)
+    results_shown (r ∷ rs) (x ∷ xs) [] like entries behind values ok small is shown = absurd like
+    results_shown (r ∷ rs) (x ∷ xs) (y ∷ ys) like entries behind values ok small is shown =
         let parts = with_parts (results_put facts rs xs) (with_ok (put_entry entries r) (made_entry (known_or facts r).kind x)) behind is in
-        let same = length-set values (number r).0 (Some x) in
-        let rest = results_shown rs xs parts.0 behind (set values (number r).0 (Some x)) (OrWritten r ok) (subst (λ n. Each (λ r. (number r).0 < n) rs) (sym same) small.1)
-            parts.2 (one_shown r x entries parts.0 values ok small.0 parts.1 shown) in
+        let same = length-set values (number r).0 (Some y) in
+        let rest = results_shown rs xs ys like.1 parts.0 behind (set values (number r).0 (Some y)) (OrWritten r ok)
+            (subst (λ n. Each (λ r. (number r).0 < n) rs) (sym same) small.1)
+            parts.2 (one_shown r x y like.0 entries parts.0 values ok small.0 parts.1 shown) in
         record { values' = rest.values'; is = rest.is; size = rest.size ∙ same; shown = rest.shown }
 
   -- a value among those that were put is behind them, where numbers tell values apart

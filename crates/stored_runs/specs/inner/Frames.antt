@@ -1,5 +1,5 @@
 -- Frames of a lowered run beside those of the run by holders.
-use Rattle.std.specs.Prelude.{◌≡◌, List, [], ◌∷◌, Option, Some, true, length, is_some, slice_get}
+use Rattle.std.specs.Prelude.{◌≡◌, ◌⊎◌, List, [], ◌∷◌, Option, Some, true, length, is_some, slice_get}
 use Rattle.std.specs.List.{AllZip}
 use Rattle.sil_ast.specs.declared.function.Function.{Function}
 use Rattle.sil_ast.specs.declared.module.Module.{Module}
@@ -12,6 +12,7 @@ use Rattle.type_definitions.specs.Declarations.{Declarations, declarations_of}
 use Rattle.run_values.specs.Memory.{Memory}
 use Rattle.run_values.specs.Places.{Place, value_at}
 use Rattle.accepted_trails.specs.inner.Defined.{makes}
+use Rattle.lowered_run.specs.holder_model.Calling.{as_argument}
 use Rattle.lowered_run.specs.holder_model.Data.{AddressOf, Datum}
 use Rattle.lowered_run.specs.holder_model.Frames.{Entry, Frame, datum_in, entry_at}
 use Rattle.lowered_run.specs.holder_model.Standing.{stands_at}
@@ -21,15 +22,24 @@ use Rattle.lowered_run.specs.LowFrames.{LowFrame}
 use Rattle.stored_runs.specs.inner.Names.{IsCurrent, IsOld, lowered_count, lowered_number}
 use Rattle.stored_runs.specs.inner.Points.{lowered_point}
 
--- each current value whose entry is there has the same datum under its lowered number
+-- the datum of a lowered value beside that of the entry. To the callee the place of an argument is a whole one, and in the lowered run it still says that it is a part
+abbrev pub IsDatumFor : Function → ValueId → Datum → Datum → Type 0
+IsDatumFor f v x low = (low ≡ x) ⊎ ((makes f v item.Entry ≡ true) × (as_argument low ≡ x))
+
+-- the lowered value is there, and stands for the datum of the entry
+abbrev pub IsShownAs : Function → ValueId → Datum → Option Datum → Type 0
+IsShownAs f v x low = (y : Datum) × (low ≡ Some y) × IsDatumFor f v x y
+
+-- each current value whose entry is there is shown under its lowered number
 abbrev pub AreValuesFor : Declarations → Function → List Item → List Entry → List (Option Datum) → Type 0
 AreValuesFor d f t entries values =
-    (v : ValueId) (x : Datum) → datum_in (entry_at entries v) ≡ Some x → IsOld f v × IsCurrent f t v → low_frames.value_at values (lowered_number d f v) ≡ Some x
+    (v : ValueId) (x : Datum) → datum_in (entry_at entries v) ≡ Some x → IsOld f v × IsCurrent f t v
+    → IsShownAs f v x (low_frames.value_at values (lowered_number d f v))
 
 -- a part that the function was given by its address is full in the lowered run, even where it was taken
-abbrev pub AreGivenPartsFull : Function → List Entry → Memory → Type 0
-AreGivenPartsFull f entries low =
-    (v : ValueId) (p : Place) → makes f v item.Entry ≡ true → datum_in (entry_at entries v) ≡ Some (AddressOf p) → p.is_part ≡ true
+abbrev pub AreGivenPartsFull : Declarations → Function → List (Option Datum) → Memory → Type 0
+AreGivenPartsFull d f values low =
+    (v : ValueId) (p : Place) → makes f v item.Entry ≡ true → low_frames.value_at values (lowered_number d f v) ≡ Some (AddressOf p) → p.is_part ≡ true
     → is_some (value_at low p) ≡ true
 
 -- both stand at the same place of the function, and have the same slots
@@ -54,8 +64,8 @@ module _ (m : Module) where
   abbrev pub AreTasksFor : List (Task Frame) → List (Task LowFrame) → Type 0
   AreTasksFor tasks low = AllZip IsTaskFor tasks low
 
-  -- the parts that each frame was given. The memory is that of the lowered run
-  abbrev pub HasFullParts : Memory → Task Frame → Type 0
-  HasFullParts low (Runs frame) = (f : Function) → slice_get m.functions frame.function.0 ≡ Some f → AreGivenPartsFull f frame.entries low
+  -- the parts that each frame was given, in the memory of the lowered run
+  abbrev pub HasFullParts : Memory → Task LowFrame → Type 0
+  HasFullParts low (Runs frame) = (f : Function) → slice_get m.functions frame.function.0 ≡ Some f → AreGivenPartsFull (declarations_of m) f frame.values low
   HasFullParts low (Drops references) = Unit {0}
   HasFullParts low (Finishes deinits o) = Unit {0}

@@ -12,11 +12,13 @@ use Rattle.sil_ast.specs.declared.place.PointId.{PointId}
 use Rattle.sil_ast.specs.declared.place.ValueId.{ValueId}
 use Rattle.sil_cfg.specs.Items.{IsItem}
 use Rattle.sil_cfg.specs.declared.item.Item.{Item}
+use Rattle.sil_cfg.specs.declared.item.Item.TheVariants as item
 use Rattle.numbered_form.specs.Lists.{Each}
 use Rattle.item_operands.specs.Items.{item_taken}
 use Rattle.item_operands.specs.Parts.{inst_at}
 use Rattle.item_operands.specs.declared.taken.Taken.{Taken}
 use Rattle.type_definitions.specs.Declarations.{Declarations, declarations_of}
+use Rattle.accepted_trails.specs.inner.Defined.{makes}
 use Rattle.lowered_run.specs.holder_model.ModuleShapes.{shape_at, shapes_in, shapes_of}
 use Rattle.lowering_laws.specs.ownership_origins.Renamings.{renames, renamings_of}
 use Rattle.lowering_laws.specs.lowering_model.LoweredModules.{lowered}
@@ -44,6 +46,9 @@ pub record LowersSo (m : Module) (g : FuncId) (f : Function) : Type 0 where
   -- where it says so, they are other names for the operand
   pub renamed : (p : PointId) (i : Inst) (o : Operand) → inst_at f p ≡ Some i → renames i.op ≡ true → i.operands ≡ o ∷ []
       → Each (IsOtherName (declarations_of m) f o.value) i.results
+  -- the arguments of the entry have names of their own, and no other item makes them
+  pub given : (v : ValueId) → makes f v item.Entry ≡ true → IsOwnName f v
+  pub given_once : (v : ValueId) (i : Item) → makes f v item.Entry ≡ true → makes f v i ≡ true → i ≡ item.Entry
   -- a value's shape is that of its lowered number
   pub shapes : (v : ValueId) → IsOld f v
       → shape_at (shapes_in (shapes_of (lowered m)) g) (lowered_number (declarations_of m) f v) ≡ shape_at (shapes_in (shapes_of m) g) v

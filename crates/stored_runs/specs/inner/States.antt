@@ -11,7 +11,7 @@ use Rattle.stored_runs.specs.inner.Numbers.{AreCounts}
 pub record IsStateFor (m : Module) (s : HolderState) (low : LowState) : Type 0 where
   pub tasks : AreTasksFor m s.tasks low.tasks
   pub memory : IsMemoryFor s.memory low.memory
-  pub parts : Each (HasFullParts m low.memory) s.tasks
+  pub parts : Each (HasFullParts m low.memory) low.tasks
   pub counts : AreCounts s low.numbers
   pub events : low.events ≡ s.events
   pub turns : low.turns ≡ s.turns
