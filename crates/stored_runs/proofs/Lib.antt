@@ -8,6 +8,7 @@ pub mod RenamingRows
 pub mod NamesTaken
 pub mod NamesCurrent
 pub mod LoweredNames
+pub mod LoweredEdges
 pub mod LoweredSo
 pub mod Reading
 pub mod StayingSteps

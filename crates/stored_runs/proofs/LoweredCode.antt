@@ -6,14 +6,16 @@ use Rattle.std.proofs.lemmas.List.{length-append}
 use Rattle.std.proofs.lemmas.Option.{none-some, same_Some, slice_get_past}
 use Rattle.sil_ast.specs.declared.function.Block.{Block}
 use Rattle.sil_ast.specs.declared.function.Function.{Function}
+use Rattle.sil_ast.specs.declared.inst.Edge.{Edge}
 use Rattle.sil_ast.specs.declared.inst.Inst.{Inst}
 use Rattle.sil_ast.specs.declared.inst.Qualifier.{Qualifier}
 use Rattle.sil_ast.specs.declared.inst.Qualifier.TheVariants as word
 use Rattle.sil_ast.specs.declared.operands.Operand.{Operand}
+use Rattle.sil_ast.specs.declared.place.EdgeId.{EdgeId}
 use Rattle.sil_ast.specs.declared.place.PointId.{PointId}
 use Rattle.sil_ast.specs.declared.place.ValueId.{ValueId}
 use Rattle.numbered_form.specs.Numbering.{values_of}
-use Rattle.item_operands.specs.Parts.{inst_at, inst_in, terminator_in, terminator_of}
+use Rattle.item_operands.specs.Parts.{edge_at, edge_in, inst_at, inst_in, terminator_in, terminator_of}
 use Rattle.ownership_chains.specs.declared.definition.Definition.{Definition}
 use Rattle.type_definitions.specs.Declarations.{Declarations}
 use Rattle.lowered_run.specs.holder_model.Standing.{point_behind}
@@ -23,7 +25,7 @@ use Rattle.lowering_laws.specs.lowering_model.LoweredBlocks.{block_becomes, bloc
 use Rattle.lowering_laws.specs.lowering_model.LoweredInsts as lowered
 use Rattle.lowering_laws.specs.lowering_model.LoweredInsts.{assigns, becomes, becomes_by, destroys_by, lowering_of, loads_by, operand_at, releases_at, stores_by}
 use Rattle.lowering_laws.specs.lowering_model.LoweredModules.{lowered_body}
-use Rattle.lowering_laws.specs.lowering_model.Numbers.{renumbered_block, renumbered_inst}
+use Rattle.lowering_laws.specs.lowering_model.Numbers.{renumbered_block, renumbered_edge, renumbered_inst}
 use Rattle.lowering_laws.specs.lowering_model.declared.lowering.Lowering.{Lowering}
 use Rattle.lowering_laws.specs.lowering_model.declared.lowering.Lowering.TheVariants as lowering
 use Rattle.stored_runs.specs.inner.Names.{lowered_number}
@@ -179,7 +181,7 @@ module _ (d : Declarations) (f : Function) where
   abbrev pub point_further : PointId → ℕ → PointId
   point_further p j = record p { index = (lowered_point d f p).index + j }
 
-  low_block : (k : ℕ) (b : Block) → slice_get f.blocks k ≡ Some b
+  pub low_block : (k : ℕ) (b : Block) → slice_get f.blocks k ≡ Some b
       → (spare : ℕ) × (slice_get low.blocks k ≡ Some (renumbered_block (lowered_number d f) (block_becomes d (renamings_of f) spare b)))
   low_block k b e =
       let at = block_at d (renamings_of f) (length (values_of f.blocks)) f.blocks k b e in
@@ -245,3 +247,20 @@ module _ (d : Declarations) (f : Function) where
             (omega (arith, size, long));
         terminator = ap terminator_in there.1 ∙ ap (λ t. Some (renumbered_inst (lowered_number d f) t)) b.3;
       }
+
+  -- the terminators of lowered blocks, and their edges
+  pub low_terminator : (k : ℕ) (t : Inst) → terminator_of f k ≡ Some t → terminator_of low k ≡ Some (renumbered_inst (lowered_number d f) t)
+  low_terminator k t e = at (slice_get f.blocks k) refl e
+    where
+      at : (o : Option Block) → slice_get f.blocks k ≡ o → terminator_in o ≡ Some t → terminator_of low k ≡ Some (renumbered_inst (lowered_number d f) t)
+      at None is h = absurd (none-some t h)
+      at (Some b) is h =
+          ap terminator_in (low_block k b is).1 ∙ ap (λ x. Some (renumbered_inst (lowered_number d f) x)) (same_Some b.terminator t h)
+
+  pub low_edge : (e : EdgeId) (y : Edge) → edge_at f e ≡ Some y → edge_at low e ≡ Some (renumbered_edge (lowered_number d f) y)
+  low_edge e y is = at (terminator_of f e.block.0) refl is
+    where
+      at : (o : Option Inst) → terminator_of f e.block.0 ≡ o → edge_in o e.index ≡ Some y → edge_at low e ≡ Some (renumbered_edge (lowered_number d f) y)
+      at None there h = absurd (none-some y h)
+      at (Some t) there h =
+          ap (λ o. edge_in o e.index) (low_terminator e.block.0 t there) ∙ mapped_at (renumbered_edge (lowered_number d f)) t.edges e.index y h

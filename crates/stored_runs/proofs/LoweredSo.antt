@@ -4,7 +4,6 @@ use Rattle.std.specs.Prelude.{◌==◌, slice_get, unwrap_or}
 use Rattle.std.proofs.lemmas.Bool.{eqb-true}
 use Rattle.instruction_table.specs.declared.op.Op.{Op}
 use Rattle.numbered_form.specs.Lists.{Each}
-use Rattle.numbered_form.specs.Numbering as numbering
 use Rattle.numbered_form.specs.Numbering.{values_of}
 use Rattle.item_operands.specs.Items.{item_defined, item_taken}
 use Rattle.item_operands.specs.Parts.{inst_at}
@@ -26,8 +25,7 @@ use Rattle.value_tables.specs.FirstValue.{value_of}
 use Rattle.run_values.specs.Shapes.{Shape, Unknown}
 use Rattle.lowered_run.specs.holder_model.ModuleShapes.{function_shapes, shape_at, shapes_in, shapes_of, value_shape}
 use Rattle.lowering_laws.specs.inner.Lowerable.{HasNoRings, IsLowerable}
-use Rattle.lowering_laws.specs.ownership_origins.Renamings.{default_operand, renames, renamings_of}
-use Rattle.lowering_laws.specs.ownership_origins.Switched.{switch_to}
+use Rattle.lowering_laws.specs.ownership_origins.Renamings.{renames, renamings_of}
 use Rattle.lowering_laws.specs.sil_types.Typing.Values.{type_at, value_types}
 use Rattle.lowering_laws.specs.lowering_model.LoweredModules.{lowered, lowered_body, lowered_by, lowered_function}
 use Rattle.lowering_laws.specs.lowering_model.Names.{renamed_from, stands_for}
@@ -39,7 +37,6 @@ use Rattle.lowering_laws.proofs.Rings.{kinds_have_no_rings}
 use Rattle.lowered_numbering_laws.proofs.Types.{declares_the_same}
 use Rattle.lowered_typing_laws.proofs.Fields.{members_once}
 use Rattle.lowered_typing_laws.proofs.Sound.{SoundFunction, Source, sound_function}
-use Rattle.lowered_typing_laws.proofs.Switches.{entry_kept}
 use Rattle.lowered_typing_laws.proofs.Tables.{type_kept}
 use Rattle.accepted_trails.specs.inner.Defined.{makes}
 use Rattle.accepted_trails.proofs.Tests.{picked, same_value}
@@ -51,12 +48,13 @@ use Rattle.accepted_values.proofs.Made.{items_of, parameters_of_entry}
 use Rattle.accepted_values.proofs.run_typing_laws.ItemFacts.{values_counted}
 use Rattle.stored_runs.specs.inner.Lowering.{IsOtherName, IsOwnName, IsTakenOld, LowersSo}
 use Rattle.stored_runs.specs.inner.LoweredSo.{AreLoweredSo}
-use Rattle.stored_runs.specs.inner.Names.{IsOld, lowered_number}
+use Rattle.stored_runs.specs.inner.Names.{AreNamed, IsOld, lowered_number}
 use Rattle.stored_runs.proofs.LoweredCode.{mapped_at}
+use Rattle.stored_runs.proofs.LoweredEdges.{both_each, edge_lowered, entry_defined, entry_own, one_chosen}
 use Rattle.stored_runs.proofs.LoweredNames.{are_named, own_name, same_end}
 use Rattle.stored_runs.proofs.NamesCurrent.{all_current}
 use Rattle.stored_runs.proofs.Reading.{defines_there}
-use Rattle.stored_runs.proofs.RenamingRows.{IsNamedBy, args_named, results_named}
+use Rattle.stored_runs.proofs.RenamingRows.{IsNamedBy, results_named}
 
 -- a column of a table has what the row has there
 in_column : {A B : Type 0} (g : A → B) (x : A) (rows : List A) (n : ℕ) → unwrap_or (slice_get (map g rows) n) (g x) ≡ g (unwrap_or (slice_get rows n) x)
@@ -64,10 +62,6 @@ in_column g x [] zero = refl
 in_column g x [] (suc n) = refl
 in_column g x (y ∷ rows) zero = refl
 in_column g x (y ∷ rows) (suc n) = in_column g x rows n
-
-both_each : {A : Type 0} (P Q R : A → Type 0) → ((x : A) → P x → Q x → R x) → (xs : List A) → Each P xs → Each Q xs → Each R xs
-both_each P Q R go [] h k = tt
-both_each P Q R go (x ∷ xs) h k = (go x h.0 k.0, both_each P Q R go xs h.1 k.1)
 
 module _ (m : Module) (g : FuncId) (f : Function) (a : IsAcceptedBody m g.0 f) where
   abbrev d : Declarations
@@ -79,16 +73,21 @@ module _ (m : Module) (g : FuncId) (f : Function) (a : IsAcceptedBody m g.0 f) w
   lowerable : IsLowerable (length m.functions) d f
   lowerable = functions_are_lowerable m g.0 f a.verified.numbered a.verified.accepted.types.typed rings a.body.there
 
+  all_named : AreNamed d f
+  all_named = are_named (length m.functions) d f lowerable
+
   old_of : (v : ValueId) → IsOf f v → IsOld f v
   old_of v lt = let count = values_counted f in let below : IsOf f v = lt in omega (arith, count, below)
+
+  old_defined : (i : Item) → Each (IsOld f) (item_defined f i)
+  old_defined i = each_weaker (IsOf f) (IsOld f) old_of (item_defined f i) (items_of m g.0 f a i).defined
 
   taken_old : (ts : List Taken) → Each (IsOf f) (map (λ (t : Taken). t.value) ts) → Each (IsTakenOld f) ts
   taken_old [] h = tt
   taken_old (t ∷ ts) h = (old_of t.value h.0, taken_old ts h.1)
 
   results_old : (p : PointId) (i : Inst) → inst_at f p ≡ Some i → Each (IsOld f) i.results
-  results_old p i e =
-      each_weaker (IsOf f) (IsOld f) old_of i.results (subst (Each (IsOf f)) (defines_there f p i e) (items_of m g.0 f a (items.Inst p)).defined)
+  results_old p i e = subst (Each (IsOld f)) (defines_there f p i e) (old_defined (items.Inst p))
 
   module _ (p : PointId) (i : Inst) (e : inst_at f p ≡ Some i) where
     named_by : Each (IsNamedBy f (counted m g.0 f a) (names_in i)) i.results
@@ -108,10 +107,10 @@ module _ (m : Module) (g : FuncId) (f : Function) (a : IsAcceptedBody m g.0 f) w
         other v old is =
             let name : renamed_from (renamings_of f) v ≡ Some o.value =
             is ∙ ap (λ b. slice_get (cond b (map value_of i.operands) []) 0) names ∙ ap (λ os. slice_get (map value_of os) 0) one in
-            let all = are_named (length m.functions) d f lowerable in (
+            (
               old,
-              all.through v ∙ ap (lowered_number d f) (same_end (renamings_of f) v o.value name (own_name (length m.functions) d f lowerable v old))
-                  ∙ sym (all.through o.value),
+              all_named.through v ∙ ap (lowered_number d f) (same_end (renamings_of f) v o.value name (own_name (length m.functions) d f lowerable v old))
+                  ∙ sym (all_named.through o.value),
             )
 
   abbrev source_sound : SoundFunction m f
@@ -119,19 +118,8 @@ module _ (m : Module) (g : FuncId) (f : Function) (a : IsAcceptedBody m g.0 f) w
 
   given_own : (v : ValueId) → makes f v items.Entry ≡ true → IsOwnName f v
   given_own v made =
-      let x = picked (λ (u : ValueId). u.0 == v.0) own (map numbering.value_of (args_of f 0)) entry_named made in
-      let same : x.0 ≡ v = same_value x.0 v (eqb-true x.0.0 v.0 x.1) in
-      let old = picked (λ (u : ValueId). u.0 == v.0) (IsOf f) (item_defined f items.Entry) (items_of m g.0 f a items.Entry).defined made in
-      let is : old.0 ≡ v = same_value old.0 v (eqb-true old.0.0 v.0 old.1) in
-      (old_of v (subst (IsOf f) is old.2), stands_itself (renamings_of f) v (subst own same x.2))
-    where
-      abbrev own : ValueId → Type 0
-      own u = renamed_from (renamings_of f) u ≡ None
-
-      entry_named : Each own (map numbering.value_of (args_of f 0))
-      entry_named =
-          each_weaker (IsNamedBy f (counted m g.0 f a) (default_operand (switch_to f 0))) own (λ u e. e ∙ ap (λ vs. slice_get vs 0) (entry_kept m f source_sound))
-          (map numbering.value_of (args_of f 0)) (args_named f (counted m g.0 f a) 0)
+      let x = picked (λ (u : ValueId). u.0 == v.0) (IsOwnName f) (item_defined f items.Entry) (entry_own m g.0 f a source_sound all_named old_defined) made in
+      subst (IsOwnName f) (same_value x.0 v (eqb-true x.0.0 v.0 x.1)) x.2
 
   source : Source m f
   source = record {
@@ -163,12 +151,15 @@ module _ (m : Module) (g : FuncId) (f : Function) (a : IsAcceptedBody m g.0 f) w
   pub lowers_so : LowersSo m g f
   lowers_so = record {
     form = in_ownership_form m g.0 f a;
-    named = are_named (length m.functions) d f lowerable;
+    named = all_named;
     current = all_current m g.0 f a;
     taken = λ i is. taken_old (item_taken f i) (items_of m g.0 f a i).taken;
     results = λ p i e keeps. own_results p i e keeps;
     renamed = λ p i o e names one. other_results p i e o names one;
     given = given_own;
+    entry = entry_defined m g.0 f a source_sound all_named old_defined;
+    edges = λ e y is. edge_lowered m g.0 f a source_sound all_named old_defined e y is;
+    chosen = one_chosen m g.0 f a;
     given_once = λ v i made also. parameters_of_entry m g.0 f a i v (makes_so f v items.Entry made) (makes_so f v i also);
     shapes = same_shapes;
   }
