@@ -18,7 +18,7 @@ use Rattle.numbered_form.specs.Numbering.{values_of}
 use Rattle.item_operands.specs.Parts.{edge_at, edge_in, inst_at, inst_in, terminator_in, terminator_of}
 use Rattle.ownership_chains.specs.declared.definition.Definition.{Definition}
 use Rattle.type_definitions.specs.Declarations.{Declarations}
-use Rattle.lowered_run.specs.holder_model.Standing.{point_behind}
+use Rattle.lowered_run.specs.holder_model.Standing.{first_point, point_behind}
 use Rattle.lowering_laws.specs.ownership_origins.Renamings.{renamings_of}
 use Rattle.lowering_laws.specs.sil_types.Typing.FormRules.{is_at_storage}
 use Rattle.lowering_laws.specs.lowering_model.LoweredBlocks.{block_becomes, blocks_become, insts_become, lowered_blocks, value_with}
@@ -264,3 +264,11 @@ module _ (d : Declarations) (f : Function) where
       at None there h = absurd (none-some y h)
       at (Some t) there h =
           ap (λ o. edge_in o e.index) (low_terminator e.block.0 t there) ∙ mapped_at (renumbered_edge (lowered_number d f)) t.edges e.index y h
+
+  -- lowered blocks begin where the blocks do
+  pub first_lowered : (k : ℕ) → first_point k ≡ lowered_point d f (first_point k)
+  first_lowered k = ap (λ n. record (first_point k) { index = n }) (none (insts_of (slice_get f.blocks k)))
+    where
+      none : (is : List Inst) → 0 ≡ lowered_length d f (take 0 is)
+      none [] = refl
+      none (i ∷ is) = refl

@@ -34,7 +34,7 @@ use Rattle.lowered_run.specs.LowStepParts.{taken_value, values_taken}
 use Rattle.lowering_laws.specs.ownership_origins.Renamings.{renamings_of}
 use Rattle.lowering_laws.specs.lowering_model.Names.{stands_for}
 use Rattle.lowering_laws.specs.lowering_model.Numbers.{renumbered_inst, renumbered_operand}
-use Rattle.stored_runs.specs.inner.Frames.{AreValuesFor, IsDatumFor, IsShownAs}
+use Rattle.stored_runs.specs.inner.Frames.{AreValuesFor, IsDatumFor, IsNoAddress, IsShownAs}
 use Rattle.stored_runs.specs.inner.Lowering.{IsOwnName, IsTakenOld}
 use Rattle.stored_runs.specs.inner.Names.{AreNamed, IsCurrent, IsOld, IsTakenCurrent, lowered_number}
 use Rattle.stored_runs.proofs.ValuesFor.{Behind, IsGivenAlive, OneChanged, Shown, behind_put, one_put}
@@ -105,16 +105,12 @@ module _ (d : Declarations) (f : Function) (named : AreNamed d f) where
         like = (first.2, rest.like);
       }
 
-  -- the datum is no address
-  abbrev pub IsNoAddress : Datum → Type 0
-  IsNoAddress x = as_place x ≡ None
-
   same_argument : (x y : Datum) → IsNoAddress x → as_argument y ≡ x → y ≡ x
   same_argument x (ValueOf v) none e = e
   same_argument x (AddressOf p) none e = absurd (none-some _ (sym none ∙ ap as_place (sym e)))
   same_argument x (FunctionOf g) none e = e
 
-  -- and then the same stands for it
+  -- the same stands for what is no address
   pub like_exact : (v : ValueId) (x y : Datum) → IsNoAddress x → Like v x y → y ≡ x
   like_exact v x y none (inl same) = same
   like_exact v x y none (inr (made, e)) = same_argument x y none e

@@ -1,5 +1,5 @@
 -- Frames of a lowered run beside those of the run by holders.
-use Rattle.std.specs.Prelude.{◌≡◌, ◌⊎◌, List, [], ◌∷◌, Option, Some, true, length, is_some, slice_get}
+use Rattle.std.specs.Prelude.{◌≡◌, ◌⊎◌, List, [], ◌∷◌, Option, Some, None, true, length, is_some, slice_get}
 use Rattle.std.specs.List.{AllZip}
 use Rattle.sil_ast.specs.declared.function.Function.{Function}
 use Rattle.sil_ast.specs.declared.module.Module.{Module}
@@ -13,7 +13,7 @@ use Rattle.run_values.specs.Memory.{Memory}
 use Rattle.run_values.specs.Places.{Place, value_at}
 use Rattle.accepted_trails.specs.inner.Defined.{makes}
 use Rattle.lowered_run.specs.holder_model.Calling.{as_argument}
-use Rattle.lowered_run.specs.holder_model.Data.{AddressOf, Datum}
+use Rattle.lowered_run.specs.holder_model.Data.{AddressOf, Datum, as_place}
 use Rattle.lowered_run.specs.holder_model.Frames.{Entry, Frame, datum_in, entry_at}
 use Rattle.lowered_run.specs.holder_model.Standing.{stands_at}
 use Rattle.lowered_run.specs.holder_model.States.{Drops, Finishes, Runs, Task}
@@ -25,6 +25,10 @@ use Rattle.stored_runs.specs.inner.Points.{lowered_point}
 -- the datum of a lowered value beside that of the entry. To the callee the place of an argument is a whole one, and in the lowered run it still says that it is a part
 abbrev pub IsDatumFor : Function → ValueId → Datum → Datum → Type 0
 IsDatumFor f v x low = (low ≡ x) ⊎ ((makes f v item.Entry ≡ true) × (as_argument low ≡ x))
+
+-- the datum is no address: just the same stands for it
+abbrev pub IsNoAddress : Datum → Type 0
+IsNoAddress x = as_place x ≡ None
 
 -- the lowered value is there, and stands for the datum of the entry
 abbrev pub IsShownAs : Function → ValueId → Datum → Option Datum → Type 0
