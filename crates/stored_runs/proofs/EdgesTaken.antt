@@ -52,8 +52,8 @@ use Rattle.lowering_laws.specs.lowering_model.LoweredModules.{lowered, lowered_b
 use Rattle.lowering_laws.specs.lowering_model.Numbers.{renumbered_edge, renumbered_inst, renumbered_operand}
 use Rattle.holder_steps.specs.inner.Ways as holder
 use Rattle.lowered_steps.specs.inner.LowWays as ways
-use Rattle.stored_runs.specs.inner.Along.{AreTotalsFor, IsNextAlong, IsNoFault}
-use Rattle.stored_runs.specs.inner.EdgesTaken.{AreEdgesTaken, TakesNoAddress}
+use Rattle.stored_runs.specs.inner.Along.{AreTotalsFor, IsNextAlong, IsNoFault, TakesNoAddress}
+use Rattle.stored_runs.specs.inner.EdgesTaken.{AreEdgesTaken}
 use Rattle.stored_runs.specs.inner.Frames.{AreTasksFor, AreValuesFor, HasFullParts, IsFrameAt, IsNoAddress}
 use Rattle.stored_runs.specs.inner.Lowering.{IsEdgeLowered, IsOtherName, IsOwnName, LowersSo}
 use Rattle.stored_runs.specs.inner.Memories.{IsMemoryFor}
@@ -171,7 +171,7 @@ module _ (m : Module) (bound : ℕ) (s : HolderState) (l : LowState) (frame : Fr
     (totals : AreTotalsFor s l) (memory : IsMemoryFor s.memory l.memory) (size : length l.numbers ≡ length s.memory.objects)
     (there : slice_get m.functions frame.function.0 ≡ Some f) (lowers : LowersSo m frame.function f) (frames : IsFrameAt (declarations_of m) f frame low)
     (rest_for : AreTasksFor m rest lrest) (full : Each (HasFullParts m l.memory) (Runs low ∷ lrest))
-    (is_item : IsItem f (item.Edge e)) (trail : IsTurnedTrail f (item.Edge e ∷ frame.trail)) (plain : TakesNoAddress m s frame f e) where
+    (is_item : IsItem f (item.Edge e)) (trail : IsTurnedTrail f (item.Edge e ∷ frame.trail)) (plain : TakesNoAddress m s frame f (item.Edge e)) where
   abbrev d : Declarations
   d = declarations_of m
 
@@ -200,11 +200,11 @@ module _ (m : Module) (bound : ℕ) (s : HolderState) (l : LowState) (frame : Fr
 
     reads : AreReadSo d f lowers.named low.values (item_taken f (item.Edge e)) ops.given
     reads =
-        taken_read d f lowers.named frame.trail s.memory facts frame.entries low.values (item_taken f (item.Edge e)) ops.given frames.values
+        taken_read d f lowers.named low.values frame.trail s.memory facts frame.entries (item_taken f (item.Edge e)) ops.given frames.values
         (lowers.taken (item.Edge e) is_item) (lowers.current frame.trail (item.Edge e) trail) taken_so.given
 
     exact : reads.ys ≡ ops.given
-    exact = taken_exact d f lowers.named (item_taken f (item.Edge e)) ops.given reads.ys reads.like (plain ops found)
+    exact = taken_exact d f lowers.named low.values (item_taken f (item.Edge e)) ops.given reads.ys reads.like (plain ops found)
 
     parts : IsCarried f e ops.given carried
     parts = carried_parts f e ops.given carried along

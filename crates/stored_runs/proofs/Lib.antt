@@ -11,6 +11,11 @@ pub mod LoweredNames
 pub mod LoweredEdges
 pub mod LoweredSo
 pub mod Reading
+pub mod StandsStaying
 pub mod StayingSteps
 pub mod NamedSteps
 pub mod TaskSteps
+pub mod PutValues
+pub mod GoesAlong
+pub mod Entering
+pub mod EdgesTaken

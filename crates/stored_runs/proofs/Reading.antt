@@ -75,35 +75,39 @@ module _ (d : Declarations) (f : Function) (named : AreNamed d f) where
   like_itself v x = inl refl
 
   -- each datum that is taken, and what stands for it in the lowered run
-  abbrev pub AreTakenLike : List Taken → List Datum → List Datum → Type 0
-  AreTakenLike [] [] [] = Unit {0}
-  AreTakenLike [] [] (y ∷ ys) = ⊥
-  AreTakenLike [] (x ∷ xs) ys = ⊥
-  AreTakenLike (t ∷ ts) [] ys = ⊥
-  AreTakenLike (t ∷ ts) (x ∷ xs) [] = ⊥
-  AreTakenLike (t ∷ ts) (x ∷ xs) (y ∷ ys) = Like t.value x y × AreTakenLike ts xs ys
+  module _ (values : List (Option Datum)) where
+    abbrev pub IsReadAs : ValueId → Datum → Datum → Type 0
+    IsReadAs v x y = (low_frames.value_at values (number v) ≡ Some y) × Like v x y
 
-  -- the data that an item takes are read under the lowered numbers
-  pub record AreReadSo (values : List (Option Datum)) (ts : List Taken) (xs : List Datum) : Type 0 where
-    pub ys : List Datum
-    pub read : read_all values (map number (map taken_value ts)) ≡ Ok ys
-    pub like : AreTakenLike ts xs ys
+    abbrev pub AreReadAs : List Taken → List Datum → List Datum → Type 0
+    AreReadAs [] [] [] = Unit {0}
+    AreReadAs [] [] (y ∷ ys) = ⊥
+    AreReadAs [] (x ∷ xs) ys = ⊥
+    AreReadAs (t ∷ ts) [] ys = ⊥
+    AreReadAs (t ∷ ts) (x ∷ xs) [] = ⊥
+    AreReadAs (t ∷ ts) (x ∷ xs) (y ∷ ys) = IsReadAs t.value x y × AreReadAs ts xs ys
 
-  pub taken_read : (t : List Item) (m : Memory) (facts : ValueId → Option Facts) (entries : List Entry) (values : List (Option Datum)) (ts : List Taken) (xs : List Datum)
-      → AreValuesFor d f t entries values → Each (IsTakenOld f) ts → Each (IsTakenCurrent f t) ts → AllZip (IsGivenAlive facts m entries) ts xs
-      → AreReadSo values ts xs
-  taken_read t m facts entries values [] [] shown old current given = record { ys = []; read = refl; like = tt }
-  taken_read t m facts entries values [] (x ∷ xs) shown old current given = absurd given
-  taken_read t m facts entries values (y ∷ ts) [] shown old current given = absurd given
-  taken_read t m facts entries values (y ∷ ts) (x ∷ xs) shown old current given =
-      let first = shown y.value x given.0.0 (old.0, current.0) in
-      let rest = taken_read t m facts entries values ts xs shown old.1 current.1 given.1 in
-      record {
-        ys = first.0 ∷ rest.ys;
-        read = ap (λ o. and_others (low_frames.there (number y.value) o) (read_all values (map number (map taken_value ts)))) first.1
-            ∙ ap (and_others (Ok first.0)) rest.read;
-        like = (first.2, rest.like);
-      }
+    -- the data that an item takes are read under the lowered numbers
+    pub record AreReadSo (ts : List Taken) (xs : List Datum) : Type 0 where
+      pub ys : List Datum
+      pub read : read_all values (map number (map taken_value ts)) ≡ Ok ys
+      pub like : AreReadAs ts xs ys
+
+    pub taken_read : (t : List Item) (m : Memory) (facts : ValueId → Option Facts) (entries : List Entry) (ts : List Taken) (xs : List Datum)
+        → AreValuesFor d f t entries values → Each (IsTakenOld f) ts → Each (IsTakenCurrent f t) ts → AllZip (IsGivenAlive facts m entries) ts xs
+        → AreReadSo ts xs
+    taken_read t m facts entries [] [] shown old current given = record { ys = []; read = refl; like = tt }
+    taken_read t m facts entries [] (x ∷ xs) shown old current given = absurd given
+    taken_read t m facts entries (y ∷ ts) [] shown old current given = absurd given
+    taken_read t m facts entries (y ∷ ts) (x ∷ xs) shown old current given =
+        let first = shown y.value x given.0.0 (old.0, current.0) in
+        let rest = taken_read t m facts entries ts xs shown old.1 current.1 given.1 in
+        record {
+          ys = first.0 ∷ rest.ys;
+          read = ap (λ o. and_others (low_frames.there (number y.value) o) (read_all values (map number (map taken_value ts)))) first.1
+              ∙ ap (and_others (Ok first.0)) rest.read;
+          like = ((first.1, first.2), rest.like);
+        }
 
   same_argument : (x y : Datum) → IsNoAddress x → as_argument y ≡ x → y ≡ x
   same_argument x (ValueOf v) none e = e
@@ -115,14 +119,14 @@ module _ (d : Declarations) (f : Function) (named : AreNamed d f) where
   like_exact v x y none (inl same) = same
   like_exact v x y none (inr (made, e)) = same_argument x y none e
 
-  pub taken_exact : (ts : List Taken) (xs ys : List Datum) → AreTakenLike ts xs ys → Each IsNoAddress xs → ys ≡ xs
-  taken_exact [] [] [] like none = refl
-  taken_exact [] [] (y ∷ ys) like none = absurd like
-  taken_exact [] (x ∷ xs) ys like none = absurd like
-  taken_exact (t ∷ ts) [] ys like none = absurd like
-  taken_exact (t ∷ ts) (x ∷ xs) [] like none = absurd like
-  taken_exact (t ∷ ts) (x ∷ xs) (y ∷ ys) like none =
-      ap (λ z. z ∷ ys) (like_exact t.value x y none.0 like.0) ∙ ap (λ zs. x ∷ zs) (taken_exact ts xs ys like.1 none.1)
+  pub taken_exact : (values : List (Option Datum)) (ts : List Taken) (xs ys : List Datum) → AreReadAs values ts xs ys → Each IsNoAddress xs → ys ≡ xs
+  taken_exact values [] [] [] like none = refl
+  taken_exact values [] [] (y ∷ ys) like none = absurd like
+  taken_exact values [] (x ∷ xs) ys like none = absurd like
+  taken_exact values (t ∷ ts) [] ys like none = absurd like
+  taken_exact values (t ∷ ts) (x ∷ xs) [] like none = absurd like
+  taken_exact values (t ∷ ts) (x ∷ xs) (y ∷ ys) like none =
+      ap (λ z. z ∷ ys) (like_exact t.value x y none.0 like.0.1) ∙ ap (λ zs. x ∷ zs) (taken_exact values ts xs ys like.1 none.1)
 
   same_id : (v w : ValueId) → v.0 ≡ w.0 → v ≡ w
   same_id v w e = ap (λ n. record { 0 = n }) e

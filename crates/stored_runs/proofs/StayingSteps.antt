@@ -46,8 +46,7 @@ use Rattle.lowered_run.specs.LowFrames.{LowFrame, put_all, read_all}
 use Rattle.lowered_run.specs.LowStepParts.{LowNext, LowState, numbers_for, slots_behind, taken_value, values_taken}
 use Rattle.lowered_run.specs.LowSteps as steps
 use Rattle.lowered_run.specs.Stored.{changed, each_changed, one_more}
-use Rattle.lowering_laws.specs.lowering_model.LoweredBlocks.{value_with}
-use Rattle.lowering_laws.specs.lowering_model.LoweredInsts.{becomes, becomes_by, lowering_of}
+use Rattle.lowering_laws.specs.lowering_model.LoweredInsts.{lowering_of}
 use Rattle.lowering_laws.specs.lowering_model.LoweredModules.{lowered, lowered_body, lowered_by, lowered_function}
 use Rattle.lowering_laws.specs.lowering_model.Numbers.{renumbered_inst}
 use Rattle.lowering_laws.specs.lowering_model.declared.lowering.Lowering.TheVariants as lowering
@@ -62,8 +61,10 @@ use Rattle.stored_runs.specs.inner.Lowering.{IsOwnName, LowersSo}
 use Rattle.stored_runs.specs.inner.Memories.{IsMemoryFor}
 use Rattle.stored_runs.specs.inner.Names.{AreNamed, IsCurrent, IsOld, lowered_count, lowered_number}
 use Rattle.stored_runs.specs.inner.Points.{lowered_point}
-use Rattle.stored_runs.proofs.LoweredCode.{IsLoweredTo, lowered_inst, mapped_at}
-use Rattle.stored_runs.proofs.Reading.{Like, behind_current, defines_there, like_itself, taken_renumbered, takes_there}
+use Rattle.stored_runs.proofs.LoweredCode.{mapped_at}
+use Rattle.stored_runs.proofs.StandsStaying as standing
+use Rattle.stored_runs.proofs.StandsStaying.{behind_at, takes_same}
+use Rattle.stored_runs.proofs.Reading.{Like, behind_current, defines_there, like_itself}
 use Rattle.stored_runs.proofs.SameRows.{none_dead, row_for}
 use Rattle.stored_runs.proofs.ValuesFor.{AreLike, ArePut, AreTakenSo, IsGivenAlive, err-ok, like_same, ok-ok, operands_given, results_shown}
 
@@ -209,27 +210,8 @@ module _ (m : Module) (bound : ℕ) where
     frames : IsFrameAt d f frame top.low
     frames = subst (λ g. IsFrameAt d g frame top.low) (same_Some top.of.f f (sym top.of.there ∙ there)) top.of.frames
 
-    lowered_to : IsLoweredTo d f p i
-    lowered_to = lowered_inst d f p i here
-
-    itself : (s : ℕ) → becomes d (value_with s) i ≡ i ∷ []
-    itself s = ap (λ x. becomes_by d (value_with s) x i) stays
-
     low_here : inst_at lf top.low.at ≡ Some j
-    low_here =
-        ap (inst_at lf) (frames.at ∙ ap (λ n. record p { index = n }) (zero_more (lowered_point d f p).index))
-        ∙ lowered_to.each 0 i (ap (λ is. slice_get is 0) (itself lowered_to.spare))
-      where
-        zero_more : (n : ℕ) → n ≡ n + 0
-        zero_more n = omega arith
-
-    behind_at : point_behind top.low.at ≡ lowered_point d f (point_behind p)
-    behind_at =
-        ap point_behind frames.at
-        ∙ ap (λ n. record p { index = n }) (one_more_index (lowered_point d f p).index ∙ ap (λ is. (lowered_point d f p).index + length is) (sym (itself lowered_to.spare)) ∙ sym lowered_to.next)
-      where
-        one_more_index : (n : ℕ) → suc n ≡ n + 1
-        one_more_index n = omega arith
+    low_here = standing.low_here d f p i here stays top.low.at frames.at
 
     module _ (ops : Operands) (found : operands_of facts s.memory frame.entries (item_taken f (item.Inst p)) ≡ Ok ops)
         (c : Change) (makes : holder.effect d (shapes_of m) (shapes_in (shapes_of m) frame.function) s.memory i ops.given ≡ Makes c)
@@ -245,9 +227,7 @@ module _ (m : Module) (bound : ℕ) where
       taken_so = operands_given facts s.memory frame.entries (item_taken f (item.Inst p)) ops found
 
       low_read : read_all top.low.values (values_taken lf (item.Inst top.low.at)) ≡ Ok ys
-      low_read =
-          ap (read_all top.low.values) (takes_there lf top.low.at j low_here ∙ taken_renumbered number i ∙ ap (map number) (sym (takes_there f p i here)))
-          ∙ reads
+      low_read = ap (read_all top.low.values) (takes_same d f p i here stays top.low.at frames.at) ∙ reads
 
       low_change : IsEffectFor (Makes c) (effect_by d low_told (shapes_in low_told top.low.function) l.memory j
           (low_effects.at_places d low_told (shapes_in low_told top.low.function) l.memory j) (effect_of i.op) ops.given)
@@ -314,7 +294,7 @@ module _ (m : Module) (bound : ℕ) where
         there = there;
         frames = record {
           function = frames.function;
-          at = behind_at;
+          at = behind_at d f p i here stays top.low.at frames.at;
           slots = refl;
           size = putting.size ∙ frames.size;
           values = behind_current d f lowers.named frame.trail (item.Inst p) i.results (defines_there f p i here) own entries putting.values' putting.shown;

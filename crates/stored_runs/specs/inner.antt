@@ -9,3 +9,6 @@ pub mod Lowering
 pub mod Current
 pub mod LoweredSo
 pub mod Runs
+pub mod Along
+pub mod Entering
+pub mod EdgesTaken

@@ -1,15 +1,20 @@
 -- States of both runs that go along but for stored numbers: what a step keeps that neither makes references nor drops any.
-use Rattle.std.specs.Prelude.{◌≡◌, List}
+use Rattle.std.specs.Prelude.{◌≡◌, List, Ok}
 use Rattle.numbered_form.specs.Lists.{Each}
+use Rattle.sil_ast.specs.declared.function.Function.{Function}
 use Rattle.sil_ast.specs.declared.module.Module.{Module}
+use Rattle.sil_cfg.specs.declared.item.Item.{Item}
+use Rattle.item_operands.specs.Items.{item_taken}
 use Rattle.lowered_run.specs.holder_model.Faults.{HolderFault}
+use Rattle.lowered_run.specs.holder_model.Frames.{Frame, Operands, operands_of}
 use Rattle.lowered_run.specs.holder_model.HolderStates.{HolderNext, HolderState}
+use Rattle.lowered_run.specs.holder_model.ModuleFacts.{facts_of, facts_told}
 use Rattle.lowered_run.specs.holder_model.Outcomes.{Numbers, outcome_at}
 use Rattle.lowered_run.specs.holder_model.States.{Ending, Ends, Faulted, Goes}
 use Rattle.lowered_run.specs.declared.low_fault.LowFault.{LowFault}
 use Rattle.lowered_run.specs.LowOutcomes.{low_outcome_at}
 use Rattle.lowered_run.specs.LowStepParts.{LowNext, LowState}
-use Rattle.stored_runs.specs.inner.Frames.{AreTasksFor, HasFullParts}
+use Rattle.stored_runs.specs.inner.Frames.{AreTasksFor, HasFullParts, IsNoAddress}
 use Rattle.stored_runs.specs.inner.Memories.{IsMemoryFor}
 use Rattle.stored_runs.specs.inner.Runs.{IsOutcomeFor}
 
@@ -34,3 +39,7 @@ pub data IsNextAlong (m : Module) (stored : List Numbers) : HolderNext → LowNe
 -- it is no fault
 abbrev pub IsNoFault : HolderNext → Type 0
 IsNoFault next = (x : HolderFault) (last : HolderState) → next ≡ Ends (Faulted x) last → ⊥
+
+-- what the item takes in the frame is no address
+abbrev pub TakesNoAddress : Module → HolderState → Frame → Function → Item → Type 0
+TakesNoAddress m s frame f i = (ops : Operands) → operands_of (facts_told (facts_of m) frame.function) s.memory frame.entries (item_taken f i) ≡ Ok ops → Each IsNoAddress ops.given
