@@ -14,7 +14,7 @@ use Rattle.run_values.specs.Places.{is_there}
 use Rattle.run_values.specs.Shapes.{Shape, Shapes, NoMember, Member, Integer, Reference, Struct, Tuple, Enum, Stored, Unknown, each_by_layers, listed}
 use Rattle.run_values.specs.Values.{Value, grouped}
 use Rattle.value_parts.proofs.Inductions.{InParts, by_parts}
-use Rattle.stored_runs.specs.inner.Memories.{AreCellsFor, IsCellFor}
+use Rattle.stored_runs.specs.inner.Memories.{AreCellsFor, IsCellFor, MayBeTaken}
 
 -- ---- the same cells
 
@@ -55,11 +55,6 @@ put_for [] (y ∷ low) i (c ∷ cs) (l ∷ ls) h k = absurd h
 put_for (x ∷ cells) [] i (c ∷ cs) (l ∷ ls) h k = absurd h
 put_for (x ∷ cells) (y ∷ low) zero (c ∷ cs) (l ∷ ls) h k = (k.0, put_for cells low zero cs ls h.1 k.1)
 put_for (x ∷ cells) (y ∷ low) (suc i) (c ∷ cs) (l ∷ ls) h k = (h.0, put_for cells low i (c ∷ cs) (l ∷ ls) h.1 k)
-
--- a cell whose value, if it has one, may stay where it is taken: it isn't gone, and no weak or unowned storage
-pub data MayBeTaken : Cell → Type 0 where
-  empty : MayBeTaken Empty
-  keeps : (x : Value) → MayBeTaken (Keeps storage.Strong x)
 
 emptied_cell : (c low : Cell) → MayBeTaken c → IsCellFor c low → IsCellFor Empty low
 emptied_cell _ _ MayBeTaken.empty (IsCellFor.same Empty) = IsCellFor.same Empty

@@ -113,20 +113,23 @@ module _ (number : ValueId → ValueId) where
       ∙ sym (map-append number (map taken_value (taken_by t)) (map taken_value (taken_along y)))
       ∙ ap (map number) (sym (map-append taken_value (taken_by t) (taken_along y)))
 
--- a switch takes what it switches first of all
-switched_first : (o : Op) → ending_of o ≡ ending.Cases → (cs : List ArgumentConvention) (a : Operand) (os : List Operand)
+-- a terminator that chooses takes what it chooses by first of all
+chosen_first : (o : Op) → (ending_of o ≡ ending.TwoBranches) ⊎ (ending_of o ≡ ending.Cases) → (cs : List ArgumentConvention) (a : Operand) (os : List Operand)
     → (more : List ValueId) × (map taken_value (taken_each (a ∷ os) (roles_for (roles_of o) cs (length (a ∷ os)))) ≡ a.value ∷ more)
-switched_first op.SwitchEnum e cs a os = (_, refl)
-switched_first _ e cs a os = absurd (cc)
+chosen_first op.CondBr e cs a os = (_, refl)
+chosen_first op.SwitchEnum e cs a os = (_, refl)
+chosen_first _ (inl e) cs a os = absurd (cc)
+chosen_first _ (inr e) cs a os = absurd (cc)
 
-pub first_taken_of : (t : Inst) (w : ValueId) → ending_of t.op ≡ ending.Cases → first_value t ≡ Some w → (more : List ValueId) × (map taken_value (taken_by t) ≡ w ∷ more)
-first_taken_of t w switches first = at t.operands first
+pub first_taken_of : (t : Inst) (w : ValueId) → (ending_of t.op ≡ ending.TwoBranches) ⊎ (ending_of t.op ≡ ending.Cases) → first_value t ≡ Some w
+    → (more : List ValueId) × (map taken_value (taken_by t) ≡ w ∷ more)
+first_taken_of t w chooses first = at t.operands first
   where
     at : (os : List Operand) → option_map value_of (slice_get os 0) ≡ Some w
         → (more : List ValueId) × (map taken_value (taken_each os (roles_for (roles_of t.op) (conventions_in t) (length os))) ≡ w ∷ more)
     at [] h = absurd (none-some w h)
     at (a ∷ os) h =
-        let more = switched_first t.op switches (conventions_in t) a os in
+        let more = chosen_first t.op chooses (conventions_in t) a os in
         (more.0, more.1 ∙ ap (λ v. v ∷ more.0) (same_Some a.value w h))
 
 -- what is read first
@@ -143,7 +146,7 @@ read_first values v vs z zs e = at (low_frames.value_at values v) (and_parts (lo
     at None h = absurd (cc)
     at (Some x) h = cc
 
-value_is : (z : Datum) (x : Value) → as_value z ≡ Some x → z ≡ ValueOf x
+pub value_is : (z : Datum) (x : Value) → as_value z ≡ Some x → z ≡ ValueOf x
 value_is (ValueOf y) x e = ap ValueOf (same_Some y x e)
 value_is (AddressOf p) x e = absurd (none-some x e)
 value_is (FunctionOf g) x e = absurd (none-some x e)
@@ -317,7 +320,7 @@ module _ (m : Module) (bound : ℕ) (s : HolderState) (l : LowState) (frame : Fr
 
       under : low_frames.value_at low.values (number w) ≡ Some (ValueOf x)
       under =
-          let head = first_taken_of parts.t w switches first in
+          let head = first_taken_of parts.t w (inr switches) first in
           let given = first_is ops.given x switched.1 in
           let values : values_taken lf (item.Edge e) ≡ number w ∷ map number (head.0 ++ map taken_value (taken_along parts.y)) =
           low_taken

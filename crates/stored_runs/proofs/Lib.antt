@@ -19,3 +19,4 @@ pub mod PutValues
 pub mod GoesAlong
 pub mod Entering
 pub mod EdgesTaken
+pub mod EndsAlong

@@ -10,8 +10,8 @@ use Rattle.run_values.specs.Places.{Home, Inside, OnStack, Place, cells_at, empt
 use Rattle.run_values.specs.Values.{Value}
 use Rattle.run_values.specs.declared.phase.Phase.{Phase}
 use Rattle.lowered_run.specs.holder_model.Dropping.{ended, in_phase}
-use Rattle.stored_runs.specs.inner.Memories.{AreCellsFor, IsMemoryFor, IsObjectFor}
-use Rattle.stored_runs.proofs.CellsFor.{MayBeTaken, dropped_front, emptied_for, joined_for, put_for, same_cells, taken_front, there_for, value_for}
+use Rattle.stored_runs.specs.inner.Memories.{AreCellsFor, IsMemoryFor, IsObjectFor, MayBeTaken}
+use Rattle.stored_runs.proofs.CellsFor.{dropped_front, emptied_for, joined_for, put_for, same_cells, taken_front, there_for, value_for}
 
 -- ---- objects
 

@@ -116,7 +116,7 @@ pub record LowTop (m : Module) (frame : Frame) (rest : List (Task Frame)) (l : L
   pub of : IsFrameFor m frame low
   pub rest_for : AreTasksFor m rest others
 
-low_frame : (m : Module) (frame : Frame) (x : Task LowFrame) → IsTaskFor m (Runs frame) x → (low : LowFrame) × (x ≡ Runs low) × IsFrameFor m frame low
+pub low_frame : (m : Module) (frame : Frame) (x : Task LowFrame) → IsTaskFor m (Runs frame) x → (low : LowFrame) × (x ≡ Runs low) × IsFrameFor m frame low
 low_frame m _ _ (IsTaskFor.runs frame low h) = (low, refl, h)
 
 pub low_top : (m : Module) (frame : Frame) (rest : List (Task Frame)) (tasks : List (Task Frame)) (l : LowState) → AreTasksFor m tasks l.tasks → tasks ≡ Runs frame ∷ rest

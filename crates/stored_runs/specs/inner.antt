@@ -12,3 +12,4 @@ pub mod Runs
 pub mod Along
 pub mod Entering
 pub mod EdgesTaken
+pub mod EndsAlong

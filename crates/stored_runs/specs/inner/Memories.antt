@@ -12,6 +12,11 @@ pub data IsCellFor : Cell → Cell → Type 0 where
   same : (c : Cell) → IsCellFor c c
   taken : (x : Value) → IsCellFor Empty (Keeps storage.Strong x)
 
+-- a cell whose value, if it has one, may stay where it is taken: it isn't gone, and no weak or unowned storage
+pub data MayBeTaken : Cell → Type 0 where
+  empty : MayBeTaken Empty
+  keeps : (x : Value) → MayBeTaken (Keeps storage.Strong x)
+
 abbrev pub AreCellsFor : List Cell → List Cell → Type 0
 AreCellsFor cells low = AllZip IsCellFor cells low
 
