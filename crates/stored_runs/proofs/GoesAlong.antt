@@ -72,7 +72,7 @@ module _ (m : Module) (bound : ℕ) (s : HolderState) (l : LowState) (totals : A
     pub shown : AreValuesFor d f (i ∷ frame.trail) entries values'
     pub full : AreGivenPartsFull d f values' l.memory
 
-  parts_full : AreGivenPartsFull d f low.values l.memory
+  pub parts_full : AreGivenPartsFull d f low.values l.memory
   parts_full = full.0 f (ap (λ (g : FuncId). slice_get m.functions g.0) frames.function ∙ there)
 
   -- arguments have other numbers than what a later item makes
@@ -95,7 +95,7 @@ module _ (m : Module) (bound : ℕ) (s : HolderState) (l : LowState) (totals : A
     all_made : Each (λ r. makes f r i ≡ true) (item_defined f i)
     all_made = each_among (λ (r : ValueId). r) (λ r. makes f r i ≡ true) (item_defined f i) (λ r h. h)
 
-    puts_own : (li : Item) → item_defined lf li ≡ map number (item_defined f i) → (xs : List Datum) (entries : List Entry)
+    pub puts_own : (li : Item) → item_defined lf li ≡ map number (item_defined f i) → (xs : List Datum) (entries : List Entry)
         → results_put facts (item_defined f i) xs frame.entries ≡ Ok entries → PutsSo i li xs entries
     puts_own li defines xs entries put =
         record {

@@ -20,3 +20,5 @@ pub mod GoesAlong
 pub mod Entering
 pub mod EdgesTaken
 pub mod EndsAlong
+pub mod HandedOver
+pub mod CallsAlong

@@ -13,3 +13,4 @@ pub mod Along
 pub mod Entering
 pub mod EdgesTaken
 pub mod EndsAlong
+pub mod CallsAlong
