@@ -22,3 +22,4 @@ pub mod EdgesTaken
 pub mod EndsAlong
 pub mod HandedOver
 pub mod CallsAlong
+pub mod TypedEnds

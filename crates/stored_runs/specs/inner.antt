@@ -14,3 +14,4 @@ pub mod Entering
 pub mod EdgesTaken
 pub mod EndsAlong
 pub mod CallsAlong
+pub mod TypedEnds
