@@ -30,7 +30,7 @@ use Rattle.accepted_trails.specs.run_trails.inner.RunTrails.{IsTurnedTrail}
 use Rattle.lowered_run.specs.holder_model.declared.event.Event.TheVariants as event
 use Rattle.lowered_run.specs.holder_model.declared.row_effect.RowEffect.{RowEffect}
 use Rattle.lowered_run.specs.holder_model.declared.row_effect.RowEffect.TheVariants as row
-use Rattle.lowered_run.specs.holder_model.Calling.{as_argument, handed_over, lent_places}
+use Rattle.lowered_run.specs.holder_model.Calling.{are_as_before, as_argument, handed_over}
 use Rattle.lowered_run.specs.holder_model.Data.{AddressOf, Datum, FunctionOf, ValueOf, all_of, as_function, values_of}
 use Rattle.lowered_run.specs.holder_model.Effects as effects
 use Rattle.lowered_run.specs.holder_model.Effects.{Effect, effect_by, effect_of, unchanged}
@@ -59,7 +59,7 @@ use Rattle.lowering_laws.specs.lowering_model.declared.lowering.Lowering.TheVari
 use Rattle.holder_steps.specs.inner.Ways as holder
 use Rattle.lowered_steps.specs.inner.LowWays as ways
 use Rattle.stored_runs.specs.inner.Along.{AreTotalsFor, IsNextAlong, IsNoFault}
-use Rattle.stored_runs.specs.inner.CallsAlong.{AreCallsAlong, HandsRight}
+use Rattle.stored_runs.specs.inner.CallsAlong.{AreCallsAlong, CallsRight, HandsRight, lent_in}
 use Rattle.stored_runs.specs.inner.Entering.{HandsOver}
 use Rattle.stored_runs.specs.inner.Frames.{AreGivenPartsFull, AreTasksFor, HasFullParts, IsFrameAt, IsFrameFor, IsTaskFor}
 use Rattle.stored_runs.specs.inner.Lowering.{IsOwnName, LowersSo}
@@ -228,21 +228,22 @@ module _ (m : Module) (bound : ℕ) (s : HolderState) (l : LowState) (frame : Fr
         calls = low_calls reads.ys ∙ ap (effects.calls d low_told low_values l.memory j) (read ∙ ap (λ z. z ∷ ys) same);
       }
 
-  module _ (right : (g : FuncId) (args : List Datum) → holder_run.effect_in m (facts_of m) bound s frame i ops.given ≡ effects.Calls g args → HandsRight m s frame f g args) where
+  module _ (right : CallsRight m bound s frame f i ops) where
     module _ (g : FuncId) (args : List Datum) (is : holder_run.effect_in m (facts_of m) bound s frame i ops.given ≡ effects.Calls g args) where
       so : CallsSo g args
       so = calls_so g args (item_taken f (item.Inst p)) ops.given reads.ys refl refl reads.like (sym (holder_effect ops.given) ∙ is)
 
-      hands : HandsRight m s frame f g args
-      hands = right g args is
-
       -- a function with a body
-      module _ (callee : Function) (there_g : slice_get m.functions g.0 ≡ Some callee) (bodied : has_any callee.blocks ≡ true) where
+      module _ (callee : Function) (there_g : slice_get m.functions g.0 ≡ Some callee) (bodied : has_any callee.blocks ≡ true)
+          (before : are_as_before s.memory (lent_in f frame args) ≡ true) where
         abbrev lent : List LentPlace
-        lent = lent_places (drop 1 (item_taken f (item.Inst p))) args
+        lent = lent_in f frame args
+
+        hands : HandsRight m s frame f g callee args
+        hands = right g callee args is there_g bodied before
 
         lowers_g : LowersSo m g callee
-        lowers_g = hands.lowers callee there_g bodied
+        lowers_g = hands.lowers
 
         waits_for : IsTaskFor m (Runs (record left { lent = lent })) (Runs low)
         waits_for = IsTaskFor.runs _ _ (record {
@@ -253,7 +254,7 @@ module _ (m : Module) (bound : ℕ) (s : HolderState) (l : LowState) (frame : Fr
 
         hands_over : HandsOver l.memory callee (map as_argument args) so.args'
         hands_over = record {
-          as_many = as_many_read d f lowers.named low.values s.memory l.memory memory given_parts so.others args so.args' so.like ∙ hands.as_many callee there_g bodied;
+          as_many = as_many_read d f lowers.named low.values s.memory l.memory memory given_parts so.others args so.args' so.like ∙ hands.as_many;
           same = arguments_for d f lowers.named low.values s.memory l.memory memory given_parts so.others args so.args' so.like;
           full = parts_full_for d f lowers.named low.values s.memory l.memory memory given_parts so.others args so.args' so.like hands.full;
         }
@@ -363,7 +364,7 @@ module _ (m : Module) (bound : ℕ) (s : HolderState) (l : LowState) (frame : Fr
         → holder.Performs m (facts_of m) bound s rest left f (item.Inst p) e next → IsNoFault next → LowActs next
     performs _ is next (holder.Performs.makes c next' way) none =
         no_change (effects.Makes c) (sym (holder_effect ops.given) ∙ is) (λ g args h. absurd (cc)) (λ h. absurd (cc))
-    performs _ is next (holder.Performs.calls g args callee next' there_g bodied before way) none = calls_in g args is callee there_g bodied next way none
+    performs _ is next (holder.Performs.calls g args callee next' there_g bodied before way) none = calls_in g args is callee there_g bodied before next way none
     performs _ is next (holder.Performs.calls_out g args callee numbers next' there_g bodied counted some way) none =
         calls_out g args is callee there_g bodied numbers counted some next way none
     performs _ is _ (holder.Performs.no_turn g args callee numbers there_g bodied counted some) none = no_turn g args is callee there_g bodied numbers counted some

@@ -23,3 +23,5 @@ pub mod EndsAlong
 pub mod HandedOver
 pub mod CallsAlong
 pub mod TypedEnds
+pub mod TypedCalls
+pub mod FrameSteps

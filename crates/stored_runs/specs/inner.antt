@@ -15,3 +15,5 @@ pub mod EdgesTaken
 pub mod EndsAlong
 pub mod CallsAlong
 pub mod TypedEnds
+pub mod TypedCalls
+pub mod FrameSteps

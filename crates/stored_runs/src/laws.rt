@@ -1,8 +1,15 @@
 //! Laws of lowered runs beside runs by holders, on calls that do nothing. The lemmas behind them are in `proofs/`.
 
+ghost use Rattle.stored_runs.specs.inner.CallsAlong.{AreCallsAlong};
 ghost use Rattle.stored_runs.specs.inner.Current.{AreAcceptedCurrent, AreAllCurrent, AreNamesTaken};
+ghost use Rattle.stored_runs.specs.inner.EdgesTaken.{AreEdgesTaken};
+ghost use Rattle.stored_runs.specs.inner.EndsAlong.{AreEndsAlong};
+ghost use Rattle.stored_runs.specs.inner.Entering.{AreEntered};
+ghost use Rattle.stored_runs.specs.inner.FrameSteps.{CallsStep, EndsStep};
 ghost use Rattle.stored_runs.specs.inner.LoweredSo.{AreLoweredSo};
 ghost use Rattle.stored_runs.specs.inner.Memories.{AreFullRead};
+ghost use Rattle.stored_runs.specs.inner.TypedCalls.{AreCallsRight};
+ghost use Rattle.stored_runs.specs.inner.TypedEnds.{AreEndsPlain};
 
 /// What a full place holds is read in the lowered run too.
 pub fn full_places_are_read()
@@ -19,4 +26,20 @@ pub fn operands_are_current()
 /// Each function with a body of an accepted module is lowered as the run of the lowered module asks.
 pub fn functions_lower_so()
     ensures { AreLoweredSo }
+{}
+
+/// Where the run by holders enters a function, takes an edge, returns or calls, the lowered run does so too, and its stored numbers stay.
+pub fn calls_and_ends_go_along()
+    ensures entries { AreEntered }
+    ensures edges { AreEdgesTaken }
+    ensures ends { AreEndsAlong }
+    ensures calls { AreCallsAlong }
+    ensures end_steps { EndsStep }
+    ensures call_steps { CallsStep }
+{}
+
+/// Typed frames have what these ask of them, but for parts that are handed over, which are full.
+pub fn typed_frames_serve()
+    ensures ends { AreEndsPlain }
+    ensures calls { AreCallsRight }
 {}

@@ -3,4 +3,4 @@
 
 mod laws;
 
-pub use laws::{full_places_are_read, functions_lower_so, operands_are_current};
+pub use laws::{calls_and_ends_go_along, full_places_are_read, functions_lower_so, operands_are_current, typed_frames_serve};

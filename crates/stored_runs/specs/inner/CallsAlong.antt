@@ -15,7 +15,7 @@ use Rattle.type_definitions.specs.Declarations.{declarations_of}
 use Rattle.run_values.specs.Memory.{Memory}
 use Rattle.run_values.specs.Places.{cells_at}
 use Rattle.accepted_trails.specs.run_trails.inner.RunTrails.{IsTurnedTrail}
-use Rattle.lowered_run.specs.holder_model.Calling.{lent_places}
+use Rattle.lowered_run.specs.holder_model.Calling.{are_as_before, lent_places}
 use Rattle.lowered_run.specs.holder_model.Data.{Datum}
 use Rattle.lowered_run.specs.holder_model.Effects as effects
 use Rattle.lowered_run.specs.holder_model.Frames.{Frame, LentPlace, Operands, has_any, operands_of}
@@ -40,13 +40,24 @@ use Rattle.stored_runs.specs.inner.Memories.{IsMemoryFor, MayBeTaken}
 abbrev pub MayBeHandedOver : Memory → LentPlace → Type 0
 MayBeHandedOver memory x = x.row.before ≡ content.Empty → Each MayBeTaken (cells_at memory x.place)
 
+-- the places that the call at which the frame stands lends
+abbrev pub lent_in : Function → Frame → List Datum → List LentPlace
+lent_in f frame args = lent_places (drop 1 (item_taken f (item.Inst (stands_at f frame.trail)))) args
+
 -- what a call hands over to a function with a body
-pub record HandsRight (m : Module) (s : HolderState) (frame : Frame) (f : Function) (g : FuncId) (args : List Datum) : Type 0 where
-  pub lowers : (callee : Function) → slice_get m.functions g.0 ≡ Some callee → has_any callee.blocks ≡ true → LowersSo m g callee
-  pub as_many : (callee : Function) → slice_get m.functions g.0 ≡ Some callee → has_any callee.blocks ≡ true → length args ≡ length (item_defined callee item.Entry)
+pub record HandsRight (m : Module) (s : HolderState) (frame : Frame) (f : Function) (g : FuncId) (callee : Function) (args : List Datum) : Type 0 where
+  pub lowers : LowersSo m g callee
+  pub as_many : length args ≡ length (item_defined callee item.Entry)
   -- a part that is handed over is full
   pub full : Each (IsFullPart s.memory) args
-  pub taken : Each (MayBeHandedOver s.memory) (lent_places (drop 1 (item_taken f (item.Inst (stands_at f frame.trail)))) args)
+  pub taken : Each (MayBeHandedOver s.memory) (lent_in f frame args)
+
+-- so it is of the call that the instruction makes, where each place that is lent holds what is asked
+abbrev pub CallsRight : Module → ℕ → HolderState → Frame → Function → Inst → Operands → Type 0
+CallsRight m bound s frame f i ops = (g : FuncId) (callee : Function) (args : List Datum)
+    → holder_run.effect_in m (facts_of m) bound s frame i ops.given ≡ effects.Calls g args
+    → slice_get m.functions g.0 ≡ Some callee → has_any callee.blocks ≡ true → are_as_before s.memory (lent_in f frame args) ≡ true
+    → HandsRight m s frame f g callee args
 
 abbrev pub AreCallsAlong : Type 0
 AreCallsAlong = (m : Module) (bound : ℕ) (s : HolderState) (l : LowState) (frame : Frame) (rest : List (Task Frame)) (f : Function)
@@ -57,7 +68,7 @@ AreCallsAlong = (m : Module) (bound : ℕ) (s : HolderState) (l : LowState) (fra
     → inst_at f (stands_at f frame.trail) ≡ Some i → i.op ≡ op.Apply
     → IsItem f (item.Inst (stands_at f frame.trail)) → IsTurnedTrail f (item.Inst (stands_at f frame.trail) ∷ frame.trail)
     → operands_of (facts_told (facts_of m) frame.function) s.memory frame.entries (item_taken f (item.Inst (stands_at f frame.trail))) ≡ Ok ops
-    → ((g : FuncId) (args : List Datum) → holder_run.effect_in m (facts_of m) bound s frame i ops.given ≡ effects.Calls g args → HandsRight m s frame f g args)
+    → CallsRight m bound s frame f i ops
     → holder.Performs m (facts_of m) bound s rest (holder.left_with m (facts_of m) bound frame ops) f (item.Inst (stands_at f frame.trail))
       (holder_run.effect_in m (facts_of m) bound s frame i ops.given) next
     → IsNoFault next
