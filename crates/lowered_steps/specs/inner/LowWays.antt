@@ -94,7 +94,7 @@ module _ (m : Module) (told : ModuleShapes) (bound : ℕ) where
     calls_out : (g : FuncId) (args : List Datum) (callee : Function) (numbers : List ℤ) (next : LowNext) → slice_get m.functions g.0 ≡ Some callee
         → has_any callee.blocks ≡ false → steps.call_numbers m told bound args ≡ Some numbers → nat_lt s.turns bound ≡ true
         → GoesBehind (record (turned s) { events = s.events ++ event.Call g numbers ∷ [] }) rest frame f i
-          (record (unchanged s.memory) { results = ValueOf (value.Group value.NoValue) ∷ [] }) next
+        (record (unchanged s.memory) { results = ValueOf (value.Group value.NoValue) ∷ [] }) next
         → Performs s rest frame f i (effects.Calls g args) next
     no_turn : (g : FuncId) (args : List Datum) (callee : Function) (numbers : List ℤ) → slice_get m.functions g.0 ≡ Some callee
         → has_any callee.blocks ≡ false → steps.call_numbers m told bound args ≡ Some numbers → nat_lt s.turns bound ≡ false
