@@ -1,11 +1,12 @@
 -- An `apply` in both runs: a function with a body is entered, and one without a body is called for its event.
 use Rattle.std.proofs.Common.{◌≡◌, ◌⊎◌, inl, inr, ℕ, ℤ, zero, suc, ◌+◌, List, [], ◌∷◌, ◌++◌, length, map, drop, arith, refl, sym, ap, ◌∙◌, subst, Bool, true, false, Option, Some, None, Ok}
 use Rattle.std.specs.Prelude.{nat_lt, option_and_then, slice_get}
-use Rattle.std.proofs.lemmas.Bool.{true≢false}
+use Rattle.std.proofs.lemmas.Bool.{false≢true, true≢false}
 use Rattle.std.proofs.lemmas.Option.{none-some, same_Some}
 use Rattle.instruction_table.specs.declared.op.Op.{Op}
 use Rattle.instruction_table.specs.declared.op.Op.TheVariants as op
 use Rattle.numbered_form.specs.Lists.{Each}
+use Rattle.numbered_form.specs.Numbering as numbering
 use Rattle.ownership_chains.specs.declared.facts.Facts.{Facts}
 use Rattle.sil_ast.specs.declared.function.Block.{Block}
 use Rattle.sil_ast.specs.declared.function.Form.{Form}
@@ -24,6 +25,7 @@ use Rattle.item_operands.specs.Parts.{inst_at}
 use Rattle.item_operands.specs.declared.taken.Taken.{Taken}
 use Rattle.type_definitions.specs.Declarations.{Declarations, declarations_of}
 use Rattle.run_values.specs.Memory.{Memory}
+use Rattle.run_values.specs.Shapes.{Shape}
 use Rattle.run_values.specs.Values as value
 use Rattle.run_values.specs.Values.{Value, integer_of}
 use Rattle.accepted_trails.specs.run_trails.inner.RunTrails.{IsTurnedTrail}
@@ -54,7 +56,7 @@ use Rattle.lowering_laws.specs.ownership_origins.Renamings.{renames, renamings_o
 use Rattle.lowering_laws.specs.lowering_model.LoweredBlocks.{blocks_become}
 use Rattle.lowering_laws.specs.lowering_model.LoweredInsts.{lowering_of}
 use Rattle.lowering_laws.specs.lowering_model.LoweredModules.{lowered, lowered_body, lowered_by, lowered_function}
-use Rattle.lowering_laws.specs.lowering_model.Numbers.{renumbered_inst}
+use Rattle.lowering_laws.specs.lowering_model.Numbers.{new_number, numbering_of, renumbered, renumbered_inst}
 use Rattle.lowering_laws.specs.lowering_model.declared.lowering.Lowering.TheVariants as lowering
 use Rattle.holder_steps.specs.inner.Ways as holder
 use Rattle.lowered_steps.specs.inner.LowWays as ways
@@ -77,24 +79,28 @@ use Rattle.stored_runs.proofs.ValuesFor.{AreTakenSo, operands_given}
 
 -- ---- bodies stay bodies
 
-body_stays : (d : Declarations) (f : Function) → has_any f.blocks ≡ true → has_any (lowered_body d f).blocks ≡ true
-body_stays d f e = at f.blocks _ e
-  where
-    at : (bs : List Block) (n : ℕ) → has_any bs ≡ true → has_any (map _ (blocks_become d (renamings_of f) n bs)) ≡ true
-    at [] n h = absurd (cc)
-    at (b ∷ bs) n h = refl
+module _ (d : Declarations) (f : Function) where
+  abbrev lowered_from : ℕ → List Block → List Block
+  lowered_from n bs = renumbered (new_number (numbering_of d f)) (blocks_become d (renamings_of f) n bs)
 
-no_body_stays : (d : Declarations) (f : Function) → has_any f.blocks ≡ false → has_any (lowered_function d f).blocks ≡ false
-no_body_stays d f e = by f.form
-  where
-    none : (bs : List Block) (n : ℕ) → has_any bs ≡ false → has_any (map _ (blocks_become d (renamings_of f) n bs)) ≡ false
-    none [] n h = refl
-    none (b ∷ bs) n h = absurd (cc)
+  some_stay : (bs : List Block) (n : ℕ) → has_any bs ≡ true → has_any (lowered_from n bs) ≡ true
+  some_stay [] n h = absurd (false≢true h)
+  some_stay (b ∷ bs) n h = refl
 
-    by : (x : Form) → has_any (lowered_by x d f).blocks ≡ false
-    by form.Ossa = none f.blocks _ e
-    by form.Lowered = e
-    by form.External = e
+  none_stay : (bs : List Block) (n : ℕ) → has_any bs ≡ false → has_any (lowered_from n bs) ≡ false
+  none_stay [] n h = refl
+  none_stay (b ∷ bs) n h = absurd (true≢false h)
+
+  body_stays : has_any f.blocks ≡ true → has_any (lowered_body d f).blocks ≡ true
+  body_stays e = some_stay f.blocks (length (numbering.values_of f.blocks)) e
+
+  no_body_stays : has_any f.blocks ≡ false → has_any (lowered_function d f).blocks ≡ false
+  no_body_stays e = by f.form
+    where
+      by : (x : Form) → has_any (lowered_by x d f).blocks ≡ false
+      by form.Ossa = none_stay f.blocks (length (numbering.values_of f.blocks)) e
+      by form.Lowered = e
+      by form.External = e
 
 module _ (m : Module) (bound : ℕ) (s : HolderState) (l : LowState) (frame : Frame) (rest : List (Task Frame)) (f : Function)
     (low : LowFrame) (lrest : List (Task LowFrame)) (i : Inst) (ops : Operands)
@@ -171,7 +177,7 @@ module _ (m : Module) (bound : ℕ) (s : HolderState) (l : LowState) (frame : Fr
       ap (λ r. effect_by d (shapes_of m) (shapes_in (shapes_of m) frame.function) s.memory i
       (holder_effects.at_places d (shapes_of m) (shapes_in (shapes_of m) frame.function) s.memory i) r xs) row_is
 
-  abbrev low_values : List _
+  abbrev low_values : List Shape
   low_values = shapes_in low_told low.function
 
   low_calls : (xs : List Datum) → low_effect d low_told low_values l.memory j xs ≡ effects.calls d low_told low_values l.memory j xs
@@ -191,27 +197,27 @@ module _ (m : Module) (bound : ℕ) (s : HolderState) (l : LowState) (frame : Fr
     pub for : IsNextAlong m l.numbers next low_next
 
   -- the function and the arguments among the operands
-  pub record CallsSo (g : FuncId) (args : List Datum) : Type 0 where
-    pub args' : List Datum
-    pub taken : Taken
-    pub others : List Taken
-    pub taken_are : item_taken f (item.Inst p) ≡ taken ∷ others
-    pub like : AreReadAs d f lowers.named low.values others args args'
-    pub calls : low_effect d low_told low_values l.memory j reads.ys ≡ effects.Calls g args'
+  record CallsSo (g : FuncId) (args : List Datum) : Type 0 where
+    args' : List Datum
+    taken : Taken
+    others : List Taken
+    taken_are : item_taken f (item.Inst p) ≡ taken ∷ others
+    like : AreReadAs d f lowers.named low.values others args args'
+    calls : low_effect d low_told low_values l.memory j reads.ys ≡ effects.Calls g args'
 
   function_is : (z : Datum) (g : FuncId) → as_function z ≡ Some g → z ≡ FunctionOf g
   function_is (ValueOf v) g e = absurd (none-some g e)
   function_is (AddressOf q) g e = absurd (none-some g e)
   function_is (FunctionOf h) g e = ap FunctionOf (same_Some h g e)
 
-  calls_parts : (g : FuncId) (args : List Datum) (o : Option FuncId) (xs : List Datum) → effects.with_some (λ h. effects.Calls {X = HolderFault} h xs) o ≡ effects.Calls g args
+  calls_parts : (g : FuncId) (args : List Datum) (o : Option FuncId) (xs : List Datum) → ◌≡◌ {A = Effect HolderFault} (effects.with_some (λ h. effects.Calls h xs) o) (effects.Calls g args)
       → (o ≡ Some g) × (xs ≡ args)
   calls_parts g args None xs e = absurd (cc)
   calls_parts g args (Some h) xs e = (cc, cc)
 
   calls_so : (g : FuncId) (args : List Datum) (ts : List Taken) (xs ys : List Datum) → item_taken f (item.Inst p) ≡ ts → reads.ys ≡ ys
       → AreReadAs d f lowers.named low.values ts xs ys
-      → effects.calls d (shapes_of m) (shapes_in (shapes_of m) frame.function) s.memory i xs ≡ effects.Calls {X = HolderFault} g args → CallsSo g args
+      → ◌≡◌ {A = Effect HolderFault} (effects.calls d (shapes_of m) (shapes_in (shapes_of m) frame.function) s.memory i xs) (effects.Calls g args) → CallsSo g args
   calls_so g args ts [] ys taken read like e = absurd (cc)
   calls_so g args [] (x ∷ xs) ys taken read like e = absurd like
   calls_so g args (t ∷ ts) (x ∷ xs) [] taken read like e = absurd like
@@ -350,15 +356,15 @@ module _ (m : Module) (bound : ℕ) (s : HolderState) (l : LowState) (frame : Fr
     -- an `apply` makes nothing but a call
     no_change : {A : Type 0} (e : Effect HolderFault) → effects.calls d (shapes_of m) (shapes_in (shapes_of m) frame.function) s.memory i ops.given ≡ e
         → ((g : FuncId) (args : List Datum) → e ≡ effects.Calls g args → A) → (e ≡ effects.Unfit → A) → A
-    no_change e is calls unfit = at ops.given is
+    no_change {A} e is calls unfit = at ops.given is
       where
-        at : (xs : List Datum) → effects.calls d (shapes_of m) (shapes_in (shapes_of m) frame.function) s.memory i xs ≡ e → _
+        by : (xs : List Datum) (o : Option FuncId) → effects.with_some (λ g. effects.Calls g xs) o ≡ e → A
+        by xs None k = unfit (sym k)
+        by xs (Some g) k = calls g xs (sym k)
+
+        at : (xs : List Datum) → effects.calls d (shapes_of m) (shapes_in (shapes_of m) frame.function) s.memory i xs ≡ e → A
         at [] h = unfit (sym h)
-        at (x ∷ xs) h = by (as_function x) h
-          where
-            by : (o : Option FuncId) → effects.with_some (λ g. effects.Calls g xs) o ≡ e → _
-            by None k = unfit (sym k)
-            by (Some g) k = calls g xs (sym k)
+        at (x ∷ xs) h = by xs (as_function x) h
 
     performs : (e : Effect HolderFault) → holder_run.effect_in m (facts_of m) bound s frame i ops.given ≡ e → (next : HolderNext)
         → holder.Performs m (facts_of m) bound s rest left f (item.Inst p) e next → IsNoFault next → LowActs next

@@ -262,10 +262,10 @@ module _ (m : Module) (bound : ℕ) (s : HolderState) (l : LowState) (frame : Fr
     IsPut entries = results_put facts (item_defined f (item.Edge e)) carried ops.left ≡ Ok entries
 
     -- what the lowered edge carries, and that it is put
-    pub record LowCarried : Type 0 where
-      pub low_carried : List Datum
-      pub low_along : carried_along lf e ops.given ≡ Some low_carried
-      pub puts : (entries : List Entry) → IsPut entries → Puts low_carried entries
+    record LowCarried : Type 0 where
+      low_carried : List Datum
+      low_along : carried_along lf e ops.given ≡ Some low_carried
+      puts : (entries : List Entry) → IsPut entries → Puts low_carried entries
 
     -- ---- the block keeps its arguments
 
@@ -314,7 +314,7 @@ module _ (m : Module) (bound : ℕ) (s : HolderState) (l : LowState) (frame : Fr
       low_along =
           parts_carried lf e ops.given t' y' [] low_ends low_there
           (ap (λ z. carried_by z lf e y' ops.given) switches
-          ∙ ap (λ as. option_map (switched_data parts.y (length as)) (first_value_of ops.given)) no_args
+          ∙ ap (λ args. option_map (switched_data parts.y (length args)) (first_value_of ops.given)) no_args
           ∙ ap (option_map (switched_data parts.y 0)) switched.1
           ∙ ap (λ b. Some (cond b (cond (0 == 0) [] (ValueOf x ∷ [])) (payload_data x))) default)
 

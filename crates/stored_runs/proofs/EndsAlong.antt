@@ -34,7 +34,7 @@ use Rattle.type_definitions.specs.Declarations.{Declarations, declarations_of}
 use Rattle.value_tables.specs.FirstValue.{value_of}
 use Rattle.run_values.specs.Memory.{Memory, Object, is_dead, object_at}
 use Rattle.run_values.specs.Shapes.{Shape, Unknown}
-use Rattle.run_values.specs.Values.{Value, case_of, references_of}
+use Rattle.run_values.specs.Values.{ChosenCase, Value, case_of, references_of}
 use Rattle.accepted_trails.specs.run_trails.inner.RunTrails.{ComesAt, IsAtEnd, IsTurnedTrail}
 use Rattle.accepted_trails.proofs.run_trails.TurnedTrails.{turned_item}
 use Rattle.lowered_run.specs.holder_model.declared.left_object.LeftObject.{LeftObject}
@@ -108,7 +108,7 @@ module _ (m low : Memory) (h : IsMemoryFor m low) where
 
 place_mapped : {A B : Type 0} (p : B → Bool) (q : A → Bool) (g : A → B) → ((x : A) → p (g x) ≡ q x) → (xs : List A) → position_or_len p (map g xs) ≡ position_or_len q xs
 place_mapped p q g h [] = refl
-place_mapped p q g h (x ∷ xs) = ap₂ (λ b n. cond b 0 (suc n)) (h x) (place_mapped p q g h xs)
+place_mapped p q g h (x ∷ xs) = ap₂ (λ b n. cond (not b) (1 + n) 0) (h x) (place_mapped p q g h xs)
 
 position_mapped : {A B : Type 0} (p : B → Bool) (q : A → Bool) (g : A → B) → ((x : A) → p (g x) ≡ q x) → (xs : List A) → position p (map g xs) ≡ position q xs
 position_mapped p q g h xs = ap₂ (λ k n. cond (nat_lt k n) (Some k) None) (place_mapped p q g h xs) (length-map xs g)
@@ -116,7 +116,7 @@ position_mapped p q g h xs = ap₂ (λ k n. cond (nat_lt k n) (Some k) None) (pl
 same_edge : (number : ValueId → ValueId) (s : Shape) (es : List Edge) (v : Value) → case_edge s (map (renumbered_edge number) es) v ≡ case_edge s es v
 same_edge number s es v = at (case_of v)
   where
-    at : (o : Option _) → option_and_then (λ c. edge_for s (map (renumbered_edge number) es) c.index) o ≡ option_and_then (λ c. edge_for s es c.index) o
+    at : (o : Option ChosenCase) → option_and_then (λ (c : ChosenCase). edge_for s (map (renumbered_edge number) es) c.index) o ≡ option_and_then (λ (c : ChosenCase). edge_for s es c.index) o
     at None = refl
     at (Some c) =
         ap₂ option_or (position_mapped (is_for s c.index) (is_for s c.index) (renumbered_edge number) (λ e. refl) es)
@@ -179,6 +179,10 @@ module _ (m : Module) (bound : ℕ) (s : HolderState) (l : LowState) (frame : Fr
     pub way : ways.Acts (lowered m) low_told bound l lrest low lf low_next
     pub for : IsNextAlong m l.numbers next low_next
 
+  -- whatever the tasks are
+  same_totals : {tasks : List (Task Frame)} {lows : List (Task LowFrame)} → AreTotalsFor (record s { tasks = tasks }) (record l { tasks = lows })
+  same_totals = record { events = totals.events; turns = totals.turns; retains = totals.retains; releases = totals.releases }
+
   module _ (i : Inst) (stands : holder.StandsAtEnd m (facts_of m) bound frame f i) where
     abbrev j : Inst
     j = renumbered_inst number i
@@ -192,7 +196,7 @@ module _ (m : Module) (bound : ℕ) (s : HolderState) (l : LowState) (frame : Fr
       terminator = ap (λ (q : PointId). terminator_of lf q.block.0) frames.at ∙ low_end.terminator;
     }
 
-    is_end : IsAtEnd f p
+    abbrev is_end : IsAtEnd f p
     is_end = record { terminator = i; behind_insts = stands.behind; there = stands.terminator }
 
     -- ---- edges
@@ -286,14 +290,14 @@ module _ (m : Module) (bound : ℕ) (s : HolderState) (l : LowState) (frame : Fr
 
       pub record LowChooses (choose : Value → Option ℕ) : Type 0 where
         pub low_choose : Value → Option ℕ
-        pub is : ways.Chooses (lowered m) low_told bound low j low_choose
+        pub chooses : ways.Chooses (lowered m) low_told bound low j low_choose
         pub same : low_choose v ≡ choose v
 
       low_chooses : (choose : Value → Option ℕ) → holder.Chooses m (facts_of m) bound frame i choose → LowChooses choose
-      low_chooses _ (holder.Chooses.by_bit two) = record { low_choose = branch_of; is = ways.Chooses.by_bit two; same = refl }
+      low_chooses _ (holder.Chooses.by_bit two) = record { low_choose = branch_of; chooses = ways.Chooses.by_bit two; same = refl }
       low_chooses _ (holder.Chooses.by_case cases) = record {
         low_choose = steps.switch_edge (lowered m) low_told bound low j;
-        is = ways.Chooses.by_case cases;
+        chooses = ways.Chooses.by_case cases;
         same = ap (λ sh. case_edge sh j.edges v) same_shape ∙ same_edge number (switched_shape (shapes_in (shapes_of m) frame.function) i) i.edges v;
       }
 
@@ -312,7 +316,7 @@ module _ (m : Module) (bound : ℕ) (s : HolderState) (l : LowState) (frame : Fr
         let c = low_chooses so.0 so.1 x v chosen value k y.0 y.1 choose chooses in
         record {
           low_next = e.low_next;
-          way = ways.Acts.chooses j c.low_choose (x ∷ []) x v k e.low_next low_stands c.is (low_chosen so.0 so.1 x v chosen value k y.0 y.1) refl value (c.same ∙ choice) e.way;
+          way = ways.Acts.chooses j c.low_choose (x ∷ []) x v k e.low_next low_stands c.chooses (low_chosen so.0 so.1 x v chosen value k y.0 y.1) refl value (c.same ∙ choice) e.way;
           for = e.for;
         }
 
@@ -426,14 +430,14 @@ module _ (m : Module) (bound : ℕ) (s : HolderState) (l : LowState) (frame : Fr
           (resumes waiting tasks g there_g owed.0 owed.1 lw.0 lows lw.2 h.1 (subst (λ u. Each (HasFullParts m l.memory) (u ∷ lows)) lw.1 fs) next way none)
       reaches (Runs waiting ∷ tasks) (t ∷ lows) h fs owes _ (holder.Reaches.no_function _ _ e) none = absurd (none WrongShape s refl)
       reaches (Drops references ∷ tasks) (t ∷ lows) h fs owes _ (holder.Reaches.on_drops _ _) none = absurd (none WrongShape s refl)
-      reaches (Finishes deinits o ∷ tasks) (t ∷ lows) h fs owes _ (holder.Reaches.finishes _ _ _) none =
-          let same = low_finish m deinits o t h.0 in
-          subst (λ u. LowReaches (u ∷ lows) (Goes (record s { tasks = Finishes deinits o ∷ tasks }))) (sym same)
+      reaches (Finishes deinits object ∷ tasks) (t ∷ lows) h fs owes _ (holder.Reaches.finishes _ _ _) none =
+          let same = low_finish m deinits object t h.0 in
+          subst (λ u. LowReaches (u ∷ lows) (Goes (record s { tasks = Finishes deinits object ∷ tasks }))) (sym same)
           (record {
-            low_next = Goes (record l { tasks = Finishes deinits o ∷ lows });
-            way = ways.Reaches.finishes deinits o lows;
-            for = IsNextAlong.goes _ _
-                (record { tasks = (IsTaskFor.finishes deinits o, h.1); memory = memory; parts = (tt, fs.1); totals = totals }) refl;
+            low_next = Goes (record l { tasks = Finishes deinits object ∷ lows });
+            way = ways.Reaches.finishes deinits object lows;
+            for = IsNextAlong.goes (record s { tasks = Finishes deinits object ∷ tasks }) (record l { tasks = Finishes deinits object ∷ lows })
+                (record { tasks = (IsTaskFor.finishes deinits object, h.1); memory = memory; parts = (tt, fs.1); totals = same_totals }) refl;
           })
 
       leaves : (next : HolderNext) → holder.Leaves m (facts_of m) bound s rest (record frame { entries = ops.left }) f x next → IsNoFault next → LowActs next

@@ -16,7 +16,7 @@ use Rattle.type_definitions.specs.Declarations.{Declarations, declarations_of}
 use Rattle.run_values.specs.Memory.{Memory}
 use Rattle.accepted_trails.specs.inner.Defined.{makes}
 use Rattle.accepted_trails.proofs.Tests.{each_among, picked, same_value}
-use Rattle.accepted_values.proofs.run_typing_laws.ItemFacts.{values_counted}
+use Rattle.lowering_laws.proofs.run_typing_laws.ItemFacts.{values_counted}
 use Rattle.lowered_run.specs.holder_model.declared.limits.TheConstants.{FRAMES}
 use Rattle.lowered_run.specs.holder_model.declared.trap.Trap.TheVariants as trap
 use Rattle.lowered_run.specs.holder_model.Calling.{value_count}
@@ -29,6 +29,7 @@ use Rattle.lowered_run.specs.holder_model.StepParts as parts
 use Rattle.lowered_run.specs.holder_model.States.{Drops, Ends, Finishes, Goes, OutOfTurns, Runs, Task, Trapped, frame_count}
 use Rattle.lowered_run.specs.LowFrames.{LowFrame, no_values, put_all, value_at}
 use Rattle.lowered_run.specs.LowStepParts.{LowNext, LowState, new_frame}
+use Rattle.lowering_laws.proofs.Lists.{each_weaker}
 use Rattle.lowering_laws.specs.lowering_model.LoweredModules.{lowered, lowered_body}
 use Rattle.holder_steps.specs.inner.Ways as holder
 use Rattle.lowered_steps.specs.inner.LowWays as ways
@@ -42,7 +43,6 @@ use Rattle.stored_runs.specs.inner.Runs.{IsEndingFor}
 use Rattle.stored_runs.proofs.LoweredCode.{first_lowered}
 use Rattle.stored_runs.proofs.PutValues.{no_entry, no_value, put_holds, put_total}
 use Rattle.stored_runs.proofs.Reading.{Like, behind_current}
-use Rattle.stored_runs.proofs.StayingSteps.{each_weaker}
 use Rattle.stored_runs.proofs.ValuesFor.{AreLike, ArePut, results_shown}
 
 -- ---- as many frames

@@ -1,5 +1,5 @@
 -- A frame goes on behind an item that makes no references and drops none: the lowered frame does so too.
-use Rattle.std.proofs.Common.{◌≡◌, ◌⊎◌, inl, inr, ℕ, zero, suc, ◌+◌, ◌<◌, List, [], ◌∷◌, length, map, arith, refl, sym, ap, ◌∙◌, subst, Bool, true, false, cond, Option, Some, None, Ok, Err, eq-eqb}
+use Rattle.std.proofs.Common.{◌≡◌, ◌⊎◌, inl, inr, ℕ, zero, suc, ◌+◌, ◌<◌, List, [], ◌∷◌, ◌++◌, length, map, arith, refl, sym, ap, ◌∙◌, subst, Bool, true, false, cond, Option, Some, None, Ok, Err, eq-eqb}
 use Rattle.std.specs.Prelude.{◌==◌, is_some, slice_get}
 use Rattle.std.proofs.lemmas.Bool.{cases_Bool, eqb-false, eqb-true}
 use Rattle.std.proofs.lemmas.Option.{same_Some}
@@ -29,6 +29,8 @@ use Rattle.lowered_run.specs.holder_model.Standing.{behind}
 use Rattle.lowered_run.specs.holder_model.States.{Goes, Runs, Task}
 use Rattle.lowered_run.specs.LowFrames.{LowFrame, put_all, value_at}
 use Rattle.lowered_run.specs.LowStepParts.{LowNext, LowState, numbers_for}
+use Rattle.lowered_run.specs.Stored.{new_numbers}
+use Rattle.lowering_laws.proofs.Lists.{each_weaker}
 use Rattle.lowering_laws.specs.lowering_model.LoweredModules.{lowered, lowered_body}
 use Rattle.holder_steps.specs.inner.Ways as holder
 use Rattle.lowered_steps.specs.inner.LowWays as ways
@@ -40,7 +42,6 @@ use Rattle.stored_runs.specs.inner.Names.{IsCurrent, IsOld, lowered_number}
 use Rattle.stored_runs.specs.inner.Points.{lowered_point}
 use Rattle.stored_runs.proofs.PutValues.{put_other}
 use Rattle.stored_runs.proofs.Reading.{Like, behind_current, like_itself}
-use Rattle.stored_runs.proofs.StayingSteps.{each_weaker}
 use Rattle.stored_runs.proofs.ValuesFor.{ArePut, like_same, ok-ok, results_shown}
 
 module _ (m : Module) (bound : ℕ) (s : HolderState) (l : LowState) (totals : AreTotalsFor s l) (memory : IsMemoryFor s.memory l.memory)
@@ -70,7 +71,7 @@ module _ (m : Module) (bound : ℕ) (s : HolderState) (l : LowState) (totals : A
     pub put : put_all (item_defined lf li) ys low.values ≡ Some values'
     pub as_many : length values' ≡ length low.values
     pub shown : AreValuesFor d f (i ∷ frame.trail) entries values'
-    pub full : AreGivenPartsFull d f values' l.memory
+    pub parts : AreGivenPartsFull d f values' l.memory
 
   pub parts_full : AreGivenPartsFull d f low.values l.memory
   parts_full = full.0 f (ap (λ (g : FuncId). slice_get m.functions g.0) frames.function ∙ there)
@@ -103,7 +104,7 @@ module _ (m : Module) (bound : ℕ) (s : HolderState) (l : LowState) (totals : A
           put = ap (λ vs. put_all vs xs low.values) defines ∙ putting.is;
           as_many = putting.size;
           shown = behind_current d f lowers.named frame.trail i (item_defined f i) refl own entries putting.values' putting.shown;
-          full = λ v p given at part.
+          parts = λ v p given at part.
               parts_full v p given
               (sym (put_other (map number (item_defined f i)) xs low.values putting.values' (number v) putting.is
               (other_numbers v given (item_defined f i) own all_made)) ∙ at) part;
@@ -120,13 +121,13 @@ module _ (m : Module) (bound : ℕ) (s : HolderState) (l : LowState) (totals : A
   -- nothing is put
   pub puts_none : (i li : Item) → item_defined lf li ≡ [] → (entries : List Entry) → AreValuesFor d f (i ∷ frame.trail) entries low.values → PutsSo i li [] entries
   puts_none i li none entries shown =
-      record { values' = low.values; put = ap (λ vs. put_all vs [] low.values) none; as_many = refl; shown = shown; full = parts_full }
+      record { values' = low.values; put = ap (λ vs. put_all vs [] low.values) none; as_many = refl; shown = shown; parts = parts_full }
 
   -- ---- the frame goes on
 
   numbers_stay : numbers_for l.memory l.numbers ≡ l.numbers
   numbers_stay =
-      ap (λ b. cond b l.numbers _) (eq-eqb (length l.numbers) (length l.memory.objects) (size ∙ sym (AllZip-long IsObjectFor s.memory.objects l.memory.objects memory.objects)))
+      ap (λ b. cond b l.numbers (l.numbers ++ new_numbers ∷ [])) (eq-eqb (length l.numbers) (length l.memory.objects) (size ∙ sym (AllZip-long IsObjectFor s.memory.objects l.memory.objects memory.objects)))
 
   pub record LowBehind (li : Item) (ys : List Datum) (next : HolderNext) : Type 0 where
     pub low_next : LowNext
@@ -164,7 +165,7 @@ module _ (m : Module) (bound : ℕ) (s : HolderState) (l : LowState) (totals : A
         full_for : HasFullParts m l.memory (Runs (record low { at = behind lf li; values = put.values'; slots = low.slots }))
         full_for g is =
             let one : f ≡ g = same_Some f g (sym (ap (λ (h : FuncId). slice_get m.functions h.0) frames.function ∙ there) ∙ is) in
-            subst (λ h. AreGivenPartsFull d h put.values' l.memory) one put.full
+            subst (λ h. AreGivenPartsFull d h put.values' l.memory) one put.parts
 
     pub goes_along : (next : HolderNext) → holder.GoesBehind m (facts_of m) bound s rest frame f i (record (unchanged s.memory) { results = xs }) next → IsNoFault next
         → LowBehind li ys next

@@ -10,7 +10,7 @@ use Rattle.sil_ast.specs.declared.function.Function.{Function}
 use Rattle.sil_ast.specs.declared.place.ObjectId.{ObjectId}
 use Rattle.sil_ast.specs.declared.place.ValueId.{ValueId}
 use Rattle.sil_cfg.specs.declared.item.Item.TheVariants as item
-use Rattle.item_operands.specs.declared.taken.Taken.{Taken}
+use Rattle.item_operands.specs.declared.taken.Taken as taken
 use Rattle.type_definitions.specs.Declarations.{Declarations}
 use Rattle.run_values.specs.Cells.{Cell, Empty, cell_count}
 use Rattle.run_values.specs.Memory.{Memory, Object, no_object, object_at, put_cells, with_object}
@@ -58,36 +58,37 @@ set_cases (y ∷ xs) (suc k) (suc j) x = at (set_cases xs k j x)
     at (inr (e, g)) = inr (ap suc e, g)
 
 module _ (m : Memory) (p q : Place) where
+  abbrev Taken : List Cell → Type 0
+  Taken cells = Each MayBeTaken (take (cell_count q.shape) (drop q.first cells))
+
+  abbrev put : List Cell → List Cell
+  put cells = put_cells cells p.first (replicate (cell_count p.shape) Empty)
+
+  put_so : (cells : List Cell) → Taken cells → Taken (put cells)
+  put_so cells k = each_put cells p.first (cell_count p.shape) q.first (cell_count q.shape) k
+
+  abbrev emptied_object : ObjectId → Object
+  emptied_object o = record (object_at m o) { cells = put (object_at m o).cells }
+
+  inside : (o u : ObjectId) → Taken (object_at m u).cells → Taken (object_at (with_object m o (emptied_object o)) u).cells
+  inside o u k = at (set_cases m.objects o.0 u.0 (emptied_object o))
+    where
+      at : (object_at (with_object m o (emptied_object o)) u ≡ object_at m u) ⊎ ((u.0 ≡ o.0) × (object_at (with_object m o (emptied_object o)) u ≡ emptied_object o))
+          → Taken (object_at (with_object m o (emptied_object o)) u).cells
+      at (inl same) = subst (λ (x : Object). Taken x.cells) (sym same) k
+      at (inr (is, same)) =
+          subst (λ (x : Object). Taken x.cells) (sym same)
+          (put_so (object_at m o).cells (subst (λ n. Taken (unwrap_or (slice_get m.objects n) no_object).cells) is k))
+
+  homes : (home other : Home) → Taken (home_cells m other) → Taken (home_cells (with_home_cells m home (put (home_cells m home))) other)
+  homes OnStack OnStack k = put_so m.stack k
+  homes OnStack (Inside u) k = k
+  homes (Inside o) OnStack k = k
+  homes (Inside o) (Inside u) k = inside o u k
+
   -- the cells of a place may be taken as well when another one is emptied
   still_taken : Each MayBeTaken (cells_at m q) → Each MayBeTaken (cells_at (emptied m p) q)
-  still_taken h = by p.home q.home h
-    where
-      abbrev Taken : List Cell → Type 0
-      Taken cells = Each MayBeTaken (take (cell_count q.shape) (drop q.first cells))
-
-      abbrev put : List Cell → List Cell
-      put cells = put_cells cells p.first (replicate (cell_count p.shape) Empty)
-
-      put_so : (cells : List Cell) → Taken cells → Taken (put cells)
-      put_so cells k = each_put cells p.first (cell_count p.shape) q.first (cell_count q.shape) k
-
-      inside : (o u : ObjectId) → Taken (object_at m u).cells → Taken (object_at (with_object m o (record (object_at m o) { cells = put (object_at m o).cells })) u).cells
-      inside o u k = at (set_cases m.objects o.0 u.0 (record (object_at m o) { cells = put (object_at m o).cells }))
-        where
-          abbrev after : Object
-          after = object_at (with_object m o (record (object_at m o) { cells = put (object_at m o).cells })) u
-
-          at : (after ≡ object_at m u) ⊎ ((u.0 ≡ o.0) × (after ≡ record (object_at m o) { cells = put (object_at m o).cells })) → Taken after.cells
-          at (inl same) = subst (λ (x : Object). Taken x.cells) (sym same) k
-          at (inr (is, same)) =
-              subst (λ (x : Object). Taken x.cells) (sym same)
-              (put_so (object_at m o).cells (subst (λ n. Taken (unwrap_or (slice_get m.objects n) no_object).cells) is k))
-
-      by : (home other : Home) → Taken (home_cells m other) → Taken (home_cells (with_home_cells m home (put (home_cells m home))) other)
-      by OnStack OnStack k = put_so m.stack k
-      by OnStack (Inside u) k = k
-      by (Inside o) OnStack k = k
-      by (Inside o) (Inside u) k = inside o u k
+  still_taken h = homes p.home q.home h
 
 module _ (low : Memory) where
   each_still : (m : Memory) (x : LentPlace) (c : Content) (xs : List LentPlace) → Each (MayBeHandedOver m) xs → Each (MayBeHandedOver (emptied_for m x c)) xs
@@ -117,7 +118,7 @@ module _ (d : Declarations) (f : Function) (named : AreNamed d f) (values : List
   one_argument v x y (inl same) = ap as_argument same
   one_argument v x y (inr (made, whole)) = sym (whole_twice y) ∙ ap as_argument whole
 
-  pub arguments_for : (ts : List Taken) (xs ys : List Datum) → AreReadAs d f named values ts xs ys → AllZip IsArgumentFor (map as_argument xs) ys
+  pub arguments_for : (ts : List taken.Taken) (xs ys : List Datum) → AreReadAs d f named values ts xs ys → AllZip IsArgumentFor (map as_argument xs) ys
   arguments_for [] [] [] h = tt
   arguments_for [] [] (y ∷ ys) h = absurd h
   arguments_for [] (x ∷ xs) ys h = absurd h
@@ -133,7 +134,7 @@ module _ (d : Declarations) (f : Function) (named : AreNamed d f) (values : List
   one_full v x y at (inl same) full p is part = full_in_both (value_at m p) p refl (full p (sym same ∙ is) part)
   one_full v x y at (inr (made, whole)) full p is part = given v p made (at ∙ ap Some is) part
 
-  pub parts_full_for : (ts : List Taken) (xs ys : List Datum) → AreReadAs d f named values ts xs ys → Each (IsFullPart m) xs → Each (IsFullPart low) ys
+  pub parts_full_for : (ts : List taken.Taken) (xs ys : List Datum) → AreReadAs d f named values ts xs ys → Each (IsFullPart m) xs → Each (IsFullPart low) ys
   parts_full_for [] [] [] h k = tt
   parts_full_for [] [] (y ∷ ys) h k = absurd h
   parts_full_for [] (x ∷ xs) ys h k = absurd h
@@ -141,7 +142,7 @@ module _ (d : Declarations) (f : Function) (named : AreNamed d f) (values : List
   parts_full_for (t ∷ ts) (x ∷ xs) [] h k = absurd h
   parts_full_for (t ∷ ts) (x ∷ xs) (y ∷ ys) h k = (one_full t.value x y h.0.0 h.0.1 k.0, parts_full_for ts xs ys h.1 k.1)
 
-  pub as_many_read : (ts : List Taken) (xs ys : List Datum) → AreReadAs d f named values ts xs ys → length ys ≡ length xs
+  pub as_many_read : (ts : List taken.Taken) (xs ys : List Datum) → AreReadAs d f named values ts xs ys → length ys ≡ length xs
   as_many_read [] [] [] h = refl
   as_many_read [] [] (y ∷ ys) h = absurd h
   as_many_read [] (x ∷ xs) ys h = absurd h
@@ -160,7 +161,7 @@ module _ (d : Declarations) (f : Function) (named : AreNamed d f) (values : List
   value_exact v (AddressOf p) y z e h = absurd (none-some z e)
   value_exact v (FunctionOf g) y z e h = absurd (none-some z e)
 
-  pub values_read : (ts : List Taken) (xs ys : List Datum) (vs : List Value) → values_of xs ≡ Some vs → AreReadAs d f named values ts xs ys → ys ≡ xs
+  pub values_read : (ts : List taken.Taken) (xs ys : List Datum) (vs : List Value) → values_of xs ≡ Some vs → AreReadAs d f named values ts xs ys → ys ≡ xs
   values_read [] [] [] vs e h = refl
   values_read [] [] (y ∷ ys) vs e h = absurd h
   values_read [] (x ∷ xs) ys vs e h = absurd h

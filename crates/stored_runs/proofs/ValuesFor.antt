@@ -171,7 +171,7 @@ read_so values (v ∷ vs) (x ∷ xs) h =
 value_set : (values : List (Option Datum)) (v : ValueId) (x : Datum) → v.0 < length values → low_frames.value_at (set values v.0 (Some x)) v ≡ Some x
 value_set values v x lt = unwrap_or-slice_get (set values v.0 (Some x)) v.0 None ∙ get_or-set_same values v.0 (Some x) None lt
 
-value_other : (values : List (Option Datum)) (v w : ValueId) (x : Datum) → (w.0 == v.0) ≡ false → low_frames.value_at (set values v.0 (Some x)) w ≡ low_frames.value_at values w
+pub value_other : (values : List (Option Datum)) (v w : ValueId) (x : Datum) → (w.0 == v.0) ≡ false → low_frames.value_at (set values v.0 (Some x)) w ≡ low_frames.value_at values w
 value_other values v w x other =
     unwrap_or-slice_get (set values v.0 (Some x)) w.0 None ∙ get_or-set_other values v.0 w.0 (Some x) None (eqb-false w.0 v.0 other)
     ∙ sym (unwrap_or-slice_get values w.0 None)
