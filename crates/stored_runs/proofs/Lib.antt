@@ -7,6 +7,7 @@ pub mod LoweredCode
 pub mod RenamingRows
 pub mod NamesTaken
 pub mod NamesCurrent
+pub mod AllCurrent
 pub mod LoweredNames
 pub mod LoweredEdges
 pub mod LoweredSo

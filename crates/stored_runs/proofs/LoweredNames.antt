@@ -18,7 +18,7 @@ use Rattle.lowering_laws.specs.lowering_model.LoweredModules.{lowered_body}
 use Rattle.lowering_laws.specs.lowering_model.Names.{renamed_from, stands_for, stands_within, unless_renamed}
 use Rattle.lowering_laws.specs.lowering_model.Numbers.{new_number, numbering_of, place_among}
 use Rattle.lowering_laws.proofs.Ends.{names_end, stands_itself}
-use Rattle.lowering_laws.proofs.Placed.{beyond, old_are_placed}
+use Rattle.lowering_laws.proofs.Placed.{no_operands, old_are_placed}
 use Rattle.lowering_laws.proofs.Renumbered.{renumbered_values}
 use Rattle.lowering_laws.proofs.ownership_origins.Counts.{are_of_values}
 use Rattle.stored_runs.specs.inner.Names.{AreNamed, IsOld, lowered_count, lowered_number}
@@ -81,7 +81,7 @@ module _ (functions : ℕ) (d : Declarations) (f : Function) (l : IsLowerable fu
     where
       at : IsOld f v ⊎ (length names ≤ v.0) → lowered_number d f v ≡ lowered_number d f (stands_for names v)
       at (inl lt) = ap (place_among (defined_by d f)) (sym (stands_itself names (stands_for names v) (own_name v lt)))
-      at (inr le) = ap (lowered_number d f) (sym (stands_itself names v (beyond names v le)))
+      at (inr le) = ap (lowered_number d f) (sym (stands_itself names v (ap (λ vs. slice_get vs 0) (no_operands names v le))))
 
   apart : (v w : ValueId) → IsOld f v → IsOld f w → lowered_number d f v ≡ lowered_number d f w → stands_for names v ≡ stands_for names w
   apart v w small lt e =

@@ -52,7 +52,7 @@ use Rattle.stored_runs.specs.inner.Names.{AreNamed, IsOld, lowered_number}
 use Rattle.stored_runs.proofs.LoweredCode.{mapped_at}
 use Rattle.stored_runs.proofs.LoweredEdges.{both_each, edge_lowered, entry_defined, entry_own, one_chosen}
 use Rattle.stored_runs.proofs.LoweredNames.{are_named, own_name, same_end}
-use Rattle.stored_runs.proofs.NamesCurrent.{all_current}
+use Rattle.stored_runs.proofs.AllCurrent.{all_current}
 use Rattle.stored_runs.proofs.Reading.{defines_there}
 use Rattle.stored_runs.proofs.RenamingRows.{IsNamedBy, results_named}
 

@@ -16,7 +16,7 @@ use Rattle.sil_cfg.specs.declared.item.Item.{Item}
 use Rattle.sil_cfg.specs.declared.item.Item.TheVariants as items
 use Rattle.sil_cfg.specs.inner.Splice.{Precedes, Stop, is_at, item, same_item}
 use Rattle.sil_cfg.proofs.Places.{same_item-true}
-use Rattle.type_definitions.specs.Declarations.{Declarations, declarations_of}
+use Rattle.type_definitions.specs.Declarations.{Declarations}
 use Rattle.ownership_chains.specs.declared.definition.Definition.{Definition}
 use Rattle.lowering_laws.specs.ownership_origins.Renamings.{renamings_of}
 use Rattle.lowering_laws.specs.lowering_model.Names.{renamed_from, stands_within, unless_renamed}
@@ -28,12 +28,9 @@ use Rattle.accepted_trails.specs.inner.Accepted.{IsAcceptedIn}
 use Rattle.accepted_trails.specs.inner.Bases.{MakesAtStops}
 use Rattle.accepted_trails.specs.inner.Defined.{IsDefinedOn, IsTakenFrom, makes}
 use Rattle.accepted_trails.proofs.OperandsDefined.{operands_defined}
-use Rattle.accepted_trails.proofs.Unbroken.{are_accepted}
 use Rattle.accepted_trails.proofs.Tests.{any_alike, any_reversed, each_among, each_weaker, either, or_right, picked, same_value}
-use Rattle.accepted_premises.proofs.MadeAtStops.{made_at_stops}
-use Rattle.stored_runs.specs.inner.Current.{AreAcceptedCurrent, AreAllCurrent, TakesNamed, is_of}
+use Rattle.stored_runs.specs.inner.Current.{AreAcceptedCurrent, TakesNamed, is_of}
 use Rattle.stored_runs.specs.inner.Names.{IsTakenCurrent}
-use Rattle.stored_runs.proofs.NamesTaken.{names_taken}
 
 -- what passes has come since itself
 since_itself : (p : Item → Bool) (t : List Item) → list_any p t ≡ true → is_none_since p p t ≡ true
@@ -152,7 +149,3 @@ accepted_current d f accepted takes stops t i h =
     both_known (IsTakenFrom f t) Among (IsTakenCurrent f t)
     (λ x made among. current d f accepted takes stops t i h x.value made among (length (renamings_of f))) (item_taken f i)
     (operands_defined d f accepted t i h) (each_among (λ (x : Taken). x.value) Among (item_taken f i) (λ x among. among))
-
-pub all_current : AreAllCurrent
-all_current m n f a =
-    accepted_current (declarations_of m) f (are_accepted m n f a.verified a.body) (names_taken m n f a) (made_at_stops m n f a)

@@ -1,6 +1,6 @@
 -- Terminators of typed frames: what their items take is no address.
 use Rattle.std.proofs.Common.{◌≡◌, ℕ, zero, suc, ◌<◌, List, [], ◌∷◌, ◌++◌, append-nil, length, map, arith, refl, sym, ap, ◌∙◌, subst, Bool, true, false, Option, Some, None, Ok}
-use Rattle.std.specs.Prelude.{◌==◌, ◌&&◌, not, slice_get}
+use Rattle.std.specs.Prelude.{◌==◌, ◌&&◌, if◌then◌else◌, is_none, is_some, not, slice_get}
 use Rattle.std.specs.List.{list_all}
 use Rattle.std.proofs.lemmas.Bool.{and_parts, eqb-true, false≢true, true≢false}
 use Rattle.std.proofs.lemmas.List.{map-append}
@@ -82,29 +82,28 @@ no_operands op.Unreachable [] h e = refl
 no_operands op.Unreachable (x ∷ os) h e = absurd (cc)
 no_operands _ os h e = absurd (cc)
 
+empty_is : (os : List Operand) → is_empty os ≡ true → os ≡ []
+empty_is [] g = refl
+empty_is (o ∷ os) g = absurd (false≢true g)
+
+none_behind : (es : List Edge) → is_empty es ≡ true → (k : ℕ) (y : Edge) → slice_get es k ≡ Some y → y.args ≡ []
+none_behind [] g k y is = absurd (none-some y is)
+none_behind (e ∷ es) g k y is = absurd (false≢true g)
+
+-- a `switch_enum` hands over nothing by its edges' own arguments
 case_bare : (es : List Edge) → are_cases es ≡ true → (k : ℕ) (y : Edge) → slice_get es k ≡ Some y → y.args ≡ []
 case_bare [] e k y is = absurd (none-some y is)
-case_bare (x ∷ es) e k y is = at (is_case x) refl e k is
+case_bare (x ∷ es) e k y is = at (is_case x) refl e k is (λ h. case_bare es h)
   where
-    bare : (z : Edge) (b : Bool) → (b && is_empty z.args) ≡ true → z.args ≡ []
-    bare z b h = empty z.args (and_parts b (is_empty z.args) h).1
-      where
-        empty : (os : List Operand) → is_empty os ≡ true → os ≡ []
-        empty [] g = refl
-        empty (o ∷ os) g = absurd (cc)
+    bare_here : (b : Bool) → (b && is_empty x.args) ≡ true → x ≡ y → y.args ≡ []
+    bare_here b h same = ap (λ (z : Edge). z.args) (sym same) ∙ empty_is x.args (and_parts b (is_empty x.args) h).1
 
-    at : (b : Bool) → is_case x ≡ b → are_cases (x ∷ es) ≡ true → (k : ℕ) → slice_get (x ∷ es) k ≡ Some y → y.args ≡ []
-    at true c h zero g = ap (λ (z : Edge). z.args) (sym (same_Some x y g)) ∙ bare x _ c
-    at true c h (suc k) g = case_bare es (ap (λ b. if b then are_cases es else (is_default x && is_empty es)) (sym c) ∙ h) k y g
-    at false c h k g = last k g (and_parts (is_default x) (is_empty es) (ap (λ b. if b then are_cases es else (is_default x && is_empty es)) (sym c) ∙ h))
-      where
-        last : (k : ℕ) → slice_get (x ∷ es) k ≡ Some y → (is_default x ≡ true) × (is_empty es ≡ true) → y.args ≡ []
-        last zero u both = ap (λ (z : Edge). z.args) (sym (same_Some x y u)) ∙ bare x _ both.0
-        last (suc k) u both = none es both.1 u
-          where
-            none : (zs : List Edge) → is_empty zs ≡ true → slice_get zs k ≡ Some y → y.args ≡ []
-            none [] g v = absurd (none-some y v)
-            none (z ∷ zs) g v = absurd (cc)
+    at : (b : Bool) → is_case x ≡ b → (if b then are_cases es else (is_default x && is_empty es)) ≡ true → (k : ℕ) → slice_get (x ∷ es) k ≡ Some y
+        → (are_cases es ≡ true → (k : ℕ) (z : Edge) → slice_get es k ≡ Some z → z.args ≡ []) → y.args ≡ []
+    at true c h zero g more = bare_here (is_some x.case_of) c (same_Some x y g)
+    at true c h (suc k) g more = more h k y g
+    at false c h zero g more = bare_here (is_none x.case_of) (and_parts (is_default x) (is_empty es) h).0 (same_Some x y g)
+    at false c h (suc k) g more = none_behind es (and_parts (is_default x) (is_empty es) h).1 k y g
 
 module _ (m : Module) (n : ℕ) (f : Function) (a : IsAcceptedBody m n f) (b : ℕ) (t : Inst) (ends : terminator_of f b ≡ Some t) where
   abbrev d : Declarations
@@ -122,14 +121,14 @@ module _ (m : Module) (n : ℕ) (f : Function) (a : IsAcceptedBody m n f) (b : �
       forms : EndForms d f t → Each (IsOfValue m f) (map value_in t.operands)
       forms (EndForms.branch e one none first edge) = subst (λ os. Each (IsOfValue m f) (map value_in os)) (sym none) tt
       forms (EndForms.branches set clear two operands first second one other) = of_shapes m f (map value_in t.operands) (_ ∷ []) operands
-      forms (EndForms.cases s cases operands enum taken) = of_shapes m f (map value_in t.operands) (s ∷ []) operands
+      forms (EndForms.cases s cases operands is_enum taken) = of_shapes m f (map value_in t.operands) (s ∷ []) operands
       forms (EndForms.returns is operands) = of_shapes m f (map value_in t.operands) (_ ∷ []) operands
       forms (EndForms.unreachable is) =
           subst (λ os. Each (IsOfValue m f) (map value_in os)) (sym (no_operands t.op t.operands is (known_end m n f a b t ends).parts.operands)) tt
 
       at : OwnedEndForms d f t → Each (IsOfValue m f) (map value_in t.operands)
-      at (OwnedEndForms.also_lowered no h) = forms h
-      at (OwnedEndForms.cases s cases operands enum taken) = of_shapes m f (map value_in t.operands) (s ∷ []) operands
+      at (OwnedEndForms.also_lowered others h) = forms h
+      at (OwnedEndForms.cases s cases operands is_enum taken) = of_shapes m f (map value_in t.operands) (s ∷ []) operands
 
   args_plain : (k : ℕ) (y : Edge) → slice_get t.edges k ≡ Some y → Each (IsOfValue m f) (handed_over y)
   args_plain k y is = at (typed.ends b t ends)
@@ -170,13 +169,13 @@ module _ (m : Module) (n : ℕ) (f : Function) (a : IsAcceptedBody m n f) (b : �
       forms (EndForms.branches set clear two operands first second one other) =
           let size : length t.edges ≡ 2 = eqb-true (length t.edges) 2 (and_parts (length t.edges == 2) (list_all is_branch t.edges) (edges_by ending.TwoBranches two)).0 in
           first_or_second k is (subst (λ j. k < j) size within) set clear one other first second
-      forms (EndForms.cases s cases operands enum taken) = cases_bare cases
+      forms (EndForms.cases s cases operands is_enum taken) = cases_bare cases
       forms (EndForms.returns is operands) = none_there ending.Return is refl
       forms (EndForms.unreachable is) = none_there ending.Unreachable is refl
 
       at : OwnedEndForms d f t → Each (IsOfValue m f) (handed_over y)
-      at (OwnedEndForms.also_lowered no h) = forms h
-      at (OwnedEndForms.cases s cases operands enum taken) = cases_bare cases
+      at (OwnedEndForms.also_lowered others h) = forms h
+      at (OwnedEndForms.cases s cases operands is_enum taken) = cases_bare cases
 
   each_both : (P : ValueId → Type 0) (us vs : List ValueId) → Each P us → Each P vs → Each P (us ++ vs)
   each_both P [] vs h k = k

@@ -1,4 +1,5 @@
-use Rattle.stored_runs.proofs.NamesCurrent.{accepted_current, all_current}
+use Rattle.stored_runs.proofs.AllCurrent.{all_current}
+use Rattle.stored_runs.proofs.NamesCurrent.{accepted_current}
 use Rattle.stored_runs.proofs.NamesTaken.{names_taken}
 use Rattle.stored_runs.proofs.laws.operands_are_current.Goals as goal
 
