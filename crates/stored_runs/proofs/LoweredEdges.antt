@@ -1,6 +1,6 @@
 -- What the entry and the edges of a lowered function define, and the operands of terminators that choose.
 use Rattle.std.proofs.Common.{◌≡◌, ◌⊎◌, inl, inr, ℕ, List, [], ◌∷◌, ◌++◌, length, map, refl, sym, ap, ◌∙◌, subst, Bool, true, false, cond, Option, Some, None, eq-eqb}
-use Rattle.std.specs.Prelude.{slice_get}
+use Rattle.std.specs.Prelude.{◌&&◌, ◌||◌, slice_get}
 use Rattle.std.proofs.lemmas.Bool.{eqb-true, false≢true}
 use Rattle.std.proofs.lemmas.List.{length-map}
 use Rattle.std.proofs.lemmas.Option.{none-some, same_Some}
@@ -13,7 +13,7 @@ use Rattle.item_operands.specs.Items.{arg_value, item_defined}
 use Rattle.item_operands.specs.Parts.{args_behind, edge_at, edge_in, terminator_in, terminator_of}
 use Rattle.numbered_form.specs.Lists.{Each}
 use Rattle.numbered_form.specs.Numbering.{value_of}
-use Rattle.numbered_form.specs.inner.Parts.{has_operands}
+use Rattle.numbered_form.specs.inner.Parts.{has_operands, is_bare, is_typed}
 use Rattle.sil_ast.specs.Blocks.{args_of}
 use Rattle.sil_ast.specs.declared.function.Block.{Block}
 use Rattle.sil_ast.specs.declared.function.BlockArg.{BlockArg}
@@ -56,14 +56,18 @@ both_each P Q R go (x ∷ xs) h k = (go x h.0 k.0, both_each P Q R go xs h.1 k.1
 
 -- ---- terminators that choose
 
+no_second : (b : Bool) → ((b && false) || false) ≡ true → ⊥
+no_second true e = false≢true e
+no_second false e = false≢true e
+
 one_of_row : (o : Op) (os : List Operand) → has_operands o os ≡ true → (ending_of o ≡ ending.TwoBranches) ⊎ (ending_of o ≡ ending.Cases)
     → (x : Operand) × (os ≡ x ∷ [])
 one_of_row op.CondBr [] e h = absurd (cc)
 one_of_row op.CondBr (x ∷ []) e h = (x, refl)
-one_of_row op.CondBr (x ∷ y ∷ os) e h = absurd (cc)
+one_of_row op.CondBr (x ∷ y ∷ os) e h = absurd (no_second (is_bare x) e)
 one_of_row op.SwitchEnum [] e h = absurd (cc)
 one_of_row op.SwitchEnum (x ∷ []) e h = (x, refl)
-one_of_row op.SwitchEnum (x ∷ y ∷ os) e h = absurd (cc)
+one_of_row op.SwitchEnum (x ∷ y ∷ os) e h = absurd (no_second (is_typed x) e)
 one_of_row _ os e (inl h) = absurd (cc)
 one_of_row _ os e (inr h) = absurd (cc)
 

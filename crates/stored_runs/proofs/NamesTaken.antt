@@ -109,7 +109,7 @@ module _ (m : Module) (n : ℕ) (f : Function) (a : IsAcceptedBody m n f) (v w :
   by_edge : (e : EdgeId) (b : Block) (y : Edge) → slice_get f.blocks e.block.0 ≡ Some b → slice_get b.terminator.edges e.index ≡ Some y
       → has (map arg_value (args_of f y.block.0)) v.0 ≡ true → list_any (is_of w) (taken_by b.terminator) ≡ true
   by_edge e b y is there among =
-      let s = switched y.block.0 (name_of (default_operand (switch_to f y.block.0)) (map value_of (args_of f y.block.0)) (args_named f (counted m n f a) y.block.0) among) in
+      let s = switched y.block.0 (name_of (default_operand (switch_to f y.block.0)) (map arg_value (args_of f y.block.0)) (args_named f (counted m n f a) y.block.0) among) in
       let x : SwitchFrom f y.block.0 s.0 = switch_from f y.block.0 s.0 s.1 in
       let to : x.edge.block.0 ≡ y.block.0 = eqb-true x.edge.block.0 y.block.0 x.goes in
       let one = lone m f sound x.place e.block.0 x.index e.index x.from b x.edge y x.is_block x.is_edge x.is_switch is there (eq-eqb y.block.0 x.edge.block.0 (sym to)) in
@@ -120,7 +120,7 @@ module _ (m : Module) (n : ℕ) (f : Function) (a : IsAcceptedBody m n f) (v w :
   taken_at : (i : Item) → makes f v i ≡ true → TakesIt i
   taken_at items.Entry made =
       absurd (none-some w (ap (λ vs. slice_get vs 0) (sym (entry_kept m f sound))
-      ∙ name_of (default_operand (switch_to f 0)) (map value_of (args_of f 0)) (args_named f (counted m n f a) 0) made))
+      ∙ name_of (default_operand (switch_to f 0)) (map arg_value (args_of f 0)) (args_named f (counted m n f a) 0) made))
   taken_at (items.Inst p) made = at (inst_at f p) refl made
     where
       at : (o : Option Inst) → inst_at f p ≡ o → has (results_in o ++ []) v.0 ≡ true → list_any (is_of w) (taken_in o ++ []) ≡ true
