@@ -1,9 +1,8 @@
 -- An `apply` in both runs: a function with a body is entered, and one without a body is called for its event.
-use Rattle.std.proofs.Common.{◌≡◌, ◌⊎◌, inl, inr, ℕ, ℤ, zero, suc, ◌+◌, List, [], ◌∷◌, ◌++◌, length, map, drop, arith, refl, sym, ap, ◌∙◌, subst, Bool, true, false, Option, Some, None, Ok}
+use Rattle.std.proofs.Common.{◌≡◌, ℕ, ℤ, ◌+◌, List, [], ◌∷◌, ◌++◌, length, map, refl, sym, ap, ◌∙◌, subst, Bool, true, false, Option, Some, None, Ok}
 use Rattle.std.specs.Prelude.{nat_lt, option_and_then, slice_get}
 use Rattle.std.proofs.lemmas.Bool.{false≢true, true≢false}
 use Rattle.std.proofs.lemmas.Option.{none-some, same_Some}
-use Rattle.instruction_table.specs.declared.op.Op.{Op}
 use Rattle.instruction_table.specs.declared.op.Op.TheVariants as op
 use Rattle.numbered_form.specs.Lists.{Each}
 use Rattle.numbered_form.specs.Numbering as numbering
@@ -18,39 +17,34 @@ use Rattle.sil_ast.specs.declared.place.FuncId.{FuncId}
 use Rattle.sil_ast.specs.declared.place.PointId.{PointId}
 use Rattle.sil_ast.specs.declared.place.ValueId.{ValueId}
 use Rattle.sil_cfg.specs.Items.{IsItem}
-use Rattle.sil_cfg.specs.declared.item.Item.{Item}
 use Rattle.sil_cfg.specs.declared.item.Item.TheVariants as item
 use Rattle.item_operands.specs.Items.{item_defined, item_taken}
 use Rattle.item_operands.specs.Parts.{inst_at}
 use Rattle.item_operands.specs.declared.taken.Taken.{Taken}
 use Rattle.type_definitions.specs.Declarations.{Declarations, declarations_of}
-use Rattle.run_values.specs.Memory.{Memory}
 use Rattle.run_values.specs.Shapes.{Shape}
 use Rattle.run_values.specs.Values as value
 use Rattle.run_values.specs.Values.{Value, integer_of}
 use Rattle.accepted_trails.specs.run_trails.inner.RunTrails.{IsTurnedTrail}
 use Rattle.lowered_run.specs.holder_model.declared.event.Event.TheVariants as event
-use Rattle.lowered_run.specs.holder_model.declared.row_effect.RowEffect.{RowEffect}
 use Rattle.lowered_run.specs.holder_model.declared.row_effect.RowEffect.TheVariants as row
 use Rattle.lowered_run.specs.holder_model.Calling.{are_as_before, as_argument, handed_over}
 use Rattle.lowered_run.specs.holder_model.Data.{AddressOf, Datum, FunctionOf, ValueOf, all_of, as_function, values_of}
 use Rattle.lowered_run.specs.holder_model.Effects as effects
 use Rattle.lowered_run.specs.holder_model.Effects.{Effect, effect_by, effect_of, unchanged}
 use Rattle.lowered_run.specs.holder_model.Faults.{HolderFault, PlaceNotAsAsked, WrongShape}
-use Rattle.lowered_run.specs.holder_model.Frames.{Entry, Frame, LentPlace, Operands, has_any, operands_of}
+use Rattle.lowered_run.specs.holder_model.Frames.{Frame, LentPlace, Operands, has_any, operands_of}
 use Rattle.lowered_run.specs.holder_model.HolderStates.{HolderNext, HolderState}
 use Rattle.lowered_run.specs.holder_model.MemoryEffects as holder_effects
 use Rattle.lowered_run.specs.holder_model.ModuleFacts.{facts_of, facts_told}
 use Rattle.lowered_run.specs.holder_model.ModuleShapes.{ModuleShapes, shapes_in, shapes_of}
-use Rattle.lowered_run.specs.holder_model.Outcomes.{Numbers}
-use Rattle.lowered_run.specs.holder_model.Standing.{behind, point_behind, stands_at}
-use Rattle.lowered_run.specs.holder_model.States.{Ends, OutOfTurns, Runs, Task, Trapped}
+use Rattle.lowered_run.specs.holder_model.Standing.{stands_at}
+use Rattle.lowered_run.specs.holder_model.States.{Ends, OutOfTurns, Runs, Task}
 use Rattle.lowered_run.specs.holder_model.Steps as holder_run
-use Rattle.lowered_run.specs.declared.low_fault.LowFault.{LowFault}
 use Rattle.lowered_run.specs.LowEffects as low_effects
 use Rattle.lowered_run.specs.LowEffects.{low_effect, stored_behind, stored_by}
 use Rattle.lowered_run.specs.LowFrames.{LowFrame, read_all}
-use Rattle.lowered_run.specs.LowStepParts.{LowNext, LowState, taken_value, values_taken}
+use Rattle.lowered_run.specs.LowStepParts.{LowNext, LowState, values_taken}
 use Rattle.lowered_run.specs.LowSteps as steps
 use Rattle.lowering_laws.specs.ownership_origins.Renamings.{renames, renamings_of}
 use Rattle.lowering_laws.specs.lowering_model.LoweredBlocks.{blocks_become}
@@ -63,13 +57,13 @@ use Rattle.lowered_steps.specs.inner.LowWays as ways
 use Rattle.stored_runs.specs.inner.Along.{AreTotalsFor, IsNextAlong, IsNoFault}
 use Rattle.stored_runs.specs.inner.CallsAlong.{AreCallsAlong, CallsRight, HandsRight, lent_in}
 use Rattle.stored_runs.specs.inner.Entering.{HandsOver}
-use Rattle.stored_runs.specs.inner.Frames.{AreGivenPartsFull, AreTasksFor, HasFullParts, IsFrameAt, IsFrameFor, IsTaskFor}
+use Rattle.stored_runs.specs.inner.Frames.{AreGivenPartsFull, AreTasksFor, HasFullParts, IsFrameAt, IsTaskFor}
 use Rattle.stored_runs.specs.inner.Lowering.{IsOwnName, LowersSo}
 use Rattle.stored_runs.specs.inner.Memories.{IsMemoryFor}
 use Rattle.stored_runs.specs.inner.Names.{lowered_number}
 use Rattle.stored_runs.specs.inner.Runs.{IsEndingFor}
 use Rattle.stored_runs.proofs.Entering.{are_entered}
-use Rattle.stored_runs.proofs.GoesAlong.{LowBehind, goes_along, parts_full, puts_own}
+use Rattle.stored_runs.proofs.GoesAlong.{goes_along, parts_full, puts_own}
 use Rattle.stored_runs.proofs.HandedOver.{arguments_for, as_many_read, handed_for, parts_full_for, values_read}
 use Rattle.stored_runs.proofs.LoweredCode.{mapped_at}
 use Rattle.stored_runs.proofs.Reading.{AreReadAs, AreReadSo, Like, defines_there, like_exact, taken_read}
@@ -270,8 +264,8 @@ module _ (m : Module) (bound : ℕ) (s : HolderState) (l : LowState) (frame : Fr
             → IsNoFault next → LowActs next
         calls_in next way none =
             let e = are_entered m bound (record s { memory = handed_over s.memory lent }) named (Runs (record left { lent = lent }) ∷ rest) (Runs low ∷ lrest) g callee
-                (map as_argument args) so.args' next (record { events = totals.events; turns = totals.turns; retains = totals.retains; releases = totals.releases })
-                (handed_for l.memory s.memory lent memory hands.taken) (waits_for, rest_for) full there_g lowers_g hands_over way none in
+            (map as_argument args) so.args' next (record { events = totals.events; turns = totals.turns; retains = totals.retains; releases = totals.releases })
+            (handed_for l.memory s.memory lent memory hands.taken) (waits_for, rest_for) full there_g lowers_g hands_over way none in
             record {
               low_next = e.0;
               way = ways.Acts.does j reads.ys e.0 low_j low_read
@@ -338,10 +332,10 @@ module _ (m : Module) (bound : ℕ) (s : HolderState) (l : LowState) (frame : Fr
         calls_out some next way none =
             let size1 : length l1.numbers ≡ length s1.memory.objects = ap length same_numbers ∙ size in
             let b = goes_along m bound s1 l1 totals1 memory size1 left rest f lowers there low lrest left_frames rest_for full (item.Inst p) (item.Inst low.at)
-                (behind_at d f p i here stays low.at frames.at) result result
-                (λ entries put. puts_own m bound s1 l1 totals1 memory size1 left rest f lowers there low lrest left_frames rest_for full
-                (item.Inst p) no_entry own (item.Inst low.at) (defines_same d f p i here stays low.at frames.at) result entries put)
-                next way none in
+            (behind_at d f p i here stays low.at frames.at) result result
+            (λ entries put. puts_own m bound s1 l1 totals1 memory size1 left rest f lowers there low lrest left_frames rest_for full
+            (item.Inst p) no_entry own (item.Inst low.at) (defines_same d f p i here stays low.at frames.at) result entries put)
+            next way none in
             does next b.low_next
             (ways.Performs.calls_out g so.args' (lowered_function d callee) numbers b.low_next low_there (no_body_stays d callee bodied) low_counted (turn true some) b.way)
             (subst (λ ns. IsNextAlong m ns next b.low_next) same_numbers b.for)
@@ -385,5 +379,5 @@ module _ (m : Module) (bound : ℕ) (s : HolderState) (l : LowState) (frame : Fr
 pub are_calls_along : AreCallsAlong
 are_calls_along m bound s l frame rest f low lrest i ops next totals memory size there lowers frames rest_for full here apply is_item trail found right way none =
     let a = performs m bound s l frame rest f low lrest i ops totals memory size there lowers frames rest_for full here apply is_item trail found right
-        (holder_run.effect_in m (facts_of m) bound s frame i ops.given) refl next way none in
+    (holder_run.effect_in m (facts_of m) bound s frame i ops.given) refl next way none in
     (a.low_next, a.way, a.for)

@@ -1,13 +1,12 @@
 -- Cells of the lowered run beside those of the run by holders: what is put and read keeps them so.
-use Rattle.std.proofs.Common.{◌≡◌, ℕ, zero, suc, List, [], ◌∷◌, ◌++◌, take, drop, replicate, refl, sym, ap, ◌∙◌, subst, Bool, true, false, Option, Some, None}
-use Rattle.std.specs.Prelude.{◌&&◌, option_map}
-use Rattle.std.specs.List.{AllByRecursion, AllZip, list_all}
-use Rattle.std.proofs.lemmas.Bool.{and_parts, and_from, false≢true}
-use Rattle.std.proofs.lemmas.Option.{none-some, same_Some}
+use Rattle.std.proofs.Common.{◌≡◌, ℕ, zero, suc, List, [], ◌∷◌, ◌++◌, take, drop, replicate, refl, ap, ◌∙◌, true, Option, Some, None}
+use Rattle.std.specs.Prelude.{option_map}
+use Rattle.std.specs.List.{AllByRecursion, list_all}
+use Rattle.std.proofs.lemmas.Bool.{and_parts, and_from}
+use Rattle.std.proofs.lemmas.Option.{none-some}
 use Rattle.numbered_form.specs.Lists.{Each}
-use Rattle.sil_ast.specs.declared.decl.Storage.{Storage}
 use Rattle.sil_ast.specs.declared.decl.Storage.TheVariants as storage
-use Rattle.run_values.specs.Cells.{Cell, Empty, Gone, InCells, Keeps, cells_layer, in_cells, kept, kept_each, kept_first}
+use Rattle.run_values.specs.Cells.{Cell, Empty, Keeps, cells_layer, in_cells, kept, kept_each, kept_first}
 use Rattle.run_values.specs.Leaves.{with_more}
 use Rattle.run_values.specs.Memory.{put_cells}
 use Rattle.run_values.specs.Places.{is_there}

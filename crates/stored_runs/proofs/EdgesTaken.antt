@@ -1,6 +1,6 @@
 -- An edge is taken: both runs read the same, carry it over, and put it under the numbers of the block's arguments.
-use Rattle.std.proofs.Common.{◌≡◌, ◌⊎◌, inl, inr, ℕ, zero, suc, ◌+◌, List, [], ◌∷◌, ◌++◌, length, map, drop, take, arith, refl, sym, ap, ◌∙◌, subst, Bool, true, false, cond, Option, Some, None, Ok, Err}
-use Rattle.std.specs.Prelude.{◌==◌, is_none, nat_lt, option_and_then, option_map, slice_get, unwrap_or}
+use Rattle.std.proofs.Common.{◌≡◌, ◌⊎◌, inl, inr, ℕ, ◌+◌, List, [], ◌∷◌, ◌++◌, length, map, drop, refl, sym, ap, ◌∙◌, subst, Bool, true, false, cond, Option, Some, None, Ok, Err}
+use Rattle.std.specs.Prelude.{◌==◌, nat_lt, option_and_then, option_map, slice_get}
 use Rattle.std.specs.declared.result.Result.{Result}
 use Rattle.std.proofs.lemmas.List.{length-map, map-append}
 use Rattle.std.proofs.lemmas.Option.{none-some, same_Some}
@@ -11,26 +11,21 @@ use Rattle.instruction_table.specs.declared.op.Op.{Op}
 use Rattle.instruction_table.specs.declared.op.Op.TheVariants as op
 use Rattle.argument_conventions.specs.declared.convention.ArgumentConvention.{ArgumentConvention}
 use Rattle.item_operands.specs.Items.{item_defined, item_taken, taken_along_in, taken_in}
-use Rattle.item_operands.specs.Parts.{args_behind, edge_at, item_operands, operands_in, terminator_of}
+use Rattle.item_operands.specs.Parts.{edge_at, item_operands, operands_in, terminator_of}
 use Rattle.item_operands.specs.Roles.{conventions_in, consumed, roles_for, taken_along, taken_by, taken_each}
-use Rattle.item_operands.specs.declared.taken.Taken.{Taken}
 use Rattle.numbered_form.specs.Lists.{Each}
 use Rattle.ownership_chains.specs.declared.facts.Facts.{Facts}
 use Rattle.sil_ast.specs.Blocks.{args_of}
-use Rattle.sil_ast.specs.declared.function.Block.{Block}
 use Rattle.sil_ast.specs.declared.function.Function.{Function}
 use Rattle.sil_ast.specs.declared.inst.Edge.{Edge}
 use Rattle.sil_ast.specs.declared.inst.Inst.{Inst}
 use Rattle.sil_ast.specs.declared.module.Module.{Module}
 use Rattle.sil_ast.specs.declared.operands.Operand.{Operand}
 use Rattle.sil_ast.specs.declared.place.EdgeId.{EdgeId}
-use Rattle.sil_ast.specs.declared.place.FuncId.{FuncId}
 use Rattle.sil_ast.specs.declared.place.ValueId.{ValueId}
 use Rattle.sil_cfg.specs.Items.{IsItem}
-use Rattle.sil_cfg.specs.declared.item.Item.{Item}
 use Rattle.sil_cfg.specs.declared.item.Item.TheVariants as item
 use Rattle.type_definitions.specs.Declarations.{Declarations, declarations_of}
-use Rattle.run_values.specs.Memory.{Memory}
 use Rattle.run_values.specs.Values.{Value}
 use Rattle.value_tables.specs.FirstValue.{first_value, value_of}
 use Rattle.accepted_trails.specs.run_trails.inner.RunTrails.{IsTurnedTrail}
@@ -42,9 +37,8 @@ use Rattle.lowered_run.specs.holder_model.Frames.{Entry, Frame, Operands, operan
 use Rattle.lowered_run.specs.holder_model.HolderStates.{HolderNext, HolderState}
 use Rattle.lowered_run.specs.holder_model.ModuleFacts.{facts_of, facts_told}
 use Rattle.lowered_run.specs.holder_model.ModuleShapes.{ModuleShapes, shapes_of}
-use Rattle.lowered_run.specs.holder_model.Standing.{behind, first_point, stands_at, target_of}
+use Rattle.lowered_run.specs.holder_model.Standing.{behind, first_point, target_of}
 use Rattle.lowered_run.specs.holder_model.States.{Ends, OutOfTurns, Runs, Task}
-use Rattle.lowered_run.specs.declared.low_fault.LowFault.{LowFault}
 use Rattle.lowered_run.specs.LowFrames as low_frames
 use Rattle.lowered_run.specs.LowFrames.{LowFrame, and_others, read_all}
 use Rattle.lowered_run.specs.LowStepParts.{LowNext, LowState, taken_value, values_taken}
@@ -54,11 +48,11 @@ use Rattle.holder_steps.specs.inner.Ways as holder
 use Rattle.lowered_steps.specs.inner.LowWays as ways
 use Rattle.stored_runs.specs.inner.Along.{AreTotalsFor, IsNextAlong, IsNoFault, TakesNoAddress}
 use Rattle.stored_runs.specs.inner.EdgesTaken.{AreEdgesTaken}
-use Rattle.stored_runs.specs.inner.Frames.{AreTasksFor, AreValuesFor, HasFullParts, IsFrameAt, IsNoAddress}
+use Rattle.stored_runs.specs.inner.Frames.{AreTasksFor, AreValuesFor, HasFullParts, IsFrameAt}
 use Rattle.stored_runs.specs.inner.Lowering.{IsEdgeLowered, IsOtherName, IsOwnName, LowersSo}
 use Rattle.stored_runs.specs.inner.Memories.{IsMemoryFor}
 use Rattle.stored_runs.specs.inner.Names.{lowered_number}
-use Rattle.stored_runs.specs.inner.Points.{insts_of, lowered_length, lowered_point}
+use Rattle.stored_runs.specs.inner.Points.{lowered_point}
 use Rattle.stored_runs.specs.inner.Runs.{IsEndingFor}
 use Rattle.stored_runs.proofs.GoesAlong.{LowBehind, PutsSo, goes_along, puts_none, puts_own}
 use Rattle.stored_runs.proofs.LoweredCode.{first_lowered, low_edge, low_terminator}

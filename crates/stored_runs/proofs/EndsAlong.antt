@@ -1,17 +1,12 @@
 -- A frame stands at the terminator of its block: both runs take an edge, return, or end.
-use Rattle.std.proofs.Common.{◌≡◌, ◌⊎◌, inl, inr, ℕ, zero, suc, ◌+◌, ◌<◌, List, [], ◌∷◌, ◌++◌, append-nil, length, map, arith, refl, sym, ap, ap₂, ◌∙◌, subst, Bool, true, false, cond, ◌||◌, Option, Some, None, Ok}
-use Rattle.std.specs.Prelude.{find, nat_lt, not, option_and_then, option_map, position, slice_get, unwrap_or}
-use Rattle.std.specs.List.{AllZip, cons_option, filter_map, position_or_len, range_with_len}
-use Rattle.std.specs.Option.{option_or}
-use Rattle.std.proofs.lemmas.List.{length-map, map-append}
+use Rattle.std.proofs.Common.{◌≡◌, ◌⊎◌, inl, inr, ℕ, List, [], ◌∷◌, ◌++◌, append-nil, length, map, refl, sym, ap, ◌∙◌, subst, false, Option, Some, None, Ok}
+use Rattle.std.specs.Prelude.{option_map, slice_get, unwrap_or}
+use Rattle.std.specs.List.{AllZip}
+use Rattle.std.proofs.lemmas.List.{map-append}
 use Rattle.std.proofs.lemmas.Option.{none-some, same_Some, slice_get_within}
-use Rattle.std.proofs.lemmas.Slice.Zip.{AllZip-long}
 use Rattle.instruction_table.specs.Forms.{ending_of}
-use Rattle.instruction_table.specs.declared.entries.Ending.{Ending}
 use Rattle.instruction_table.specs.declared.entries.Ending.TheVariants as ending
-use Rattle.instruction_table.specs.declared.op.Op.{Op}
-use Rattle.instruction_table.specs.declared.op.Op.TheVariants as op
-use Rattle.item_operands.specs.Items.{item_defined, item_taken, taken_along_in, taken_in}
+use Rattle.item_operands.specs.Items.{item_taken, taken_along_in, taken_in}
 use Rattle.item_operands.specs.Parts.{edge_at, edge_in, inst_at, terminator_of}
 use Rattle.item_operands.specs.Roles.{taken_by}
 use Rattle.item_operands.specs.declared.taken.Taken.{Taken}
@@ -24,108 +19,51 @@ use Rattle.sil_ast.specs.declared.module.Module.{Module}
 use Rattle.sil_ast.specs.declared.operands.Operand.{Operand}
 use Rattle.sil_ast.specs.declared.place.EdgeId.{EdgeId}
 use Rattle.sil_ast.specs.declared.place.FuncId.{FuncId}
-use Rattle.sil_ast.specs.declared.place.ObjectId.{ObjectId}
 use Rattle.sil_ast.specs.declared.place.PointId.{PointId}
 use Rattle.sil_ast.specs.declared.place.ValueId.{ValueId}
-use Rattle.sil_cfg.specs.Items.{IsItem, ends_function, leaves_function}
+use Rattle.sil_cfg.specs.Items.{leaves_function}
 use Rattle.sil_cfg.specs.declared.item.Item.{Item}
 use Rattle.sil_cfg.specs.declared.item.Item.TheVariants as item
 use Rattle.type_definitions.specs.Declarations.{Declarations, declarations_of}
 use Rattle.value_tables.specs.FirstValue.{value_of}
-use Rattle.run_values.specs.Memory.{Memory, Object, is_dead, object_at}
-use Rattle.run_values.specs.Shapes.{Shape, Unknown}
-use Rattle.run_values.specs.Values.{ChosenCase, Value, case_of, references_of}
-use Rattle.accepted_trails.specs.run_trails.inner.RunTrails.{ComesAt, IsAtEnd, IsTurnedTrail}
+use Rattle.run_values.specs.Memory.{Memory}
+use Rattle.run_values.specs.Shapes.{Unknown}
+use Rattle.run_values.specs.Values.{Value}
+use Rattle.accepted_trails.specs.run_trails.inner.RunTrails.{ComesAt, IsAtEnd}
 use Rattle.accepted_trails.proofs.run_trails.TurnedTrails.{turned_item}
-use Rattle.lowered_run.specs.holder_model.declared.left_object.LeftObject.{LeftObject}
 use Rattle.lowered_run.specs.holder_model.declared.trap.Trap.TheVariants as trap
 use Rattle.lowered_run.specs.holder_model.Data.{AddressOf, Datum, FunctionOf, ValueOf, as_value, references_in}
-use Rattle.lowered_run.specs.holder_model.Edges.{branch_of, case_edge, carried_along, edge_for, edge_of, is_default, is_for}
-use Rattle.lowered_run.specs.holder_model.Effects.{only, unchanged}
-use Rattle.lowered_run.specs.holder_model.Faults.{HolderFault, LeavesHeld, LeavesPlace, LeavesSlot, NoEntry, WrongShape}
+use Rattle.lowered_run.specs.holder_model.Edges.{branch_of, case_edge, edge_of}
+use Rattle.lowered_run.specs.holder_model.Effects.{only}
+use Rattle.lowered_run.specs.holder_model.Faults.{LeavesHeld, LeavesPlace, LeavesSlot, NoEntry, WrongShape}
 use Rattle.lowered_run.specs.holder_model.Frames.{Entry, Frame, Operands, any_dead, datum_in, entry_at, has_any, operands_of}
 use Rattle.lowered_run.specs.holder_model.HolderStates.{HolderNext, HolderState}
 use Rattle.lowered_run.specs.holder_model.ModuleFacts.{facts_of, facts_told}
 use Rattle.lowered_run.specs.holder_model.ModuleShapes.{ModuleShapes, shape_at, shapes_in, shapes_of}
-use Rattle.lowered_run.specs.holder_model.Outcomes.{Numbers, is_named, left_objects, object_number, returned_holders, unfreed}
 use Rattle.lowered_run.specs.holder_model.Standing.{stands_at}
 use Rattle.lowered_run.specs.holder_model.StepParts.{switched_shape}
-use Rattle.lowered_run.specs.holder_model.States.{Drops, Ends, Finishes, Goes, Returned, Runs, Task, Trapped}
+use Rattle.lowered_run.specs.holder_model.States.{Ends, Runs, Task, Trapped}
 use Rattle.lowered_run.specs.LowFrames as low_frames
 use Rattle.lowered_run.specs.LowFrames.{LowFrame, and_others, read_all}
 use Rattle.lowered_run.specs.LowStepParts.{LowNext, LowState, taken_value, values_taken}
 use Rattle.lowered_run.specs.LowSteps as steps
-use Rattle.lowered_run.specs.Stored.{numbers_of}
-use Rattle.lowering_laws.specs.ownership_origins.Renamings.{renames}
-use Rattle.lowering_laws.specs.lowering_model.LoweredInsts.{lowering_of}
-use Rattle.lowering_laws.specs.lowering_model.declared.lowering.Lowering.TheVariants as lowering
 use Rattle.lowering_laws.specs.lowering_model.LoweredModules.{lowered, lowered_body}
-use Rattle.lowering_laws.specs.lowering_model.Numbers.{renumbered_edge, renumbered_inst, renumbered_operand}
+use Rattle.lowering_laws.specs.lowering_model.Numbers.{renumbered_inst, renumbered_operand}
 use Rattle.holder_steps.specs.inner.Ways as holder
 use Rattle.lowered_steps.specs.inner.LowWays as ways
-use Rattle.stored_runs.specs.inner.Along.{AreTotalsFor, IsAlong, IsNextAlong, IsNoFault}
-use Rattle.stored_runs.specs.inner.EndsAlong.{AreCountsReturned, AreEndsAlong, ComesPlain, MayReturnTo, WaitsAtCall}
-use Rattle.stored_runs.specs.inner.Frames.{AreTasksFor, HasFullParts, IsFrameAt, IsFrameFor, IsNoAddress, IsTaskFor}
-use Rattle.stored_runs.specs.inner.Lowering.{IsOwnName, LowersSo}
-use Rattle.stored_runs.specs.inner.Memories.{IsMemoryFor, IsObjectFor}
+use Rattle.stored_runs.specs.inner.Along.{AreTotalsFor, IsNextAlong, IsNoFault}
+use Rattle.stored_runs.specs.inner.EndsAlong.{AreEndsAlong, ComesPlain, MayReturnTo}
+use Rattle.stored_runs.specs.inner.Frames.{AreTasksFor, HasFullParts, IsFrameAt, IsNoAddress}
+use Rattle.stored_runs.specs.inner.Lowering.{LowersSo}
+use Rattle.stored_runs.specs.inner.Memories.{IsMemoryFor}
 use Rattle.stored_runs.specs.inner.Names.{IsCurrent, IsOld, lowered_number}
-use Rattle.stored_runs.specs.inner.Points.{lowered_point}
-use Rattle.stored_runs.specs.inner.Runs.{IsEndingFor, IsOutcomeFor}
-use Rattle.stored_runs.proofs.EdgesTaken.{are_edges_taken, carried_parts, first_taken_of, value_is}
-use Rattle.stored_runs.proofs.GoesAlong.{goes_along, puts_own}
+use Rattle.stored_runs.specs.inner.Runs.{IsEndingFor}
+use Rattle.stored_runs.proofs.EdgesTaken.{are_edges_taken, carried_parts, first_taken_of}
 use Rattle.stored_runs.proofs.LoweredCode.{IsLoweredEnd, lowered_end}
-use Rattle.stored_runs.proofs.MemoriesFor.{dead_for, object_for}
-use Rattle.stored_runs.proofs.Reading.{AreReadSo, defines_there, like_exact, taken_exact, taken_read, taken_renumbered}
-use Rattle.stored_runs.proofs.SameRows.{none_dead}
-use Rattle.stored_runs.proofs.StandsStaying.{behind_at, defines_same}
-use Rattle.stored_runs.proofs.StayingSteps.{function_there, low_frame}
+use Rattle.stored_runs.proofs.Reading.{AreReadSo, like_exact, taken_exact, taken_read, taken_renumbered}
+use Rattle.stored_runs.proofs.Returned.{are_returned}
+use Rattle.stored_runs.proofs.SwitchedEdges.{same_edge}
 use Rattle.stored_runs.proofs.ValuesFor.{AreTakenSo, IsGivenAlive, operands_given}
-
--- ---- what a run tells of its objects
-
-module _ (m low : Memory) (h : IsMemoryFor m low) where
-  same_left : (o : ObjectId) (n k : Numbers) → k ≡ n → unfreed low o k ≡ unfreed m o n
-  same_left o n k e =
-      ap (unfreed low o) e
-      ∙ ap (λ dead. told dead (object_at low o).class) (dead_for m low h o)
-      ∙ ap (λ class. told (is_dead m o) class) (object_for m low h o).class
-    where
-      told : Bool → List ℕ → Option LeftObject
-      told dead class =
-          cond (not dead || is_named n) (Some (record { object = o; class_name = class; live = not dead; strong = n.strong; unowned = n.unowned; weak = n.weak })) None
-
-  pub left_for : (count : ObjectId → Numbers) (stored : ObjectId → Numbers) → ((o : ObjectId) → stored o ≡ count o) → left_objects low stored ≡ left_objects m count
-  left_for count stored same =
-      ap (λ k. filter_map (λ n. unfreed low (object_number n) (stored (object_number n))) (range_with_len 0 k)) (AllZip-long IsObjectFor m.objects low.objects h.objects)
-      ∙ each_kept (range_with_len 0 (length m.objects))
-    where
-      each_kept : (ns : List ℕ) → filter_map (λ n. unfreed low (object_number n) (stored (object_number n))) ns ≡ filter_map (λ n. unfreed m (object_number n) (count (object_number n))) ns
-      each_kept [] = refl
-      each_kept (n ∷ ns) =
-          ap₂ cons_option (same_left (object_number n) (count (object_number n)) (stored (object_number n)) (same (object_number n))) (each_kept ns)
-
--- ---- edges of a switch, under other numbers
-
-place_mapped : {A B : Type 0} (p : B → Bool) (q : A → Bool) (g : A → B) → ((x : A) → p (g x) ≡ q x) → (xs : List A) → position_or_len p (map g xs) ≡ position_or_len q xs
-place_mapped p q g h [] = refl
-place_mapped p q g h (x ∷ xs) = ap₂ (λ b n. cond (not b) (1 + n) 0) (h x) (place_mapped p q g h xs)
-
-position_mapped : {A B : Type 0} (p : B → Bool) (q : A → Bool) (g : A → B) → ((x : A) → p (g x) ≡ q x) → (xs : List A) → position p (map g xs) ≡ position q xs
-position_mapped p q g h xs = ap₂ (λ k n. cond (nat_lt k n) (Some k) None) (place_mapped p q g h xs) (length-map xs g)
-
-same_edge : (number : ValueId → ValueId) (s : Shape) (es : List Edge) (v : Value) → case_edge s (map (renumbered_edge number) es) v ≡ case_edge s es v
-same_edge number s es v = at (case_of v)
-  where
-    at : (o : Option ChosenCase) → option_and_then (λ (c : ChosenCase). edge_for s (map (renumbered_edge number) es) c.index) o ≡ option_and_then (λ (c : ChosenCase). edge_for s es c.index) o
-    at None = refl
-    at (Some c) =
-        ap₂ option_or (position_mapped (is_for s c.index) (is_for s c.index) (renumbered_edge number) (λ e. refl) es)
-        (position_mapped is_default is_default (renumbered_edge number) (λ e. refl) es)
-
--- ---- tasks
-
-low_finish : (m : Module) (deinits : List FuncId) (o : ObjectId) (x : Task LowFrame) → IsTaskFor m (Finishes deinits o) x → x ≡ Finishes deinits o
-low_finish m _ _ _ (IsTaskFor.finishes deinits o) = refl
 
 -- ---- one operand
 
@@ -179,10 +117,6 @@ module _ (m : Module) (bound : ℕ) (s : HolderState) (l : LowState) (frame : Fr
     pub way : ways.Acts (lowered m) low_told bound l lrest low lf low_next
     pub for : IsNextAlong m l.numbers next low_next
 
-  -- whatever the tasks are
-  same_totals : {tasks : List (Task Frame)} {lows : List (Task LowFrame)} → AreTotalsFor (record s { tasks = tasks }) (record l { tasks = lows })
-  same_totals = record { events = totals.events; turns = totals.turns; retains = totals.retains; releases = totals.releases }
-
   module _ (i : Inst) (stands : holder.StandsAtEnd m (facts_of m) bound frame f i) where
     abbrev j : Inst
     j = renumbered_inst number i
@@ -216,11 +150,14 @@ module _ (m : Module) (bound : ℕ) (s : HolderState) (l : LowState) (frame : Fr
 
     edge_comes : (k : ℕ) → leaves_function (ending_of i.op) ≡ false → (y : Edge) → edge_at f (edge_of p k) ≡ Some y → ComesPlain m s frame f (item.Edge (edge_of p k))
     edge_comes k goes y is =
-        comes (item.Edge (edge_of p k)) (refl, record {
-          at_end = is_end;
-          goes_on = goes;
-          has_edge = slice_get_within i.edges k y (ap (λ o. edge_in o k) (sym stands.terminator) ∙ is);
-        })
+        comes (item.Edge (edge_of p k)) (
+          refl,
+          record {
+            at_end = is_end;
+            goes_on = goes;
+            has_edge = slice_get_within i.edges k y (ap (λ o. edge_in o k) (sym stands.terminator) ∙ is);
+          },
+        )
 
     edge : (k : ℕ) → leaves_function (ending_of i.op) ≡ false → (next : HolderNext) → holder.TakesEdge m (facts_of m) bound s rest frame f (edge_of p k) next → IsNoFault next
         → LowEdge k next
@@ -228,7 +165,7 @@ module _ (m : Module) (bound : ℕ) (s : HolderState) (l : LowState) (frame : Fr
         let y = edge_there (edge_of p k) next way none in
         let c = edge_comes k goes y.0 y.1 in
         let t = are_edges_taken m bound s l frame rest f low lrest (edge_of p k) next totals memory size there lowers frames rest_for full
-            (turned_item f (item.Edge (edge_of p k)) frame.trail c.trail) c.trail c.plain way none in
+        (turned_item f (item.Edge (edge_of p k)) frame.trail c.trail) c.trail c.plain way none in
         record {
           low_next = t.0;
           way = subst (λ e. ways.TakesEdge (lowered m) low_told bound l lrest low lf e t.0) (sym (ap (λ (q : PointId). edge_of q k) frames.at)) t.1;
@@ -257,8 +194,8 @@ module _ (m : Module) (bound : ℕ) (s : HolderState) (l : LowState) (frame : Fr
           let first = first_taken_of i o.value switches (ap (λ os. option_map value_of (slice_get os 0)) one.1) in (
             first.0 ++ map taken_value (taken_along_in (edge_at f (edge_of p k))),
             ap (λ z. map taken_value (taken_in z ++ taken_along_in (edge_at f (edge_of p k)))) stands.terminator
-            ∙ map-append taken_value (taken_by i) (taken_along_in (edge_at f (edge_of p k)))
-            ∙ ap (λ vs. vs ++ map taken_value (taken_along_in (edge_at f (edge_of p k)))) first.1,
+                ∙ map-append taken_value (taken_by i) (taken_along_in (edge_at f (edge_of p k)))
+                ∙ ap (λ vs. vs ++ map taken_value (taken_along_in (edge_at f (edge_of p k)))) first.1,
           )
 
       old : IsOld f o.value
@@ -353,100 +290,13 @@ module _ (m : Module) (bound : ℕ) (s : HolderState) (l : LowState) (frame : Fr
       alive : any_dead s.memory (references_in x) ≡ false
       alive = given_alive facts s.memory frame.entries (item_taken f (item.Exit p)) x (subst (AllZip (IsGivenAlive facts s.memory frame.entries) (item_taken f (item.Exit p))) given_is taken_so.given)
 
-      plain : IsNoAddress x
-      plain = (subst (Each IsNoAddress) given_is (exit_comes.plain ops found)).0
-
-      pub record LowReaches (tasks : List (Task LowFrame)) (next : HolderNext) : Type 0 where
-        pub low_next : LowNext
-        pub way : ways.Reaches (lowered m) low_told bound l x tasks low_next
-        pub for : IsNextAlong m l.numbers next low_next
-
-      -- the run ends
-      ends_run : (v : Value) → as_value x ≡ Some v → AreCountsReturned s l v → LowReaches [] (Ends (Returned v) (record s { tasks = [] }))
-      ends_run v value counted = record {
-        low_next = Ends (Returned v) (record l { tasks = [] });
-        way = ways.Reaches.ends v value
-            (none_dead s.memory l.memory memory (references_of v)
-            (ap (λ z. any_dead s.memory (references_in z)) (sym (value_is x v value)) ∙ alive));
-        for = IsNextAlong.ends (Returned v) (record s { tasks = [] }) (Returned v) (record l { tasks = [] })
-            (record {
-              events = totals.events;
-              ending = IsEndingFor.returned v;
-              left = left_for s.memory l.memory memory (returned_holders (record s { tasks = [] }) (references_of v)) (numbers_of l.numbers) counted;
-              retains = totals.retains;
-              releases = totals.releases;
-            });
-      }
-
-      -- the frame that waits goes on
-      module _ (waiting : Frame) (others : List (Task Frame)) (g : Function) (there_g : slice_get m.functions waiting.function.0 ≡ Some g)
-          (lowers_g : LowersSo m waiting.function g) (waits : WaitsAtCall g waiting)
-          (lw : LowFrame) (lothers : List (Task LowFrame)) (of : IsFrameFor m waiting lw) (others_for : AreTasksFor m others lothers)
-          (full_g : Each (HasFullParts m l.memory) (Runs lw ∷ lothers)) where
-        abbrev q : PointId
-        q = stands_at g waiting.trail
-
-        frames_g : IsFrameAt d g waiting lw
-        frames_g = subst (λ h. IsFrameAt d h waiting lw) (same_Some of.f g (sym of.there ∙ there_g)) of.frames
-
-        stays : lowering_of waits.call.op ≡ lowering.Stays
-        stays = ap lowering_of waits.is
-
-        keeps : renames waits.call.op ≡ false
-        keeps = ap renames waits.is
-
-        own : Each (IsOwnName g) (item_defined g (item.Inst q))
-        own = subst (Each (IsOwnName g)) (sym (defines_there g q waits.call waits.here)) (lowers_g.results q waits.call waits.here keeps)
-
-        no_entry : item.Inst q ≡ item.Entry → ⊥
-        no_entry h = absurd (cc)
-
-        resumes : (next : HolderNext)
-            → holder.GoesBehind m (facts_of m) bound s others waiting g (item.Inst q) (record (unchanged s.memory) { results = x ∷ [] }) next → IsNoFault next
-            → LowReaches (Runs lw ∷ lothers) next
-        resumes next way none =
-            let b = goes_along m bound s l totals memory size waiting others g lowers_g there_g lw lothers frames_g others_for full_g
-                (item.Inst q) (item.Inst lw.at) (behind_at d g q waits.call waits.here stays lw.at frames_g.at) (x ∷ []) (x ∷ [])
-                (λ entries put. puts_own m bound s l totals memory size waiting others g lowers_g there_g lw lothers frames_g others_for full_g
-                (item.Inst q) no_entry own (item.Inst lw.at) (defines_same d g q waits.call waits.here stays lw.at frames_g.at) (x ∷ []) entries put)
-                next way none in
-            record {
-              low_next = b.low_next;
-              way = ways.Reaches.resumes lw lothers (lowered_body d g) b.low_next
-                  (ap (λ (h : FuncId). slice_get (lowered m).functions h.0) frames_g.function ∙ function_there m bound waiting.function.0 g there_g lowers_g.form) b.way;
-              for = b.for;
-            }
-
-      reaches : (tasks : List (Task Frame)) (lows : List (Task LowFrame)) → AreTasksFor m tasks lows → Each (HasFullParts m l.memory) lows → MayReturnTo m s l frame f tasks
-          → (next : HolderNext) → holder.Reaches m (facts_of m) bound s x tasks next → IsNoFault next → LowReaches lows next
-      reaches [] [] h fs owes _ (holder.Reaches.ends v value) none = ends_run v value (owes ops x v found only_one value)
-      reaches [] [] h fs owes _ (holder.Reaches.no_value e) none = absurd (none WrongShape s refl)
-      reaches [] (t ∷ lows) h fs owes next way none = absurd h
-      reaches (t ∷ tasks) [] h fs owes next way none = absurd h
-      reaches (Runs waiting ∷ tasks) (t ∷ lows) h fs owes _ (holder.Reaches.resumes _ _ g next there_g way) none =
-          let lw = low_frame m waiting t h.0 in
-          let owed = owes g there_g in
-          subst (λ u. LowReaches (u ∷ lows) next) (sym lw.1)
-          (resumes waiting tasks g there_g owed.0 owed.1 lw.0 lows lw.2 h.1 (subst (λ u. Each (HasFullParts m l.memory) (u ∷ lows)) lw.1 fs) next way none)
-      reaches (Runs waiting ∷ tasks) (t ∷ lows) h fs owes _ (holder.Reaches.no_function _ _ e) none = absurd (none WrongShape s refl)
-      reaches (Drops references ∷ tasks) (t ∷ lows) h fs owes _ (holder.Reaches.on_drops _ _) none = absurd (none WrongShape s refl)
-      reaches (Finishes deinits object ∷ tasks) (t ∷ lows) h fs owes _ (holder.Reaches.finishes _ _ _) none =
-          let same = low_finish m deinits object t h.0 in
-          subst (λ u. LowReaches (u ∷ lows) (Goes (record s { tasks = Finishes deinits object ∷ tasks }))) (sym same)
-          (record {
-            low_next = Goes (record l { tasks = Finishes deinits object ∷ lows });
-            way = ways.Reaches.finishes deinits object lows;
-            for = IsNextAlong.goes (record s { tasks = Finishes deinits object ∷ tasks }) (record l { tasks = Finishes deinits object ∷ lows })
-                (record { tasks = (IsTaskFor.finishes deinits object, h.1); memory = memory; parts = (tt, fs.1); totals = same_totals }) refl;
-          })
-
       leaves : (next : HolderNext) → holder.Leaves m (facts_of m) bound s rest (record frame { entries = ops.left }) f x next → IsNoFault next → LowActs next
       leaves _ (holder.Leaves.leaves next held slots after way) none =
-          let r = reaches rest lrest rest_for full.1 below next way none in
+          let r = are_returned m bound s l x rest lrest next totals memory size rest_for full.1 alive (below ops x found only_one) way none in
           record {
-            low_next = r.low_next;
-            way = ways.Acts.returns j ops.given x r.low_next low_stands returns low_read (ap has_any frames.slots ∙ slots) only_one r.way;
-            for = r.for;
+            low_next = r.0;
+            way = ways.Acts.returns j ops.given x r.0 low_stands returns low_read (ap has_any frames.slots ∙ slots) only_one r.1;
+            for = r.2;
           }
       leaves _ (holder.Leaves.holds e) none = absurd (none LeavesHeld s refl)
       leaves _ (holder.Leaves.has_slot e) none = absurd (none LeavesSlot s refl)

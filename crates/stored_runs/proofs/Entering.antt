@@ -1,5 +1,5 @@
 -- A function with a body is called: both runs enter it.
-use Rattle.std.proofs.Common.{◌≡◌, ◌⊎◌, inl, inr, ℕ, zero, suc, ◌+◌, ◌<◌, List, [], ◌∷◌, length, map, replicate, arith, refl, sym, ap, ◌∙◌, subst, Bool, true, false, ◌||◌, Option, Some, None, Ok}
+use Rattle.std.proofs.Common.{◌≡◌, inr, ℕ, ◌+◌, ◌<◌, List, [], ◌∷◌, length, map, refl, sym, ap, ◌∙◌, subst, Bool, true, false, Option, Some, None, Ok}
 use Rattle.std.specs.Prelude.{nat_lt, slice_get}
 use Rattle.std.specs.List.{AllZip}
 use Rattle.std.proofs.lemmas.List.{length-map, length-replicate}
@@ -13,21 +13,20 @@ use Rattle.sil_cfg.specs.declared.item.Item.TheVariants as item
 use Rattle.item_operands.specs.Items.{item_defined}
 use Rattle.ownership_chains.specs.declared.facts.Facts.{Facts}
 use Rattle.type_definitions.specs.Declarations.{Declarations, declarations_of}
-use Rattle.run_values.specs.Memory.{Memory}
 use Rattle.accepted_trails.specs.inner.Defined.{makes}
-use Rattle.accepted_trails.proofs.Tests.{each_among, picked, same_value}
+use Rattle.accepted_trails.proofs.Tests.{each_among}
 use Rattle.lowering_laws.proofs.run_typing_laws.ItemFacts.{values_counted}
 use Rattle.lowered_run.specs.holder_model.declared.limits.TheConstants.{FRAMES}
 use Rattle.lowered_run.specs.holder_model.declared.trap.Trap.TheVariants as trap
 use Rattle.lowered_run.specs.holder_model.Calling.{value_count}
 use Rattle.lowered_run.specs.holder_model.Data.{AddressOf, Datum}
-use Rattle.lowered_run.specs.holder_model.Frames.{Entry, Frame, datum_in, entry_at, no_entries, results_put}
+use Rattle.lowered_run.specs.holder_model.Frames.{Entry, Frame, datum_in, no_entries, results_put}
 use Rattle.lowered_run.specs.holder_model.HolderStates.{HolderNext, HolderState}
 use Rattle.lowered_run.specs.holder_model.ModuleFacts.{facts_of, facts_told}
 use Rattle.lowered_run.specs.holder_model.ModuleShapes.{ModuleShapes, shapes_of}
 use Rattle.lowered_run.specs.holder_model.StepParts as parts
-use Rattle.lowered_run.specs.holder_model.States.{Drops, Ends, Finishes, Goes, OutOfTurns, Runs, Task, Trapped, frame_count}
-use Rattle.lowered_run.specs.LowFrames.{LowFrame, no_values, put_all, value_at}
+use Rattle.lowered_run.specs.holder_model.States.{Ends, Goes, OutOfTurns, Runs, Task, Trapped, frame_count}
+use Rattle.lowered_run.specs.LowFrames.{LowFrame, no_values, put_all}
 use Rattle.lowered_run.specs.LowStepParts.{LowNext, LowState, new_frame}
 use Rattle.lowering_laws.proofs.Lists.{each_weaker}
 use Rattle.lowering_laws.specs.lowering_model.LoweredModules.{lowered, lowered_body}
@@ -35,7 +34,7 @@ use Rattle.holder_steps.specs.inner.Ways as holder
 use Rattle.lowered_steps.specs.inner.LowWays as ways
 use Rattle.stored_runs.specs.inner.Along.{AreTotalsFor, IsAlong, IsNextAlong, IsNoFault}
 use Rattle.stored_runs.specs.inner.Entering.{AreEntered, HandsOver, IsArgumentFor, IsFullPart}
-use Rattle.stored_runs.specs.inner.Frames.{AreGivenPartsFull, AreTasksFor, HasFullParts, IsFrameFor, IsTaskFor}
+use Rattle.stored_runs.specs.inner.Frames.{AreTasksFor, HasFullParts, IsFrameFor, IsTaskFor}
 use Rattle.stored_runs.specs.inner.Lowering.{IsOwnName, LowersSo}
 use Rattle.stored_runs.specs.inner.Memories.{IsMemoryFor}
 use Rattle.stored_runs.specs.inner.Names.{IsCurrent, IsOld, lowered_count, lowered_number}

@@ -1,5 +1,5 @@
 -- Steps of a state's first frame at terminators and calls, in both runs: states go along but for counts.
-use Rattle.std.proofs.Common.{◌≡◌, ℕ, List, [], ◌∷◌, length, refl, sym, ap, ◌∙◌, subst, Some}
+use Rattle.std.proofs.Common.{◌≡◌, ℕ, List, ◌∷◌, sym, ap, ◌∙◌, subst, Some}
 use Rattle.std.specs.Prelude.{slice_get}
 use Rattle.numbered_form.specs.Lists.{Each}
 use Rattle.sil_ast.specs.declared.function.Function.{Function}
@@ -10,7 +10,6 @@ use Rattle.lowered_run.specs.holder_model.Frames.{Frame}
 use Rattle.lowered_run.specs.holder_model.HolderStates.{HolderNext, HolderState}
 use Rattle.lowered_run.specs.holder_model.ModuleShapes.{shapes_of}
 use Rattle.lowered_run.specs.holder_model.States.{Runs, Task}
-use Rattle.lowered_run.specs.LowFrames.{LowFrame}
 use Rattle.lowered_run.specs.LowStepParts.{LowNext, LowState}
 use Rattle.lowering_laws.specs.lowering_model.LoweredModules.{lowered, lowered_body}
 use Rattle.lowered_steps.specs.inner.LowWays as ways
@@ -54,12 +53,12 @@ pub ends_step : EndsStep
 ends_step m bound s l frame rest f next related is there lowers at_end comes below way none =
     let t = top m bound s l frame rest f related is there lowers in
     let a = are_ends_along m bound s l frame rest f t.low t.others next (totals m bound s l frame rest f related is there lowers) related.memory related.counts.size there lowers
-        (frames m bound s l frame rest f related is there lowers) t.rest_for (full m bound s l frame rest f related is there lowers) at_end comes below way none in
+    (frames m bound s l frame rest f related is there lowers) t.rest_for (full m bound s l frame rest f related is there lowers) at_end comes below way none in
     stepped m bound s l frame rest f related is there lowers next a.0 a.1 a.2
 
 pub calls_step : CallsStep
 calls_step m bound s l frame rest f i ops next related is there lowers here apply is_item trail found right way none =
     let t = top m bound s l frame rest f related is there lowers in
     let a = are_calls_along m bound s l frame rest f t.low t.others i ops next (totals m bound s l frame rest f related is there lowers) related.memory related.counts.size there lowers
-        (frames m bound s l frame rest f related is there lowers) t.rest_for (full m bound s l frame rest f related is there lowers) here apply is_item trail found right way none in
+    (frames m bound s l frame rest f related is there lowers) t.rest_for (full m bound s l frame rest f related is there lowers) here apply is_item trail found right way none in
     stepped m bound s l frame rest f related is there lowers next a.0 a.1 a.2

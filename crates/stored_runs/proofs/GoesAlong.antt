@@ -1,7 +1,7 @@
 -- A frame goes on behind an item that makes no references and drops none: the lowered frame does so too.
-use Rattle.std.proofs.Common.{◌≡◌, ◌⊎◌, inl, inr, ℕ, zero, suc, ◌+◌, ◌<◌, List, [], ◌∷◌, ◌++◌, length, map, arith, refl, sym, ap, ◌∙◌, subst, Bool, true, false, cond, Option, Some, None, Ok, Err, eq-eqb}
-use Rattle.std.specs.Prelude.{◌==◌, is_some, slice_get}
-use Rattle.std.proofs.lemmas.Bool.{cases_Bool, eqb-false, eqb-true}
+use Rattle.std.proofs.Common.{◌≡◌, ◌⊎◌, inl, inr, ℕ, ◌+◌, ◌<◌, List, [], ◌∷◌, ◌++◌, length, map, arith, refl, sym, ap, ◌∙◌, subst, true, false, cond, Option, Some, Ok, eq-eqb}
+use Rattle.std.specs.Prelude.{◌==◌, slice_get}
+use Rattle.std.proofs.lemmas.Bool.{cases_Bool, eqb-true}
 use Rattle.std.proofs.lemmas.Option.{same_Some}
 use Rattle.std.proofs.lemmas.Slice.Zip.{AllZip-long}
 use Rattle.numbered_form.specs.Lists.{Each}
@@ -14,27 +14,25 @@ use Rattle.sil_cfg.specs.declared.item.Item.TheVariants as item
 use Rattle.item_operands.specs.Items.{item_defined}
 use Rattle.ownership_chains.specs.declared.facts.Facts.{Facts}
 use Rattle.type_definitions.specs.Declarations.{Declarations, declarations_of}
-use Rattle.run_values.specs.Memory.{Memory}
 use Rattle.run_values.specs.Places.{Place}
 use Rattle.accepted_trails.specs.inner.Defined.{makes}
 use Rattle.accepted_trails.proofs.Tests.{each_among}
-use Rattle.lowered_run.specs.holder_model.Data.{AddressOf, Datum}
-use Rattle.lowered_run.specs.holder_model.Effects.{Change, unchanged}
+use Rattle.lowered_run.specs.holder_model.Data.{Datum}
+use Rattle.lowered_run.specs.holder_model.Effects.{unchanged}
 use Rattle.lowered_run.specs.holder_model.Frames.{Entry, Frame, results_put}
 use Rattle.lowered_run.specs.holder_model.HolderStates.{HolderNext, HolderState}
 use Rattle.lowered_run.specs.holder_model.ModuleFacts.{facts_of, facts_told}
 use Rattle.lowered_run.specs.holder_model.ModuleShapes.{ModuleShapes, shapes_of}
-use Rattle.lowered_run.specs.holder_model.Outcomes.{Numbers}
 use Rattle.lowered_run.specs.holder_model.Standing.{behind}
 use Rattle.lowered_run.specs.holder_model.States.{Goes, Runs, Task}
-use Rattle.lowered_run.specs.LowFrames.{LowFrame, put_all, value_at}
+use Rattle.lowered_run.specs.LowFrames.{LowFrame, put_all}
 use Rattle.lowered_run.specs.LowStepParts.{LowNext, LowState, numbers_for}
 use Rattle.lowered_run.specs.Stored.{new_numbers}
 use Rattle.lowering_laws.proofs.Lists.{each_weaker}
 use Rattle.lowering_laws.specs.lowering_model.LoweredModules.{lowered, lowered_body}
 use Rattle.holder_steps.specs.inner.Ways as holder
 use Rattle.lowered_steps.specs.inner.LowWays as ways
-use Rattle.stored_runs.specs.inner.Along.{AreTotalsFor, IsAlong, IsNextAlong, IsNoFault}
+use Rattle.stored_runs.specs.inner.Along.{AreTotalsFor, IsNextAlong, IsNoFault}
 use Rattle.stored_runs.specs.inner.Frames.{AreGivenPartsFull, AreTasksFor, AreValuesFor, HasFullParts, IsFrameAt, IsFrameFor, IsTaskFor}
 use Rattle.stored_runs.specs.inner.Lowering.{IsOwnName, LowersSo}
 use Rattle.stored_runs.specs.inner.Memories.{IsMemoryFor, IsObjectFor}
@@ -127,7 +125,8 @@ module _ (m : Module) (bound : ℕ) (s : HolderState) (l : LowState) (totals : A
 
   numbers_stay : numbers_for l.memory l.numbers ≡ l.numbers
   numbers_stay =
-      ap (λ b. cond b l.numbers (l.numbers ++ new_numbers ∷ [])) (eq-eqb (length l.numbers) (length l.memory.objects) (size ∙ sym (AllZip-long IsObjectFor s.memory.objects l.memory.objects memory.objects)))
+      ap (λ b. cond b l.numbers (l.numbers ++ new_numbers ∷ []))
+      (eq-eqb (length l.numbers) (length l.memory.objects) (size ∙ sym (AllZip-long IsObjectFor s.memory.objects l.memory.objects memory.objects)))
 
   pub record LowBehind (li : Item) (ys : List Datum) (next : HolderNext) : Type 0 where
     pub low_next : LowNext

@@ -1,24 +1,22 @@
 -- What a call hands over in both runs: places that are to be filled keep their values in the lowered run, and arguments are the same but for parts.
-use Rattle.std.proofs.Common.{◌≡◌, ◌⊎◌, inl, inr, ℕ, zero, suc, List, [], ◌∷◌, ◌++◌, length, map, take, drop, set, replicate, arith, refl, sym, ap, ◌∙◌, subst, Bool, true, false, Option, Some, None}
+use Rattle.std.proofs.Common.{◌≡◌, ◌⊎◌, inl, inr, ℕ, zero, suc, List, [], ◌∷◌, length, map, take, drop, set, replicate, refl, sym, ap, ◌∙◌, subst, true, Option, Some, None}
 use Rattle.std.specs.Prelude.{is_some, slice_get, unwrap_or}
 use Rattle.std.specs.List.{AllZip}
-use Rattle.std.proofs.lemmas.Option.{none-some, same_Some}
+use Rattle.std.proofs.lemmas.Option.{none-some}
 use Rattle.argument_conventions.specs.declared.row.Content.{Content}
 use Rattle.argument_conventions.specs.declared.row.Content.TheVariants as content
 use Rattle.numbered_form.specs.Lists.{Each}
 use Rattle.sil_ast.specs.declared.function.Function.{Function}
 use Rattle.sil_ast.specs.declared.place.ObjectId.{ObjectId}
 use Rattle.sil_ast.specs.declared.place.ValueId.{ValueId}
-use Rattle.sil_cfg.specs.declared.item.Item.TheVariants as item
 use Rattle.item_operands.specs.declared.taken.Taken as taken
 use Rattle.type_definitions.specs.Declarations.{Declarations}
 use Rattle.run_values.specs.Cells.{Cell, Empty, cell_count}
 use Rattle.run_values.specs.Memory.{Memory, Object, no_object, object_at, put_cells, with_object}
 use Rattle.run_values.specs.Places.{Home, Inside, OnStack, Place, cells_at, emptied, home_cells, value_at, with_home_cells}
-use Rattle.run_values.specs.Values.{Value, integer_of}
-use Rattle.accepted_trails.specs.inner.Defined.{makes}
+use Rattle.run_values.specs.Values.{Value}
 use Rattle.lowered_run.specs.holder_model.Calling.{as_argument, emptied_for, handed_over}
-use Rattle.lowered_run.specs.holder_model.Data.{AddressOf, Datum, FunctionOf, ValueOf, all_of, as_value, values_of, with_first}
+use Rattle.lowered_run.specs.holder_model.Data.{AddressOf, Datum, FunctionOf, ValueOf, as_value, values_of, with_first}
 use Rattle.lowered_run.specs.holder_model.Frames.{LentPlace}
 use Rattle.lowered_run.specs.LowFrames as low_frames
 use Rattle.stored_runs.specs.inner.CallsAlong.{MayBeHandedOver}

@@ -20,6 +20,9 @@ pub mod PutValues
 pub mod GoesAlong
 pub mod Entering
 pub mod EdgesTaken
+pub mod LeftObjects
+pub mod Returned
+pub mod SwitchedEdges
 pub mod EndsAlong
 pub mod HandedOver
 pub mod CallsAlong

@@ -1,5 +1,5 @@
 -- What stands at the points of a lowered function.
-use Rattle.std.proofs.Common.{◌≡◌, ℕ, zero, suc, ◌+◌, ◌<◌, ◌≤◌, List, [], ◌∷◌, ◌++◌, map, length, take, drop, arith, refl, sym, ap, ◌∙◌, subst, Bool, true, false, Option, Some, None}
+use Rattle.std.proofs.Common.{◌≡◌, ℕ, zero, suc, ◌+◌, List, [], ◌∷◌, ◌++◌, map, length, take, arith, refl, sym, ap, ◌∙◌, Bool, true, false, Option, Some, None}
 use Rattle.std.specs.Prelude.{slice_get}
 use Rattle.std.specs.List.{flat_map}
 use Rattle.std.proofs.lemmas.List.{length-append}
@@ -10,7 +10,6 @@ use Rattle.sil_ast.specs.declared.inst.Edge.{Edge}
 use Rattle.sil_ast.specs.declared.inst.Inst.{Inst}
 use Rattle.sil_ast.specs.declared.inst.Qualifier.{Qualifier}
 use Rattle.sil_ast.specs.declared.inst.Qualifier.TheVariants as word
-use Rattle.sil_ast.specs.declared.operands.Operand.{Operand}
 use Rattle.sil_ast.specs.declared.place.EdgeId.{EdgeId}
 use Rattle.sil_ast.specs.declared.place.PointId.{PointId}
 use Rattle.sil_ast.specs.declared.place.ValueId.{ValueId}
@@ -22,7 +21,6 @@ use Rattle.lowered_run.specs.holder_model.Standing.{first_point, point_behind}
 use Rattle.lowering_laws.specs.ownership_origins.Renamings.{renamings_of}
 use Rattle.lowering_laws.specs.sil_types.Typing.FormRules.{is_at_storage}
 use Rattle.lowering_laws.specs.lowering_model.LoweredBlocks.{block_becomes, blocks_become, insts_become, lowered_blocks, value_with}
-use Rattle.lowering_laws.specs.lowering_model.LoweredInsts as lowered
 use Rattle.lowering_laws.specs.lowering_model.LoweredInsts.{assigns, becomes, becomes_by, destroys_by, lowering_of, loads_by, operand_at, releases_at, stores_by}
 use Rattle.lowering_laws.specs.lowering_model.LoweredModules.{lowered_body}
 use Rattle.lowering_laws.specs.lowering_model.Numbers.{renumbered_block, renumbered_edge, renumbered_inst}
@@ -201,7 +199,7 @@ module _ (d : Declarations) (f : Function) where
       let before : insts_before f p ≡ take p.index b.0.insts = ap (λ o. take p.index (insts_of o)) b.1 in
       let front : List Inst = insts_become d (renamings_of f) there.0 (take p.index b.0.insts) in
       let size : length front ≡ (lowered_point d f p).index =
-          insts_as_long d (renamings_of f) (take p.index b.0.insts) there.0 0 ∙ ap (lowered_length d f) (sym before) in
+      insts_as_long d (renamings_of f) (take p.index b.0.insts) there.0 0 ∙ ap (lowered_length d f) (sym before) in
       record {
         spare = at.spare;
         each = λ j x is.
@@ -238,8 +236,8 @@ module _ (d : Declarations) (f : Function) where
       let b = end_parts f p i none e in
       let there = low_block p.block.0 b.0 b.1 in
       let size : length (insts_become d (renamings_of f) there.0 b.0.insts) ≡ (lowered_point d f p).index =
-          insts_as_long d (renamings_of f) b.0.insts there.0 0
-          ∙ ap (lowered_length d f) (sym (all_taken b.0.insts p.index b.2)) ∙ ap (λ o. lowered_length d f (take p.index (insts_of o))) (sym b.1) in
+      insts_as_long d (renamings_of f) b.0.insts there.0 0
+      ∙ ap (lowered_length d f) (sym (all_taken b.0.insts p.index b.2)) ∙ ap (λ o. lowered_length d f (take p.index (insts_of o))) (sym b.1) in
       let long = mapped_length (renumbered_inst (lowered_number d f)) (insts_become d (renamings_of f) there.0 b.0.insts) in
       record {
         behind = ap (λ o. inst_in o (lowered_point d f p).index) there.1

@@ -1,18 +1,16 @@
 -- What the entry and the edges of a lowered function define, and the operands of terminators that choose.
-use Rattle.std.proofs.Common.{◌≡◌, ◌⊎◌, inl, inr, ℕ, List, [], ◌∷◌, ◌++◌, length, map, refl, sym, ap, ◌∙◌, subst, Bool, true, false, cond, Option, Some, None, eq-eqb}
+use Rattle.std.proofs.Common.{◌≡◌, ◌⊎◌, inl, inr, ℕ, List, [], ◌∷◌, length, map, refl, sym, ap, ◌∙◌, subst, Bool, true, false, cond, Option, Some, None, eq-eqb}
 use Rattle.std.specs.Prelude.{◌&&◌, ◌||◌, slice_get}
 use Rattle.std.proofs.lemmas.Bool.{eqb-true, false≢true}
 use Rattle.std.proofs.lemmas.List.{length-map}
-use Rattle.std.proofs.lemmas.Option.{none-some, same_Some}
+use Rattle.std.proofs.lemmas.Option.{none-some}
 use Rattle.instruction_table.specs.Forms.{ending_of}
-use Rattle.instruction_table.specs.declared.entries.Ending.{Ending}
 use Rattle.instruction_table.specs.declared.entries.Ending.TheVariants as ending
 use Rattle.instruction_table.specs.declared.op.Op.{Op}
 use Rattle.instruction_table.specs.declared.op.Op.TheVariants as op
 use Rattle.item_operands.specs.Items.{arg_value, item_defined}
 use Rattle.item_operands.specs.Parts.{args_behind, edge_at, edge_in, terminator_in, terminator_of}
 use Rattle.numbered_form.specs.Lists.{Each}
-use Rattle.numbered_form.specs.Numbering.{value_of}
 use Rattle.numbered_form.specs.inner.Parts.{has_operands, is_bare, is_typed}
 use Rattle.sil_ast.specs.Blocks.{args_of}
 use Rattle.sil_ast.specs.declared.function.Block.{Block}
@@ -28,17 +26,15 @@ use Rattle.sil_cfg.specs.declared.item.Item.{Item}
 use Rattle.sil_cfg.specs.declared.item.Item.TheVariants as item
 use Rattle.type_definitions.specs.Declarations.{Declarations, declarations_of}
 use Rattle.value_tables.specs.FirstValue.{first_value}
-use Rattle.accepted_values.specs.run_typing.CallForms.{IsOf}
 use Rattle.lowered_run.specs.holder_model.Edges.{is_default}
 use Rattle.lowering_laws.specs.ownership_origins.Renamings.{default_operand, renamings_of}
 use Rattle.lowering_laws.specs.ownership_origins.Switched.{switch_to}
 use Rattle.lowering_laws.specs.ownership_origins.declared.switched.Switched.{Switched}
-use Rattle.lowering_laws.specs.lowering_model.LoweredBlocks.{args_become, without_annotation}
+use Rattle.lowering_laws.specs.lowering_model.LoweredBlocks.{without_annotation}
 use Rattle.lowering_laws.specs.lowering_model.LoweredModules.{lowered_body}
-use Rattle.lowering_laws.specs.lowering_model.Names.{renamed_from, stands_for}
-use Rattle.lowering_laws.specs.lowering_model.Numbers.{renumbered_arg, renumbered_edge, renumbered_inst}
+use Rattle.lowering_laws.specs.lowering_model.Names.{renamed_from}
+use Rattle.lowering_laws.specs.lowering_model.Numbers.{renumbered_arg, renumbered_edge}
 use Rattle.lowering_laws.proofs.Ends.{stands_itself}
-use Rattle.lowering_laws.proofs.Lists.{each_weaker}
 use Rattle.lowered_typing_laws.proofs.Args.{args_go, args_stay, lowered_args}
 use Rattle.lowered_typing_laws.proofs.Sound.{SoundFunction}
 use Rattle.lowered_typing_laws.proofs.Switches.{SwitchFrom, entry_kept, lone, switch_from}

@@ -1,10 +1,9 @@
 -- The names and numbers of a function that can be lowered, in the words of runs.
-use Rattle.std.proofs.Common.{◌≡◌, ℕ, zero, suc, ◌<◌, ◌≤◌, List, [], ◌∷◌, length, map, refl, sym, ap, ◌∙◌, subst, arith, ◌⊎◌, inl, inr, Bool, true, false, cond, Option, Some, None}
+use Rattle.std.proofs.Common.{◌≡◌, ℕ, zero, suc, ◌<◌, ◌≤◌, List, length, refl, sym, ap, ◌∙◌, arith, ◌⊎◌, inl, inr, Option, Some, None}
 use Rattle.std.specs.Prelude.{slice_get}
 use Rattle.std.proofs.lemmas.Bool.{cases_lt}
 use Rattle.std.proofs.lemmas.List.{length-map}
 use Rattle.std.proofs.lemmas.Option.{none-some, same_Some, slice_get_within}
-use Rattle.numbered_form.specs.Lists.{Each}
 use Rattle.numbered_form.specs.Numbering.{values_of}
 use Rattle.ownership_chains.specs.declared.definition.Definition.{Definition}
 use Rattle.sil_ast.specs.declared.function.Function.{Function}
@@ -14,7 +13,6 @@ use Rattle.lowering_laws.specs.inner.Laws.{defined_by}
 use Rattle.lowering_laws.specs.inner.Lowerable.{IsLowerable}
 use Rattle.lowering_laws.specs.ownership_origins.Renamings.{renamings_of}
 use Rattle.lowering_laws.specs.lowering_model.LoweredBlocks.{lowered_blocks}
-use Rattle.lowering_laws.specs.lowering_model.LoweredModules.{lowered_body}
 use Rattle.lowering_laws.specs.lowering_model.Names.{renamed_from, stands_for, stands_within, unless_renamed}
 use Rattle.lowering_laws.specs.lowering_model.Numbers.{new_number, numbering_of, place_among}
 use Rattle.lowering_laws.proofs.Ends.{names_end, stands_itself}

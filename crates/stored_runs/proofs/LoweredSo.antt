@@ -1,14 +1,11 @@
 -- Each function with a body of an accepted module is lowered as the run of the lowered module asks.
-use Rattle.std.proofs.Common.{◌≡◌, ℕ, zero, suc, ◌<◌, List, [], ◌∷◌, length, map, refl, sym, ap, ◌∙◌, subst, arith, Bool, true, false, cond, Option, Some, None}
+use Rattle.std.proofs.Common.{◌≡◌, ℕ, zero, suc, List, [], ◌∷◌, length, map, refl, sym, ap, ◌∙◌, subst, arith, true, false, cond, Some, None}
 use Rattle.std.specs.Prelude.{◌==◌, slice_get, unwrap_or}
 use Rattle.std.proofs.lemmas.Bool.{eqb-true}
-use Rattle.instruction_table.specs.declared.op.Op.{Op}
 use Rattle.numbered_form.specs.Lists.{Each}
-use Rattle.numbered_form.specs.Numbering.{values_of}
 use Rattle.item_operands.specs.Items.{item_defined, item_taken}
 use Rattle.item_operands.specs.Parts.{inst_at}
 use Rattle.item_operands.specs.declared.taken.Taken.{Taken}
-use Rattle.sil_ast.specs.Blocks.{args_of}
 use Rattle.sil_ast.specs.declared.function.Function.{Function}
 use Rattle.sil_ast.specs.declared.inst.Inst.{Inst}
 use Rattle.sil_ast.specs.declared.module.Module.{Module}
@@ -16,19 +13,17 @@ use Rattle.sil_ast.specs.declared.operands.Operand.{Operand}
 use Rattle.sil_ast.specs.declared.place.FuncId.{FuncId}
 use Rattle.sil_ast.specs.declared.place.PointId.{PointId}
 use Rattle.sil_ast.specs.declared.place.ValueId.{ValueId}
-use Rattle.sil_ast.specs.declared.type_name.TypeName.{TypeName}
-use Rattle.sil_cfg.specs.Items.{HasBlocks, IsItem}
 use Rattle.sil_cfg.specs.declared.item.Item.{Item}
 use Rattle.sil_cfg.specs.declared.item.Item.TheVariants as items
 use Rattle.type_definitions.specs.Declarations.{Declarations, declarations_of}
 use Rattle.value_tables.specs.FirstValue.{value_of}
-use Rattle.run_values.specs.Shapes.{Shape, Unknown}
+use Rattle.run_values.specs.Shapes.{Unknown}
 use Rattle.lowered_run.specs.holder_model.ModuleShapes.{function_shapes, shape_at, shapes_in, shapes_of, value_shape}
 use Rattle.lowering_laws.specs.inner.Lowerable.{HasNoRings, IsLowerable}
 use Rattle.lowering_laws.specs.ownership_origins.Renamings.{renames, renamings_of}
 use Rattle.lowering_laws.specs.sil_types.Typing.Values.{type_at, value_types}
 use Rattle.lowering_laws.specs.lowering_model.LoweredModules.{lowered, lowered_body, lowered_by, lowered_function}
-use Rattle.lowering_laws.specs.lowering_model.Names.{renamed_from, stands_for}
+use Rattle.lowering_laws.specs.lowering_model.Names.{renamed_from}
 use Rattle.lowering_laws.proofs.Ends.{stands_itself}
 use Rattle.lowering_laws.proofs.Known.{names_in}
 use Rattle.lowering_laws.proofs.Lists.{each_weaker}
@@ -106,8 +101,7 @@ module _ (m : Module) (g : FuncId) (f : Function) (a : IsAcceptedBody m g.0 f) w
         other : (v : ValueId) → IsOld f v → renamed_from (renamings_of f) v ≡ slice_get (names_in i) 0 → IsOtherName d f o.value v
         other v old is =
             let name : renamed_from (renamings_of f) v ≡ Some o.value =
-            is ∙ ap (λ b. slice_get (cond b (map value_of i.operands) []) 0) names ∙ ap (λ os. slice_get (map value_of os) 0) one in
-            (
+            is ∙ ap (λ b. slice_get (cond b (map value_of i.operands) []) 0) names ∙ ap (λ os. slice_get (map value_of os) 0) one in (
               old,
               all_named.through v ∙ ap (lowered_number d f) (same_end (renamings_of f) v o.value name (own_name (length m.functions) d f lowerable v old))
                   ∙ sym (all_named.through o.value),

@@ -1,5 +1,5 @@
 -- The memory of the lowered run beside that of the run by holders: each change keeps it so, and what is full is read there.
-use Rattle.std.proofs.Common.{◌≡◌, ℕ, zero, suc, List, [], ◌∷◌, ◌++◌, set, take, drop, replicate, refl, sym, ap, ◌∙◌, subst, Bool, true, false, Option, Some, None}
+use Rattle.std.proofs.Common.{◌≡◌, ℕ, zero, suc, List, [], ◌∷◌, ◌++◌, set, drop, replicate, refl, ap, subst, true, Some}
 use Rattle.std.specs.Prelude.{slice_get, unwrap_or}
 use Rattle.std.specs.List.{AllZip}
 use Rattle.numbered_form.specs.Lists.{Each}

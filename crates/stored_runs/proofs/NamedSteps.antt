@@ -1,9 +1,8 @@
 -- Instructions that give another name to their operand, retain or release it: none or one step of the lowered run.
-use Rattle.std.proofs.Common.{◌≡◌, ℕ, zero, suc, ◌+◌, List, [], ◌∷◌, ◌++◌, map, length, arith, refl, sym, ap, ◌∙◌, subst, Bool, true, false, cond, Option, Some, None, Ok}
+use Rattle.std.proofs.Common.{◌≡◌, ℕ, suc, ◌+◌, List, [], ◌∷◌, map, length, arith, refl, sym, ap, ◌∙◌, subst, Bool, true, false, cond, Option, Some, None, Ok}
 use Rattle.std.specs.Prelude.{find, slice_get}
-use Rattle.std.specs.List.{AllZip, list_any}
+use Rattle.std.specs.List.{list_any}
 use Rattle.std.proofs.lemmas.Option.{same_Some}
-use Rattle.instruction_table.specs.declared.op.Op.{Op}
 use Rattle.instruction_table.specs.declared.op.Op.TheVariants as op
 use Rattle.numbered_form.specs.Lists.{Each}
 use Rattle.sil_ast.specs.declared.function.Function.{Function}
@@ -14,7 +13,6 @@ use Rattle.sil_ast.specs.declared.place.ObjectId.{ObjectId}
 use Rattle.sil_ast.specs.declared.place.PointId.{PointId}
 use Rattle.sil_ast.specs.declared.place.ValueId.{ValueId}
 use Rattle.sil_cfg.specs.declared.item.Item.TheVariants as item
-use Rattle.item_operands.specs.Items.{item_defined, item_taken}
 use Rattle.item_operands.specs.Parts.{inst_at}
 use Rattle.item_operands.specs.Roles.{taken_by}
 use Rattle.ownership_chains.specs.declared.facts.Facts.{Facts}
@@ -26,34 +24,32 @@ use Rattle.run_values.specs.Shapes.{Shape}
 use Rattle.lowered_run.specs.holder_model.Data.{Datum, references_in}
 use Rattle.lowered_run.specs.holder_model.Effects as effects
 use Rattle.lowered_run.specs.holder_model.Effects.{Change, Effect, Makes, effect_of, unchanged}
-use Rattle.lowered_run.specs.holder_model.Frames.{Entry, Frame, Operands, results_put}
+use Rattle.lowered_run.specs.holder_model.Frames.{Entry, Frame, results_put}
 use Rattle.lowered_run.specs.holder_model.HolderStates.{HolderState}
 use Rattle.lowered_run.specs.holder_model.ModuleFacts.{facts_of, facts_told}
 use Rattle.lowered_run.specs.holder_model.ModuleShapes.{ModuleShapes, shapes_in, shapes_of}
 use Rattle.lowered_run.specs.holder_model.Outcomes.{Numbers}
 use Rattle.lowered_run.specs.holder_model.Standing.{point_behind, stands_at}
 use Rattle.lowered_run.specs.holder_model.States.{Goes, Runs, Task, dropping}
-use Rattle.lowered_run.specs.holder_model.declared.row_effect.RowEffect.{RowEffect}
 use Rattle.lowered_run.specs.holder_model.declared.row_effect.RowEffect.TheVariants as row
-use Rattle.lowered_run.specs.declared.low_fault.LowFault.{LowFault}
 use Rattle.lowered_run.specs.LowEffects as low_effects
 use Rattle.lowered_run.specs.LowEffects.{low_effect, stored_behind, stored_by}
 use Rattle.lowered_run.specs.LowFrames as low_frames
 use Rattle.lowered_run.specs.LowFrames.{LowFrame, put_all, read_all}
-use Rattle.lowered_run.specs.LowStepParts.{LowNext, LowState, numbers_for, slots_behind, taken_value, values_taken}
+use Rattle.lowered_run.specs.LowStepParts.{LowState, numbers_for, slots_behind, taken_value, values_taken}
 use Rattle.lowered_run.specs.LowSteps as steps
 use Rattle.lowered_run.specs.Stored.{each_changed, one_more}
 use Rattle.lowering_laws.specs.ownership_origins.Renamings.{renames}
 use Rattle.lowering_laws.specs.lowering_model.LoweredBlocks.{value_with}
 use Rattle.lowering_laws.specs.lowering_model.LoweredInsts.{becomes, becomes_by, lowering_of}
 use Rattle.lowering_laws.specs.lowering_model.LoweredModules.{lowered, lowered_body}
-use Rattle.lowering_laws.specs.lowering_model.NewInsts.{by_class, release, retain}
+use Rattle.lowering_laws.specs.lowering_model.NewInsts.{release, retain}
 use Rattle.lowering_laws.specs.lowering_model.Numbers.{renumbered_inst}
 use Rattle.lowering_laws.specs.lowering_model.declared.lowering.Lowering.TheVariants as lowering
 use Rattle.lowering_laws.specs.sil_types.Typing.RowTypes.{passes}
 use Rattle.lowered_steps.specs.inner.LowWays.{Acts, GoesBehind, Performs, StepsBy, effect_in, moved, retained}
 use Rattle.lowered_steps.proofs.LowTaken.{told_taken}
-use Rattle.stored_runs.specs.inner.Frames.{AreTasksFor, AreValuesFor, IsFrameAt, IsFrameFor, IsTaskFor}
+use Rattle.stored_runs.specs.inner.Frames.{AreValuesFor, IsFrameAt, IsFrameFor, IsTaskFor}
 use Rattle.stored_runs.specs.inner.Lowering.{IsOtherName, LowersSo}
 use Rattle.stored_runs.specs.inner.Memories.{IsMemoryFor}
 use Rattle.stored_runs.specs.inner.Names.{lowered_number}
@@ -77,7 +73,7 @@ module _ (m : Module) (bound : ℕ) (l : LowState) (low : LowFrame) (others : Li
       → effect_in (lowered m) low_told bound l low j xs ≡ Makes c → slots_behind c.slots low.slots ≡ Ok slots → put_all j.results c.results low.values ≡ Some values
       → find (is_dead l.memory) c.retained ≡ None
       → steps.low_step (lowered m) low_told bound l
-        ≡ Goes (moved (lowered m) low_told bound (retained c.retained (steps.with_names (lowered m) low_told bound l low j xs)) others low lf (item.Inst low.at) c slots values)
+      ≡ Goes (moved (lowered m) low_told bound (retained c.retained (steps.with_names (lowered m) low_told bound l low j xs)) others low lf (item.Inst low.at) c slots values)
   inst_goes j xs c slots values here read eff is put alive =
       let next = moved (lowered m) low_told bound (retained c.retained (steps.with_names (lowered m) low_told bound l low j xs)) others low lf (item.Inst low.at) c slots values in
       told_taken (lowered m) low_told bound l (Goes next)

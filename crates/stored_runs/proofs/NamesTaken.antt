@@ -1,5 +1,5 @@
 -- What makes another name for a value takes the value.
-use Rattle.std.proofs.Common.{◌≡◌, ℕ, zero, suc, List, [], ◌∷◌, ◌++◌, append-nil, length, map, refl, sym, ap, ◌∙◌, subst, Bool, true, false, cond, ◌||◌, ◌⊎◌, inl, inr, Option, Some, None, eq-eqb}
+use Rattle.std.proofs.Common.{◌≡◌, ℕ, List, [], ◌∷◌, ◌++◌, append-nil, length, map, refl, sym, ap, ◌∙◌, subst, Bool, true, false, cond, ◌||◌, Option, Some, None, eq-eqb}
 use Rattle.std.specs.Prelude.{◌==◌, option_map, slice_get}
 use Rattle.std.specs.List.{list_any}
 use Rattle.std.proofs.lemmas.Bool.{eqb-true, false≢true}
@@ -10,7 +10,7 @@ use Rattle.instruction_table.specs.Forms.{roles_of}
 use Rattle.instruction_table.specs.declared.op.Op.{Op}
 use Rattle.instruction_table.specs.declared.op.Op.TheVariants as op
 use Rattle.item_operands.specs.Items.{arg_value, item_taken, taken_along_in, taken_in}
-use Rattle.item_operands.specs.Parts.{args_behind, edge_in, inst_at, item_edge, results_in, terminator_in, terminator_of}
+use Rattle.item_operands.specs.Parts.{args_behind, edge_in, inst_at, results_in, terminator_in}
 use Rattle.item_operands.specs.Roles.{conventions_in, roles_for, taken_by, taken_each}
 use Rattle.numbered_form.specs.Lists.{Each}
 use Rattle.ownership_chains.specs.Facts.{has}
@@ -24,10 +24,8 @@ use Rattle.sil_ast.specs.declared.operands.Operand.{Operand}
 use Rattle.sil_ast.specs.declared.place.EdgeId.{EdgeId}
 use Rattle.sil_ast.specs.declared.place.PointId.{PointId}
 use Rattle.sil_ast.specs.declared.place.ValueId.{ValueId}
-use Rattle.sil_cfg.specs.Items.{IsItem}
 use Rattle.sil_cfg.specs.declared.item.Item.{Item}
 use Rattle.sil_cfg.specs.declared.item.Item.TheVariants as items
-use Rattle.type_definitions.specs.Declarations.{Declarations, declarations_of}
 use Rattle.value_tables.specs.FirstValue.{first_value, value_of}
 use Rattle.lowering_laws.specs.ownership_origins.Renamings.{default_operand, renames, renamings_of}
 use Rattle.lowering_laws.specs.ownership_origins.Switched.{switch_to}
@@ -37,7 +35,7 @@ use Rattle.lowering_laws.proofs.Known.{names_in}
 use Rattle.lowered_typing_laws.proofs.Sound.{SoundFunction, sound_function}
 use Rattle.lowered_typing_laws.proofs.Switches.{SwitchFrom, entry_kept, lone, switch_from}
 use Rattle.accepted_trails.specs.inner.Defined.{makes}
-use Rattle.accepted_trails.proofs.Tests.{or_right, picked, same_value}
+use Rattle.accepted_trails.proofs.Tests.{picked, same_value}
 use Rattle.accepted_values.specs.inner.Known.{IsAcceptedBody}
 use Rattle.accepted_values.proofs.Accepted.{counted, typed}
 use Rattle.stored_runs.specs.inner.Current.{AreNamesTaken, is_of}

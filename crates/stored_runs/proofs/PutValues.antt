@@ -1,12 +1,11 @@
 -- Values that are put in a lowered frame: what stays under other numbers, and what holds of all that is put.
-use Rattle.std.proofs.Common.{◌≡◌, ◌⊎◌, inl, inr, ℕ, zero, suc, List, [], ◌∷◌, length, map, replicate, set, arith, refl, sym, ap, ◌∙◌, subst, Bool, true, false, Option, Some, None}
+use Rattle.std.proofs.Common.{◌≡◌, ℕ, zero, suc, List, [], ◌∷◌, length, set, arith, refl, sym, ap, ◌∙◌, subst, false, Option, Some, None}
 use Rattle.std.specs.Prelude.{◌==◌, slice_get, unwrap_or}
-use Rattle.std.proofs.lemmas.Bool.{cases_Bool, eqb-true}
 use Rattle.std.proofs.lemmas.Option.{none-some, same_Some}
 use Rattle.numbered_form.specs.Lists.{Each}
 use Rattle.sil_ast.specs.declared.place.ValueId.{ValueId}
 use Rattle.lowered_run.specs.holder_model.Data.{Datum}
-use Rattle.lowered_run.specs.holder_model.Frames.{Entry, Gone, datum_in, entry_at, no_entries}
+use Rattle.lowered_run.specs.holder_model.Frames.{Gone, entry_at, no_entries}
 use Rattle.lowered_run.specs.LowFrames.{no_values, put_all, value_at}
 use Rattle.stored_runs.proofs.ValuesFor.{value_other}
 

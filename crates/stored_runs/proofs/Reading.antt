@@ -1,8 +1,8 @@
 -- What an item takes under lowered numbers.
-use Rattle.std.proofs.Common.{◌≡◌, ◌⊎◌, inl, inr, ⊎_elim, ℕ, zero, suc, List, [], ◌∷◌, ◌++◌, map, length, arith, refl, sym, ap, ◌∙◌, subst, Bool, true, false, not, ◌&&◌, ◌||◌, Option, Some, None, Ok, eq-eqb}
+use Rattle.std.proofs.Common.{◌≡◌, ◌⊎◌, inl, inr, ⊎_elim, suc, List, [], ◌∷◌, ◌++◌, map, length, refl, sym, ap, ◌∙◌, subst, Bool, true, false, not, ◌&&◌, ◌||◌, Option, Some, Ok, eq-eqb}
 use Rattle.std.specs.Prelude.{◌==◌}
 use Rattle.std.specs.List.{AllZip}
-use Rattle.std.proofs.lemmas.Bool.{and_parts, cases_Bool, eqb-false, eqb-true, false≢true, or_cases, true≢false}
+use Rattle.std.proofs.lemmas.Bool.{and_parts, cases_Bool, eqb-false, eqb-true, false≢true, or_cases}
 use Rattle.std.proofs.lemmas.List.{append-nil}
 use Rattle.std.proofs.lemmas.Option.{none-some, same_Some}
 use Rattle.instruction_table.specs.Forms.{roles_of}
@@ -14,7 +14,7 @@ use Rattle.sil_ast.specs.declared.place.PointId.{PointId}
 use Rattle.sil_ast.specs.declared.place.ValueId.{ValueId}
 use Rattle.sil_cfg.specs.declared.item.Item.{Item}
 use Rattle.sil_cfg.specs.declared.item.Item.TheVariants as item
-use Rattle.item_operands.specs.Items.{item_defined, item_taken, taken_in}
+use Rattle.item_operands.specs.Items.{item_defined, taken_in}
 use Rattle.item_operands.specs.Parts.{inst_at, results_in}
 use Rattle.item_operands.specs.Roles.{conventions_in, roles_for, taken_by, taken_each}
 use Rattle.item_operands.specs.declared.taken.Taken.{Taken}
@@ -194,11 +194,13 @@ module _ (d : Declarations) (f : Function) (named : AreNamed d f) where
           let worth : x ≡ y = same_Some x y (sym (one.here y (subst (λ u. datum_in (entry_at entries u) ≡ Some y) is there))) in
           (x, ap (λ u. low_frames.value_at values (number u)) is ∙ under, inl worth)
       at (inr other) =
-          shown v y (ap datum_in (sym (one.others v other)) ∙ there)
-          (ok.0, ⊎_elim
-          (λ made. absurd (eqb-false v.0 r.0 other (sym (eqb-true r.0 v.0 (only_one (sym (ap (λ vs. has vs v.0) defined) ∙ made))))))
-          (λ kept. (and_parts (not (makes f (stands_for (renamings_of f) v) i)) (is_none_since (makes f (stands_for (renamings_of f) v)) (makes f v) t) kept).1)
-          (or_cases (makes f v i) (not (makes f (stands_for (renamings_of f) v) i) && is_none_since (makes f (stands_for (renamings_of f) v)) (makes f v) t) ok.1))
+          shown v y (ap datum_in (sym (one.others v other)) ∙ there) (
+            ok.0,
+            ⊎_elim
+                (λ made. absurd (eqb-false v.0 r.0 other (sym (eqb-true r.0 v.0 (only_one (sym (ap (λ vs. has vs v.0) defined) ∙ made))))))
+                (λ kept. (and_parts (not (makes f (stands_for (renamings_of f) v) i)) (is_none_since (makes f (stands_for (renamings_of f) v)) (makes f v) t) kept).1)
+                (or_cases (makes f v i) (not (makes f (stands_for (renamings_of f) v) i) && is_none_since (makes f (stands_for (renamings_of f) v)) (makes f v) t) ok.1),
+          )
         where
           only_one : has (r ∷ []) v.0 ≡ true → (r.0 == v.0) ≡ true
           only_one h = ⊎_elim (λ here. here) (λ later. absurd (false≢true later)) (or_cases (r.0 == v.0) false h)
@@ -207,7 +209,10 @@ module _ (d : Declarations) (f : Function) (named : AreNamed d f) where
   pub behind_nothing : (t : List Item) (i : Item) → item_defined f i ≡ [] → (entries : List Entry) (values : List (Option Datum))
       → AreValuesFor d f t entries values → AreValuesFor d f (i ∷ t) entries values
   behind_nothing t i defined entries values shown v y there ok =
-      shown v y there (ok.0, ⊎_elim
-      (λ made. absurd (false≢true (sym (ap (λ vs. has vs v.0) defined) ∙ made)))
-      (λ kept. (and_parts (not (makes f (stands_for (renamings_of f) v) i)) (is_none_since (makes f (stands_for (renamings_of f) v)) (makes f v) t) kept).1)
-      (or_cases (makes f v i) (not (makes f (stands_for (renamings_of f) v) i) && is_none_since (makes f (stands_for (renamings_of f) v)) (makes f v) t) ok.1))
+      shown v y there (
+        ok.0,
+        ⊎_elim
+            (λ made. absurd (false≢true (sym (ap (λ vs. has vs v.0) defined) ∙ made)))
+            (λ kept. (and_parts (not (makes f (stands_for (renamings_of f) v) i)) (is_none_since (makes f (stands_for (renamings_of f) v)) (makes f v) t) kept).1)
+            (or_cases (makes f v i) (not (makes f (stands_for (renamings_of f) v) i) && is_none_since (makes f (stands_for (renamings_of f) v)) (makes f v) t) ok.1),
+      )

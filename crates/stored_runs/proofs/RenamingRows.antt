@@ -1,5 +1,5 @@
 -- What the renamings of a function tell of the results of its instructions and of the arguments of its blocks.
-use Rattle.std.proofs.Common.{◌≡◌, ℕ, zero, suc, List, [], ◌∷◌, length, map, replicate, refl, sym, ap, ◌∙◌, subst, Bool, cond, Option, Some, None}
+use Rattle.std.proofs.Common.{◌≡◌, ℕ, zero, suc, List, [], ◌∷◌, length, map, replicate, refl, ap, ◌∙◌, Option, Some, None}
 use Rattle.std.specs.Prelude.{slice_get, unwrap_or}
 use Rattle.std.proofs.lemmas.List.{length-map, length-replicate}
 use Rattle.numbered_form.specs.Lists.{Each}

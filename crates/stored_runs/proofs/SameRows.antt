@@ -1,7 +1,7 @@
 -- Rows that are lowered to themselves: the lowered run does what the run by holders does.
-use Rattle.std.proofs.Common.{◌≡◌, ℕ, List, [], ◌∷◌, ◌++◌, length, map, arith, refl, sym, ap, ◌∙◌, subst, Bool, true, false, cond, Option, Some, None}
+use Rattle.std.proofs.Common.{◌≡◌, ℕ, List, [], ◌∷◌, ◌++◌, length, map, refl, sym, ap, ◌∙◌, subst, Bool, true, false, cond, Option, Some, None}
 use Rattle.std.specs.Prelude.{◌||◌, not, find, is_some, option_and_then}
-use Rattle.std.specs.List.{flat_map, list_all, list_any}
+use Rattle.std.specs.List.{flat_map, list_any}
 use Rattle.std.proofs.lemmas.Bool.{true≢false}
 use Rattle.std.proofs.lemmas.Option.{none-some}
 use Rattle.std.specs.Option.{option_to_list}
@@ -9,40 +9,34 @@ use Rattle.std.proofs.lemmas.Slice.Zip.{AllZip-long}
 use Rattle.instruction_table.specs.Forms.{detail_of}
 use Rattle.instruction_table.specs.declared.entries.Detail.{Detail}
 use Rattle.instruction_table.specs.declared.entries.Detail.TheVariants as detail
-use Rattle.sil_ast.specs.declared.decl.Storage.{Storage}
-use Rattle.sil_ast.specs.declared.decl.Storage.TheVariants as storage
 use Rattle.sil_ast.specs.declared.inst.Inst.{Inst}
 use Rattle.sil_ast.specs.declared.member.Member.{Member}
 use Rattle.sil_ast.specs.declared.place.ObjectId.{ObjectId}
 use Rattle.sil_ast.specs.declared.place.ValueId.{ValueId}
-use Rattle.numbered_form.specs.Lists.{Each}
 use Rattle.numbered_form.specs.Names.{Name}
 use Rattle.type_definitions.specs.Declarations.{Declarations}
 use Rattle.run_values.specs.declared.phase.Phase.TheVariants.{Live}
-use Rattle.run_values.specs.Memory.{Memory, is_dead, is_live, new_object}
+use Rattle.run_values.specs.Memory.{Memory, is_dead}
 use Rattle.run_values.specs.Places.{OnStack, Place, empty_fields, empty_slot, emptied, filled, is_there_at, removed, value_at}
 use Rattle.run_values.specs.Places as places
-use Rattle.run_values.specs.Shapes.{Shape, class_in, storage_in}
+use Rattle.run_values.specs.Shapes.{Shape, class_in}
 use Rattle.run_values.specs.Values as value
 use Rattle.run_values.specs.Values.{Value, grouped, integer_of, members_of, object_of, references_of}
 use Rattle.lowered_run.specs.holder_model.Builtins.{builtin_value, is_set}
-use Rattle.lowered_run.specs.holder_model.Data.{AddressOf, Datum, FunctionOf, ValueOf, all_of, as_function, as_place, as_value, home_references, references_in, values_of}
+use Rattle.lowered_run.specs.holder_model.Data.{AddressOf, Datum, FunctionOf, ValueOf, all_of, as_function, as_place, as_value, home_references, values_of}
 use Rattle.lowered_run.specs.holder_model.Effects as effects
 use Rattle.lowered_run.specs.holder_model.Effects.{Change, Effect, Makes, OpensSlot, effect_by, gives, gives_value, only, part_number, part_number_by, unchanged, with_some}
 use Rattle.lowered_run.specs.holder_model.Faults.{HolderFault}
-use Rattle.lowered_run.specs.holder_model.MemoryEffects as holder
-use Rattle.lowered_run.specs.holder_model.MemoryEffects.{all_live, holds, loaded_name}
 use Rattle.lowered_run.specs.holder_model.ModuleShapes.{ModuleShapes, case_place, field_shapes, fields_in, is_class}
 use Rattle.lowered_run.specs.holder_model.declared.row_effect.RowEffect.{RowEffect}
 use Rattle.lowered_run.specs.holder_model.declared.row_effect.RowEffect.TheVariants as row
-use Rattle.lowered_run.specs.holder_model.declared.trap.Trap.TheVariants as trap
 use Rattle.lowered_run.specs.declared.low_fault.LowFault.{LowFault}
 use Rattle.lowered_run.specs.declared.low_fault.LowFault.TheVariants as fault
 use Rattle.lowered_run.specs.LowEffects as low_effects
 use Rattle.lowering_laws.specs.lowering_model.Numbers.{renumbered_inst}
-use Rattle.stored_runs.specs.inner.EffectsFor.{IsChangeFor, IsEffectFor}
+use Rattle.stored_runs.specs.inner.EffectsFor.{IsEffectFor}
 use Rattle.stored_runs.specs.inner.Memories.{IsMemoryFor, IsObjectFor, IsCellFor}
-use Rattle.stored_runs.proofs.MemoriesFor.{dead_for, live_for, object_added, place_emptied, place_read, place_removed, place_taken, place_there, slot_added}
+use Rattle.stored_runs.proofs.MemoriesFor.{dead_for, object_added, place_there, slot_added}
 
 -- where there is something to go on with, both go on with it
 pub some_for : {A : Type 0} (go : A → Effect HolderFault) (low : A → Effect LowFault) (o p : Option A) → p ≡ o → ((x : A) → IsEffectFor (go x) (low x))
@@ -70,7 +64,6 @@ fields_same shapes low_shapes classes class = ap (λ cs. flat_map fields_in (opt
 module _ (d : Declarations) (shapes low_shapes : ModuleShapes) (values low_values : List Shape) (m low : Memory) (number : ValueId → ValueId) (i : Inst)
     (h : IsMemoryFor m low) (classes : low_shapes.classes ≡ shapes.classes)
     (shape : effects.result_shape d low_shapes low_values low (renumbered_inst number i) ≡ effects.result_shape d shapes values m i) where
-
   gives_for : (xs : List Datum) → IsEffectFor (gives m xs) (gives low xs)
   gives_for xs = (record (unchanged low) { results = xs }, refl, record { results = refl; dropped = refl; retained = refl; slots = refl; memory = h })
 
@@ -89,17 +82,20 @@ module _ (d : Declarations) (shapes low_shapes : ModuleShapes) (values low_value
   object_for : (class : Name) → IsEffectFor (effects.makes_object d shapes values m i class) (effects.makes_object d low_shapes low_values low (renumbered_inst number i) class)
   object_for class =
       let more : IsMemoryFor (record m { objects = m.objects ++ record { class = class; phase = Live; cells = empty_fields (field_shapes shapes class) } ∷ [] })
-          (record low { objects = low.objects ++ record { class = class; phase = Live; cells = empty_fields (field_shapes low_shapes class) } ∷ [] }) =
-          subst (λ fs. IsMemoryFor (record m { objects = m.objects ++ record { class = class; phase = Live; cells = empty_fields (field_shapes shapes class) } ∷ [] })
-          (record low { objects = low.objects ++ record { class = class; phase = Live; cells = empty_fields fs } ∷ [] })) (sym (fields_same shapes low_shapes classes class))
-          (object_added m low h (record { class = class; phase = Live; cells = empty_fields (field_shapes shapes class) })) in
-      (_, refl, record {
-        results = ap (λ n. ValueOf (value.Object (record { 0 = n })) ∷ []) (AllZip-long IsObjectFor m.objects low.objects h.objects);
-        dropped = refl;
-        retained = refl;
-        slots = refl;
-        memory = more;
-      })
+      (record low { objects = low.objects ++ record { class = class; phase = Live; cells = empty_fields (field_shapes low_shapes class) } ∷ [] }) =
+      subst (λ fs. IsMemoryFor (record m { objects = m.objects ++ record { class = class; phase = Live; cells = empty_fields (field_shapes shapes class) } ∷ [] })
+      (record low { objects = low.objects ++ record { class = class; phase = Live; cells = empty_fields fs } ∷ [] })) (sym (fields_same shapes low_shapes classes class))
+      (object_added m low h (record { class = class; phase = Live; cells = empty_fields (field_shapes shapes class) })) in (
+        _,
+        refl,
+        record {
+          results = ap (λ n. ValueOf (value.Object (record { 0 = n })) ∷ []) (AllZip-long IsObjectFor m.objects low.objects h.objects);
+          dropped = refl;
+          retained = refl;
+          slots = refl;
+          memory = more;
+        },
+      )
 
   slot_same : effects.new_slot d low_shapes low_values low (renumbered_inst number i) ≡ effects.new_slot d shapes values m i
   slot_same =
@@ -108,14 +104,18 @@ module _ (d : Declarations) (shapes low_shapes : ModuleShapes) (values low_value
       ∙ ap (λ s. record { home = OnStack; first = length m.stack; shape = s; is_part = false }) shape
 
   slot_for : IsEffectFor (effects.makes_slot d shapes values m i) (effects.makes_slot d low_shapes low_values low (renumbered_inst number i))
-  slot_for = (_, refl, record {
-    results = ap (λ p. AddressOf p ∷ []) slot_same;
-    dropped = refl;
-    retained = refl;
-    slots = ap OpensSlot slot_same;
-    memory = subst (λ s. IsMemoryFor (record m { stack = m.stack ++ empty_slot (effects.result_shape d shapes values m i) }) (record low { stack = low.stack ++ empty_slot s }))
-        (sym shape) (slot_added m low h (empty_slot (effects.result_shape d shapes values m i)));
-  })
+  slot_for = (
+    _,
+    refl,
+    record {
+      results = ap (λ p. AddressOf p ∷ []) slot_same;
+      dropped = refl;
+      retained = refl;
+      slots = ap OpensSlot slot_same;
+      memory = subst (λ s. IsMemoryFor (record m { stack = m.stack ++ empty_slot (effects.result_shape d shapes values m i) }) (record low { stack = low.stack ++ empty_slot s }))
+          (sym shape) (slot_added m low h (empty_slot (effects.result_shape d shapes values m i)));
+    },
+  )
 
   copies_for : (x : Datum) → IsEffectFor (effects.copies d shapes values m i x) (effects.copies d low_shapes low_values low (renumbered_inst number i) x)
   copies_for x = (_, refl, record { results = refl; dropped = refl; retained = refl; slots = refl; memory = h })

@@ -1,9 +1,7 @@
 -- The step of an instruction that is lowered to itself.
-use Rattle.std.proofs.Common.{◌≡◌, ℕ, zero, suc, ◌+◌, ◌<◌, List, [], ◌∷◌, ◌++◌, map, length, arith, refl, sym, ap, ◌∙◌, subst, Bool, true, false, cond, ◌||◌, Option, Some, None, Ok, Err}
+use Rattle.std.proofs.Common.{◌≡◌, ℕ, suc, ◌+◌, ◌<◌, List, [], ◌∷◌, ◌++◌, map, length, arith, refl, sym, ap, ◌∙◌, subst, Bool, true, false, cond, Option, Some, None, Ok, Err}
 use Rattle.std.specs.Prelude.{find, slice_get}
 use Rattle.std.specs.List.{AllZip, flat_map, list_any}
-use Rattle.std.specs.declared.result.Result.{Result}
-use Rattle.std.proofs.lemmas.Bool.{or_cases}
 use Rattle.std.proofs.lemmas.Option.{none-some, same_Some}
 use Rattle.numbered_form.specs.Lists.{Each}
 use Rattle.sil_ast.specs.declared.function.Form.TheVariants as form
@@ -26,8 +24,8 @@ use Rattle.run_values.specs.Shapes.{Shape}
 use Rattle.lowered_run.specs.holder_model.Data.{Datum, references_in}
 use Rattle.lowered_run.specs.holder_model.Effects as effects
 use Rattle.lowered_run.specs.holder_model.Effects.{Change, ClosesSlot, Makes, OpensSlot, SameSlots, SlotChange, effect_by, effect_of}
-use Rattle.lowered_run.specs.holder_model.Faults.{HolderFault, NotLastSlot}
-use Rattle.lowered_run.specs.holder_model.Frames.{Entry, Frame, Operands, any_dead, operands_of, results_put}
+use Rattle.lowered_run.specs.holder_model.Faults.{NotLastSlot}
+use Rattle.lowered_run.specs.holder_model.Frames.{Entry, Frame, Operands, operands_of, results_put}
 use Rattle.lowered_run.specs.holder_model.HolderStates.{HolderState}
 use Rattle.lowered_run.specs.holder_model.MemoryEffects as holder
 use Rattle.lowered_run.specs.holder_model.ModuleFacts.{facts_of, facts_told}
@@ -35,15 +33,14 @@ use Rattle.lowered_run.specs.holder_model.ModuleShapes.{ModuleShapes, shapes_in,
 use Rattle.lowered_run.specs.holder_model.Outcomes.{Numbers}
 use Rattle.lowered_run.specs.holder_model.Standing.{is_slot, point_behind, stands_at}
 use Rattle.lowered_run.specs.holder_model.StepParts as parts
-use Rattle.lowered_run.specs.holder_model.States.{Drops, Goes, Runs, Task, dropping}
+use Rattle.lowered_run.specs.holder_model.States.{Goes, Runs, Task, dropping}
 use Rattle.lowered_run.specs.holder_model.declared.row_effect.RowEffect.{RowEffect}
 use Rattle.lowered_run.specs.holder_model.declared.row_effect.RowEffect.TheVariants as row
-use Rattle.lowered_run.specs.declared.low_fault.LowFault.{LowFault}
 use Rattle.lowered_run.specs.declared.low_fault.LowFault.TheVariants as fault
 use Rattle.lowered_run.specs.LowEffects as low_effects
 use Rattle.lowered_run.specs.LowEffects.{low_effect, stored_behind}
 use Rattle.lowered_run.specs.LowFrames.{LowFrame, put_all, read_all}
-use Rattle.lowered_run.specs.LowStepParts.{LowNext, LowState, numbers_for, slots_behind, taken_value, values_taken}
+use Rattle.lowered_run.specs.LowStepParts.{LowState, numbers_for, slots_behind, taken_value, values_taken}
 use Rattle.lowered_run.specs.LowSteps as steps
 use Rattle.lowered_run.specs.Stored.{changed, each_changed, one_more}
 use Rattle.lowering_laws.specs.lowering_model.LoweredInsts.{lowering_of}
@@ -52,15 +49,13 @@ use Rattle.lowering_laws.specs.lowering_model.Numbers.{renumbered_inst}
 use Rattle.lowering_laws.specs.lowering_model.declared.lowering.Lowering.TheVariants as lowering
 use Rattle.lowering_laws.specs.ownership_origins.Renamings.{renames}
 use Rattle.accepted_trails.specs.run_trails.inner.RunTrails.{IsTurnedTrail}
-use Rattle.lowered_steps.specs.inner.LowWays as ways
 use Rattle.lowered_steps.specs.inner.LowWays.{Acts, GoesBehind, Performs, StepsBy, effect_in, moved, retained}
 use Rattle.lowered_steps.proofs.LowTaken.{told_taken}
 use Rattle.stored_runs.specs.inner.EffectsFor.{IsChangeFor, IsEffectFor}
-use Rattle.stored_runs.specs.inner.Frames.{AreTasksFor, AreValuesFor, IsFrameAt, IsFrameFor, IsTaskFor}
+use Rattle.stored_runs.specs.inner.Frames.{AreTasksFor, IsFrameAt, IsFrameFor, IsTaskFor}
 use Rattle.stored_runs.specs.inner.Lowering.{IsOwnName, LowersSo}
 use Rattle.stored_runs.specs.inner.Memories.{IsMemoryFor}
-use Rattle.stored_runs.specs.inner.Names.{AreNamed, IsCurrent, IsOld, lowered_count, lowered_number}
-use Rattle.stored_runs.specs.inner.Points.{lowered_point}
+use Rattle.stored_runs.specs.inner.Names.{IsCurrent, IsOld, lowered_number}
 use Rattle.stored_runs.proofs.LoweredCode.{mapped_at}
 use Rattle.stored_runs.proofs.StandsStaying as standing
 use Rattle.stored_runs.proofs.StandsStaying.{behind_at, takes_same}
@@ -216,7 +211,7 @@ module _ (m : Module) (bound : ℕ) where
     module _ (ops : Operands) (found : operands_of facts s.memory frame.entries (item_taken f (item.Inst p)) ≡ Ok ops)
         (c : Change) (makes : holder.effect d (shapes_of m) (shapes_in (shapes_of m) frame.function) s.memory i ops.given ≡ Makes c)
         (place : IsEffectFor (holder.at_places d (shapes_of m) (shapes_in (shapes_of m) frame.function) s.memory i (effect_of i.op) ops.given)
-          (low_effects.at_places d low_told (shapes_in low_told top.low.function) l.memory j (effect_of i.op) ops.given))
+        (low_effects.at_places d low_told (shapes_in low_told top.low.function) l.memory j (effect_of i.op) ops.given))
         (shape : effects.result_shape d low_told (shapes_in low_told top.low.function) l.memory j ≡ effects.result_shape d (shapes_of m) (shapes_in (shapes_of m) frame.function) s.memory i)
         (alive : list_any (is_dead s.memory) c.retained ≡ false)
         (slots : List Place) (slots_left : parts.slots_behind c.slots frame.slots ≡ Ok slots)

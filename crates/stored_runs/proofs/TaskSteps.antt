@@ -1,28 +1,25 @@
 -- Drops, and the start of a deinitialisation: what is released has its stored number, and the states go along.
-use Rattle.std.proofs.Common.{◌≡◌, ℕ, zero, suc, ◌+◌, ◌-◌, ◌<◌, length-set, List, [], ◌∷◌, ◌++◌, map, length, arith, refl, sym, ap, ◌∙◌, subst, Bool, true, false, Option, Some, None, eq-eqb}
-use Rattle.std.specs.Prelude.{◌==◌, cond, nat_lt, slice_get, unwrap_or, sum}
-use Rattle.std.specs.List.{AllZip}
+use Rattle.std.proofs.Common.{◌≡◌, ℕ, zero, suc, ◌+◌, ◌-◌, ◌<◌, length-set, List, [], ◌∷◌, ◌++◌, length, arith, refl, sym, ap, ◌∙◌, subst, Bool, true, false, eq-eqb}
+use Rattle.std.specs.Prelude.{cond, nat_lt}
 use Rattle.std.proofs.lemmas.Bool.{true≢false}
-use Rattle.std.proofs.lemmas.List.Sums.{sum_by-cons}
 use Rattle.numbered_form.specs.Lists.{Each}
-use Rattle.sil_ast.specs.declared.decl.Storage.TheVariants as storage
 use Rattle.sil_ast.specs.declared.module.Module.{Module}
 use Rattle.sil_ast.specs.declared.place.ObjectId.{ObjectId}
-use Rattle.type_definitions.specs.Declarations.{Declarations, declarations_of}
-use Rattle.run_values.specs.Memory.{Memory, Object, is_dead, is_live, no_object, object_at}
+use Rattle.type_definitions.specs.Declarations.{declarations_of}
+use Rattle.run_values.specs.Memory.{Memory, Object, is_dead, is_live, object_at}
 use Rattle.lowered_run.specs.holder_model.declared.event.Event.TheVariants as event
 use Rattle.lowered_run.specs.holder_model.Dropping.{deinits_of}
 use Rattle.lowered_run.specs.holder_model.Frames.{Frame}
-use Rattle.lowered_run.specs.holder_model.HolderStates.{HolderNext, HolderState, in_task, strong_holders}
-use Rattle.lowered_run.specs.holder_model.Holders.{in_memory, one_object, unowned_holders, weak_holders}
-use Rattle.lowered_run.specs.holder_model.ModuleFacts.{ModuleFacts, facts_of}
+use Rattle.lowered_run.specs.holder_model.HolderStates.{HolderNext, HolderState, strong_holders}
+use Rattle.lowered_run.specs.holder_model.Holders.{one_object, unowned_holders, weak_holders}
+use Rattle.lowered_run.specs.holder_model.ModuleFacts.{facts_of}
 use Rattle.lowered_run.specs.holder_model.ModuleShapes.{shapes_of}
 use Rattle.lowered_run.specs.holder_model.Outcomes.{Numbers}
-use Rattle.lowered_run.specs.holder_model.States.{Drops, Ends, Finishes, Goes, OutOfTurns, Runs, Task}
+use Rattle.lowered_run.specs.holder_model.States.{Drops, Ends, Finishes, Goes, OutOfTurns, Task}
 use Rattle.lowered_run.specs.LowFrames.{LowFrame}
 use Rattle.lowered_run.specs.LowStepParts.{LowNext, LowState}
 use Rattle.lowered_run.specs.LowSteps as steps
-use Rattle.lowered_run.specs.Stored.{changed, numbers_of, one_less}
+use Rattle.lowered_run.specs.Stored.{numbers_of, one_less}
 use Rattle.lowering_laws.specs.lowering_model.LoweredModules.{lowered}
 use Rattle.holder_steps.specs.inner.Ways as holder
 use Rattle.holder_steps.specs.inner.Ways.{DropsOne}
@@ -30,9 +27,8 @@ use Rattle.lowered_steps.specs.inner.LowWays as ways
 use Rattle.lowered_steps.specs.inner.LowWays.{Falls, ReleasesOne, StepsBy, released}
 use Rattle.lowered_steps.proofs.LowTaken.{told_taken}
 use Rattle.stored_runs.specs.inner.Frames.{AreTasksFor, HasFullParts, IsTaskFor}
-use Rattle.stored_runs.specs.inner.Memories.{IsMemoryFor, IsObjectFor}
 use Rattle.stored_runs.specs.inner.Numbers.{AreCounts, holders_of}
-use Rattle.stored_runs.specs.inner.Runs.{IsEndingFor, IsNextFor, IsOutcomeFor}
+use Rattle.stored_runs.specs.inner.Runs.{IsEndingFor, IsNextFor}
 use Rattle.stored_runs.specs.inner.States.{IsStateFor}
 use Rattle.stored_runs.proofs.MemoriesFor.{dead_for, live_for, object_for, phase_put}
 use Rattle.stored_runs.proofs.StoredCounts.{changed_length, less_strong_by, one_changed, strong_less}
@@ -121,8 +117,11 @@ module _ (m : Module) (bound : ℕ) (s : HolderState) (l : LowState) (related : 
 
     deinit_state : is_live s.memory o ≡ true → IsStateFor m (holder.deinitialising m (facts_of m) bound s1 o) (ways.deinitialising (lowered m) (shapes_of (lowered m)) bound l2 o)
     deinit_state live = record {
-      tasks = (subst (λ c. IsTaskFor m (Finishes (deinits_of (declarations_of m) (object_at s.memory o).class) o) (Finishes (deinits_of (declarations_of m) c) o)) (sym class)
-          (IsTaskFor.finishes (deinits_of (declarations_of m) (object_at s.memory o).class) o), (IsTaskFor.drops os, top.rest_for));
+      tasks = (
+        subst (λ c. IsTaskFor m (Finishes (deinits_of (declarations_of m) (object_at s.memory o).class) o) (Finishes (deinits_of (declarations_of m) c) o)) (sym class)
+            (IsTaskFor.finishes (deinits_of (declarations_of m) (object_at s.memory o).class) o),
+        (IsTaskFor.drops os, top.rest_for),
+      );
       memory = phase_put s.memory l.memory related.memory _ o;
       parts = (tt, (tt, parts_stay top.others (full_parts_same m l.memory l.tasks (o ∷ os) top.others top.is_top related.parts)));
       counts = record { size = counts.size ∙ sym (length-set s.memory.objects o.0 _); each = λ p. counts.each p ∙ sym (deinit_counted live p) };

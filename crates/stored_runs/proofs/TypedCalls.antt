@@ -1,12 +1,11 @@
 -- Calls of typed frames: what they hand over is right but for parts, of which places tell.
-use Rattle.std.proofs.Common.{◌≡◌, ◌⊎◌, inl, inr, ℕ, zero, suc, List, [], ◌∷◌, ◌++◌, length, map, drop, refl, sym, ap, ◌∙◌, subst, Bool, true, false, ◌&&◌, ◌||◌, Option, Some, None, Ok}
+use Rattle.std.proofs.Common.{◌≡◌, ◌⊎◌, inl, inr, ℕ, suc, List, [], ◌∷◌, ◌++◌, length, map, drop, refl, sym, ap, ◌∙◌, subst, true, Option, Some, None, Ok}
 use Rattle.std.specs.Prelude.{slice_get, unwrap_or}
 use Rattle.std.specs.List.{AllByRecursion, AllZip, list_all}
 use Rattle.std.proofs.lemmas.Bool.{and_parts, false≢true, or_cases, true≢false}
 use Rattle.std.proofs.lemmas.List.{length-map}
 use Rattle.std.proofs.lemmas.Option.{same_Some}
 use Rattle.argument_conventions.specs.declared.row.AddressRow.{AddressRow}
-use Rattle.argument_conventions.specs.declared.row.Content.{Content}
 use Rattle.argument_conventions.specs.declared.row.Content.TheVariants as content
 use Rattle.numbered_form.specs.Lists.{Each}
 use Rattle.item_operands.specs.Items.{item_defined, item_taken}
@@ -32,8 +31,8 @@ use Rattle.accepted_values.specs.inner.Known.{IsAcceptedBody}
 use Rattle.accepted_values.specs.owned_run_typing.inner.OwnedTyped.{OwnedFunction, OwnedInst}
 use Rattle.accepted_values.specs.run_typing.EndForms.{value_in}
 use Rattle.accepted_values.specs.run_typing.Forms.{Form, entry_forms, form_of, forms_of}
-use Rattle.lowered_run.specs.holder_model.Calling.{are_as_before, is_as_before, lent_by, lent_places, lent_with}
-use Rattle.lowered_run.specs.holder_model.Data.{AddressOf, Datum, FunctionOf, ValueOf, as_place}
+use Rattle.lowered_run.specs.holder_model.Calling.{are_as_before, is_as_before, lent_places, lent_with}
+use Rattle.lowered_run.specs.holder_model.Data.{Datum, as_place}
 use Rattle.lowered_run.specs.holder_model.Effects as effects
 use Rattle.lowered_run.specs.holder_model.Effects.{Effect}
 use Rattle.lowered_run.specs.holder_model.Faults.{HolderFault}
@@ -135,10 +134,12 @@ module _ (m : Module) (w : World) where
     one_lent None form x is = tt
     one_lent (Some row) _ _ (DatumIs.value s x suits) = tt
     one_lent (Some row) _ _ (DatumIs.function g) = tt
-    one_lent (Some row) _ _ (DatumIs.place p at) =
-        (λ before asked.
-        let parts = and_parts (is_there_at memory p) (holds memory row.before p) before in
-        place_may p at parts.0 (ap (λ c. holds memory c p) (sym asked) ∙ parts.1), tt)
+    one_lent (Some row) _ _ (DatumIs.place p at) = (
+      λ before asked.
+          let parts = and_parts (is_there_at memory p) (holds memory row.before p) before in
+          place_may p at parts.0 (ap (λ c. holds memory c p) (sym asked) ∙ parts.1),
+      tt,
+    )
 
     all_lent : (ts : List Taken) {forms : List Form} {xs : List Datum} → DataAre m w forms xs → Each MayLend (lent_places ts xs)
     all_lent [] typed_as = tt

@@ -1,8 +1,8 @@
 -- Terminators of typed frames: what their items take is no address.
-use Rattle.std.proofs.Common.{◌≡◌, ℕ, zero, suc, ◌<◌, List, [], ◌∷◌, ◌++◌, append-nil, length, map, arith, refl, sym, ap, ◌∙◌, subst, Bool, true, false, Option, Some, None, Ok}
+use Rattle.std.proofs.Common.{◌≡◌, ℕ, zero, suc, ◌<◌, List, [], ◌∷◌, ◌++◌, append-nil, length, map, arith, refl, sym, ap, ◌∙◌, subst, Bool, true, false, Some, None}
 use Rattle.std.specs.Prelude.{◌==◌, ◌&&◌, if◌then◌else◌, is_none, is_some, not, slice_get}
 use Rattle.std.specs.List.{list_all}
-use Rattle.std.proofs.lemmas.Bool.{and_parts, eqb-true, false≢true, true≢false}
+use Rattle.std.proofs.lemmas.Bool.{and_parts, eqb-true, false≢true}
 use Rattle.std.proofs.lemmas.List.{map-append}
 use Rattle.std.proofs.lemmas.Option.{none-some, same_Some, slice_get_within}
 use Rattle.instruction_table.specs.Forms.{ending_of}
@@ -15,7 +15,6 @@ use Rattle.item_operands.specs.Parts.{edge_at, edge_in, inst_at, terminator_of}
 use Rattle.item_operands.specs.Roles.{consumed, taken_along, taken_by}
 use Rattle.numbered_form.specs.Lists.{Each, is_empty}
 use Rattle.numbered_form.specs.inner.Parts.{are_cases, are_edges_by, has_operands, is_branch, is_case, is_default}
-use Rattle.ownership_chains.specs.declared.facts.Facts.{Facts}
 use Rattle.run_values.specs.Shapes.{Shape}
 use Rattle.sil_ast.specs.declared.function.Function.{Function}
 use Rattle.sil_ast.specs.declared.inst.Edge.{Edge}
@@ -25,11 +24,10 @@ use Rattle.sil_ast.specs.declared.operands.Operand.{Operand}
 use Rattle.sil_ast.specs.declared.place.EdgeId.{EdgeId}
 use Rattle.sil_ast.specs.declared.place.PointId.{PointId}
 use Rattle.sil_ast.specs.declared.place.ValueId.{ValueId}
-use Rattle.sil_cfg.specs.Items.{ends_function, leaves_function}
 use Rattle.sil_cfg.specs.declared.item.Item.{Item}
 use Rattle.sil_cfg.specs.declared.item.Item.TheVariants as item
 use Rattle.type_definitions.specs.Declarations.{Declarations, declarations_of}
-use Rattle.accepted_trails.specs.run_trails.inner.RunTrails.{ComesAt, IsTurnedTrail, LeavesFunction, TakesEdge}
+use Rattle.accepted_trails.specs.run_trails.inner.RunTrails.{ComesAt}
 use Rattle.accepted_trails.proofs.Unbroken.{are_accepted}
 use Rattle.accepted_trails.proofs.run_trails.RunPaths.{are_trails}
 use Rattle.accepted_trails.proofs.run_trails.WalkEdges.{are_next}
@@ -40,9 +38,9 @@ use Rattle.accepted_values.proofs.run_typing_laws.ListFacts.{get_below}
 use Rattle.accepted_values.specs.owned_run_typing.inner.OwnedEnds.{OwnedEndForms}
 use Rattle.accepted_values.specs.owned_run_typing.inner.OwnedTyped.{OwnedFunction}
 use Rattle.accepted_values.specs.run_typing.EndForms.{EdgeForms, EndForms, handed_over, value_in}
-use Rattle.accepted_values.specs.run_typing.Forms.{Form, OfFunction, OfPlace, OfValue, form_of, forms_of}
-use Rattle.lowered_run.specs.holder_model.Data.{Datum, as_place}
-use Rattle.lowered_run.specs.holder_model.Frames.{Frame, Operands, operands_of}
+use Rattle.accepted_values.specs.run_typing.Forms.{Form, OfValue, form_of, forms_of}
+use Rattle.lowered_run.specs.holder_model.Data.{Datum}
+use Rattle.lowered_run.specs.holder_model.Frames.{Frame}
 use Rattle.lowered_run.specs.holder_model.HolderStates.{HolderState}
 use Rattle.lowered_run.specs.holder_model.ModuleFacts.{facts_of, facts_told}
 use Rattle.lowered_run.specs.holder_model.Standing.{stands_at}

@@ -1,5 +1,5 @@
 -- Values under their lowered numbers: what an item takes in the run by holders is read in the lowered one, and what begins is put there.
-use Rattle.std.proofs.Common.{◌≡◌, ◌⊎◌, inl, inr, ⊎_elim, ℕ, zero, suc, ◌<◌, List, [], ◌∷◌, map, length, set, arith, refl, sym, ap, ◌∙◌, subst, Bool, true, false, cond, ◌||◌, Option, Some, None, Ok, Err, eq-eqb}
+use Rattle.std.proofs.Common.{◌≡◌, ◌⊎◌, inl, inr, ⊎_elim, ℕ, zero, suc, ◌<◌, List, [], ◌∷◌, map, length, set, refl, sym, ap, ◌∙◌, subst, Bool, true, false, cond, Option, Some, None, Ok, Err}
 use Rattle.std.specs.Prelude.{◌==◌, slice_get, unwrap_or}
 use Rattle.std.specs.List.{AllZip}
 use Rattle.std.specs.declared.result.Result.{Result}
@@ -21,7 +21,6 @@ use Rattle.lowered_run.specs.holder_model.Data.{AddressOf, Datum, FunctionOf, Va
 use Rattle.lowered_run.specs.holder_model.Faults.{ConsumesLent, HolderFault, NamesDead, NoEntry, OverwritesHeld, WrongShape}
 use Rattle.lowered_run.specs.holder_model.Frames.{Entry, Gone, Held, Lent, Plain, Operands, and_more, any_dead, datum_in, datum_or_fault, ended_entry, ends, entry_at, has_any}
 use Rattle.lowered_run.specs.holder_model.Frames.{is_consumed, is_held, made_entry, operand, plain_address, operand_data, operands_of, plain_entry, put_entry, results_put, unless_dead, used_datum, with_ok, without_ended}
-use Rattle.lowered_run.specs.declared.low_fault.LowFault.{LowFault}
 use Rattle.lowered_run.specs.LowFrames as low_frames
 use Rattle.lowered_run.specs.LowFrames.{and_others, put_all, read_all, there}
 
@@ -219,7 +218,6 @@ module _ (facts : ValueId → Option Facts) where
         others = λ v other. entry_other entries r v parts.0 other;
       })
 
-
 -- what stands under a value's number is like the datum of its entry
 module _ (number : ValueId → ValueId) (Like : ValueId → Datum → Datum → Type 0) where
   abbrev pub IsLikeAt : ValueId → Datum → Option Datum → Type 0
@@ -297,8 +295,8 @@ module _ (number : ValueId → ValueId) (Like : ValueId → Datum → Datum → 
         let parts = with_parts (results_put facts rs xs) (with_ok (put_entry entries r) (made_entry (known_or facts r).kind x)) behind is in
         let same = length-set values (number r).0 (Some y) in
         let rest = results_shown rs xs ys like.1 parts.0 behind (set values (number r).0 (Some y)) (OrWritten r ok)
-            (subst (λ n. Each (λ r. (number r).0 < n) rs) (sym same) small.1)
-            parts.2 (one_shown r x y like.0 entries parts.0 values ok small.0 parts.1 shown) in
+        (subst (λ n. Each (λ r. (number r).0 < n) rs) (sym same) small.1)
+        parts.2 (one_shown r x y like.0 entries parts.0 values ok small.0 parts.1 shown) in
         record { values' = rest.values'; is = rest.is; size = rest.size ∙ same; shown = rest.shown }
 
   -- a value among those that were put is behind them, where numbers tell values apart

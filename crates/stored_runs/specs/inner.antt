@@ -12,6 +12,7 @@ pub mod Runs
 pub mod Along
 pub mod Entering
 pub mod EdgesTaken
+pub mod Returned
 pub mod EndsAlong
 pub mod CallsAlong
 pub mod TypedEnds

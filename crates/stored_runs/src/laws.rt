@@ -8,6 +8,7 @@ ghost use Rattle.stored_runs.specs.inner.Entering.{AreEntered};
 ghost use Rattle.stored_runs.specs.inner.FrameSteps.{CallsStep, EndsStep};
 ghost use Rattle.stored_runs.specs.inner.LoweredSo.{AreLoweredSo};
 ghost use Rattle.stored_runs.specs.inner.Memories.{AreFullRead};
+ghost use Rattle.stored_runs.specs.inner.Returned.{AreReturned};
 ghost use Rattle.stored_runs.specs.inner.TypedCalls.{AreCallsRight};
 ghost use Rattle.stored_runs.specs.inner.TypedEnds.{AreEndsPlain};
 
@@ -32,6 +33,7 @@ pub fn functions_lower_so()
 pub fn calls_and_ends_go_along()
     ensures entries { AreEntered }
     ensures edges { AreEdgesTaken }
+    ensures returns { AreReturned }
     ensures ends { AreEndsAlong }
     ensures calls { AreCallsAlong }
     ensures end_steps { EndsStep }

@@ -3,4 +3,7 @@
 
 mod laws;
 
-pub use laws::{calls_and_ends_go_along, full_places_are_read, functions_lower_so, operands_are_current, typed_frames_serve};
+pub use laws::{
+    calls_and_ends_go_along, full_places_are_read, functions_lower_so, operands_are_current,
+    typed_frames_serve,
+};

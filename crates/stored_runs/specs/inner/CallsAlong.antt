@@ -70,7 +70,7 @@ AreCallsAlong = (m : Module) (bound : ℕ) (s : HolderState) (l : LowState) (fra
     → operands_of (facts_told (facts_of m) frame.function) s.memory frame.entries (item_taken f (item.Inst (stands_at f frame.trail))) ≡ Ok ops
     → CallsRight m bound s frame f i ops
     → holder.Performs m (facts_of m) bound s rest (holder.left_with m (facts_of m) bound frame ops) f (item.Inst (stands_at f frame.trail))
-      (holder_run.effect_in m (facts_of m) bound s frame i ops.given) next
+    (holder_run.effect_in m (facts_of m) bound s frame i ops.given) next
     → IsNoFault next
     → (low_next : LowNext) × ways.Acts (lowered m) (shapes_of (lowered m)) bound l lrest low (lowered_body (declarations_of m) f) low_next
-      × IsNextAlong m l.numbers next low_next
+    × IsNextAlong m l.numbers next low_next

@@ -32,4 +32,4 @@ AreEdgesTaken = (m : Module) (bound : ℕ) (s : HolderState) (l : LowState) (fra
     → IsItem f (item.Edge e) → IsTurnedTrail f (item.Edge e ∷ frame.trail) → TakesNoAddress m s frame f (item.Edge e)
     → holder.TakesEdge m (facts_of m) bound s rest frame f e next → IsNoFault next
     → (low_next : LowNext) × ways.TakesEdge (lowered m) (shapes_of (lowered m)) bound l lrest low (lowered_body (declarations_of m) f) e low_next
-      × IsNextAlong m l.numbers next low_next
+    × IsNextAlong m l.numbers next low_next

@@ -1,30 +1,24 @@
 -- A frame stands at the terminator of its block: both runs take an edge, return, or end.
-use Rattle.std.specs.Prelude.{◌≡◌, ℕ, List, [], ◌∷◌, Some, None, Ok, false, length, slice_get}
-use Rattle.instruction_table.specs.declared.op.Op.TheVariants as op
+use Rattle.std.specs.Prelude.{◌≡◌, ℕ, List, ◌∷◌, Some, None, Ok, length, slice_get}
 use Rattle.numbered_form.specs.Lists.{Each}
 use Rattle.sil_ast.specs.declared.function.Function.{Function}
-use Rattle.sil_ast.specs.declared.inst.Inst.{Inst}
 use Rattle.sil_ast.specs.declared.module.Module.{Module}
-use Rattle.sil_ast.specs.declared.place.ObjectId.{ObjectId}
 use Rattle.sil_cfg.specs.declared.item.Item.{Item}
 use Rattle.sil_cfg.specs.declared.item.Item.TheVariants as item
 use Rattle.item_operands.specs.Items.{item_taken}
 use Rattle.item_operands.specs.Parts.{inst_at}
 use Rattle.type_definitions.specs.Declarations.{declarations_of}
-use Rattle.run_values.specs.Values.{Value, references_of}
 use Rattle.accepted_trails.specs.run_trails.inner.RunTrails.{ComesAt, IsTurnedTrail}
-use Rattle.lowered_run.specs.holder_model.Data.{Datum, as_value}
+use Rattle.lowered_run.specs.holder_model.Data.{Datum}
 use Rattle.lowered_run.specs.holder_model.Effects.{only}
 use Rattle.lowered_run.specs.holder_model.Frames.{Frame, Operands, operands_of}
 use Rattle.lowered_run.specs.holder_model.HolderStates.{HolderNext, HolderState}
 use Rattle.lowered_run.specs.holder_model.ModuleFacts.{facts_of, facts_told}
 use Rattle.lowered_run.specs.holder_model.ModuleShapes.{shapes_of}
-use Rattle.lowered_run.specs.holder_model.Outcomes.{returned_holders}
 use Rattle.lowered_run.specs.holder_model.Standing.{stands_at}
-use Rattle.lowered_run.specs.holder_model.States.{Drops, Finishes, Runs, Task}
+use Rattle.lowered_run.specs.holder_model.States.{Runs, Task}
 use Rattle.lowered_run.specs.LowFrames.{LowFrame}
 use Rattle.lowered_run.specs.LowStepParts.{LowNext, LowState}
-use Rattle.lowered_run.specs.Stored.{numbers_of}
 use Rattle.lowering_laws.specs.lowering_model.LoweredModules.{lowered, lowered_body}
 use Rattle.holder_steps.specs.inner.Ways as holder
 use Rattle.lowered_steps.specs.inner.LowWays as ways
@@ -32,35 +26,18 @@ use Rattle.stored_runs.specs.inner.Along.{AreTotalsFor, IsNextAlong, IsNoFault, 
 use Rattle.stored_runs.specs.inner.Frames.{AreTasksFor, HasFullParts, IsFrameAt}
 use Rattle.stored_runs.specs.inner.Lowering.{LowersSo}
 use Rattle.stored_runs.specs.inner.Memories.{IsMemoryFor}
+use Rattle.stored_runs.specs.inner.Returned.{TakesResult}
 
 -- the item may come next, and takes no address
 pub record ComesPlain (m : Module) (s : HolderState) (frame : Frame) (f : Function) (i : Item) : Type 0 where
   pub trail : IsTurnedTrail f (i ∷ frame.trail)
   pub plain : TakesNoAddress m s frame f i
 
--- a frame that waits stands at a call
-pub record WaitsAtCall (f : Function) (frame : Frame) : Type 0 where
-  pub call : Inst
-  pub here : inst_at f (stands_at f frame.trail) ≡ Some call
-  pub is : call.op ≡ op.Apply
-
--- the stored numbers are what a run tells of its objects when it has returned the value
-abbrev pub AreCountsReturned : HolderState → LowState → Value → Type 0
-AreCountsReturned s l v = (o : ObjectId) → numbers_of l.numbers o ≡ returned_holders (record s { tasks = [] }) (references_of v) o
-
-module _ (m : Module) (s : HolderState) (l : LowState) (frame : Frame) (f : Function) where
-  -- what is returned at the end of a run
-  abbrev pub ReturnsCounted : Type 0
-  ReturnsCounted = (ops : Operands) (x : Datum) (v : Value)
-      → operands_of (facts_told (facts_of m) frame.function) s.memory frame.entries (item_taken f (item.Exit (stands_at f frame.trail))) ≡ Ok ops
-      → only ops.given ≡ Some x → as_value x ≡ Some v → AreCountsReturned s l v
-
-  -- what the tasks below owe to a return
-  abbrev pub MayReturnTo : List (Task Frame) → Type 0
-  MayReturnTo [] = ReturnsCounted
-  MayReturnTo (Runs waiting ∷ rest) = (g : Function) → slice_get m.functions waiting.function.0 ≡ Some g → LowersSo m waiting.function g × WaitsAtCall g waiting
-  MayReturnTo (Drops references ∷ rest) = Unit {0}
-  MayReturnTo (Finishes deinits o ∷ rest) = Unit {0}
+-- what the tasks below owe to what is returned
+abbrev pub MayReturnTo : Module → HolderState → LowState → Frame → Function → List (Task Frame) → Type 0
+MayReturnTo m s l frame f tasks = (ops : Operands) (x : Datum)
+    → operands_of (facts_told (facts_of m) frame.function) s.memory frame.entries (item_taken f (item.Exit (stands_at f frame.trail))) ≡ Ok ops
+    → only ops.given ≡ Some x → TakesResult m s l x tasks
 
 abbrev pub AreEndsAlong : Type 0
 AreEndsAlong = (m : Module) (bound : ℕ) (s : HolderState) (l : LowState) (frame : Frame) (rest : List (Task Frame)) (f : Function)
@@ -73,4 +50,4 @@ AreEndsAlong = (m : Module) (bound : ℕ) (s : HolderState) (l : LowState) (fram
     → MayReturnTo m s l frame f rest
     → holder.Acts m (facts_of m) bound s rest frame f next → IsNoFault next
     → (low_next : LowNext) × ways.Acts (lowered m) (shapes_of (lowered m)) bound l lrest low (lowered_body (declarations_of m) f) low_next
-      × IsNextAlong m l.numbers next low_next
+    × IsNextAlong m l.numbers next low_next

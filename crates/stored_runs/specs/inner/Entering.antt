@@ -12,7 +12,7 @@ use Rattle.run_values.specs.Memory.{Memory}
 use Rattle.run_values.specs.Places.{Place, value_at}
 use Rattle.lowered_run.specs.holder_model.Calling.{as_argument}
 use Rattle.lowered_run.specs.holder_model.Data.{AddressOf, Datum}
-use Rattle.lowered_run.specs.holder_model.Frames.{Frame, has_any}
+use Rattle.lowered_run.specs.holder_model.Frames.{Frame}
 use Rattle.lowered_run.specs.holder_model.HolderStates.{HolderNext, HolderState}
 use Rattle.lowered_run.specs.holder_model.ModuleFacts.{facts_of}
 use Rattle.lowered_run.specs.holder_model.ModuleShapes.{shapes_of}
@@ -48,4 +48,4 @@ AreEntered = (m : Module) (bound : ℕ) (s : HolderState) (l : LowState) (rest :
     → slice_get m.functions g.0 ≡ Some callee → LowersSo m g callee → HandsOver l.memory callee xs ys
     → holder.Enters m (facts_of m) bound s rest g callee xs next → IsNoFault next
     → (low_next : LowNext) × ways.Enters (lowered m) (shapes_of (lowered m)) bound l lrest g (lowered_body (declarations_of m) callee) ys low_next
-      × IsNextAlong m l.numbers next low_next
+    × IsNextAlong m l.numbers next low_next

@@ -51,5 +51,5 @@ CallsStep = (m : Module) (bound : ℕ) (s : HolderState) (l : LowState) (frame :
     → operands_of (facts_told (facts_of m) frame.function) s.memory frame.entries (item_taken f (item.Inst (stands_at f frame.trail))) ≡ Ok ops
     → CallsRight m bound s frame f i ops
     → holder.Performs m (facts_of m) bound s rest (holder.left_with m (facts_of m) bound frame ops) f (item.Inst (stands_at f frame.trail))
-      (holder_run.effect_in m (facts_of m) bound s frame i ops.given) next
+    (holder_run.effect_in m (facts_of m) bound s frame i ops.given) next
     → IsNoFault next → StepsAlong m bound l next

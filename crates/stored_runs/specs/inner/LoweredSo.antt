@@ -1,5 +1,4 @@
 -- Each function with a body of an accepted module is lowered as the run of the lowered module asks.
-use Rattle.std.specs.Prelude.{ℕ}
 use Rattle.sil_ast.specs.declared.function.Function.{Function}
 use Rattle.sil_ast.specs.declared.module.Module.{Module}
 use Rattle.sil_ast.specs.declared.place.FuncId.{FuncId}

@@ -29,5 +29,5 @@ AreCallsRight = (m : Module) (bound : ℕ) (s : HolderState) (w : World) (frame 
     → inst_at f (stands_at f frame.trail) ≡ Some i
     → operands_of (facts_told (facts_of m) frame.function) s.memory frame.entries (item_taken f (item.Inst (stands_at f frame.trail))) ≡ Ok ops
     → ((g : FuncId) (args : List Datum) → holder_run.effect_in m (facts_of m) bound s frame i ops.given ≡ effects.Calls g args
-      → are_as_before s.memory (lent_in f frame args) ≡ true → Each (IsFullPart s.memory) args)
+    → are_as_before s.memory (lent_in f frame args) ≡ true → Each (IsFullPart s.memory) args)
     → CallsRight m bound s frame f i ops

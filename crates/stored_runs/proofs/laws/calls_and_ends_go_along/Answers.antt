@@ -3,6 +3,7 @@ use Rattle.stored_runs.proofs.EdgesTaken.{are_edges_taken}
 use Rattle.stored_runs.proofs.EndsAlong.{are_ends_along}
 use Rattle.stored_runs.proofs.Entering.{are_entered}
 use Rattle.stored_runs.proofs.FrameSteps.{calls_step, ends_step}
+use Rattle.stored_runs.proofs.Returned.{are_returned}
 use Rattle.stored_runs.proofs.laws.calls_and_ends_go_along.Goals as goal
 
 pub returns-clause-entries : goal.returns-clause-entries
@@ -22,3 +23,6 @@ returns-clause-end_steps c = ends_step
 
 pub returns-clause-call_steps : goal.returns-clause-call_steps
 returns-clause-call_steps c = calls_step
+
+pub returns-clause-returns : goal.returns-clause-returns
+returns-clause-returns c = are_returned
