@@ -1,5 +1,6 @@
 //! Laws of lowered runs beside runs by holders, on calls that do nothing. The lemmas behind them are in `proofs/`.
 
+ghost use Rattle.stored_runs.specs.inner.Awaited.{AreStepsAwaited, BeginAwaited};
 ghost use Rattle.stored_runs.specs.inner.CallsAlong.{AreCallsAlong};
 ghost use Rattle.stored_runs.specs.inner.Current.{AreAcceptedCurrent, AreAllCurrent, AreNamesTaken};
 ghost use Rattle.stored_runs.specs.inner.EdgesTaken.{AreEdgesTaken};
@@ -44,4 +45,10 @@ pub fn calls_and_ends_go_along()
 pub fn typed_frames_serve()
     ensures ends { AreEndsPlain }
     ensures calls { AreCallsRight }
+{}
+
+/// Frames that wait for a callee stand at calls, in each state that a run comes to.
+pub fn calls_are_awaited()
+    ensures begin { BeginAwaited }
+    ensures steps { AreStepsAwaited }
 {}
