@@ -31,3 +31,4 @@ pub mod TypedCalls
 pub mod FrameSteps
 pub mod CallsAlone
 pub mod Awaited
+pub mod TypedSteps

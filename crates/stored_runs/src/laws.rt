@@ -12,6 +12,11 @@ ghost use Rattle.stored_runs.specs.inner.Memories.{AreFullRead};
 ghost use Rattle.stored_runs.specs.inner.Returned.{AreReturned};
 ghost use Rattle.stored_runs.specs.inner.TypedCalls.{AreCallsRight};
 ghost use Rattle.stored_runs.specs.inner.TypedEnds.{AreEndsPlain};
+ghost use Rattle.stored_runs.specs.inner.TypedSteps.{
+  TypedCallsStep,
+  TypedDeinitsStep,
+  TypedEndsStep,
+};
 
 /// What a full place holds is read in the lowered run too.
 pub fn full_places_are_read()
@@ -45,6 +50,9 @@ pub fn calls_and_ends_go_along()
 pub fn typed_frames_serve()
     ensures ends { AreEndsPlain }
     ensures calls { AreCallsRight }
+    ensures end_steps { TypedEndsStep }
+    ensures call_steps { TypedCallsStep }
+    ensures deinit_steps { TypedDeinitsStep }
 {}
 
 /// Frames that wait for a callee stand at calls, in each state that a run comes to.
