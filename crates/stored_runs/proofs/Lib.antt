@@ -1,7 +1,6 @@
 pub mod CellsFor
 pub mod MemoriesFor
 pub mod ValuesFor
-pub mod StoredCounts
 pub mod SameRows
 pub mod LoweredCode
 pub mod RenamingRows

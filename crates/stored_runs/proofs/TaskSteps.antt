@@ -27,11 +27,11 @@ use Rattle.lowered_steps.specs.inner.LowWays as ways
 use Rattle.lowered_steps.specs.inner.LowWays.{Falls, ReleasesOne, StepsBy, released}
 use Rattle.lowered_steps.proofs.LowTaken.{told_taken}
 use Rattle.stored_runs.specs.inner.Frames.{AreTasksFor, HasFullParts, IsTaskFor}
-use Rattle.stored_runs.specs.inner.Numbers.{AreCounts, holders_of}
+use Rattle.stored_counts.specs.inner.Numbers.{AreCounts, holders_of}
 use Rattle.stored_runs.specs.inner.Runs.{IsEndingFor, IsNextFor}
 use Rattle.stored_runs.specs.inner.States.{IsStateFor}
 use Rattle.stored_runs.proofs.MemoriesFor.{dead_for, live_for, object_for, phase_put}
-use Rattle.stored_runs.proofs.StoredCounts.{changed_length, less_strong_by, one_changed, strong_less}
+use Rattle.stored_counts.proofs.StoredCounts.{changed_length, less_strong_by, one_changed, strong_less}
 
 -- what stands on top of both
 pub record DropsTop (m : Module) (os : List ObjectId) (rest : List (Task Frame)) (l : LowState) : Type 0 where

@@ -6,7 +6,7 @@ use Rattle.lowered_run.specs.holder_model.HolderStates.{HolderState}
 use Rattle.lowered_run.specs.LowStepParts.{LowState}
 use Rattle.stored_runs.specs.inner.Frames.{AreTasksFor, HasFullParts}
 use Rattle.stored_runs.specs.inner.Memories.{IsMemoryFor}
-use Rattle.stored_runs.specs.inner.Numbers.{AreCounts}
+use Rattle.stored_counts.specs.inner.Numbers.{AreCounts}
 
 pub record IsStateFor (m : Module) (s : HolderState) (low : LowState) : Type 0 where
   pub tasks : AreTasksFor m s.tasks low.tasks

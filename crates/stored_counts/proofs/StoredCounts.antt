@@ -14,9 +14,7 @@ use Rattle.run_values.specs.Cells.{Cell}
 use Rattle.lowered_run.specs.holder_model.Holders.{in_cell, in_cells, kept_references, of_references, one_object}
 use Rattle.lowered_run.specs.holder_model.Outcomes.{Numbers}
 use Rattle.lowered_run.specs.Stored.{changed, each_changed, less_unowned, less_weak, more_unowned, more_weak, named, new_numbers, no_numbers, numbers_of, one_less, one_more, unnamed, unowned_named, weakly_named}
-
-abbrev pub IsStoredOf : List Numbers → ObjectId → Type 0
-IsStoredOf stored o = o.0 < length stored
+use Rattle.stored_counts.specs.inner.Numbers.{AreNamesStored, IsStoredOf}
 
 pub references_more : (weight : ObjectId → ℕ) (o : ObjectId) (os : List ObjectId) → of_references weight (o ∷ os) ≡ weight o + of_references weight os
 references_more weight o os = sum_by-cons (λ n. n) (weight o) (map weight os)
@@ -154,11 +152,6 @@ kept_counted weight s (c ∷ cells) =
     references_joined weight (kept_references s c) (flat_map (kept_references s) cells)
     ∙ ap (λ n. of_references weight (kept_references s c) + n) (kept_counted weight s cells)
     ∙ sym (sum_by-cons (λ n. n) (of_references weight (kept_references s c)) (map (in_cell weight s) cells))
-
--- all that cells name has numbers
-pub record AreNamesStored (stored : List Numbers) (cells : List Cell) : Type 0 where
-  pub weakly : Each (IsStoredOf stored) (weakly_named cells)
-  pub unowned : Each (IsStoredOf stored) (unowned_named cells)
 
 module _ (stored : List Numbers) (cells : List Cell) where
   pub named_length : length (named cells stored) ≡ length stored

@@ -1,10 +1,12 @@
 -- Stored numbers that are the counts of holders.
-use Rattle.std.specs.Prelude.{◌≡◌, List, length}
+use Rattle.std.specs.Prelude.{◌≡◌, ◌<◌, List, length}
+use Rattle.numbered_form.specs.Lists.{Each}
 use Rattle.sil_ast.specs.declared.place.ObjectId.{ObjectId}
+use Rattle.run_values.specs.Cells.{Cell}
 use Rattle.lowered_run.specs.holder_model.HolderStates.{HolderState, strong_holders}
 use Rattle.lowered_run.specs.holder_model.Holders.{unowned_holders, weak_holders}
 use Rattle.lowered_run.specs.holder_model.Outcomes.{Numbers}
-use Rattle.lowered_run.specs.Stored.{numbers_of}
+use Rattle.lowered_run.specs.Stored.{numbers_of, unowned_named, weakly_named}
 
 -- what is counted afresh of an object
 abbrev pub holders_of : HolderState → ObjectId → Numbers
@@ -14,3 +16,12 @@ holders_of s o = record { strong = strong_holders s o; unowned = unowned_holders
 pub record AreCounts (s : HolderState) (stored : List Numbers) : Type 0 where
   pub size : length stored ≡ length s.memory.objects
   pub each : (o : ObjectId) → numbers_of stored o ≡ holders_of s o
+
+-- the object has numbers
+abbrev pub IsStoredOf : List Numbers → ObjectId → Type 0
+IsStoredOf stored o = o.0 < length stored
+
+-- all that cells name in weak and unowned storage has numbers
+pub record AreNamesStored (stored : List Numbers) (cells : List Cell) : Type 0 where
+  pub weakly : Each (IsStoredOf stored) (weakly_named cells)
+  pub unowned : Each (IsStoredOf stored) (unowned_named cells)

@@ -1,0 +1,3 @@
+pub mod StoredCounts
+pub mod Turns
+pub mod Items

@@ -1,0 +1,33 @@
+//! Stored numbers that are counts before a step are counts behind it, each law on a call that does nothing. The lemmas behind them are in `proofs/`.
+
+ghost use Rattle.holder_counts.specs.inner.Moving.{InEach};
+ghost use Rattle.stored_counts.specs.inner.Items.{AreItemsStored};
+ghost use Rattle.stored_counts.specs.inner.Turns.{
+  AreDeathsStored,
+  AreDeinitsStored,
+  AreDropsStored,
+  AreKeptStored,
+  AreTasksStored,
+};
+
+/// Where nothing that is counted changes, numbers stay counts.
+pub fn kept_counts_are_stored()
+    ensures kept { AreKeptStored }
+    ensures tasks { AreTasksStored }
+{}
+
+/// Behind a drop, the number of what is dropped is one less.
+pub fn drops_are_stored()
+    ensures { InEach AreDropsStored }
+{}
+
+/// Where an object starts to deinitialise numbers stay, and where it dies its weak and unowned fields cease.
+pub fn deinitialisations_are_stored()
+    ensures starts { InEach AreDeinitsStored }
+    ensures ends { InEach AreDeathsStored }
+{}
+
+/// Behind an item, what is retained or made has one strong holder more.
+pub fn items_are_stored()
+    ensures { InEach AreItemsStored }
+{}
