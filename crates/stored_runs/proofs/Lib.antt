@@ -29,3 +29,5 @@ pub mod CallsAlong
 pub mod TypedEnds
 pub mod TypedCalls
 pub mod FrameSteps
+pub mod RowSteps
+pub mod FullKept

@@ -18,3 +18,4 @@ pub mod CallsAlong
 pub mod TypedEnds
 pub mod TypedCalls
 pub mod FrameSteps
+pub mod PlaceRows
