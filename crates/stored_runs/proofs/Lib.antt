@@ -31,3 +31,4 @@ pub mod TypedCalls
 pub mod FrameSteps
 pub mod RowSteps
 pub mod FullKept
+pub mod StandsThere
