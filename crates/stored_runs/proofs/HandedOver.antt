@@ -42,7 +42,7 @@ each_put (c ∷ cells) (suc i) (suc n) zero zero h = tt
 each_put (c ∷ cells) (suc i) (suc n) zero (suc w) h = (h.0, each_put cells i (suc n) zero w h.1)
 each_put (c ∷ cells) (suc i) (suc n) (suc k) w h = each_put cells i (suc n) k w h
 
-set_cases : (xs : List Object) (k j : ℕ) (x : Object)
+pub set_cases : (xs : List Object) (k j : ℕ) (x : Object)
     → (unwrap_or (slice_get (set xs k x) j) no_object ≡ unwrap_or (slice_get xs j) no_object) ⊎ ((j ≡ k) × (unwrap_or (slice_get (set xs k x) j) no_object ≡ x))
 set_cases [] k j x = inl refl
 set_cases (y ∷ xs) zero zero x = inr (refl, refl)

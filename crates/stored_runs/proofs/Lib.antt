@@ -31,3 +31,6 @@ pub mod FrameSteps
 pub mod CallsAlone
 pub mod Awaited
 pub mod TypedSteps
+pub mod RowSteps
+pub mod FullKept
+pub mod StandsThere

@@ -19,3 +19,4 @@ pub mod TypedCalls
 pub mod FrameSteps
 pub mod Awaited
 pub mod TypedSteps
+pub mod PlaceRows
