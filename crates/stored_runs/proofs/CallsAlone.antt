@@ -52,11 +52,11 @@ pair go (x ∷ []) h = tt
 pair go (x ∷ y ∷ []) h = h x y
 pair go (x ∷ y ∷ z ∷ rest) h = tt
 
-calls_or : (r : RowEffect) → (r ≡ row.CallsFunction) ⊎ (r ≡ row.CallsFunction → ⊥)
+pub calls_or : (r : RowEffect) → (r ≡ row.CallsFunction) ⊎ (r ≡ row.CallsFunction → ⊥)
 calls_or row.CallsFunction = inl refl
 calls_or _ = inr (λ e. cc)
 
-op_of : (o : Op) → effect_of o ≡ row.CallsFunction → o ≡ op.Apply
+pub op_of : (o : Op) → effect_of o ≡ row.CallsFunction → o ≡ op.Apply
 op_of op.Apply e = refl
 op_of _ e = cc
 

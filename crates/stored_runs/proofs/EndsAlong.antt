@@ -292,7 +292,7 @@ module _ (m : Module) (bound : ℕ) (s : HolderState) (l : LowState) (frame : Fr
 
       leaves : (next : HolderNext) → holder.Leaves m (facts_of m) bound s rest (record frame { entries = ops.left }) f x next → IsNoFault next → LowActs next
       leaves _ (holder.Leaves.leaves next held slots after way) none =
-          let r = are_returned m bound s l x rest lrest next totals memory size rest_for full.1 alive (below ops x found only_one) way none in
+          let r = are_returned m bound s l x rest lrest next totals memory size rest_for full.1 alive (below i ops x stands.terminator returns found only_one held) way none in
           record {
             low_next = r.0;
             way = ways.Acts.returns j ops.given x r.0 low_stands returns low_read (ap has_any frames.slots ∙ slots) only_one r.1;

@@ -86,7 +86,7 @@ module _ (m : Module) (s : HolderState) (l : LowState) (h : IsTypedFor m s l) (f
   below_takes x (Finishes deinits o ∷ others) typed waits counted = tt
 
   may_return : (rest ≡ [] → ReturnsCounted m s l frame f) → MayReturnTo m s l frame f rest
-  may_return counted ops x found one = below_takes x rest tasks.1 awaited.1 (λ none v value. counted none ops x v found one value)
+  may_return counted t ops x ends returns found one held = below_takes x rest tasks.1 awaited.1 (λ none v value. counted none t ops x v ends returns found one value held)
 
 pub typed_ends_step : TypedEndsStep
 typed_ends_step m bound s l frame rest f next h is there at_end counted way none =
@@ -112,7 +112,7 @@ pub record LowFinish (m : Module) (deinits : List FuncId) (o : ObjectId) (rest :
   pub is_top : l.tasks ≡ Finishes deinits o ∷ others
   pub rest_for : AreTasksFor m rest others
 
-finish_top : (m : Module) (deinits : List FuncId) (o : ObjectId) (rest : List (Task Frame)) (l : LowState) (lows : List (Task LowFrame)) → l.tasks ≡ lows
+pub finish_top : (m : Module) (deinits : List FuncId) (o : ObjectId) (rest : List (Task Frame)) (l : LowState) (lows : List (Task LowFrame)) → l.tasks ≡ lows
     → AreTasksFor m (Finishes deinits o ∷ rest) lows → LowFinish m deinits o rest l
 finish_top m deinits o rest l [] e h = absurd h
 finish_top m deinits o rest l (x ∷ lows) e h =

@@ -1,14 +1,18 @@
 -- A frame stands at the terminator of its block: both runs take an edge, return, or end.
-use Rattle.std.specs.Prelude.{◌≡◌, ℕ, List, ◌∷◌, Some, None, Ok, length, slice_get}
+use Rattle.std.specs.Prelude.{◌≡◌, ℕ, List, ◌∷◌, false, Some, None, Ok, length, slice_get}
+use Rattle.instruction_table.specs.Forms.{ending_of}
+use Rattle.instruction_table.specs.declared.entries.Ending.TheVariants as ending
 use Rattle.numbered_form.specs.Lists.{Each}
 use Rattle.sil_ast.specs.declared.function.Function.{Function}
+use Rattle.sil_ast.specs.declared.inst.Inst.{Inst}
 use Rattle.sil_ast.specs.declared.module.Module.{Module}
 use Rattle.sil_cfg.specs.declared.item.Item.{Item}
 use Rattle.sil_cfg.specs.declared.item.Item.TheVariants as item
 use Rattle.item_operands.specs.Items.{item_taken}
-use Rattle.item_operands.specs.Parts.{inst_at}
+use Rattle.item_operands.specs.Parts.{inst_at, terminator_of}
 use Rattle.type_definitions.specs.Declarations.{declarations_of}
 use Rattle.accepted_trails.specs.run_trails.inner.RunTrails.{ComesAt, IsTurnedTrail}
+use Rattle.lowered_run.specs.holder_model.Calling.{holds_something}
 use Rattle.lowered_run.specs.holder_model.Data.{Datum}
 use Rattle.lowered_run.specs.holder_model.Effects.{only}
 use Rattle.lowered_run.specs.holder_model.Frames.{Frame, Operands, operands_of}
@@ -33,11 +37,12 @@ pub record ComesPlain (m : Module) (s : HolderState) (frame : Frame) (f : Functi
   pub trail : IsTurnedTrail f (i ∷ frame.trail)
   pub plain : TakesNoAddress m s frame f i
 
--- what the tasks below owe to what is returned
+-- what the tasks below owe to what is returned, where nothing is held any more
 abbrev pub MayReturnTo : Module → HolderState → LowState → Frame → Function → List (Task Frame) → Type 0
-MayReturnTo m s l frame f tasks = (ops : Operands) (x : Datum)
+MayReturnTo m s l frame f tasks = (t : Inst) (ops : Operands) (x : Datum)
+    → terminator_of f (stands_at f frame.trail).block.0 ≡ Some t → ending_of t.op ≡ ending.Return
     → operands_of (facts_told (facts_of m) frame.function) s.memory frame.entries (item_taken f (item.Exit (stands_at f frame.trail))) ≡ Ok ops
-    → only ops.given ≡ Some x → TakesResult m s l x tasks
+    → only ops.given ≡ Some x → holds_something ops.left ≡ false → TakesResult m s l x tasks
 
 abbrev pub AreEndsAlong : Type 0
 AreEndsAlong = (m : Module) (bound : ℕ) (s : HolderState) (l : LowState) (frame : Frame) (rest : List (Task Frame)) (f : Function)

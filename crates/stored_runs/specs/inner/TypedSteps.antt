@@ -1,5 +1,7 @@
 -- Steps of typed states whose first frame stands at a terminator or a call, and calls of deinitialisers: the lowered run goes along.
-use Rattle.std.specs.Prelude.{◌≡◌, ℕ, List, [], ◌∷◌, true, Some, None, Ok, slice_get}
+use Rattle.std.specs.Prelude.{◌≡◌, ℕ, List, [], ◌∷◌, true, false, Some, None, Ok, slice_get}
+use Rattle.instruction_table.specs.Forms.{ending_of}
+use Rattle.instruction_table.specs.declared.entries.Ending.TheVariants as ending
 use Rattle.instruction_table.specs.declared.op.Op.TheVariants as op
 use Rattle.numbered_form.specs.Lists.{Each}
 use Rattle.sil_ast.specs.declared.function.Function.{Function}
@@ -9,11 +11,11 @@ use Rattle.sil_ast.specs.declared.place.FuncId.{FuncId}
 use Rattle.sil_ast.specs.declared.place.ObjectId.{ObjectId}
 use Rattle.sil_cfg.specs.declared.item.Item.TheVariants as item
 use Rattle.item_operands.specs.Items.{item_taken}
-use Rattle.item_operands.specs.Parts.{inst_at}
+use Rattle.item_operands.specs.Parts.{inst_at, terminator_of}
 use Rattle.run_values.specs.Values as value
 use Rattle.run_values.specs.Values.{Value}
 use Rattle.accepted_values.specs.accepted_modules.inner.Checked.{IsVerified}
-use Rattle.lowered_run.specs.holder_model.Calling.{are_as_before}
+use Rattle.lowered_run.specs.holder_model.Calling.{are_as_before, holds_something}
 use Rattle.lowered_run.specs.holder_model.Data.{Datum, ValueOf, as_value}
 use Rattle.lowered_run.specs.holder_model.Effects as effects
 use Rattle.lowered_run.specs.holder_model.Effects.{only}
@@ -43,9 +45,10 @@ pub record IsTypedFor (m : Module) (s : HolderState) (l : LowState) : Type 0 whe
 
 -- the value that is returned at the end of the run is counted
 abbrev pub ReturnsCounted : Module → HolderState → LowState → Frame → Function → Type 0
-ReturnsCounted m s l frame f = (ops : Operands) (x : Datum) (v : Value)
+ReturnsCounted m s l frame f = (t : Inst) (ops : Operands) (x : Datum) (v : Value)
+    → terminator_of f (stands_at f frame.trail).block.0 ≡ Some t → ending_of t.op ≡ ending.Return
     → operands_of (facts_told (facts_of m) frame.function) s.memory frame.entries (item_taken f (item.Exit (stands_at f frame.trail))) ≡ Ok ops
-    → only ops.given ≡ Some x → as_value x ≡ Some v → AreCountsReturned s l v
+    → only ops.given ≡ Some x → as_value x ≡ Some v → holds_something ops.left ≡ false → AreCountsReturned s l v
 
 -- at a terminator. Where the last frame returns, the stored numbers have to be those that the run tells of
 abbrev pub TypedEndsStep : Type 0

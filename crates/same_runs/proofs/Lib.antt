@@ -1,0 +1,5 @@
+pub mod Finishing
+pub mod RowsFollowed
+pub mod StepsFollowed
+pub mod Begun
+pub mod RunsSame

@@ -1,0 +1,2 @@
+-- x
+use Rattle.same_runs.proofs.Finishing
