@@ -1,6 +1,6 @@
 -- Both runs begin in states that go along.
-use Rattle.std.proofs.Common.{◌≡◌, ◌+◌, List, [], ◌∷◌, refl, sym, ap, ◌∙◌, true, Some, None}
-use Rattle.std.specs.Prelude.{not, slice_get}
+use Rattle.std.proofs.Common.{◌≡◌, ◌∷◌, [], arith, refl, sym, ap, ◌∙◌, true, Some, None}
+use Rattle.std.specs.Prelude.{slice_get}
 use Rattle.std.proofs.lemmas.List.{length-replicate}
 use Rattle.std.proofs.lemmas.Bool.{and_parts}
 use Rattle.std.proofs.lemmas.Option.{none-some}
@@ -14,9 +14,9 @@ use Rattle.type_definitions.specs.Declarations.{Declarations, declarations_of}
 use Rattle.run_values.specs.Places.{value_at}
 use Rattle.accepted_values.specs.accepted_modules.inner.Checked.{IsVerified}
 use Rattle.accepted_values.specs.inner.Known.{IsAcceptedBody}
-use Rattle.lowered_run.specs.holder_model.Calling.{arguments_of, value_count}
+use Rattle.lowered_run.specs.holder_model.Calling.{value_count}
 use Rattle.lowered_run.specs.holder_model.Frames.{Frame, Gone, datum_in, has_any, no_entries}
-use Rattle.lowered_run.specs.holder_model.HolderStates.{in_entry}
+use Rattle.lowered_run.specs.holder_model.HolderStates.{in_entry, strong_holders}
 use Rattle.lowered_run.specs.holder_model.Holders.{one_object}
 use Rattle.lowered_run.specs.holder_model.Outcomes.{Numbers, begins, may_start}
 use Rattle.lowered_run.specs.holder_model.StepParts as parts
@@ -25,7 +25,7 @@ use Rattle.lowered_run.specs.LowOutcomes.{low_begins}
 use Rattle.lowered_run.specs.LowStepParts.{new_frame}
 use Rattle.lowering_laws.specs.lowering_model.LoweredModules.{lowered_body}
 use Rattle.holder_counts.proofs.Sums.{total_none}
-use Rattle.stored_counts.specs.inner.Numbers.{AreCounts}
+use Rattle.stored_counts.specs.inner.Numbers.{AreCounts, holders_of}
 use Rattle.stored_counts.proofs.Turns.{same_numbers}
 use Rattle.typed_holders.proofs.GoesOn.{accepted_body}
 use Rattle.typed_holders.proofs.TypedSteps.{begin_typed}
@@ -47,7 +47,7 @@ module _ (m : Module) (e : FuncId) (f : Function) (verified : IsVerified m) (the
   lf = lowered_body d f
 
   pub bodied : has_any f.blocks ≡ true
-  bodied = (and_parts (has_any f.blocks) (not (has_any (arguments_of f.signature))) may).0
+  bodied = (and_parts (has_any f.blocks) _ may).0
 
   pub accepted : IsAcceptedBody m e.0 f
   accepted = accepted_body m verified e f there bodied
@@ -75,10 +75,13 @@ module _ (m : Module) (e : FuncId) (f : Function) (verified : IsVerified m) (the
   }
 
   -- nothing is held
+  none_held : (o : ObjectId) → strong_holders (begins e f) o ≡ 0
+  none_held o = let none = total_none (in_entry (one_object o)) (value_count f) Gone refl in omega (arith, none)
+
   counts : AreCounts (begins e f) []
   counts = record {
     size = refl;
-    each = λ o. sym (same_numbers _ (record { strong = 0; unowned = 0; weak = 0 }) (ap (λ n. n + 0 + 0) (total_none (in_entry (one_object o)) (value_count f) Gone refl)) refl refl);
+    each = λ o. sym (same_numbers (holders_of (begins e f) o) (record { strong = 0; unowned = 0; weak = 0 }) (none_held o) refl refl);
   }
 
   begun : IsStateFor m (begins e f) (low_begins e lf)

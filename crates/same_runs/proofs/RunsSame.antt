@@ -82,21 +82,23 @@ module _ (m : Module) (bound : ℕ) where
 
   -- ---- states of the run by holders
 
-  run_on : (k : ℕ) (s t : HolderState) → run step k s ≡ Goes t → run step (suc k) s ≡ step t
-  run_on zero s t is = ap (step_on (λ x. Goes x)) refl ∙ one (step s) ∙ ap step (same s t is)
-    where
-      one : (n : HolderNext) → step_on (λ x. Goes x) n ≡ n
-      one (Goes x) = refl
-      one (Ends e x) = refl
+  one : (n : HolderNext) → step_on (run step 0) n ≡ n
+  one (Goes x) = refl
+  one (Ends e x) = refl
 
-      same : (s t : HolderState) → Goes s ≡ Goes t → s ≡ t
-      same s t e = cc
-  run_on (suc k) s t is = at (step s) refl
+  same_state : (s t : HolderState) (n : HolderNext) → Goes s ≡ n → n ≡ Goes t → s ≡ t
+  same_state s t n e g = cc
+
+  ends_nowhere : (e : Ending HolderFault) (s t : HolderState) (n : HolderNext) → Ends e s ≡ n → n ≡ Goes t → ⊥
+  ends_nowhere e s t n is other = cc
+
+  run_on : (k : ℕ) (s t : HolderState) → run step k s ≡ Goes t → run step (suc k) s ≡ step t
+  run_on zero s t is = one (step s) ∙ ap step (same_state s t (Goes s) refl is)
+  run_on (suc k) s t is = at (step s) refl (λ x. run_on k x t)
     where
-      at : (n : HolderNext) → step s ≡ n → run step (suc (suc k)) s ≡ step t
-      at (Goes x) e =
-          ap (step_on (run step (suc k))) e ∙ run_on k x t (sym (ap (step_on (run step k)) e) ∙ is)
-      at (Ends e x) g = let other : Ends e x ≡ Goes t = sym (ap (step_on (run step k)) g) ∙ is in absurd (cc)
+      at : (n : HolderNext) → step s ≡ n → ((x : HolderState) → run step k x ≡ Goes t → run step (suc k) x ≡ step t) → run step (suc (suc k)) s ≡ step t
+      at (Goes x) e more = ap (step_on (run step (suc k))) e ∙ more x (sym (ap (step_on (run step k)) e) ∙ is)
+      at (Ends e x) g more = absurd (ends_nowhere e x t (step_on (run step k) (step s)) (sym (ap (step_on (run step k)) g)) is)
 
   comes_on : (s t : HolderState) → IsComeTo m bound s → step s ≡ Goes t → IsComeTo m bound t
   comes_on s t c is = record { e = c.e; f = c.f; there = c.there; may = c.may; steps = suc c.steps; comes = run_on c.steps (begins c.e c.f) s c.comes ∙ is }
@@ -124,22 +126,27 @@ module _ (m : Module) (bound : ℕ) where
     follows : (s : HolderState) (l : LowState) → IsComeTo m bound s → IsTypedFor m s l → (n : HolderNext) → step s ≡ n → Follows m bound s l n
     follows s l comes h n is = subst (Follows m bound s l) is (steps_followed owed m bound s verified comes l h)
 
+    -- runs of so many steps
+    abbrev ForthIn : ℕ → Type 0
+    ForthIn k = (t : HolderState) (lt : LowState) → IsComeTo m bound t → IsTypedFor m t lt → (e : Ending HolderFault) (last : HolderState) → run step k t ≡ Ends e last
+        → LowEnds lt (outcome_at e last)
+
     pub forth : (k : ℕ) (s : HolderState) (l : LowState) → IsComeTo m bound s → IsTypedFor m s l → (e : Ending HolderFault) (last : HolderState)
         → run step k s ≡ Ends e last → LowEnds l (outcome_at e last)
     forth zero s l comes h e last ran = absurd (cc)
-    forth (suc k) s l comes h e last ran = at (step s) refl
+    forth (suc k) s l comes h e last ran = at (step s) refl (λ t lt. forth k t lt)
       where
-        on : (t : HolderState) → step s ≡ Goes t → GoesToo m bound s l t → LowEnds l (outcome_at e last)
-        on t is (GoesToo.moves behind low_next first steps related) =
-            let more = forth k t low_next (comes_on s t comes is) (next_typed s t l low_next h is related) e last (sym (ap (step_on (run step k)) is) ∙ ran) in
+        on : (t : HolderState) → step s ≡ Goes t → ForthIn k → GoesToo m bound s l t → LowEnds l (outcome_at e last)
+        on t is later (GoesToo.moves behind low_next first steps related) =
+            let more = later t low_next (comes_on s t comes is) (next_typed s t l low_next h is related) e last (sym (ap (step_on (run step k)) is) ∙ ran) in
             record {
               ending = more.ending;
               last = more.last;
               ran = onward low_next l (LowGoes.more l behind first steps) (Ends more.ending more.last) more.ran;
               for = more.for;
             }
-        on t is (GoesToo.stays less related) =
-            forth k t l (comes_on s t comes is) (next_typed s t l l h is related) e last (sym (ap (step_on (run step k)) is) ∙ ran)
+        on t is later (GoesToo.stays less related) =
+            later t l (comes_on s t comes is) (next_typed s t l l h is related) e last (sym (ap (step_on (run step k)) is) ∙ ran)
 
         end : (x : Ending HolderFault) (y : HolderState) → Ends x y ≡ Ends e last → EndsToo m bound l (outcome_at x y) → LowEnds l (outcome_at e last)
         end x y same d = record {
@@ -152,9 +159,9 @@ module _ (m : Module) (bound : ℕ) where
             same_outcome : (x : Ending HolderFault) (y : HolderState) → Ends x y ≡ Ends e last → outcome_at x y ≡ outcome_at e last
             same_outcome x y same = cc
 
-        at : (n : HolderNext) → step s ≡ n → LowEnds l (outcome_at e last)
-        at (Goes t) is = on t is (follows s l comes h (Goes t) is)
-        at (Ends x y) is = end x y (sym (ap (step_on (run step k)) is) ∙ ran) (follows s l comes h (Ends x y) is)
+        at : (n : HolderNext) → step s ≡ n → ForthIn k → LowEnds l (outcome_at e last)
+        at (Goes t) is later = on t is later (follows s l comes h (Goes t) is)
+        at (Ends x y) is later = end x y (sym (ap (step_on (run step k)) is) ∙ ran) (follows s l comes h (Ends x y) is)
 
     -- ---- back
 
@@ -169,50 +176,59 @@ module _ (m : Module) (bound : ℕ) where
       one_more : (s t : HolderState) → step s ≡ Goes t → HolderEnds t → HolderEnds s
       one_more s t is more = record { ending = more.ending; final = more.final; count = suc more.count; ran = ap (step_on (run step more.count)) is ∙ more.ran; for = more.for }
 
-      -- by what is left of the block, where fewer steps than these are known to lead to an end
-      inner : (n : ℕ) → ((j : ℕ) (s : HolderState) (l : LowState) → j ≤ n → IsComeTo m bound s → IsTypedFor m s l → run low_step j l ≡ Ends e last → HolderEnds s)
-          → (k j : ℕ) (s : HolderState) (l : LowState) → j ≤ suc n → left_of m s.tasks ≤ k → IsComeTo m bound s → IsTypedFor m s l → run low_step j l ≡ Ends e last → HolderEnds s
-      inner n fewer k j s l few short comes h ran = at (step s) refl
-        where
-          end : (x : Ending HolderFault) (y : HolderState) → step s ≡ Ends x y → EndsToo m bound l (outcome_at x y) → HolderEnds s
-          end x y is d =
-              let same : Ends d.ending d.last ≡ Ends e last = same_end d.before l d.steps (Ends d.ending d.last) d.ends e last (λ g e. cc) j ran in
-              record {
-                ending = x;
-                final = y;
-                count = 1;
-                ran = ap (step_on (run step 0)) is;
-                for = subst (IsOutcomeFor (outcome_at x y)) (same_outcome d.ending d.last same) d.for;
-              }
-            where
-              same_outcome : (a : Ending LowFault) (b : LowState) → Ends a b ≡ Ends e last → low_outcome_at a b ≡ low_outcome_at e last
-              same_outcome a b same = cc
+      -- one step from a state, where others lead to an end: those with fewer steps of the lowered run left, and those with as many and less of the block
+      abbrev Fewer : ℕ → Type 0
+      Fewer n = (j : ℕ) (t : HolderState) (lt : LowState) → j ≤ n → IsComeTo m bound t → IsTypedFor m t lt → run low_step j lt ≡ Ends e last → HolderEnds t
 
-          stays : (k : ℕ) → left_of m s.tasks ≤ k → (t : HolderState) → step s ≡ Goes t → left_of m t.tasks < left_of m s.tasks → IsStateFor m t l → HolderEnds s
-          stays zero short t is less related = absurd (omega (arith, short, less))
-          stays (suc k) short t is less related =
-              one_more s t is (inner n fewer k j t l few (omega (arith, short, less)) (comes_on s t comes is) (next_typed s t l l h is related) ran)
+      abbrev Shorter : HolderState → LowState → Type 0
+      Shorter s l = (t : HolderState) → left_of m t.tasks < left_of m s.tasks → IsComeTo m bound t → IsTypedFor m t l → HolderEnds t
 
-          on : (t : HolderState) → step s ≡ Goes t → GoesToo m bound s l t → HolderEnds s
-          on t is (GoesToo.moves behind low_next first steps related) = moved j few ran
-            where
-              moved : (j : ℕ) → j ≤ suc n → run low_step j l ≡ Ends e last → HolderEnds s
-              moved zero few ran = absurd (cc)
-              moved (suc j) few ran =
-                  let left = left_steps low_next behind steps e last j (sym (ap (step_on (run low_step j)) first) ∙ ran) in
-                  let fewer_left = left.few in
-                  one_more s t is (fewer left.count t low_next (omega (arith, few, fewer_left)) (comes_on s t comes is) (next_typed s t l low_next h is related) left.is)
-          on t is (GoesToo.stays less related) = stays k short t is less related
+      module _ (n : ℕ) (s : HolderState) (l : LowState) (comes : IsComeTo m bound s) (h : IsTypedFor m s l) (fewer : Fewer n) (shorter : Shorter s l) where
+        end : (j : ℕ) → run low_step j l ≡ Ends e last → (x : Ending HolderFault) (y : HolderState) → step s ≡ Ends x y → EndsToo m bound l (outcome_at x y) → HolderEnds s
+        end j ran x y is d =
+            let same : Ends d.ending d.last ≡ Ends e last = same_end d.before l d.steps (Ends d.ending d.last) d.ends e last (λ g e. cc) j ran in
+            record {
+              ending = x;
+              final = y;
+              count = 1;
+              ran = ap (step_on (run step 0)) is;
+              for = subst (IsOutcomeFor (outcome_at x y)) (same_low_outcome d.ending d.last same) d.for;
+            }
+          where
+            same_low_outcome : (a : Ending LowFault) (b : LowState) → Ends a b ≡ Ends e last → low_outcome_at a b ≡ low_outcome_at e last
+            same_low_outcome a b same = cc
 
-          at : (n : HolderNext) → step s ≡ n → HolderEnds s
-          at (Goes t) is = on t is (follows s l comes h (Goes t) is)
-          at (Ends x y) is = end x y is (follows s l comes h (Ends x y) is)
+        moved : (t : HolderState) → step s ≡ Goes t → (behind low_next : LowState) → low_step l ≡ Goes behind → LowGoes m bound low_next behind → IsStateFor m t low_next
+            → (j : ℕ) → j ≤ suc n → run low_step j l ≡ Ends e last → HolderEnds s
+        moved t is behind low_next first steps related zero few ran = absurd (cc)
+        moved t is behind low_next first steps related (suc j) few ran =
+            let left = left_steps low_next behind steps e last j (sym (ap (step_on (run low_step j)) first) ∙ ran) in
+            let fewer_left = left.few in
+            one_more s t is (fewer left.count t low_next (omega (arith, few, fewer_left)) (comes_on s t comes is) (next_typed s t l low_next h is related) left.is)
+
+        on : (j : ℕ) → j ≤ suc n → run low_step j l ≡ Ends e last → (t : HolderState) → step s ≡ Goes t → GoesToo m bound s l t → HolderEnds s
+        on j few ran t is (GoesToo.moves behind low_next first steps related) = moved t is behind low_next first steps related j few ran
+        on j few ran t is (GoesToo.stays less related) = one_more s t is (shorter t less (comes_on s t comes is) (next_typed s t l l h is related))
+
+        from_here : (j : ℕ) → j ≤ suc n → run low_step j l ≡ Ends e last → HolderEnds s
+        from_here j few ran = at (step s) refl
+          where
+            at : (n : HolderNext) → step s ≡ n → HolderEnds s
+            at (Goes t) is = on j few ran t is (follows s l comes h (Goes t) is)
+            at (Ends x y) is = end j ran x y is (follows s l comes h (Ends x y) is)
+
+      -- by what is left of the block
+      inner : (n : ℕ) → Fewer n → (k j : ℕ) (s : HolderState) (l : LowState) → j ≤ suc n → left_of m s.tasks ≤ k → IsComeTo m bound s → IsTypedFor m s l
+          → run low_step j l ≡ Ends e last → HolderEnds s
+      inner n fewer zero j s l few short comes h ran = from_here n s l comes h fewer (λ t less c k. absurd (omega (arith, short, less))) j few ran
+      inner n fewer (suc k) j s l few short comes h ran =
+          from_here n s l comes h fewer (λ t less ct ht. inner n fewer k j t l few (omega (arith, short, less)) ct ht ran) j few ran
 
       pub back : (n j : ℕ) (s : HolderState) (l : LowState) → j ≤ n → IsComeTo m bound s → IsTypedFor m s l → run low_step j l ≡ Ends e last → HolderEnds s
       back zero zero s l few comes h ran = absurd (cc)
       back zero (suc j) s l few comes h ran = absurd (omega (arith, few))
       back (suc n) j s l few comes h ran =
-          inner n (λ j s l. back n j s l) (left_of m s.tasks) j s l few (omega arith) comes h ran
+          inner n (λ i t lt. back n i t lt) (left_of m s.tasks) j s l few (omega arith) comes h ran
 
 -- ---- outcomes
 
@@ -246,16 +262,16 @@ module _ (owed : IsOwed) (m : Module) (e : FuncId) (f : Function) (bound : ℕ) 
   runs_forth : (o : Outcome HolderFault) → EndsSo m e bound o → (low : Outcome LowFault) × LowEndsSo (lowered m) e bound low × IsOutcomeFor o low
   runs_forth o so =
       let end = ends_of (run (step m bound) so.0 (begins e f)) o (sym (from_entry so.0) ∙ so.1) in
-      let d = forth m bound owed verified so.0 (begins e f) (low_begins e lf) comes (begin_typed_for m e f verified there may) end.0 end.1 end.2.0 in
+      let d = forth m bound owed verified so.0 (begins e f) (low_begins e lf) comes (begin_typed_for m e f verified there may) end.0 end.1 end.2 in
       (low_outcome_at d.ending d.last, (d.ran.count, low_from_entry d.ran.count ∙ ap low_outcome_after d.ran.is),
-      subst (λ x. IsOutcomeFor x (low_outcome_at d.ending d.last)) end.2.1 d.for)
+      subst (λ x. IsOutcomeFor x (low_outcome_at d.ending d.last)) end.3 d.for)
 
   runs_back : (low : Outcome LowFault) → LowEndsSo (lowered m) e bound low → (o : Outcome HolderFault) × EndsSo m e bound o × IsOutcomeFor o low
   runs_back low so =
       let end = low_ends_of (run (low_step m bound) so.0 (low_begins e lf)) low (sym (low_from_entry so.0) ∙ so.1) in
       let d =
-      back m bound owed verified end.0 end.1 so.0 so.0 (begins e f) (low_begins e lf) (omega arith) comes (begin_typed_for m e f verified there may) end.2.0 in
-      (outcome_at d.ending d.final, (d.count, from_entry d.count ∙ ap outcome_after d.ran), subst (IsOutcomeFor (outcome_at d.ending d.final)) end.2.1 d.for)
+      back m bound owed verified end.0 end.1 so.0 so.0 (begins e f) (low_begins e lf) (omega arith) comes (begin_typed_for m e f verified there may) end.2 in
+      (outcome_at d.ending d.final, (d.count, from_entry d.count ∙ ap outcome_after d.ran), subst (IsOutcomeFor (outcome_at d.ending d.final)) end.3 d.for)
 
 pub runs_same : AreRunsSameWhereOwed
 runs_same owed m e f bound verified there may = record {
