@@ -1,0 +1,2 @@
+pub mod TakenOwned
+pub mod BroughtOwned

@@ -1,0 +1,6 @@
+use Rattle.owned_counts.proofs.TakenOwned.{takes_none, takes_all}
+use Rattle.owned_counts.proofs.BroughtOwned.{brings_none, brings_all}
+use Rattle.owned_counts.proofs.laws.rows_are_owned.Goals as goal
+
+pub returns : goal.returns
+returns c = takes_none

@@ -1,0 +1,4 @@
+-- Draft.
+use Rattle.std.specs.Prelude.{◌≡◌, ℕ}
+abbrev pub AreRowsOwned : Type 0
+AreRowsOwned = (n : ℕ) → n ≡ n
