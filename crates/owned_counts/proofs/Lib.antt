@@ -1,2 +1,4 @@
 pub mod TakenOwned
 pub mod BroughtOwned
+pub mod RowTables
+pub mod GivenOwned
