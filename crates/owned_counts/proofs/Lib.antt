@@ -2,3 +2,6 @@ pub mod TakenOwned
 pub mod BroughtOwned
 pub mod RowTables
 pub mod GivenOwned
+pub mod TypedCells
+pub mod TypedPlaces
+pub mod OwnedInsts
