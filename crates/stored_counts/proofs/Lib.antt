@@ -1,3 +1,6 @@
 pub mod StoredCounts
 pub mod Turns
 pub mod Items
+pub mod RowNames
+pub mod RowsMade
+pub mod RowBalance

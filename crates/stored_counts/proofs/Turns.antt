@@ -1,5 +1,5 @@
 -- Stored numbers behind a drop, at the start and the end of a deinitialisation, and where no count changes.
-use Rattle.std.proofs.Common.{◌≡◌, ℕ, suc, ◌+◌, ◌-◌, ◌<◌, List, [], ◌∷◌, length, length-set, arith, refl, sym, ap, ◌∙◌, subst, Bool, true, false, eq-eqb}
+use Rattle.std.proofs.Common.{◌≡◌, ℕ, suc, ◌+◌, ◌-◌, ◌<◌, List, length, length-set, arith, refl, sym, ap, ◌∙◌, subst, eq-eqb}
 use Rattle.std.specs.Prelude.{cond}
 use Rattle.sil_ast.specs.declared.decl.Storage.{Storage}
 use Rattle.sil_ast.specs.declared.decl.Storage.TheVariants as storage
@@ -7,8 +7,8 @@ use Rattle.sil_ast.specs.declared.module.Module.{Module}
 use Rattle.sil_ast.specs.declared.place.ObjectId.{ObjectId}
 use Rattle.run_values.specs.declared.phase.Phase.TheVariants.{Deiniting}
 use Rattle.run_values.specs.Cells.{Cell}
-use Rattle.run_values.specs.Memory.{Memory, is_dead, object_at}
-use Rattle.lowered_run.specs.holder_model.HolderStates.{HolderState, strong_holders}
+use Rattle.run_values.specs.Memory.{object_at}
+use Rattle.lowered_run.specs.holder_model.HolderStates.{strong_holders}
 use Rattle.lowered_run.specs.holder_model.Holders.{in_cells, in_memory, one_object, unowned_holders, weak_holders}
 use Rattle.lowered_run.specs.holder_model.ModuleFacts.{ModuleFacts}
 use Rattle.lowered_run.specs.holder_model.Outcomes.{Numbers}
@@ -16,8 +16,8 @@ use Rattle.lowered_run.specs.Stored.{numbers_of, one_less}
 use Rattle.holder_counts.specs.holder_steps.inner.Ways.{deinitialising, finished}
 use Rattle.holder_counts.proofs.Moves.{deinits_counted, drops_counted, finishes_counted}
 use Rattle.holder_counts.proofs.Places.{deaths_counted, live_not_dead, made_object, phases_counted}
-use Rattle.stored_counts.specs.inner.Numbers.{AreCounts, holders_of}
-use Rattle.stored_counts.specs.inner.Turns.{AreDeathsStored, AreDeinitsStored, AreDropsStored, AreKeptStored, AreTasksStored, HoldTheSame, with_dropped}
+use Rattle.stored_counts.specs.inner.Numbers.{holders_of}
+use Rattle.stored_counts.specs.inner.Turns.{AreDeathsStored, AreDeinitsStored, AreDropsStored, AreKeptStored, AreTasksStored, with_dropped}
 use Rattle.stored_counts.proofs.StoredCounts.{changed_length, less_strong_by, less_unowned_by, less_weak_by, one_changed, strong_less, unnamed_at, unnamed_length}
 
 -- numbers are the same where each is

@@ -2,6 +2,7 @@
 
 ghost use Rattle.holder_counts.specs.inner.Moving.{InEach};
 ghost use Rattle.stored_counts.specs.inner.Items.{AreItemsStored};
+ghost use Rattle.stored_counts.specs.inner.Rows.{AreRowsCounted};
 ghost use Rattle.stored_counts.specs.inner.Turns.{
   AreDeathsStored,
   AreDeinitsStored,
@@ -30,4 +31,9 @@ pub fn deinitialisations_are_stored()
 /// Behind an item, what is retained or made has one strong holder more.
 pub fn items_are_stored()
     ensures { InEach AreItemsStored }
+{}
+
+/// What an instruction leaves is counted, where operands, results and places are as its row needs them.
+pub fn rows_are_counted()
+    ensures { AreRowsCounted }
 {}

@@ -1,0 +1,7 @@
+pub mod TakenOwned
+pub mod BroughtOwned
+pub mod RowTables
+pub mod GivenOwned
+pub mod TypedCells
+pub mod TypedPlaces
+pub mod OwnedInsts
