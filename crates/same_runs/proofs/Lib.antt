@@ -3,3 +3,4 @@ pub mod RowsFollowed
 pub mod StepsFollowed
 pub mod Begun
 pub mod RunsSame
+pub mod CountedMoves
