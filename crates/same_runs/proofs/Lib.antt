@@ -4,3 +4,4 @@ pub mod StepsFollowed
 pub mod Begun
 pub mod RunsSame
 pub mod CountedMoves
+pub mod CountedReturns
