@@ -5,3 +5,4 @@ pub mod Begun
 pub mod RunsSame
 pub mod CountedMoves
 pub mod CountedReturns
+pub mod CountedEdges

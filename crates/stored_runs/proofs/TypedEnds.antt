@@ -89,7 +89,7 @@ none_behind [] g k y is = absurd (none-some y is)
 none_behind (e ∷ es) g k y is = absurd (false≢true g)
 
 -- a `switch_enum` hands over nothing by its edges' own arguments
-case_bare : (es : List Edge) → are_cases es ≡ true → (k : ℕ) (y : Edge) → slice_get es k ≡ Some y → y.args ≡ []
+pub case_bare : (es : List Edge) → are_cases es ≡ true → (k : ℕ) (y : Edge) → slice_get es k ≡ Some y → y.args ≡ []
 case_bare [] e k y is = absurd (none-some y is)
 case_bare (x ∷ es) e k y is = at (is_case x) refl e k is (λ h. case_bare es h)
   where
@@ -110,7 +110,7 @@ module _ (m : Module) (n : ℕ) (f : Function) (a : IsAcceptedBody m n f) (b : �
   typed : OwnedFunction m f
   typed = (typed_module m a.verified).functions n f a.body.there
 
-  edges_by : (e : Ending) → ending_of t.op ≡ e → are_edges_by e t.edges ≡ true
+  pub edges_by : (e : Ending) → ending_of t.op ≡ e → are_edges_by e t.edges ≡ true
   edges_by e is = ap (λ x. are_edges_by x t.edges) (sym is) ∙ (known_end m n f a b t ends).parts.edges
 
   operands_plain : Each (IsOfValue m f) (map value_in t.operands)
@@ -205,7 +205,7 @@ module _ (m : Module) (n : ℕ) (f : Function) (a : IsAcceptedBody m n f) (b : �
 
 module _ (m : Module) (s : HolderState) (w : World) (frame : Frame) (f : Function) (a : IsAcceptedBody m frame.function.0 f) (is : FrameIs m w f frame)
     (at_end : inst_at f (stands_at f frame.trail) ≡ None) where
-  takes_values : (i : Item) → ComesAt f (stands_at f frame.trail) i → Each (IsOfValue m f) (map taken_value (item_taken f i))
+  pub takes_values : (i : Item) → ComesAt f (stands_at f frame.trail) i → Each (IsOfValue m f) (map taken_value (item_taken f i))
   takes_values item.Entry h = absurd h
   takes_values (item.Inst q) h = absurd (none-some h.1 (sym at_end ∙ h.2))
   takes_values (item.Edge e) h =
