@@ -88,19 +88,19 @@ module _ (facts : ValueId → Option Facts) (entries : List Entry) where
       let rest = front_kept ts us zs given.1 keeps.1 weight in
       omega (arith, both, first, rest)
 
-br_op : (o : Op) → ending_of o ≡ ending.OneBranch → o ≡ op.Br
+pub br_op : (o : Op) → ending_of o ≡ ending.OneBranch → o ≡ op.Br
 br_op op.Br e = refl
 br_op _ e = cc
 
-cond_op : (o : Op) → ending_of o ≡ ending.TwoBranches → o ≡ op.CondBr
+pub cond_op : (o : Op) → ending_of o ≡ ending.TwoBranches → o ≡ op.CondBr
 cond_op op.CondBr e = refl
 cond_op _ e = cc
 
-switch_op : (o : Op) → ending_of o ≡ ending.Cases → o ≡ op.SwitchEnum
+pub switch_op : (o : Op) → ending_of o ≡ ending.Cases → o ≡ op.SwitchEnum
 switch_op op.SwitchEnum e = refl
 switch_op _ e = cc
 
-one_by : (o p : Op) (conventions : List _) (x : Operand) (os : List Operand) → o ≡ p → os ≡ x ∷ []
+pub one_by : (o p : Op) (conventions : List _) (x : Operand) (os : List Operand) → o ≡ p → os ≡ x ∷ []
     → taken_each os (roles_for (roles_of o) conventions (length os)) ≡ taken_each (x ∷ []) (roles_for (roles_of p) conventions 1)
 one_by o p conventions x os is one =
     ap (λ q. taken_each os (roles_for (roles_of q) conventions (length os))) is ∙ ap (λ ys. taken_each ys (roles_for (roles_of p) conventions (length ys))) one

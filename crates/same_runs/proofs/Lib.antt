@@ -6,3 +6,5 @@ pub mod RunsSame
 pub mod CountedMoves
 pub mod CountedReturns
 pub mod CountedEdges
+pub mod CountedEnds
+pub mod DeinitBodies
