@@ -8,3 +8,4 @@ pub mod CountedReturns
 pub mod CountedEdges
 pub mod CountedEnds
 pub mod DeinitBodies
+pub mod DeinitsCalled
