@@ -9,3 +9,4 @@ pub mod CountedEdges
 pub mod CountedEnds
 pub mod DeinitBodies
 pub mod DeinitsCalled
+pub mod CountedTurns

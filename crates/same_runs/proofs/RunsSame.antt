@@ -33,7 +33,7 @@ use Rattle.same_runs.specs.inner.Owed.{IsComeTo, IsOwed}
 use Rattle.same_runs.proofs.Begun.{begin_typed_for, lowers}
 use Rattle.same_runs.proofs.StepsFollowed.{steps_followed}
 use Rattle.same_runs.proofs.CountedReturns
-use Rattle.same_runs.proofs.CountedEnds
+use Rattle.same_runs.proofs.CountedTurns
 use Rattle.same_runs.proofs.DeinitsCalled
 use Rattle.same_runs.proofs.DeinitBodies
 use Rattle.same_runs.proofs.CountedEdges
