@@ -10,3 +10,4 @@ pub mod CountedEnds
 pub mod DeinitBodies
 pub mod DeinitsCalled
 pub mod CountedTurns
+pub mod Come

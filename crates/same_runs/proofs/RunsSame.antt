@@ -32,11 +32,6 @@ use Rattle.same_runs.specs.inner.Laws.{AreRunsSameWhereOwed}
 use Rattle.same_runs.specs.inner.Owed.{IsComeTo, IsOwed}
 use Rattle.same_runs.proofs.Begun.{begin_typed_for, lowers}
 use Rattle.same_runs.proofs.StepsFollowed.{steps_followed}
-use Rattle.same_runs.proofs.CountedReturns
-use Rattle.same_runs.proofs.CountedTurns
-use Rattle.same_runs.proofs.DeinitsCalled
-use Rattle.same_runs.proofs.DeinitBodies
-use Rattle.same_runs.proofs.CountedEdges
 
 module _ (m : Module) (bound : ℕ) where
   abbrev step : HolderState → HolderNext

@@ -2,7 +2,7 @@
 use Rattle.std.proofs.Common.{◌≡◌, ◌⊎◌, inl, inr, ℕ, List, [], ◌∷◌, arith, refl, sym, ap, ◌∙◌, subst, Bool, true, false, Option, Some, None}
 use Rattle.std.specs.Prelude.{slice_get}
 use Rattle.std.proofs.lemmas.Bool.{cases_Bool}
-use Rattle.std.proofs.lemmas.Option.{none-some}
+use Rattle.std.proofs.lemmas.Option.{none-some, same_Some}
 use Rattle.sil_ast.specs.declared.function.Function.{Function}
 use Rattle.sil_ast.specs.declared.inst.Inst.{Inst}
 use Rattle.sil_ast.specs.declared.module.Module.{Module}
@@ -17,7 +17,7 @@ use Rattle.lowered_run.specs.holder_model.Data.{ValueOf}
 use Rattle.lowered_run.specs.holder_model.Effects as effects
 use Rattle.lowered_run.specs.holder_model.Effects.{Change, effect_of}
 use Rattle.lowered_run.specs.holder_model.Faults.{HolderFault, NoEntry, PlaceNotAsAsked, WrongShape}
-use Rattle.lowered_run.specs.holder_model.Frames.{Frame}
+use Rattle.lowered_run.specs.holder_model.Frames.{Frame, has_any}
 use Rattle.lowered_run.specs.holder_model.HolderStates.{HolderNext, HolderState, strong_holders}
 use Rattle.lowered_run.specs.holder_model.Holders.{one_object}
 use Rattle.lowered_run.specs.holder_model.ModuleFacts.{ModuleFacts, facts_of}
@@ -31,6 +31,8 @@ use Rattle.accepted_values.specs.accepted_modules.inner.Checked.{IsVerified}
 use Rattle.holder_steps.specs.inner.Ways.{Acts, Enters, GoesBehind, Performs, StepsBy, left_with}
 use Rattle.holder_steps.proofs.StepsTold.{steps_told}
 use Rattle.holder_counts.proofs.Moves.{drops_counted}
+use Rattle.typed_holders.specs.inner.TypedStates.{FrameIs, TasksAre}
+use Rattle.typed_holders.proofs.GoesOn.{Running, typed_module}
 use Rattle.stored_counts.specs.inner.Numbers.{AreCounts}
 use Rattle.stored_counts.proofs.Turns.{one_itself}
 use Rattle.stored_runs.specs.inner.Along.{IsNextAlong, IsNoFault}
@@ -42,7 +44,12 @@ use Rattle.stored_runs.proofs.CallsAlone.{calls_alone, calls_or, op_of}
 use Rattle.stored_runs.proofs.TypedSteps.{typed_calls_step, typed_deinits_step, typed_ends_step}
 use Rattle.same_runs.specs.inner.Followed.{EndsToo, Follows, GoesToo, StepsToo, low_next_of}
 use Rattle.same_runs.specs.inner.Laws.{AreStepsFollowed}
-use Rattle.same_runs.specs.inner.Owed.{AtInst, IsComeTo, IsOwed, KeepsNumbers, LeavesSo, effect_there}
+use Rattle.same_runs.specs.inner.Owed.{AtInst, IsComeTo, IsOwed, LeavesSo, effect_there}
+use Rattle.same_runs.proofs.Come.{comes_called}
+use Rattle.same_runs.proofs.CountedEnds.{CountedNext}
+use Rattle.same_runs.proofs.CountedReturns.{last_counted}
+use Rattle.same_runs.proofs.CountedTurns.{deinit_counted, end_counted}
+use Rattle.same_runs.proofs.DeinitsCalled.{AreCalled, AreCalledBelow}
 use Rattle.same_runs.proofs.Finishing.{dropped_followed, dropping_followed, finishing_followed}
 use Rattle.same_runs.proofs.RowsFollowed.{row_followed}
 
@@ -83,8 +90,8 @@ module _ (owed : IsOwed) (m : Module) (bound : ℕ) (s : HolderState) (verified 
     none : IsNoFault next
     none x last e = owed.no_fault m bound s verified comes last x (is_next ∙ e)
 
-    counted : KeepsNumbers m s → (s' : HolderState) → next ≡ Goes s' → AreCounts s' l.numbers
-    counted keeps s' e = owed.steps_counted m bound s verified comes s' l.numbers keeps (is_next ∙ e) h.related.counts
+    counted_by : CountedNext l.numbers next → (s' : HolderState) → next ≡ Goes s' → AreCounts s' l.numbers
+    counted_by c s' e = subst (CountedNext l.numbers) e c
 
     -- ---- an instruction
 
@@ -93,7 +100,7 @@ module _ (owed : IsOwed) (m : Module) (bound : ℕ) (s : HolderState) (verified 
           → Performs m told bound s x.rest (left_with m told bound x.frame x.ops) x.f (item.Inst (stands_at x.f x.frame.trail)) (effect_there m bound s x) next
           → Follows m bound s l next
       call_followed call way =
-          steps_along next (counted (KeepsNumbers.at_call x call))
+          steps_along next (λ s' e. owed.calls_counted m bound s verified comes s' l.numbers x call (is_next ∙ e) h.related.counts)
           (typed_calls_step m bound s l x.frame x.rest x.f x.i x.ops next h x.is x.there x.here (op_of x.i.op call) x.found
           (owed.handed m bound s verified comes x) way none)
 
@@ -133,11 +140,28 @@ module _ (owed : IsOwed) (m : Module) (bound : ℕ) (s : HolderState) (verified 
     -- ---- the first frame
 
     module _ (frame : Frame) (rest : List (Task Frame)) (f : Function) (is : s.tasks ≡ Runs frame ∷ rest) (there : slice_get m.functions frame.function.0 ≡ Some f) where
+      tasks : TasksAre m h.typed.world (Runs frame ∷ rest)
+      tasks = subst (TasksAre m h.typed.world) is h.typed.tasks
+
+      running : Running m s rest frame f
+      running = record {
+        w = h.typed.world;
+        of = h.typed.of;
+        memory = h.typed.memory;
+        typed = subst (λ g. FrameIs m h.typed.world g frame) (same_Some tasks.0.0 f (sym tasks.0.1.is ∙ there)) tasks.0.1;
+        below = tasks.1;
+      }
+
+      called : AreCalledBelow m frame rest
+      called = (subst (AreCalled m) is (comes_called m bound s verified comes)).1
+
       end_followed : inst_at f (stands_at f frame.trail) ≡ None → Acts m told bound s rest frame f next → Follows m bound s l next
       end_followed at_end way =
-          steps_along next (counted (KeepsNumbers.at_end frame rest f is there at_end))
+          steps_along next (counted_by (end_counted m verified bound l.numbers s rest frame f running is called h.related.counts at_end next way))
           (typed_ends_step m bound s l frame rest f next h is there at_end
-          (λ last. owed.returns_counted m bound s verified comes l frame f (is ∙ ap (λ r. Runs frame ∷ r) last) there h.related.counts) way none)
+          (λ last t ops y u ends returns found alone worth held.
+          last_counted m verified bound s rest frame f running t (record { behind = at_end; terminator = ends }) returns ops found y alone held l
+          (is ∙ ap (λ r. Runs frame ∷ r) last) h.related.counts u worth) way none)
 
       does_followed : (i : Inst) → inst_at f (stands_at f frame.trail) ≡ Some i → (n : HolderNext) → n ≡ next → Acts m told bound s rest frame f n → Follows m bound s l next
       does_followed i here n same (Acts.does j ops _ here' found way) =
@@ -187,9 +211,12 @@ module _ (owed : IsOwed) (m : Module) (bound : ℕ) (s : HolderState) (verified 
         (steps_too n (finishing_followed m bound s l h.related o rest is (owed.finishes m bound s verified comes o rest is)
         (owed.numbered m bound s verified comes o l.numbers h.related.counts.size) (λ zero lrest. owed.outlive m bound s verified comes l o rest lrest h is zero) n way))
     ways_followed n same (StepsBy.calls_deinit g gs o rest f _ is there way) =
-        steps_along next (counted (KeepsNumbers.at_deinit g gs o rest is))
-        (typed_deinits_step m bound s l g gs o rest f next h is there
-        (subst (Enters m told bound (record s { tasks = Finishes gs o ∷ rest }) (Finishes gs o ∷ rest) g f (ValueOf (value.Object o) ∷ [])) same way) none)
+        let moves = subst (Enters m told bound (record s { tasks = Finishes gs o ∷ rest }) (Finishes gs o ∷ rest) g f (ValueOf (value.Object o) ∷ [])) same way in
+        let first = (subst (TasksAre m h.typed.world) is h.typed.tasks).0.1.0 in
+        let deinit = (typed_module m verified).deinits first.class g first.is in
+        let bodied = subst (λ (b : Function). has_any b.blocks ≡ true) (same_Some deinit.body f (sym deinit.there ∙ there)) deinit.bodied in
+        steps_along next (counted_by (deinit_counted m verified bound l.numbers s g gs o rest f is there bodied first.class first.is h.related.counts next moves))
+        (typed_deinits_step m bound s l g gs o rest f next h is there moves none)
     ways_followed _ same (StepsBy.no_task is) = absurd (none WrongShape s (sym same))
     ways_followed _ same (StepsBy.no_function frame rest is there) = absurd (none WrongShape s (sym same))
     ways_followed _ same (StepsBy.no_deinit g gs o rest is there) = absurd (none WrongShape _ (sym same))

@@ -37,7 +37,7 @@ use Rattle.stored_runs.specs.inner.CallsAlong.{lent_in}
 use Rattle.stored_runs.specs.inner.Entering.{IsFullPart}
 use Rattle.stored_runs.specs.inner.Frames.{AreTasksFor, HasFullParts}
 use Rattle.stored_runs.specs.inner.PlaceRows.{GoesAlong, stored_for}
-use Rattle.stored_runs.specs.inner.TypedSteps.{IsTypedFor, ReturnsCounted}
+use Rattle.stored_runs.specs.inner.TypedSteps.{IsTypedFor}
 use Rattle.same_runs.specs.inner.Followed.{EndsToo}
 
 -- the first frame stands at an instruction, and has its operands
@@ -72,13 +72,6 @@ module _ (m : Module) (bound : ℕ) (s : HolderState) (x : AtInst m s) where
 
   abbrev pub stored_there : Change → List Numbers → List Numbers
   stored_there c stored = stored_for m s x.frame x.i x.ops.given c stored
-
--- a step that changes no count: at a terminator, at a call, or where a deinitialiser is called
-pub data KeepsNumbers (m : Module) (s : HolderState) : Type 0 where
-  at_end : (frame : Frame) (rest : List (Task Frame)) (f : Function) → s.tasks ≡ Runs frame ∷ rest → slice_get m.functions frame.function.0 ≡ Some f
-      → inst_at f (stands_at f frame.trail) ≡ None → KeepsNumbers m s
-  at_call : (x : AtInst m s) → effect_of x.i.op ≡ row.CallsFunction → KeepsNumbers m s
-  at_deinit : (g : FuncId) (gs : List FuncId) (o : ObjectId) (rest : List (Task Frame)) → s.tasks ≡ Finishes (g ∷ gs) o ∷ rest → KeepsNumbers m s
 
 -- a state that a run of the module comes to, from an entry at which one may start
 pub record IsComeTo (m : Module) (bound : ℕ) (s : HolderState) : Type 0 where
@@ -143,15 +136,10 @@ AreRowsCounted = OnStates (λ m bound s. (stored : List Numbers) (x : AtInst m s
     → (c : Change) (slots : List Place) (entries : List Entry) → LeavesSo m bound s x c slots entries
     → AreCounts s stored → AreCounts (behind_it m bound s x c slots entries) (stored_there m bound s x c stored))
 
--- behind a step that changes none
-abbrev pub AreStepsCounted : Type 0
-AreStepsCounted = OnStates (λ m bound s. (next : HolderState) (stored : List Numbers) → KeepsNumbers m s
+-- behind a call
+abbrev pub AreCallsCounted : Type 0
+AreCallsCounted = OnStates (λ m bound s. (next : HolderState) (stored : List Numbers) (x : AtInst m s) → effect_of x.i.op ≡ row.CallsFunction
     → holder_run.step m (facts_of m) bound s ≡ Goes next → AreCounts s stored → AreCounts next stored)
-
--- when the run has returned
-abbrev pub AreReturnsCounted : Type 0
-AreReturnsCounted = OnStates (λ m bound s. (l : LowState) (frame : Frame) (f : Function) → s.tasks ≡ Runs frame ∷ []
-    → slice_get m.functions frame.function.0 ≡ Some f → AreCounts s l.numbers → ReturnsCounted m s l frame f)
 
 -- what the fields of an object that finishes name has numbers
 abbrev pub AreFieldsNumbered : Type 0
@@ -169,6 +157,5 @@ pub record IsOwed : Type 0 where
   pub handed : ArePartsHandedFull
   pub outlive : PartsOutlive
   pub rows_counted : AreRowsCounted
-  pub steps_counted : AreStepsCounted
-  pub returns_counted : AreReturnsCounted
+  pub calls_counted : AreCallsCounted
   pub numbered : AreFieldsNumbered
