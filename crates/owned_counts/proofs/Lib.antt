@@ -4,4 +4,5 @@ pub mod RowTables
 pub mod GivenOwned
 pub mod TypedCells
 pub mod TypedPlaces
+pub mod ValueForms
 pub mod OwnedInsts
