@@ -6,3 +6,4 @@ pub mod TypedCells
 pub mod TypedPlaces
 pub mod ValueForms
 pub mod OwnedInsts
+pub mod RowsOwned

@@ -1,29 +1,21 @@
 -- Each instruction of an accepted function has what its row needs: row by row, by the kinds of its operands and of its results.
-use Rattle.std.proofs.Common.{◌≡◌, ◌⊎◌, inl, inr, ℕ, List, [], ◌∷◌, ◌++◌, map, length, append-nil, refl, sym, ap, ◌∙◌, subst, Bool, true, false, cond, ◌&&◌, ◌||◌, not, Option, Some, None, Ok}
-use Rattle.std.specs.Prelude.{slice_get}
-use Rattle.std.specs.List.{AllZip, list_all, list_any}
-use Rattle.std.proofs.lemmas.Bool.{and_parts, cases_Bool, false≢true, or_cases}
-use Rattle.std.proofs.lemmas.Option.{same_Some}
+use Rattle.std.proofs.Common.{◌≡◌, ◌⊎◌, inl, inr, List, [], ◌∷◌, ◌++◌, map, append-nil, refl, sym, ap, ◌∙◌, subst, Bool, true, false, cond, ◌&&◌, ◌||◌, Option}
+use Rattle.std.specs.List.{AllZip, list_any}
+use Rattle.std.proofs.lemmas.Bool.{and_parts}
 use Rattle.instruction_table.specs.Forms.{result_kind_of, roles_of}
 use Rattle.instruction_table.specs.Forms as table
-use Rattle.instruction_table.specs.declared.entries.ResultKind.{ResultKind}
-use Rattle.instruction_table.specs.declared.entries.ResultKind.TheVariants.{AddressResult, ForwardedResult, OperandResult, OwnedResult, ScopeResult}
+use Rattle.instruction_table.specs.declared.entries.ResultKind.TheVariants.{AddressResult, ForwardedResult, OwnedResult, ScopeResult}
 use Rattle.instruction_table.specs.declared.entries.Role.{Role}
 use Rattle.instruction_table.specs.declared.entries.Role.TheVariants as role
 use Rattle.numbered_form.specs.Lists.{Each}
-use Rattle.sil_ast.specs.declared.decl.Storage.{Storage}
-use Rattle.sil_ast.specs.declared.decl.Storage.TheVariants as storage
 use Rattle.sil_ast.specs.declared.function.Function.{Function}
 use Rattle.sil_ast.specs.declared.inst.Inst.{Inst}
 use Rattle.sil_ast.specs.declared.module.Module.{Module}
-use Rattle.sil_ast.specs.declared.operands.Operand.{Operand}
 use Rattle.sil_ast.specs.declared.place.FuncId.{FuncId}
 use Rattle.sil_ast.specs.declared.place.PointId.{PointId}
 use Rattle.sil_ast.specs.declared.place.ValueId.{ValueId}
-use Rattle.sil_cfg.specs.declared.item.Item.{Item}
 use Rattle.sil_cfg.specs.declared.item.Item.TheVariants as item
 use Rattle.item_operands.specs.Items.{item_defined, item_taken, taken_in}
-use Rattle.item_operands.specs.Parts.{inst_at}
 use Rattle.item_operands.specs.Roles.{conventions_in, taken_by}
 use Rattle.item_operands.specs.declared.taken.Taken.{Taken}
 use Rattle.ownership_chains.specs.Facts as chains
@@ -34,20 +26,15 @@ use Rattle.type_definitions.specs.Declarations.{Declarations, declarations_of}
 use Rattle.type_definitions.specs.declared.kind.Kind.{Kind}
 use Rattle.type_definitions.specs.declared.kind.Kind.TheVariants as kind
 use Rattle.run_values.specs.Memory.{Memory}
-use Rattle.run_values.specs.Shapes.{Shape}
 use Rattle.accepted_values.specs.accepted_modules.ownership_kinds.Facts.{facts_in}
 use Rattle.accepted_values.specs.accepted_modules.sil_types.Typing.FormRules.{may_stand_owned}
-use Rattle.accepted_values.specs.inner.Known.{IsAcceptedBody, facts_at, kind_at, type_in}
+use Rattle.accepted_values.specs.inner.Known.{facts_at, kind_at, type_in}
 use Rattle.accepted_values.specs.inner.Operands.{Forwards, MayEnd, MayLend, SuitsRole, kind_by_row, kind_together}
 use Rattle.accepted_values.specs.accepted_modules.ownership_kinds.Statics.{forwards_by}
-use Rattle.accepted_values.specs.owned_run_typing.inner.OwnedRows as owned
-use Rattle.accepted_values.specs.owned_run_typing.inner.OwnedRows.{OwnedRowForms}
 use Rattle.accepted_values.specs.owned_run_typing.inner.OwnedTyped.{OwnedInst}
 use Rattle.accepted_values.specs.owned_run_typing.ownership_origins.Origins.{is_trivial_or_untyped}
 use Rattle.accepted_values.specs.run_typing.EndForms.{value_in}
-use Rattle.accepted_values.specs.run_typing.Forms.{Form, OfValue, forms_of}
-use Rattle.accepted_values.specs.run_typing.RowForms as lowered
-use Rattle.accepted_values.specs.run_typing.RowForms.{RowForms}
+use Rattle.accepted_values.specs.run_typing.Forms.{forms_of}
 use Rattle.accepted_values.specs.run_typing.lowered_run.LowStepParts.{taken_value}
 use Rattle.accepted_values.proofs.Accepted.{in_ownership_form, well_typed}
 use Rattle.accepted_values.proofs.Suited.{forwarded_kinds, results_of_kinds, suited}
@@ -55,17 +42,15 @@ use Rattle.accepted_values.proofs.lowering_laws.Lowerable.{contained}
 use Rattle.accepted_values.proofs.run_typing_laws.Declared.{each_from}
 use Rattle.accepted_values.proofs.run_typing_laws.Rows.Known.{Known, in_owned, known}
 use Rattle.accepted_values.proofs.run_typing_laws.Rows.Points.{is_at}
-use Rattle.holder_counts.specs.holder_model.Data.{Datum, ValueOf}
+use Rattle.holder_counts.specs.holder_model.Data.{Datum}
 use Rattle.holder_counts.specs.holder_model.Effects as effects
 use Rattle.holder_counts.specs.holder_model.Effects.{Change, Effect, effect_of}
-use Rattle.holder_counts.specs.holder_model.Faults.{HolderFault}
 use Rattle.holder_counts.specs.holder_model.Frames.{Entry, Operands}
 use Rattle.holder_counts.specs.holder_model.ModuleShapes.{shapes_in, shapes_of}
 use Rattle.holder_counts.specs.holder_model.declared.row_effect.RowEffect.{RowEffect}
-use Rattle.holder_counts.specs.holder_model.declared.row_effect.RowEffect.TheVariants as row
 use Rattle.stored_counts.specs.inner.Rows.{BringsAll, BringsNone, HandsOn, TakesAll, TakesNone}
-use Rattle.typed_memory.specs.inner.Worlds.{DatumIs, World}
-use Rattle.typed_holders.proofs.Data.{DataAre, read_value}
+use Rattle.typed_memory.specs.inner.Worlds.{World}
+use Rattle.typed_holders.proofs.Data.{DataAre}
 use Rattle.typed_holders.proofs.Effects.{Changed, EffectFits}
 use Rattle.typed_holders.proofs.Entries.{fit_data, operands_fit}
 use Rattle.typed_holders.proofs.GoesOn.{typed_module}
@@ -75,11 +60,11 @@ use Rattle.typed_holders.proofs.ShapesTold.{result_told}
 use Rattle.owned_counts.specs.inner.OwnedRows.{IsDone}
 use Rattle.owned_counts.proofs.BroughtOwned.{brings_all, brings_none}
 use Rattle.owned_counts.proofs.GivenOwned.{given_as}
-use Rattle.owned_counts.proofs.RowTables.{address_is, all_roles, consumed_role, each_role, forwarded_is, forwarded_role, is_consumed_role, is_forwarded, is_forwarded_role, is_lent, is_lent_role, lent_is, lent_role, owned_is, row_suits, scope_is, stays, staying_role, suits}
+use Rattle.owned_counts.proofs.RowTables.{all_roles, consumed_role, each_role, forwarded_is, forwarded_role, is_consumed_role, is_forwarded, is_forwarded_role, is_lent, is_lent_role, lent_is, lent_role, row_suits, stays, staying_role, suits}
 use Rattle.owned_counts.proofs.ValueForms.{asks_values, forms_in, forms_out, gives_values, values_of_forms}
 use Rattle.owned_counts.proofs.TakenOwned.{GivesUp, IsTakenAs, IsValue, MayEndBy, kind_in, takes_all, takes_none}
 
-each_weaker : {A : Type 0} (P Q : A → Type 0) → ((x : A) → P x → Q x) → (xs : List A) → Each P xs → Each Q xs
+pub each_weaker : {A : Type 0} (P Q : A → Type 0) → ((x : A) → P x → Q x) → (xs : List A) → Each P xs → Each Q xs
 each_weaker P Q h [] e = tt
 each_weaker P Q h (x ∷ xs) e = (h x e.0, each_weaker P Q h xs e.1)
 
@@ -118,7 +103,7 @@ module _ (m : Module) (g : FuncId) (f : Function) (w : World) (memory : Memory) 
   pub inst : OwnedInst m f p i
   inst = ((typed_module m done.accepted.verified).functions g.0 f done.accepted.body.there).insts p i done.here
 
-  taken_is : ts ≡ taken_by i
+  pub taken_is : ts ≡ taken_by i
   taken_is = ap (λ o. taken_in o ++ []) done.here ∙ append-nil (taken_by i)
 
   pub given : AllZip (IsTakenAs facts entries) ts xs
@@ -173,7 +158,7 @@ module _ (m : Module) (g : FuncId) (f : Function) (w : World) (memory : Memory) 
 
   -- ---- data
 
-  operands_typed : DataAre m w (forms_of d f (map value_in i.operands)) xs
+  pub operands_typed : DataAre m w (forms_of d f (map value_in i.operands)) xs
   operands_typed =
       let fits = operands_fit m w f facts memory ts entries ops done.entries_are (((typed_module m done.accepted.verified).functions g.0 f done.accepted.body.there).items (item.Inst p)).taken done.found in
       subst (λ us. DataAre m w (forms_of d f us) xs) inst.takes (fit_data m w f fits.0)
@@ -186,12 +171,15 @@ module _ (m : Module) (g : FuncId) (f : Function) (w : World) (memory : Memory) 
       (row_fits (record { w = w; of = done.of; memory = memory; typed = done.typed; values = shapes_in (shapes_of m) g; i = i })
       (typed_module m done.accepted.verified).classes inst.row operands_typed (result_told m g f done.accepted.body.there memory i))
 
-  results_typed : EffectFits m w i.op xs (forms_of d f i.results) (effects.Makes c) → Changed m w (forms_of d f i.results) c
-  results_typed (EffectFits.makes _ changed keeps) = changed
+  changed_by : EffectFits m w i.op xs (forms_of d f i.results) (effects.Makes c) → Changed m w (forms_of d f i.results) c
+  changed_by (EffectFits.makes _ changed keeps) = changed
+
+  pub results_typed : Changed m w (forms_of d f i.results) c
+  results_typed = changed_by change_fits
 
   pub values_brought : gives_values (effect_of i.op) ≡ true → Each IsValue c.results
   values_brought gives =
-      let changed = results_typed change_fits in
+      let changed = results_typed in
       values_of_forms m changed.later _ c.results changed.results (forms_out m i _ _ inst.row gives)
 
   -- ---- rows that hand on

@@ -39,11 +39,11 @@ use Rattle.typed_memory.specs.inner.Worlds.{IsWorldOf, MemoryIs, World}
 use Rattle.typed_holders.specs.inner.TypedStates.{EntriesAre}
 
 -- what a load does at its place, by its word: it takes or copies what its result then owns, reads what is trivial, or lends
-pub data LoadsBy (i : Inst) (o : Operation) (s : Shape) : Type 0 where
-  taking : takes o ≡ true → copies_with i.qualifier ≡ false → result_kind_of i.op ≡ OwnedResult → holds_no_storage s ≡ true → LoadsBy i o s
-  copying : takes o ≡ false → copies_with i.qualifier ≡ true → result_kind_of i.op ≡ OwnedResult → LoadsBy i o s
-  reading : takes o ≡ false → copies_with i.qualifier ≡ false → is_trivial s ≡ true → LoadsBy i o s
-  lending : takes o ≡ false → copies_with i.qualifier ≡ false → result_kind_of i.op ≡ ScopeResult → LoadsBy i o s
+pub data LoadsBy (d : Declarations) (f : Function) (i : Inst) (o : Operation) (s : Shape) : Type 0 where
+  taking : takes o ≡ true → copies_with i.qualifier ≡ false → result_kind_of i.op ≡ OwnedResult → holds_no_storage s ≡ true → LoadsBy d f i o s
+  copying : takes o ≡ false → copies_with i.qualifier ≡ true → result_kind_of i.op ≡ OwnedResult → LoadsBy d f i o s
+  reading : (r : Shape) → takes o ≡ false → copies_with i.qualifier ≡ false → forms_of d f i.results ≡ OfValue r ∷ [] → is_trivial r ≡ true → LoadsBy d f i o s
+  lending : takes o ≡ false → copies_with i.qualifier ≡ false → result_kind_of i.op ≡ ScopeResult → LoadsBy d f i o s
 
 -- a store consumes what it writes strongly, and uses what weak or unowned storage is to name
 pub data StoresBy (d : Declarations) (f : Function) (i : Inst) : Type 0 where
@@ -61,7 +61,7 @@ pub record IsStorageOf (s : Shape) : Type 0 where
 
 -- the instruction has the words, and its operands the types, that its row asks for
 pub record HasItsWords (d : Declarations) (f : Function) (i : Inst) (xs : List Datum) : Type 0 where
-  pub loads : effect_of i.op ≡ row.LoadsValue → (o : Operation) (p : Place) → operation_done i ≡ Some o → xs ≡ AddressOf p ∷ [] → LoadsBy i o p.shape
+  pub loads : effect_of i.op ≡ row.LoadsValue → (o : Operation) (p : Place) → operation_done i ≡ Some o → xs ≡ AddressOf p ∷ [] → LoadsBy d f i o p.shape
   pub names : effect_of i.op ≡ row.LoadsName → (p : Place) → xs ≡ AddressOf p ∷ [] → IsStorageOf p.shape
   pub stores : effect_of i.op ≡ row.StoresValue → StoresBy d f i
   pub destroys : effect_of i.op ≡ row.DestroysPlace → (o : Operation) → operation_done i ≡ Some o → takes o ≡ true
