@@ -7,3 +7,4 @@ pub mod TypedPlaces
 pub mod ValueForms
 pub mod OwnedInsts
 pub mod RowsOwned
+pub mod Words

@@ -1,8 +1,9 @@
 //! What items of accepted functions take and bring. The lemmas behind them are in `proofs/`.
 
-ghost use Rattle.owned_counts.specs.inner.OwnedRows.{AreRowsOwned};
+ghost use Rattle.owned_counts.specs.inner.OwnedRows.{AreRowsOwned, HaveTheirWords};
 
-/// In accepted functions each instruction has what its row needs.
+/// In typed states of accepted modules each instruction has its words, and by these what its row needs so that its change is counted.
 pub fn rows_are_owned()
-    ensures { AreRowsOwned }
+    ensures words { HaveTheirWords }
+    ensures rows { AreRowsOwned }
 {}
