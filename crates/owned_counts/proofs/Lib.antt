@@ -8,3 +8,4 @@ pub mod ValueForms
 pub mod OwnedInsts
 pub mod RowsOwned
 pub mod Words
+pub mod CountedInsts

@@ -109,7 +109,7 @@ module _ (facts : ValueId → Option Facts) (memory : Memory) (entries : List En
 -- ---- places among operands
 
 module _ (m : Module) (w : World) where
-  one_place : (forms : List Form) (xs : List Datum) (p : Place) → DataAre m w forms xs → xs ≡ AddressOf p ∷ [] → PlaceIs m w p
+  pub one_place : (forms : List Form) (xs : List Datum) (p : Place) → DataAre m w forms xs → xs ≡ AddressOf p ∷ [] → PlaceIs m w p
   one_place _ _ p DataAre.none e = cc
   one_place _ _ p (DataAre.more _ _ _ _ (DatumIs.place q at) rest) e = let same : q ≡ p = cc in subst (PlaceIs m w) same at
   one_place _ _ p (DataAre.more _ _ _ _ (DatumIs.value s v good) rest) e = cc

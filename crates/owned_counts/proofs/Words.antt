@@ -1,8 +1,8 @@
 -- Instructions of accepted functions have the words, and their operands the types, that their rows ask for.
-use Rattle.std.proofs.Common.{◌≡◌, ◌⊎◌, inl, inr, ℕ, List, [], ◌∷◌, map, refl, sym, ap, ◌∙◌, subst, Bool, true, false, cond, ◌&&◌, Option, Some, None}
-use Rattle.std.specs.Prelude.{not, option_and_then, option_to_list, slice_get, take}
+use Rattle.std.proofs.Common.{◌≡◌, ◌⊎◌, inl, inr, List, [], ◌∷◌, refl, sym, ap, ◌∙◌, subst, true, false, ◌&&◌, Some}
+use Rattle.std.specs.Prelude.{not, option_and_then, option_to_list, take}
 use Rattle.std.proofs.lemmas.Bool.{and_parts, false≢true, not-false}
-use Rattle.std.proofs.lemmas.Option.{none-some, same_Some}
+use Rattle.std.proofs.lemmas.Option.{same_Some}
 use Rattle.instruction_table.specs.Forms.{result_kind_of, roles_of, type_words_of}
 use Rattle.instruction_table.specs.declared.entries.Role.TheVariants as role
 use Rattle.instruction_table.specs.declared.op.Op.{Op}
@@ -25,7 +25,6 @@ use Rattle.type_definitions.specs.Declarations.{Declarations, declarations_of}
 use Rattle.run_values.specs.Memory.{Memory}
 use Rattle.run_values.specs.Places.{Place}
 use Rattle.run_values.specs.Shapes.{Shape, Stored, shape_of}
-use Rattle.run_values.specs.Trivial.{is_trivial}
 use Rattle.value_parts.specs.inner.Storages.{holds_no_storage}
 use Rattle.accepted_values.specs.accepted_modules.sil_types.Typing.FormRules.{has_word_by, has_wrong_qualifier, is_owned_form, is_read_word}
 use Rattle.accepted_values.specs.accepted_modules.sil_types.Typing.RowTypes.{written}
@@ -36,7 +35,7 @@ use Rattle.accepted_values.specs.accepted_modules.sil_types.Typing.Values.{value
 use Rattle.accepted_values.specs.accepted_modules.sil_types.Typing.Typed.{BreaksAtPoint, at_point, point}
 use Rattle.accepted_values.specs.owned_run_typing.inner.OwnedRows as owned
 use Rattle.accepted_values.specs.owned_run_typing.inner.OwnedRows.{OwnedRowForms}
-use Rattle.accepted_values.specs.run_typing.EndForms.{operand_forms, value_in}
+use Rattle.accepted_values.specs.run_typing.EndForms.{operand_forms}
 use Rattle.accepted_values.specs.run_typing.Forms.{Form, OfPlace, OfValue, forms_of}
 use Rattle.accepted_values.specs.run_typing.RowForms as lowered
 use Rattle.accepted_values.specs.run_typing.RowForms.{RowForms, operation_done}

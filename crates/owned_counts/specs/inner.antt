@@ -1,1 +1,2 @@
 pub mod OwnedRows
+pub mod CountedInsts
