@@ -9,3 +9,4 @@ pub mod OwnedInsts
 pub mod RowsOwned
 pub mod Words
 pub mod CountedInsts
+pub mod CountedReturns
