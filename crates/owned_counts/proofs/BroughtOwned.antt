@@ -1,5 +1,5 @@
 -- What results hold, by their kinds.
-use Rattle.std.proofs.Common.{◌≡◌, ◌⊎◌, inl, inr, ℕ, ◌+◌, List, [], ◌∷◌, ◌++◌, refl, sym, ap, ◌∙◌, subst, Bool, true, false, cond, Option, Some, None, Ok, arith}
+use Rattle.std.proofs.Common.{◌≡◌, inl, inr, ℕ, ◌+◌, List, [], ◌∷◌, refl, sym, ap, Option, Ok, arith}
 use Rattle.numbered_form.specs.Lists.{Each}
 use Rattle.item_operands.specs.declared.taken.Taken.{Taken}
 use Rattle.ownership_chains.specs.declared.facts.Facts.{Facts}
@@ -7,7 +7,7 @@ use Rattle.sil_ast.specs.declared.place.ObjectId.{ObjectId}
 use Rattle.sil_ast.specs.declared.place.ValueId.{ValueId}
 use Rattle.type_definitions.specs.declared.kind.Kind.{Kind}
 use Rattle.type_definitions.specs.declared.kind.Kind.TheVariants as kind
-use Rattle.holder_counts.specs.holder_model.Data.{AddressOf, Datum, FunctionOf, ValueOf}
+use Rattle.holder_counts.specs.holder_model.Data.{AddressOf, Datum, FunctionOf, ValueOf, references_in}
 use Rattle.holder_counts.specs.holder_model.Frames.{Entry, made_entry, put_entry, result_put, results_put}
 use Rattle.holder_counts.specs.holder_model.Holders.{of_references}
 use Rattle.holder_counts.specs.inner.Naming.{in_data, in_datum}
@@ -43,6 +43,21 @@ module _ (facts : ValueId → Option Facts) (entries : List Entry) where
       one kind.Owned never = absurd (never refl)
       one kind.Guaranteed never = refl
       one kind.Plain never = refl
+
+  -- what is brought names nothing
+  pub brings_bare : (ts : List Taken) (vs : List ValueId) (xs rs : List Datum) → Each (λ x. references_in x ≡ []) rs → BringsNone facts entries ts vs xs rs
+  brings_bare ts [] xs rs bare weight = refl
+  brings_bare ts (v ∷ vs) xs [] bare weight = refl
+  brings_bare ts (v ∷ vs) xs (x ∷ rs) bare weight =
+      let both = begun_cons weight v vs x rs in
+      let first = one (kind_in facts entries v) in
+      let rest = brings_bare ts vs xs rs bare.1 weight in
+      omega (arith, both, first, rest)
+    where
+      one : (k : Kind) → of_references weight (owned_references k x) ≡ 0
+      one kind.Owned = ap (of_references weight) bare.0
+      one kind.Guaranteed = refl
+      one kind.Plain = refl
 
   -- each is Owned, or a value without an owner, which names nothing
   pub brings_all : (ts : List Taken) (vs : List ValueId) (xs rs : List Datum) (left behind : List Entry) → results_put facts vs rs left ≡ Ok behind

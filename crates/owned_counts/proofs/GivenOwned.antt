@@ -1,5 +1,5 @@
 -- The operands of an item in typed entries: each is the datum of its entry, which was made as its kind asks.
-use Rattle.std.proofs.Common.{◌≡◌, ◌⊎◌, inl, inr, List, [], ◌∷◌, map, refl, sym, ap, ◌∙◌, subst, Bool, false, Option, Some, None, Ok, Err}
+use Rattle.std.proofs.Common.{◌≡◌, ◌⊎◌, inl, inr, List, [], ◌∷◌, map, refl, sym, ap, ◌∙◌, subst, false, Option, Some, Ok, Err}
 use Rattle.std.specs.declared.result.Result.{Result}
 use Rattle.std.specs.List.{AllZip}
 use Rattle.std.proofs.lemmas.Option.{none-some}
@@ -17,10 +17,10 @@ use Rattle.accepted_values.specs.inner.Known.{kind_at}
 use Rattle.accepted_values.specs.run_typing.CallForms.{IsOf}
 use Rattle.accepted_values.specs.run_typing.Forms.{Form, form_of}
 use Rattle.accepted_values.specs.run_typing.lowered_run.LowStepParts.{taken_value}
-use Rattle.holder_counts.specs.holder_model.Data.{Datum, references_in}
+use Rattle.holder_counts.specs.holder_model.Data.{Datum}
 use Rattle.holder_counts.specs.holder_model.Faults.{HolderFault}
-use Rattle.holder_counts.specs.holder_model.Frames.{Entry, Gone, Operands, and_more, any_dead, datum_in, ends, entry_at, made_entry, operand, operand_data, operands_of, unless_dead, with_ok}
-use Rattle.holder_counts.proofs.Entries.{IsLeftOf, chosen_ok, left_of, ok_through, was_there}
+use Rattle.holder_counts.specs.holder_model.Frames.{Entry, Operands, and_more, datum_in, ends, entry_at, made_entry, operand, operand_data, operands_of}
+use Rattle.holder_counts.proofs.Entries.{IsLeftOf, left_of, ok_through, was_there}
 use Rattle.typed_holders.specs.typed_memory.inner.Worlds.{World}
 use Rattle.typed_holders.specs.inner.TypedStates.{EntriesAre, EntryIs}
 use Rattle.typed_holders.proofs.Entries.{entry_fits}

@@ -4,4 +4,9 @@ pub mod RowTables
 pub mod GivenOwned
 pub mod TypedCells
 pub mod TypedPlaces
+pub mod ValueForms
 pub mod OwnedInsts
+pub mod RowsOwned
+pub mod Words
+pub mod CountedInsts
+pub mod CountedReturns

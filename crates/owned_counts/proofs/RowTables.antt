@@ -1,5 +1,5 @@
 -- What the table of instructions says of each row: whether its operands end, and of what kind its results are.
-use Rattle.std.proofs.Common.{◌≡◌, ℕ, zero, suc, List, [], ◌∷◌, length, refl, sym, ap, ◌∙◌, Bool, true, false, ◌&&◌, ◌||◌}
+use Rattle.std.proofs.Common.{◌≡◌, List, [], ◌∷◌, length, refl, sym, ap, ◌∙◌, Bool, true, false, ◌&&◌, ◌||◌}
 use Rattle.std.specs.Prelude.{replicate}
 use Rattle.std.proofs.lemmas.Bool.{and_parts, false≢true}
 use Rattle.argument_conventions.specs.declared.convention.ArgumentConvention.{ArgumentConvention}

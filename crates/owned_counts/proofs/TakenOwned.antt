@@ -1,8 +1,7 @@
 -- What operands hold that end, by their kinds and by what is done to them.
-use Rattle.std.proofs.Common.{◌≡◌, ◌⊎◌, inl, inr, ℕ, ◌+◌, List, [], ◌∷◌, ◌++◌, refl, sym, ap, ◌∙◌, subst, Bool, true, false, cond, Option, Some, None, Ok, arith}
+use Rattle.std.proofs.Common.{◌≡◌, ◌⊎◌, inl, inr, ℕ, ◌+◌, List, [], ◌∷◌, refl, sym, ap, ◌∙◌, Bool, true, false, cond, Option, Some, None, Ok, arith}
 use Rattle.std.specs.Prelude.{unwrap_or}
 use Rattle.std.specs.List.{AllZip}
-use Rattle.std.proofs.lemmas.Bool.{false≢true}
 use Rattle.std.proofs.lemmas.Option.{same_Some}
 use Rattle.instruction_table.specs.declared.entries.Role.{Role}
 use Rattle.numbered_form.specs.Lists.{Each}
@@ -15,7 +14,7 @@ use Rattle.sil_ast.specs.declared.place.ValueId.{ValueId}
 use Rattle.type_definitions.specs.declared.kind.Kind.{Kind}
 use Rattle.type_definitions.specs.declared.kind.Kind.TheVariants as kind
 use Rattle.run_values.specs.Values.{Value}
-use Rattle.holder_counts.specs.holder_model.Data.{AddressOf, Datum, FunctionOf, ValueOf, as_value}
+use Rattle.holder_counts.specs.holder_model.Data.{AddressOf, Datum, FunctionOf, ValueOf}
 use Rattle.holder_counts.specs.holder_model.Frames.{Entry, Held, datum_in, ends, entry_at, has_any, held_references, made_entry}
 use Rattle.holder_counts.specs.holder_model.HolderStates.{in_entry}
 use Rattle.holder_counts.specs.holder_model.Holders.{of_references}

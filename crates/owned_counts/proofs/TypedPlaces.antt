@@ -1,18 +1,17 @@
 -- Places of typed memory: their cells are there, and what they name has numbers.
-use Rattle.std.proofs.Common.{◌≡◌, ℕ, ◌+◌, ◌<◌, ◌≤◌, List, [], ◌∷◌, ◌++◌, length, refl, sym, ap, ◌∙◌, subst, true, false, arith}
-use Rattle.std.specs.List.{AllZip, flat_map}
+use Rattle.std.proofs.Common.{◌≡◌, ℕ, ◌+◌, ◌<◌, ◌≤◌, List, [], ◌∷◌, ◌++◌, length, sym, ap, ◌∙◌, subst, arith}
+use Rattle.std.specs.List.{flat_map}
 use Rattle.std.proofs.lemmas.List.{length-append}
 use Rattle.std.proofs.lemmas.Option.{slice_get_within}
 use Rattle.std.proofs.lemmas.Slice.Zip.{AllZip-long}
 use Rattle.numbered_form.specs.Lists.{Each}
-use Rattle.numbered_form.specs.Names.{Name}
 use Rattle.sil_ast.specs.declared.decl.Storage.TheVariants as storage
 use Rattle.sil_ast.specs.declared.module.Module.{Module}
 use Rattle.sil_ast.specs.declared.place.ObjectId.{ObjectId}
 use Rattle.run_values.specs.Cells.{Cell, cell_count}
 use Rattle.run_values.specs.Cells as cells
 use Rattle.run_values.specs.Memory.{Memory, object_at}
-use Rattle.run_values.specs.Places.{Home, Inside, OnStack, Place, cells_at, home_cells}
+use Rattle.run_values.specs.Places.{Place, cells_at, home_cells}
 use Rattle.run_values.specs.Shapes.{Shape}
 use Rattle.run_values.specs.Values.{Value, references_of}
 use Rattle.holder_counts.specs.holder_model.Outcomes.{Numbers}

@@ -1,1 +1,3 @@
 pub mod OwnedRows
+pub mod CountedInsts
+pub mod CountedReturns

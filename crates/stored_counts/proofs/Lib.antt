@@ -4,3 +4,4 @@ pub mod Items
 pub mod RowNames
 pub mod RowsMade
 pub mod RowBalance
+pub mod FrameTurns

@@ -1,6 +1,14 @@
 //! Stored numbers that are counts before a step are counts behind it, each law on a call that does nothing. The lemmas behind them are in `proofs/`.
 
 ghost use Rattle.holder_counts.specs.inner.Moving.{InEach};
+ghost use Rattle.stored_counts.specs.inner.FrameTurns.{
+  AreCallsStored,
+  AreDeinitCallsStored,
+  AreDeinitReturnsStored,
+  AreHandedStored,
+  AreLeftStored,
+  AreReturnsStored,
+};
 ghost use Rattle.stored_counts.specs.inner.Items.{AreItemsStored};
 ghost use Rattle.stored_counts.specs.inner.Rows.{AreRowsCounted};
 ghost use Rattle.stored_counts.specs.inner.Turns.{
@@ -36,4 +44,14 @@ pub fn items_are_stored()
 /// What an instruction leaves is counted, where operands, results and places are as its row needs them.
 pub fn rows_are_counted()
     ensures { AreRowsCounted }
+{}
+
+/// Where an item hands on what it took, where functions are called and where they return, numbers stay counts if what begins holds what ended.
+pub fn frames_are_stored()
+    ensures handed { InEach AreHandedStored }
+    ensures calls { InEach AreCallsStored }
+    ensures deinit_calls { InEach AreDeinitCallsStored }
+    ensures returns { InEach AreReturnsStored }
+    ensures deinit_returns { InEach AreDeinitReturnsStored }
+    ensures left { InEach AreLeftStored }
 {}

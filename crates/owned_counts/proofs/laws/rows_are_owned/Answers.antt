@@ -1,7 +1,9 @@
-use Rattle.owned_counts.proofs.TypedCells.{empty_place, written_weakly, written_strongly, stored_none, kept_strongly}
-use Rattle.owned_counts.proofs.TypedPlaces.{typed_within, place_stored, written_stored, object_stored}
-use Rattle.owned_counts.proofs.OwnedInsts.{values_brought, values_given, none_taken, owned_brought, scope_brought, address_brought}
+use Rattle.owned_counts.proofs.RowsOwned.{rows_owned}
+use Rattle.owned_counts.proofs.Words.{its_words}
 use Rattle.owned_counts.proofs.laws.rows_are_owned.Goals as goal
 
-pub returns : goal.returns
-returns c = values_brought
+pub returns-clause-words : goal.returns-clause-words
+returns-clause-words c = its_words
+
+pub returns-clause-rows : goal.returns-clause-rows
+returns-clause-rows c = rows_owned

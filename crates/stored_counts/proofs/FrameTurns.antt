@@ -1,0 +1,144 @@
+-- Stored numbers where frames are entered and left, and where an item hands on what it took.
+use Rattle.std.proofs.Common.{◌≡◌, ℕ, ◌+◌, List, [], ◌∷◌, refl, sym, ap, ◌∙◌, Bool, true, false, ◌||◌, arith}
+use Rattle.std.proofs.lemmas.Bool.{false≢true}
+use Rattle.sil_ast.specs.declared.decl.Storage.TheVariants as storage
+use Rattle.sil_ast.specs.declared.function.Function.{Function}
+use Rattle.sil_ast.specs.declared.module.Module.{Module}
+use Rattle.sil_ast.specs.declared.place.ObjectId.{ObjectId}
+use Rattle.sil_cfg.specs.declared.item.Item.{Item}
+use Rattle.item_operands.specs.Items.{item_taken}
+use Rattle.run_values.specs.Values.{references_of}
+use Rattle.lowered_run.specs.holder_model.Calling.{holds_something}
+use Rattle.lowered_run.specs.holder_model.Effects.{unchanged}
+use Rattle.lowered_run.specs.holder_model.Frames.{Entry, Frame, Gone, Held, Lent, Operands, Plain, is_held}
+use Rattle.lowered_run.specs.holder_model.HolderStates.{HolderState, in_entry, in_task, strong_holders}
+use Rattle.lowered_run.specs.holder_model.Holders.{of_references, one_object}
+use Rattle.lowered_run.specs.holder_model.ModuleFacts.{ModuleFacts, facts_told}
+use Rattle.lowered_run.specs.holder_model.Outcomes.{returned_holders}
+use Rattle.lowered_run.specs.holder_model.StepParts.{new_frame}
+use Rattle.lowered_run.specs.holder_model.States.{Finishes, Runs, Task}
+use Rattle.holder_counts.specs.inner.Moving.{in_tasks}
+use Rattle.holder_counts.specs.inner.Taking.{in_entries}
+use Rattle.holder_counts.proofs.Entries.{ends_counted}
+use Rattle.holder_counts.proofs.Moves.{entries_counted, first_task, moves_counted, operands_are}
+use Rattle.holder_counts.proofs.Sums.{total_cons}
+use Rattle.stored_counts.specs.inner.FrameTurns.{AreCallsStored, AreDeinitCallsStored, AreDeinitReturnsStored, AreHandedStored, AreLeftStored, AreReturnsStored, LeavesNothing, Reads, ended_in}
+use Rattle.stored_counts.proofs.Turns.{kept_stored, same_numbers, tasks_stored}
+
+-- entries of which none is held hold nothing
+none_held : (weight : ObjectId → ℕ) (entries : List Entry) → holds_something entries ≡ false → in_entries weight entries ≡ 0
+none_held weight [] e = refl
+none_held weight (x ∷ entries) e =
+    let whole : in_entries weight (x ∷ entries) ≡ in_entry weight x + in_entries weight entries = total_cons (in_entry weight) x entries in
+    let first = one x (left_off (is_held x) (holds_something entries) e) in
+    let rest = none_held weight entries (right_off (is_held x) (holds_something entries) e) in
+    omega (arith, whole, first, rest)
+  where
+    left_off : (a b : Bool) → (a || b) ≡ false → a ≡ false
+    left_off true b e = e
+    left_off false b e = refl
+
+    right_off : (a b : Bool) → (a || b) ≡ false → b ≡ false
+    right_off true b e = absurd (false≢true (sym e))
+    right_off false b e = e
+
+    one : (x : Entry) → is_held x ≡ false → in_entry weight x ≡ 0
+    one Gone e = refl
+    one (Held x) e = absurd (false≢true (sym e))
+    one (Lent x) e = refl
+    one (Plain x) e = refl
+
+module _ (m : Module) (told : ModuleFacts) (bound : ℕ) where
+  -- what the operands that end take away from a frame
+  left_counted : (s : HolderState) (rest : List (Task Frame)) (frame : Frame) (f : Function) (i : Item) (ops : Operands) → Reads m told bound s rest frame f i ops → (o : ObjectId)
+      → in_entries (one_object o) ops.left + ended_in m told bound frame f i o ≡ in_entries (one_object o) frame.entries
+  left_counted s rest frame f i ops h o =
+      ends_counted (one_object o) (facts_told told frame.function) (item_taken f i) frame.entries ops.left
+      (operands_are (facts_told told frame.function) s.memory frame.entries (item_taken f i) ops h.taken).left
+
+  -- what the first task and the others hold
+  tasks_are : (s : HolderState) (t : Task Frame) (rest : List (Task Frame)) → s.tasks ≡ t ∷ rest → (o : ObjectId)
+      → in_tasks (one_object o) s.tasks ≡ in_task (one_object o) t + in_tasks (one_object o) rest
+  tasks_are s t rest at o = ap (in_tasks (one_object o)) at ∙ first_task (one_object o) t rest
+
+  pub handed_stored : AreHandedStored m told bound
+  handed_stored s rest frame f i ops xs slots entries stored h counts =
+      kept_stored s _ stored (record {
+        size = refl;
+        strongly = λ o.
+            let move = moves_counted m told bound (one_object o) s rest (record frame { entries = ops.left }) f i (record (unchanged s.memory) { results = xs }) slots entries h.put h.each in
+            let left = left_counted s rest frame f i ops h.reads o in
+            let same = h.same o in
+            let before = tasks_are s (Runs frame) rest h.reads.at o in
+            omega (arith, move, left, same, before);
+        named = λ how o. refl;
+      }) counts
+
+  pub calls_stored : AreCallsStored m told bound
+  calls_stored s rest frame f i ops lent g callee args entries stored h counts =
+      kept_stored s _ stored (record {
+        size = h.hands.size;
+        strongly = λ o.
+            let waits : Task Frame = Runs (record frame { entries = ops.left; lent = lent }) in
+            let enters = entries_counted m told bound (one_object o) s (waits ∷ rest) g callee args entries h.put h.each in
+            let first = first_task (one_object o) (Runs (new_frame g entries)) (waits ∷ rest) in
+            let second = first_task (one_object o) waits rest in
+            let left = left_counted s rest frame f i ops h.reads o in
+            let same = h.same o in
+            let memory = h.hands.named storage.Strong o in
+            let before = tasks_are s (Runs frame) rest h.reads.at o in
+            omega (arith, enters, first, second, left, same, memory, before);
+        named = h.hands.named;
+      }) counts
+
+  pub deinit_calls_stored : AreDeinitCallsStored m told bound
+  deinit_calls_stored s h' g gs o rest callee args entries stored at h counts =
+      kept_stored s _ stored (record {
+        size = refl;
+        strongly = λ q.
+            let enters = entries_counted m told bound (one_object q) s (Finishes gs o ∷ rest) g callee args entries h.put h.each in
+            let first = first_task (one_object q) (Finishes gs o) rest in
+            let none = h.none q in
+            let before = tasks_are s (Finishes (h' ∷ gs) o) rest at q in
+            omega (arith, enters, first, none, before);
+        named = λ how q. refl;
+      }) counts
+
+  -- what the frame held that returns
+  returned_total : (s : HolderState) (rest : List (Task Frame)) (frame : Frame) (f : Function) (i : Item) (ops : Operands) → LeavesNothing m told bound s rest frame f i ops → (o : ObjectId)
+      → in_tasks (one_object o) s.tasks ≡ ended_in m told bound frame f i o + in_tasks (one_object o) rest
+  returned_total s rest frame f i ops h o =
+      let left = left_counted s rest frame f i ops h.reads o in
+      let none = none_held (one_object o) ops.left h.none in
+      let before = tasks_are s (Runs frame) rest h.reads.at o in
+      omega (arith, left, none, before)
+
+  pub returns_stored : AreReturnsStored m told bound
+  returns_stored s rest callee body i ops x frame f call slots entries stored h counts =
+      kept_stored s _ stored (record {
+        size = refl;
+        strongly = λ o.
+            let move = moves_counted m told bound (one_object o) s rest frame f call (record (unchanged s.memory) { results = x ∷ [] }) slots entries h.put h.each in
+            let total = returned_total s (Runs frame ∷ rest) callee body i ops h.leaves o in
+            let below = first_task (one_object o) (Runs frame) rest in
+            let same = h.same o in
+            omega (arith, move, total, below, same);
+        named = λ how o. refl;
+      }) counts
+
+  pub deinit_returns_stored : AreDeinitReturnsStored m told bound
+  deinit_returns_stored s rest callee body i ops stored h none counts =
+      tasks_stored s rest stored (λ o.
+      let total = returned_total s rest callee body i ops h o in
+      let nothing = none o in
+      omega (arith, total, nothing)) counts
+
+  pub left_stored : AreLeftStored m told bound
+  left_stored s callee body i ops x stored h same counts o =
+      counts.each o ∙ same_numbers _ (returned_holders (record s { tasks = [] }) (references_of x) o) strong refl refl
+    where
+      strong : strong_holders s o ≡ strong_holders (record s { tasks = [] }) o + of_references (one_object o) (references_of x)
+      strong =
+          let total : in_tasks (one_object o) s.tasks ≡ ended_in m told bound callee body i o + 0 = returned_total s [] callee body i ops h o in
+          let given = same o in
+          omega (arith, total, given)
