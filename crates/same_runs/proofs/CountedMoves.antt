@@ -57,20 +57,3 @@ module _ (m : Module) (bound : ℕ) (s : HolderState) (rest : List (Task Frame))
           let balance = same (one_object o) in
           let h = items_counted m (facts_of m) bound (one_object o) s rest frame f i ops c [] slots entries at found put each (record { balance = omega (arith, balance) }) in
           omega (arith, h)
-
-  -- a frame that waited takes what its callee held
-  pub resumed_counted : (callee : Frame) → s.tasks ≡ Runs callee ∷ Runs frame ∷ rest
-      → results_put (facts_told (facts_of m) frame.function) (item_defined f i) rs frame.entries ≡ Ok entries → Each (IsBelow (length frame.entries)) (item_defined f i)
-      → ((weight : ObjectId → ℕ) → of_references weight (references_begun (facts_told (facts_of m) frame.function) (item_defined f i) rs) ≡ in_entries weight callee.entries)
-      → AreCounts s stored → AreCounts (moved m (facts_of m) bound s rest frame i c slots entries) stored
-  resumed_counted callee at put each same counts =
-      kept_stored s (moved m (facts_of m) bound s rest frame i c slots entries) stored (record { size = refl; strongly = strongly; named = λ how o. refl }) counts
-    where
-      strongly : (o : ObjectId) → in_state (one_object o) (moved m (facts_of m) bound s rest frame i c slots entries) ≡ in_state (one_object o) s
-      strongly o =
-          let h = moves_counted m (facts_of m) bound (one_object o) s rest frame f i c slots entries put each in
-          let begun = same (one_object o) in
-          let tasks : in_tasks (one_object o) s.tasks ≡ in_tasks (one_object o) (Runs callee ∷ Runs frame ∷ rest) = ap (in_tasks (one_object o)) at in
-          let first = first_task (one_object o) (Runs callee) (Runs frame ∷ rest) in
-          let second = first_task (one_object o) (Runs frame) rest in
-          omega (arith, h, begun, tasks, first, second)

@@ -61,7 +61,9 @@ use Rattle.stored_counts.specs.inner.Numbers.{AreCounts}
 use Rattle.stored_counts.proofs.Turns.{kept_stored, tasks_stored}
 use Rattle.owned_counts.proofs.BroughtOwned.{HoldsNothing, MayHold, brings_all, brings_none}
 use Rattle.owned_counts.proofs.TakenOwned.{IsValue}
-use Rattle.typed_holders.specs.inner.TypedStates.{WaitsTyped}
+use Rattle.owned_counts.specs.inner.CountedReturns.{ReturnsFrom}
+use Rattle.owned_counts.proofs.CountedReturns.{returns_counted}
+use Rattle.typed_holders.specs.inner.TypedStates.{IsTypedState}
 use Rattle.typed_holders.proofs.Data.{IsBare, bare_where, read_value}
 use Rattle.typed_holders.proofs.GoesOn.{Running, accepted_body}
 use Rattle.typed_holders.proofs.Stacks.{BelowTyped}
@@ -69,7 +71,6 @@ use Rattle.typed_holders.specs.typed_memory.inner.Worlds.{DatumIs}
 use Rattle.typed_holders.proofs.Performs.{defines_results}
 use Rattle.typed_holders.proofs.Returns.{returned}
 use Rattle.same_runs.proofs.CountedEnds.{CountedNext, branch_counted, chosen_counted, turned_counted}
-use Rattle.same_runs.proofs.CountedMoves.{resumed_counted}
 use Rattle.same_runs.proofs.CountedReturns.{returned_total}
 use Rattle.same_runs.proofs.DeinitBodies.{HasDeinit, deinit_body}
 use Rattle.same_runs.proofs.DeinitsCalled.{AreCalledBelow, IsDeinitCalled}
@@ -143,13 +144,13 @@ module _ (m : Module) (v : IsVerified m) where
 
     -- ---- terminators
 
-    module _ (s : HolderState) (rest : List (Task Frame)) (frame : Frame) (f : Function) (r : Running m s rest frame f) (at_top : s.tasks ≡ Runs frame ∷ rest)
+    module _ (s : HolderState) (rest : List (Task Frame)) (frame : Frame) (f : Function) (r : Running m s rest frame f) (typed : IsTypedState m s) (at_top : s.tasks ≡ Runs frame ∷ rest)
         (called : AreCalledBelow m frame rest) (counts : AreCounts s stored) where
       module _ (i : Inst) (stands : StandsAtEnd m (facts_of m) bound frame f i) (returns : ending_of i.op ≡ ending.Return)
           (ops : Operands) (found : operands_in m (facts_of m) bound s frame f (item.Exit (stands_at f frame.trail)) ≡ Ok ops)
           (x : Datum) (alone : only ops.given ≡ Some x) (held : holds_something ops.left ≡ false) where
-        total : (weight : ObjectId → ℕ) → in_entries weight frame.entries ≡ in_datum weight x
-        total = returned_total m v bound s rest frame f r i stands returns ops found x alone held
+        from : ReturnsFrom m bound s rest frame f i ops x
+        from = record { verified = v; typed = typed; at = at_top; there = r.typed.is; stands = stands; is = returns; taken = found; alone = alone; none = held }
 
         typed_as : DatumIs m r.w (OfValue (given_shape (declarations_of m) f)) x
         typed_as =
@@ -172,56 +173,14 @@ module _ (m : Module) (v : IsVerified m) where
         resumed waiting others e g there_g _ (GoesBehind.wrong_slot y w) = tt
         resumed waiting others e g there_g _ (GoesBehind.wrong_result slots y w put) = tt
         resumed waiting others e g there_g _ (GoesBehind.goes slots entries left put) =
-            resumed_counted m bound s others waiting g (item.Inst q) ops (x ∷ []) slots entries stored frame (at_top ∙ ap (λ t. Runs frame ∷ t) e) put below same counts
-          where
-            q : PointId
-            q = stands_at g waiting.trail
-
-            waits : WaitsTyped m r.w frame waiting others
-            waits = (subst (BelowTyped m r.w frame) e r.below).0
-
-            same_g : waits.f ≡ g
-            same_g = same_Some waits.f g (sym waits.of.is ∙ there_g)
-
-            accepted : IsAcceptedBody m waiting.function.0 g
-            accepted = accepted_body m v waiting.function g there_g (subst (λ (h : Function). has_any h.blocks ≡ true) same_g waits.of.bodied)
-
-            below : Each (IsBelow (length waiting.entries)) (item_defined g (item.Inst q))
-            below = subst (λ k. Each (IsBelow k) (item_defined g (item.Inst q))) (sym (waits.of.entries.size ∙ ap value_count same_g)) (items_of m waiting.function.0 g accepted (item.Inst q)).defined
-
-            here : inst_at g q ≡ Some waits.call
-            here = subst (λ (h : Function). inst_at h (stands_at h waiting.trail) ≡ Some waits.call) same_g waits.stands
-
-            defines : item_defined g (item.Inst q) ≡ waits.result ∷ []
-            defines = defines_results g q waits.call here ∙ waits.results
-
-            facts : ValueId → Option Facts
-            facts = facts_told (facts_of m) waiting.function
-
-            kind_so : (known_or facts waits.result).kind ≡ kind_at (declarations_of m) waits.f waits.result
-            kind_so = ap (λ k. (known_or k waits.result).kind) (run_facts m waiting.function waits.f waits.of.is)
-
-            may : Each (MayHold facts []) (item_defined g (item.Inst q))
-            may = subst (Each (MayHold facts [])) (sym defines) (by waits.taken, tt)
-              where
-                by : (kind_at (declarations_of m) waits.f waits.result ≡ kind.Owned)
-                    ⊎ ((kind_at (declarations_of m) waits.f waits.result ≡ kind.Plain) × (is_trivial (given_shape (declarations_of m) waits.body) ≡ true)) → MayHold facts [] waits.result
-                by (inl owned) = inl (kind_so ∙ owned)
-                by (inr plain) = inr (kind_so ∙ plain.0)
-
-            same : (weight : ObjectId → ℕ) → of_references weight (references_begun facts (item_defined g (item.Inst q)) (x ∷ [])) ≡ in_entries weight frame.entries
-            same weight =
-                let begun = brings_all facts [] [] (item_defined g (item.Inst q)) [] (x ∷ []) waiting.entries entries put may (value_of_it, tt) weight in
-                let one : in_data weight (x ∷ []) ≡ in_datum weight x + in_data weight [] = total_cons (in_datum weight) x [] in
-                let whole = total weight in
-                omega (arith, begun, one, whole)
+            returns_counted m bound s others frame waiting f g i ops x slots entries stored (subst (λ ts. ReturnsFrom m bound s ts frame f i ops x) e from) there_g put counts
 
         reaches : (tasks : List (Task Frame)) → rest ≡ tasks → (n : HolderNext) → Reaches m (facts_of m) bound s x tasks n → CountedNext stored n
         reaches _ e _ (Reaches.ends u is) = tt
         reaches _ e n (Reaches.resumes waiting others g _ there_g moves) = resumed waiting others e g there_g n moves
         reaches _ e _ (Reaches.finishes deinits o others) =
             tasks_stored s (Finishes deinits o ∷ others) stored (λ p.
-            let whole = total (one_object p) in
+            let whole = returned_total m bound s rest frame f i ops x from p in
             let run : IsDeinitCalled m frame o = (subst (AreCalledBelow m frame) e called).0 in
             let none = bare_total (one_object p)
             (bare_where m r.w typed_as (λ shape of. subst (λ t. is_trivial t ≡ true) (of_shape of) (gives_nothing frame.function f r.typed.is run.0 run.1))) in

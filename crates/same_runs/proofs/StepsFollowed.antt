@@ -45,9 +45,11 @@ use Rattle.stored_runs.proofs.TypedSteps.{typed_calls_step, typed_deinits_step, 
 use Rattle.same_runs.specs.inner.Followed.{EndsToo, Follows, GoesToo, StepsToo, low_next_of}
 use Rattle.same_runs.specs.inner.Laws.{AreStepsFollowed}
 use Rattle.same_runs.specs.inner.Owed.{AtInst, IsComeTo, IsOwed, LeavesSo, effect_there}
+use Rattle.owned_counts.proofs.CountedInsts.{insts_counted}
+use Rattle.owned_counts.proofs.CountedReturns.{left_counted}
+use Rattle.owned_counts.proofs.TypedPlaces.{object_stored}
 use Rattle.same_runs.proofs.Come.{comes_called}
 use Rattle.same_runs.proofs.CountedEnds.{CountedNext}
-use Rattle.same_runs.proofs.CountedReturns.{last_counted}
 use Rattle.same_runs.proofs.CountedTurns.{deinit_counted, end_counted}
 use Rattle.same_runs.proofs.DeinitsCalled.{AreCalled, AreCalledBelow}
 use Rattle.same_runs.proofs.Finishing.{dropped_followed, dropping_followed, finishing_followed}
@@ -113,7 +115,16 @@ module _ (owed : IsOwed) (m : Module) (bound : ℕ) (s : HolderState) (verified 
           behind _ same (GoesBehind.goes slots entries slots_left put) =
               let leaves : LeavesSo m bound s x c slots entries = record { makes = is; slots_left = slots_left; put = put } in
               row_followed m bound s l x h.related c slots entries (owed.rows m bound s verified comes l x h other c slots entries leaves)
-              (owed.rows_counted m bound s verified comes l.numbers x other c slots entries leaves h.related.counts)
+              (insts_counted m bound s x.rest x.frame x.f x.i x.ops c slots entries l.numbers (record {
+                verified = verified;
+                typed = h.typed;
+                at = x.is;
+                there = x.there;
+                here = x.here;
+                taken = x.found;
+                makes = is;
+                put = put;
+              }) h.related.counts)
           behind _ same (GoesBehind.wrong_slot y e) = absurd (none y s (sym same))
           behind _ same (GoesBehind.wrong_result slots y e put) = absurd (none y s (sym same))
       performs_followed other _ is n same (Performs.calls g args callee _ there bodied before entering) =
@@ -157,11 +168,20 @@ module _ (owed : IsOwed) (m : Module) (bound : ℕ) (s : HolderState) (verified 
 
       end_followed : inst_at f (stands_at f frame.trail) ≡ None → Acts m told bound s rest frame f next → Follows m bound s l next
       end_followed at_end way =
-          steps_along next (counted_by (end_counted m verified bound l.numbers s rest frame f running is called h.related.counts at_end next way))
+          steps_along next (counted_by (end_counted m verified bound l.numbers s rest frame f running h.typed is called h.related.counts at_end next way))
           (typed_ends_step m bound s l frame rest f next h is there at_end
           (λ last t ops y u ends returns found alone worth held.
-          last_counted m verified bound s rest frame f running t (record { behind = at_end; terminator = ends }) returns ops found y alone held l
-          (is ∙ ap (λ r. Runs frame ∷ r) last) h.related.counts u worth) way none)
+          left_counted m bound s frame f t ops y u l.numbers (record {
+            verified = verified;
+            typed = h.typed;
+            at = is ∙ ap (λ r. Runs frame ∷ r) last;
+            there = there;
+            stands = record { behind = at_end; terminator = ends };
+            is = returns;
+            taken = found;
+            alone = alone;
+            none = held;
+          }) worth h.related.counts) way none)
 
       does_followed : (i : Inst) → inst_at f (stands_at f frame.trail) ≡ Some i → (n : HolderNext) → n ≡ next → Acts m told bound s rest frame f n → Follows m bound s l next
       does_followed i here n same (Acts.does j ops _ here' found way) =
@@ -209,7 +229,7 @@ module _ (owed : IsOwed) (m : Module) (bound : ℕ) (s : HolderState) (verified 
     ways_followed n same (StepsBy.finishes o rest _ is way) =
         subst (Follows m bound s l) same
         (steps_too n (finishing_followed m bound s l h.related o rest is (owed.finishes m bound s verified comes o rest is)
-        (owed.numbered m bound s verified comes o l.numbers h.related.counts.size) (λ zero lrest. owed.outlive m bound s verified comes l o rest lrest h is zero) n way))
+        (object_stored m h.typed.world s.memory h.typed.memory l.numbers h.related.counts.size o (subst (TasksAre m h.typed.world) is h.typed.tasks).0.0) (λ zero lrest. owed.outlive m bound s verified comes l o rest lrest h is zero) n way))
     ways_followed n same (StepsBy.calls_deinit g gs o rest f _ is there way) =
         let moves = subst (Enters m told bound (record s { tasks = Finishes gs o ∷ rest }) (Finishes gs o ∷ rest) g f (ValueOf (value.Object o) ∷ [])) same way in
         let first = (subst (TasksAre m h.typed.world) is h.typed.tasks).0.1.0 in

@@ -32,7 +32,7 @@ use Rattle.lowered_run.specs.holder_model.declared.trap.Trap.{Trap}
 use Rattle.lowered_run.specs.LowFrames.{LowFrame}
 use Rattle.lowered_run.specs.LowStepParts.{LowState}
 use Rattle.holder_steps.specs.inner.Ways.{left_with, moved}
-use Rattle.stored_counts.specs.inner.Numbers.{AreCounts, AreNamesStored}
+use Rattle.stored_counts.specs.inner.Numbers.{AreCounts}
 use Rattle.stored_runs.specs.inner.CallsAlong.{lent_in}
 use Rattle.stored_runs.specs.inner.Entering.{IsFullPart}
 use Rattle.stored_runs.specs.inner.Frames.{AreTasksFor, HasFullParts}
@@ -130,21 +130,10 @@ PartsOutlive = OnStates (λ m bound s. (l : LowState) (o : ObjectId) (rest : Lis
 
 -- ---- what counts owe
 
--- behind an instruction that is no call
-abbrev pub AreRowsCounted : Type 0
-AreRowsCounted = OnStates (λ m bound s. (stored : List Numbers) (x : AtInst m s) → IsNoCall m bound s x
-    → (c : Change) (slots : List Place) (entries : List Entry) → LeavesSo m bound s x c slots entries
-    → AreCounts s stored → AreCounts (behind_it m bound s x c slots entries) (stored_there m bound s x c stored))
-
 -- behind a call
 abbrev pub AreCallsCounted : Type 0
 AreCallsCounted = OnStates (λ m bound s. (next : HolderState) (stored : List Numbers) (x : AtInst m s) → effect_of x.i.op ≡ row.CallsFunction
     → holder_run.step m (facts_of m) bound s ≡ Goes next → AreCounts s stored → AreCounts next stored)
-
--- what the fields of an object that finishes name has numbers
-abbrev pub AreFieldsNumbered : Type 0
-AreFieldsNumbered = OnStates (λ m bound s. (o : ObjectId) (stored : List Numbers) → length stored ≡ length s.memory.objects
-    → AreNamesStored stored (object_at s.memory o).cells)
 
 -- ---- all of it
 
@@ -156,6 +145,4 @@ pub record IsOwed : Type 0 where
   pub traps : RowsTrapAlong
   pub handed : ArePartsHandedFull
   pub outlive : PartsOutlive
-  pub rows_counted : AreRowsCounted
   pub calls_counted : AreCallsCounted
-  pub numbered : AreFieldsNumbered
