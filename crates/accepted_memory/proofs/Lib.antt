@@ -10,3 +10,4 @@ pub mod InScopes
 pub use Rattle.accepted_trails.proofs.lifetime_worklist as lifetime_worklist
 pub use Rattle.accepted_trails.proofs.run_trails as run_trails
 pub use Rattle.accepted_trails.proofs as accepted_trails
+pub use Rattle.accepted_trails.proofs.memory_slots as memory_slots

@@ -33,7 +33,7 @@ use Rattle.accepted_memory.proofs.AccessesRight.{returns_right}
 use Rattle.accepted_memory.proofs.PartsFollowed.{parts_followed}
 use Rattle.accepted_memory.proofs.accepted_trails.Tests.{or_first, or_second}
 use Rattle.accepted_memory.proofs.Turning.{turned_each}
-use Rattle.accepted_values.specs.inner.Known.{IsAcceptedBody}
+use Rattle.accepted_premises.specs.accepted_values.inner.Known.{IsAcceptedBody}
 use Rattle.item_operands.specs.Items.{item_defined, item_taken}
 use Rattle.item_operands.specs.Parts.{item_inst, terminator_in}
 use Rattle.numbered_form.specs.Lists.{Each}

@@ -33,8 +33,8 @@ use Rattle.accepted_memory.proofs.PartsFollowed.{parts_followed}
 use Rattle.accepted_memory.proofs.PartsTurned.{IsUnturned, turn_by}
 use Rattle.accepted_memory.proofs.Turning.{turned_each}
 use Rattle.accepted_memory.proofs.accepted_trails.Tests.{or_right}
-use Rattle.accepted_values.specs.inner.Known.{IsAcceptedBody}
-use Rattle.accepted_values.proofs.Accepted.{typed}
+use Rattle.accepted_premises.specs.accepted_values.inner.Known.{IsAcceptedBody}
+use Rattle.accepted_premises.proofs.accepted_values.Accepted.{typed}
 use Rattle.item_operands.specs.Items.{item_defined, item_taken}
 use Rattle.item_operands.specs.Parts.{inst_at, item_inst}
 use Rattle.numbered_form.specs.Lists.{Each}

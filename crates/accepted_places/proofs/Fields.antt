@@ -34,7 +34,7 @@ use Rattle.accepted_memory.proofs.PartsTurned.{turn_by}
 use Rattle.accepted_memory.proofs.InSlots.{when_quiet}
 use Rattle.accepted_memory.proofs.Turning.{turned_each}
 use Rattle.accepted_memory.proofs.accepted_trails.Tests.{either, or_more}
-use Rattle.accepted_values.specs.inner.Known.{IsAcceptedBody}
+use Rattle.accepted_premises.specs.accepted_values.inner.Known.{IsAcceptedBody}
 use Rattle.item_operands.specs.Items.{item_defined, item_taken}
 use Rattle.item_operands.specs.Parts.{item_inst}
 use Rattle.item_operands.specs.declared.taken.Taken.{Taken}

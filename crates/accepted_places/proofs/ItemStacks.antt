@@ -29,8 +29,8 @@ use Rattle.accepted_memory.proofs.AccessesRight.{returns_right}
 use Rattle.accepted_memory.proofs.PartsTurned.{turn_by}
 use Rattle.accepted_memory.proofs.Turning.{turned_each}
 use Rattle.accepted_memory.proofs.accepted_trails.Unbroken.{are_accepted}
-use Rattle.accepted_values.specs.inner.Known.{IsAcceptedBody}
-use Rattle.accepted_values.specs.inner.Rows.{source_of_argument}
+use Rattle.accepted_premises.specs.accepted_values.inner.Known.{IsAcceptedBody}
+use Rattle.accepted_premises.specs.accepted_values.inner.Rows.{source_of_argument}
 use Rattle.item_operands.specs.Items.{item_defined, item_taken}
 use Rattle.item_operands.specs.Parts.{item_inst, terminator_in}
 use Rattle.numbered_form.specs.Lists.{Each}

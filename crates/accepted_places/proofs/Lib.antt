@@ -21,3 +21,8 @@ pub mod RootsMade
 pub mod MadeOnce
 pub mod LoansKept
 pub mod LoansFull
+pub use Rattle.accepted_premises.proofs.accepted_values as accepted_values
+pub use Rattle.accepted_premises.proofs.owned_run_typing as owned_run_typing
+pub use Rattle.accepted_memory.proofs as accepted_memory
+pub use Rattle.accepted_premises.proofs.held_entries as held_entries
+pub use Rattle.accepted_premises.proofs as accepted_premises

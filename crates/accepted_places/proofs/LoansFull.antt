@@ -46,9 +46,9 @@ use Rattle.accepted_memory.proofs.PartsFollowed.{parts_followed}
 use Rattle.accepted_memory.proofs.PartsTurned.{turn_by}
 use Rattle.accepted_memory.proofs.Turning.{each_append, turned_each}
 use Rattle.accepted_memory.proofs.accepted_trails.Tests.{each_of_both, or_first, or_right, or_second}
-use Rattle.accepted_values.specs.inner.Known.{IsAcceptedBody}
-use Rattle.accepted_values.specs.inner.Rows.{source_of_argument}
-use Rattle.accepted_values.proofs.Accepted.{typed}
+use Rattle.accepted_premises.specs.accepted_values.inner.Known.{IsAcceptedBody}
+use Rattle.accepted_premises.specs.accepted_values.inner.Rows.{source_of_argument}
+use Rattle.accepted_premises.proofs.accepted_values.Accepted.{typed}
 use Rattle.item_operands.specs.Items.{item_defined, item_taken, taken_in}
 use Rattle.item_operands.specs.Parts.{inst_at, item_inst, results_in, terminator_of}
 use Rattle.item_operands.specs.Roles.{by_row, conventions_in, roles_for, taken_as, taken_by, taken_each}

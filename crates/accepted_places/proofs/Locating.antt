@@ -15,7 +15,7 @@ use Rattle.accepted_memory.proofs.accepted_trails.OperandsDefined.{operands_defi
 use Rattle.accepted_memory.proofs.accepted_trails.Tests.{or_right, picked, same_value}
 use Rattle.accepted_memory.proofs.run_trails.RunPaths.{are_trails}
 use Rattle.accepted_memory.proofs.run_trails.TurnedTrails.{turned_older}
-use Rattle.accepted_values.specs.inner.Known.{IsAcceptedBody}
+use Rattle.accepted_premises.specs.accepted_values.inner.Known.{IsAcceptedBody}
 use Rattle.item_operands.specs.Items.{item_defined, item_taken}
 use Rattle.item_operands.specs.declared.taken.Taken.{Taken}
 use Rattle.ownership_chains.specs.Facts.{value_of}

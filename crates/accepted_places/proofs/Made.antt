@@ -3,10 +3,10 @@ use Rattle.std.proofs.Common.{◌≡◌, ◌⊎◌, inl, inr, ℕ, zero, suc, Li
 use Rattle.std.specs.Prelude.{Contains, slice_get}
 use Rattle.std.proofs.lemmas.List.Elements.{Contains-append_cases}
 use Rattle.accepted_memory.specs.memory_accesses.Sources.{result_source, source_at, sources_of}
-use Rattle.accepted_values.specs.inner.Known.{IsAcceptedBody}
-use Rattle.accepted_values.specs.inner.Rows.{source_of_argument}
-use Rattle.accepted_values.proofs.Counted.{nothing_in, stands}
-use Rattle.accepted_values.proofs.TableRows.{argument_rows, result_rows}
+use Rattle.accepted_premises.specs.accepted_values.inner.Known.{IsAcceptedBody}
+use Rattle.accepted_premises.specs.accepted_values.inner.Rows.{source_of_argument}
+use Rattle.accepted_premises.proofs.accepted_values.Counted.{nothing_in, stands}
+use Rattle.accepted_premises.proofs.accepted_values.TableRows.{argument_rows, result_rows}
 use Rattle.item_operands.specs.Items.{arg_value, item_defined}
 use Rattle.item_operands.specs.Parts.{args_behind, edge_at, inst_at, item_inst, results_in}
 use Rattle.numbered_form.specs.Lists.{Each}

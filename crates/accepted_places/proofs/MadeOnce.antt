@@ -20,11 +20,11 @@ use Rattle.accepted_memory.specs.run_trails.inner.RunTrails.{GoesOn, IsRunTrail}
 use Rattle.accepted_memory.specs.inner.PartTrails.{accesses_in}
 use Rattle.accepted_memory.proofs.PartsTurned.{turn_by}
 use Rattle.accepted_memory.proofs.Turning.{turned_each}
-use Rattle.accepted_values.specs.inner.Known.{IsAcceptedBody}
-use Rattle.accepted_values.proofs.Counted.{nothing_in}
-use Rattle.accepted_values.proofs.Made.{parameters_of_entry}
-use Rattle.accepted_values.proofs.TableRows.{argument_rows}
-use Rattle.accepted_values.proofs.Counted.{stands}
+use Rattle.accepted_premises.specs.accepted_values.inner.Known.{IsAcceptedBody}
+use Rattle.accepted_premises.proofs.accepted_values.Counted.{nothing_in}
+use Rattle.accepted_premises.proofs.accepted_values.Made.{parameters_of_entry}
+use Rattle.accepted_premises.proofs.accepted_values.TableRows.{argument_rows}
+use Rattle.accepted_premises.proofs.accepted_values.Counted.{stands}
 use Rattle.item_operands.specs.Items.{arg_value, item_defined, item_taken}
 use Rattle.item_operands.specs.Parts.{args_behind, edge_at, inst_at, item_inst, results_in}
 use Rattle.numbered_form.specs.Lists.{Each}

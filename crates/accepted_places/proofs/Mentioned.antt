@@ -32,9 +32,9 @@ use Rattle.accepted_memory.proofs.PartsFollowed.{parts_followed}
 use Rattle.accepted_memory.proofs.PartsTurned.{turn_by}
 use Rattle.accepted_memory.proofs.Turning.{turned_each}
 use Rattle.accepted_memory.proofs.accepted_trails.Tests.{each_of_both}
-use Rattle.accepted_values.specs.inner.Known.{IsAcceptedBody}
-use Rattle.accepted_values.proofs.Accepted.{typed}
-use Rattle.accepted_values.proofs.Counted.{nothing_in}
+use Rattle.accepted_premises.specs.accepted_values.inner.Known.{IsAcceptedBody}
+use Rattle.accepted_premises.proofs.accepted_values.Accepted.{typed}
+use Rattle.accepted_premises.proofs.accepted_values.Counted.{nothing_in}
 use Rattle.item_operands.specs.Items.{item_taken, taken_along_in, taken_in}
 use Rattle.item_operands.specs.Parts.{edge_in, inst_at, item_edge, item_inst}
 use Rattle.item_operands.specs.Roles.{by_row, conventions_in, roles_for, taken_as, taken_by, taken_each}

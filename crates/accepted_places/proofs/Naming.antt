@@ -21,24 +21,24 @@ use Rattle.accepted_memory.specs.memory_accesses.declared.source.Source.TheVaria
 use Rattle.accepted_memory.specs.holder_model.Effects.{effect_of, part_number, part_number_by}
 use Rattle.accepted_memory.specs.holder_model.declared.row_effect.RowEffect.{RowEffect}
 use Rattle.accepted_memory.specs.holder_model.declared.row_effect.RowEffect.TheVariants as effect
-use Rattle.accepted_values.specs.inner.Known.{IsAcceptedBody}
-use Rattle.accepted_values.specs.run_typing.EndForms.{value_in}
-use Rattle.accepted_values.specs.run_typing.Forms.{Form, OfPlace, OfValue, form_by, form_of, form_with, forms_of}
-use Rattle.accepted_values.specs.run_typing.RowForms as rows
-use Rattle.accepted_values.specs.run_typing.RowForms.{RowForms}
-use Rattle.accepted_values.proofs.Accepted.{in_ownership_form, typed, well_typed}
-use Rattle.accepted_values.proofs.Counted.{nothing_in, stands}
-use Rattle.accepted_values.proofs.Parameters.{entry_pairs, pair_at, told_fits, told_of}
-use Rattle.accepted_values.proofs.TableRows.{argument_rows, result_rows}
-use Rattle.accepted_values.proofs.run_typing_laws.BlockFacts.{no_address}
-use Rattle.accepted_values.proofs.run_typing_laws.Rows.Layers.{object_target}
-use Rattle.accepted_values.proofs.run_typing_laws.ValueForms.{row_kept}
+use Rattle.accepted_premises.specs.accepted_values.inner.Known.{IsAcceptedBody}
+use Rattle.accepted_premises.specs.accepted_values.run_typing.EndForms.{value_in}
+use Rattle.accepted_premises.specs.accepted_values.run_typing.Forms.{Form, OfPlace, OfValue, form_by, form_of, form_with, forms_of}
+use Rattle.accepted_premises.specs.accepted_values.run_typing.RowForms as rows
+use Rattle.accepted_premises.specs.accepted_values.run_typing.RowForms.{RowForms}
+use Rattle.accepted_premises.proofs.accepted_values.Accepted.{in_ownership_form, typed, well_typed}
+use Rattle.accepted_premises.proofs.accepted_values.Counted.{nothing_in, stands}
+use Rattle.accepted_premises.proofs.accepted_values.Parameters.{entry_pairs, pair_at, told_fits, told_of}
+use Rattle.accepted_premises.proofs.accepted_values.TableRows.{argument_rows, result_rows}
+use Rattle.accepted_premises.proofs.accepted_values.run_typing_laws.BlockFacts.{no_address}
+use Rattle.accepted_premises.proofs.accepted_values.run_typing_laws.Rows.Layers.{object_target}
+use Rattle.accepted_premises.proofs.accepted_values.run_typing_laws.ValueForms.{row_kept}
 use Rattle.item_operands.specs.Items.{arg_value, item_defined, item_taken}
 use Rattle.item_operands.specs.Parts.{args_behind, edge_at, inst_at, results_in}
 use Rattle.item_operands.specs.declared.taken.Taken.{Taken}
-use Rattle.owned_run_typing.proofs.OwnedInsts.{owned_inst}
-use Rattle.owned_run_typing.specs.inner.OwnedRows as owned
-use Rattle.owned_run_typing.specs.inner.OwnedRows.{OwnedRowForms}
+use Rattle.accepted_premises.proofs.owned_run_typing.OwnedInsts.{owned_inst}
+use Rattle.accepted_premises.specs.owned_run_typing.inner.OwnedRows as owned
+use Rattle.accepted_premises.specs.owned_run_typing.inner.OwnedRows.{OwnedRowForms}
 use Rattle.run_values.specs.Shapes.{Shape, shape_of}
 use Rattle.sil_ast.specs.Blocks.{args_of}
 use Rattle.sil_ast.specs.declared.function.BlockArg.{BlockArg}
@@ -54,11 +54,11 @@ use Rattle.sil_ast.specs.declared.place.ValueId.{ValueId}
 use Rattle.sil_ast.specs.declared.type_name.TypeName.{TypeName}
 use Rattle.sil_cfg.specs.declared.item.Item.{Item}
 use Rattle.sil_cfg.specs.declared.item.Item.TheVariants as item
-use Rattle.accepted_values.specs.accepted_modules.sil_types.Typing.EdgeRules.{lets_address_escape}
-use Rattle.accepted_values.specs.accepted_modules.sil_types.Typing.RowTypes.{address_of, given_by, gives}
-use Rattle.accepted_values.specs.accepted_modules.sil_types.Typing.Shapes.{is_object, is_trivial_object, target}
-use Rattle.accepted_values.specs.accepted_modules.sil_types.Typing.SignatureRules.{fits_by, is_argument_for}
-use Rattle.accepted_values.specs.accepted_modules.sil_types.Typing.Values.{function_at, value_functions}
+use Rattle.accepted_premises.specs.accepted_values.accepted_modules.sil_types.Typing.EdgeRules.{lets_address_escape}
+use Rattle.accepted_premises.specs.accepted_values.accepted_modules.sil_types.Typing.RowTypes.{address_of, given_by, gives}
+use Rattle.accepted_premises.specs.accepted_values.accepted_modules.sil_types.Typing.Shapes.{is_object, is_trivial_object, target}
+use Rattle.accepted_premises.specs.accepted_values.accepted_modules.sil_types.Typing.SignatureRules.{fits_by, is_argument_for}
+use Rattle.accepted_premises.specs.accepted_values.accepted_modules.sil_types.Typing.Values.{function_at, value_functions}
 use Rattle.type_definitions.specs.Declarations.{Declarations, declarations_of}
 use Rattle.type_definitions.specs.Measures.{is_trivial}
 use Rattle.value_tables.specs.FirstValue.{first_value}

@@ -31,7 +31,7 @@ use Rattle.sil_rules.specs.declared.rule.Rule.{Rule}
 use Rattle.sil_rules.specs.declared.rule.Rule.TheVariants as rule
 use Rattle.accepted_memory.specs.accepted_modules.Shown.{memory}
 use Rattle.type_definitions.specs.Declarations.{Declarations}
-use Rattle.accepted_values.proofs.run_typing_laws.Rows.Points.{in_front}
+use Rattle.accepted_premises.proofs.accepted_values.run_typing_laws.Rows.Points.{in_front}
 use Rattle.accepted_memory.specs.accepted_trails.inner.Accepted.{IsAcceptedIn}
 use Rattle.accepted_places.specs.inner.Operations.{AreApart, AreOfSlots, AreRowsRight}
 

@@ -22,7 +22,7 @@ use Rattle.accepted_memory.specs.accepted_modules.Shown.{memory}
 use Rattle.accepted_memory.specs.inner.PartTrails.{accesses_in}
 use Rattle.accepted_memory.proofs.accepted_trails.Tests.{each_of_both}
 use Rattle.accepted_memory.proofs.run_trails.RunPaths.{are_trails}
-use Rattle.memory_slots.proofs.OrderDecided.{order_decides}
+use Rattle.accepted_memory.proofs.memory_slots.OrderDecided.{order_decides}
 use Rattle.numbered_form.specs.Lists.{Each}
 use Rattle.ownership_chains.specs.Facts.{value_of}
 use Rattle.path_patterns.specs.Along.{Shows}

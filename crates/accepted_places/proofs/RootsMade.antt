@@ -18,7 +18,7 @@ use Rattle.accepted_memory.proofs.run_trails.RunPaths.{are_trails}
 use Rattle.accepted_memory.proofs.run_trails.SplicedRuns.{are_spliced}
 use Rattle.accepted_memory.proofs.run_trails.TurnedTrails.{are_of_items, turned_item, turned_older}
 use Rattle.accepted_premises.proofs.MadeAtStops.{made_at_stops}
-use Rattle.accepted_values.specs.inner.Known.{IsAcceptedBody}
+use Rattle.accepted_premises.specs.accepted_values.inner.Known.{IsAcceptedBody}
 use Rattle.item_operands.specs.Items.{item_taken}
 use Rattle.item_operands.specs.declared.taken.Taken.{Taken}
 use Rattle.numbered_form.specs.Lists.{Each}

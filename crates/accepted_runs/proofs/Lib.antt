@@ -1,3 +1,4 @@
 pub mod KeptOnRuns
+pub mod GuardedRuns
+pub mod PlacesServe
 pub mod RightRuns
-pub mod Faultless

@@ -1,20 +1,37 @@
 -- The parts of the invariant together, and what follows for runs.
 use Rattle.std.proofs.Common.{◌≡◌, ℕ, refl, sym, ◌∙◌, Bool, true, false}
 use Rattle.std.specs.Prelude.{◌||◌}
-use Rattle.std.proofs.lemmas.Bool.{false≢true}
+use Rattle.std.proofs.lemmas.Bool.{true≢false}
 use Rattle.sil_ast.specs.declared.module.Module.{Module}
-use Rattle.held_entries.specs.holder_model.Faults.{ConsumesLent, EmptyPlace, FullPlace, HolderFault, LeavesHeld, LeavesPlace, LeavesSlot, NamesDead, NoEntry}
-use Rattle.held_entries.specs.holder_model.Faults.{NotLastSlot, OverwritesHeld, PlaceNotAsAsked, WrongShape}
-use Rattle.held_entries.specs.holder_model.HolderStates.{HolderState}
-use Rattle.typed_holders.specs.inner.TypedStates.{IsTypedState}
-use Rattle.typed_holders.proofs.TypedSteps.{begin_typed, shapes_right, steps_typed}
-use Rattle.tracked_frames.specs.inner.Laws.{is_entry_fault}
-use Rattle.tracked_frames.specs.inner.TrackedStates.{IsTrackedState}
-use Rattle.tracked_frames.proofs.Begun.{begin_tracked}
-use Rattle.tracked_frames.proofs.TrackedSteps.{entries_are_right, steps_are_tracked}
+use Rattle.held_loans.specs.followed_objects.held_entries.holder_model.Faults.{ConsumesLent, EmptyPlace, FullPlace, HolderFault, LeavesHeld, LeavesPlace, LeavesSlot, NamesDead, NoEntry}
+use Rattle.held_loans.specs.followed_objects.held_entries.holder_model.Faults.{NotLastSlot, OverwritesHeld, PlaceNotAsAsked, WrongShape}
+use Rattle.held_loans.specs.followed_objects.held_entries.holder_model.HolderStates.{HolderState}
+use Rattle.held_loans.specs.followed_objects.typed_holders.inner.TypedStates.{IsTypedState}
+use Rattle.held_loans.proofs.followed_objects.typed_holders.TypedSteps.{begin_typed, shapes_right, steps_typed}
+use Rattle.held_loans.specs.followed_objects.tracked_frames.inner.Laws.{is_entry_fault}
+use Rattle.held_loans.specs.followed_objects.tracked_frames.inner.TrackedStates.{IsTrackedState}
+use Rattle.held_loans.proofs.followed_objects.tracked_frames.Begun.{begin_tracked}
+use Rattle.held_loans.proofs.followed_objects.tracked_frames.TrackedSteps.{entries_are_right, steps_are_tracked}
+use Rattle.held_loans.specs.held_places.inner.Items.{is_place_fault}
+use Rattle.held_loans.specs.held_places.inner.Laws.{ArePlacesKept, NoPlaceFaults}
+use Rattle.held_loans.specs.held_places.inner.PlaceStates.{AreSlotsRight}
+use Rattle.held_loans.proofs.held_places.ItemsPlaced.{items_placed}
+use Rattle.held_loans.proofs.held_places.PlacedSteps.{begin_placed, no_place_faults, places_kept}
+use Rattle.held_loans.proofs.held_places.TrailsSo.{trail_laws}
+use Rattle.held_loans.proofs.held_places.TypingSo.{typing_laws}
+use Rattle.held_loans.specs.followed_objects.inner.Said.{said}
+use Rattle.held_loans.proofs.followed_objects.BuiltSteps.{begin_built, objects_kept}
+use Rattle.held_loans.proofs.followed_objects.Found.{find_fields}
+use Rattle.held_loans.specs.followed_objects.held_objects.inner.ObjectStates.{AreObjectsRight}
+use Rattle.held_loans.specs.guarded_entries.inner.GuardedStates.{IsGuardedState}
+use Rattle.held_loans.specs.guarded_entries.inner.Laws.{is_dead_fault}
+use Rattle.held_loans.specs.inner.Loans.{loans_of}
+use Rattle.held_loans.proofs.Kept.{loans_kept}
+use Rattle.accepted_runs.proofs.GuardedRuns.{guarded_kept}
+use Rattle.accepted_runs.proofs.PlacesServe.{places_serve}
 use Rattle.accepted_runs.specs.inner.Kept.{IsKept}
 use Rattle.accepted_runs.specs.inner.Laws.{AreStatesRight, AreStepsRight, NoOutcomeFaults, NoRunFaults}
-use Rattle.accepted_runs.specs.inner.RightStates.{IsRightState, is_excluded}
+use Rattle.accepted_runs.specs.inner.RightStates.{IsRightState}
 use Rattle.accepted_runs.proofs.KeptOnRuns.{And, Nothing, both_kept, outcomes_exclude, runs_exclude, states_hold}
 
 abbrev pub is_shape_fault : HolderFault → Bool
@@ -59,52 +76,87 @@ tracked_kept = record {
   faults = λ m bound s last x v before is by. entries_are_right m bound s last x v before.1 is by;
 }
 
+-- ---- places, on the stack and in objects
+
+abbrev pub IsBuiltState : Module → HolderState → Type 0
+IsBuiltState m s = AreObjectsRight m (said m) s
+
+abbrev pub IsLentState : Module → HolderState → Type 0
+IsLentState m s = IsGuardedState m (loans_of m) s
+
+places_kept_here : ArePlacesKept
+places_kept_here = places_kept trail_laws typing_laws (items_placed trail_laws typing_laws)
+
+no_place_faults_here : NoPlaceFaults
+no_place_faults_here = no_place_faults trail_laws typing_laws (items_placed trail_laws typing_laws)
+
+pub placed_kept : IsKept (And (And Nothing IsTypedState) IsTrackedState) (And AreSlotsRight IsBuiltState) is_place_fault
+placed_kept = record {
+  begin = λ m e f v there may. (begin_placed trail_laws m e f v there may, begin_built m e f v there may);
+  goes = λ m bound s next v before then is by.
+      (places_kept_here m bound s next v before.0.1 before.1 is.0 by, objects_kept m bound s next v before.0.1 before.1 (places_serve m s v before.0.1 is.0) is.1 by);
+  faults = λ m bound s last x v before is by.
+      no_place_faults_here m bound s last x v before.0.1 before.1 is.0 (find_fields m bound s v before.0.1 is.1) by;
+}
+
+-- ---- dead objects
+
+guarded_kept_here : IsKept (And (And (And Nothing IsTypedState) IsTrackedState) (And AreSlotsRight IsBuiltState)) IsLentState is_dead_fault
+guarded_kept_here = guarded_kept loans_of AreSlotsRight IsBuiltState loans_kept
+
 -- ---- all parts
 
 abbrev Parts : Module → HolderState → Type 0
-Parts = And IsTypedState IsTrackedState
+Parts = And IsTypedState (And IsTrackedState (And (And AreSlotsRight IsBuiltState) IsLentState))
 
 abbrev by_parts : HolderFault → Bool
-by_parts x = is_shape_fault x || is_entry_fault x
+by_parts x = is_shape_fault x || (is_entry_fault x || (is_place_fault x || is_dead_fault x))
 
 parts_kept : IsKept Nothing Parts by_parts
-parts_kept = both_kept Nothing IsTypedState IsTrackedState is_shape_fault is_entry_fault typed_kept tracked_kept
+parts_kept =
+    both_kept Nothing IsTypedState (And IsTrackedState (And (And AreSlotsRight IsBuiltState) IsLentState)) is_shape_fault
+    (λ x. is_entry_fault x || (is_place_fault x || is_dead_fault x)) typed_kept
+    (both_kept (And Nothing IsTypedState) IsTrackedState (And (And AreSlotsRight IsBuiltState) IsLentState) is_entry_fault
+    (λ x. is_place_fault x || is_dead_fault x) tracked_kept
+    (both_kept (And (And Nothing IsTypedState) IsTrackedState) (And AreSlotsRight IsBuiltState) IsLentState is_place_fault is_dead_fault placed_kept guarded_kept_here))
 
 parted : (m : Module) (s : HolderState) → IsRightState m s → Parts m s
-parted m s is = (is.typed, is.tracked)
+parted m s is = (is.typed, (is.tracked, ((is.placed, is.built), is.guarded)))
 
 joined : (m : Module) (s : HolderState) → Parts m s → IsRightState m s
-joined m s is = record { typed = is.0; tracked = is.1 }
+joined m s is = record { typed = is.0; tracked = is.1.0; placed = is.1.1.0.0; built = is.1.1.0.1; guarded = is.1.1.1 }
 
-excluded : (x : HolderFault) → by_parts x ≡ false → is_excluded x ≡ false
-excluded NoEntry e = e
-excluded ConsumesLent e = e
-excluded NamesDead e = e
-excluded EmptyPlace e = e
-excluded FullPlace e = e
-excluded PlaceNotAsAsked e = e
-excluded NotLastSlot e = e
-excluded OverwritesHeld e = e
-excluded LeavesHeld e = e
-excluded LeavesSlot e = e
-excluded LeavesPlace e = e
-excluded WrongShape e = e
+-- each fault is one of these
+each_excluded : (x : HolderFault) → by_parts x ≡ false → ⊥
+each_excluded NoEntry e = true≢false e
+each_excluded ConsumesLent e = true≢false e
+each_excluded NamesDead e = true≢false e
+each_excluded EmptyPlace e = true≢false e
+each_excluded FullPlace e = true≢false e
+each_excluded PlaceNotAsAsked e = true≢false e
+each_excluded NotLastSlot e = true≢false e
+each_excluded OverwritesHeld e = true≢false e
+each_excluded LeavesHeld e = true≢false e
+each_excluded LeavesSlot e = true≢false e
+each_excluded LeavesPlace e = true≢false e
+each_excluded WrongShape e = true≢false e
 
-right_kept : IsKept Nothing IsRightState is_excluded
+right_kept : IsKept Nothing IsRightState by_parts
 right_kept = record {
   begin = λ m e f v there may. joined m _ (parts_kept.begin m e f v there may);
   goes = λ m bound s next v before then is by. joined m next (parts_kept.goes m bound s next v tt tt (parted m s is) by);
-  faults = λ m bound s last x v before is by. excluded x (parts_kept.faults m bound s last x v tt (parted m s is) by);
+  faults = λ m bound s last x v before is by. parts_kept.faults m bound s last x v tt (parted m s is) by;
 }
 
 pub states_are_right : AreStatesRight
-states_are_right = states_hold IsRightState is_excluded right_kept
+states_are_right = states_hold IsRightState by_parts right_kept
 
 pub steps_stay_right : AreStepsRight
 steps_stay_right m bound s next v is by = right_kept.goes m bound s next v tt tt is by
 
 pub no_run_faults : NoRunFaults
-no_run_faults = runs_exclude IsRightState is_excluded right_kept
+no_run_faults m e f bound v there may steps s x is = each_excluded x (runs_exclude IsRightState by_parts right_kept m e f bound v there may steps s x is)
 
 pub no_outcome_faults : NoOutcomeFaults
-no_outcome_faults = outcomes_exclude IsRightState is_excluded right_kept
+no_outcome_faults m v e f bound there may outcome x so faulted =
+    each_excluded x (outcomes_exclude IsRightState by_parts right_kept m e f bound v there may outcome x so faulted)

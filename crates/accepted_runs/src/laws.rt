@@ -12,7 +12,7 @@ pub fn steps_stay_right()
     ensures { AreStepsRight }
 {}
 
-/// No run ends in a fault that is excluded.
+/// No run ends in a fault.
 pub fn no_run_faults()
     ensures { NoRunFaults }
 {}

@@ -2,11 +2,11 @@
 use Rattle.std.proofs.Common.{◌≡◌, ℕ, zero, suc, List, length, Bool, true, false, Some, None, refl, sym, ap, ◌∙◌, subst, eq-eqb, cond}
 use Rattle.std.proofs.lemmas.Bool.{eqb-true, false≢true}
 use Rattle.std.proofs.lemmas.Option.{none-some, same_Some}
-use Rattle.holder_model.specs.memory_accesses.Locations.{below, below_by, is_object, locate, located_by, location_of, object_built, object_lent, upcast_from}
-use Rattle.holder_model.specs.memory_accesses.Sources.{source_at}
-use Rattle.holder_model.specs.memory_accesses.declared.location.Location.{Location}
-use Rattle.holder_model.specs.memory_accesses.declared.source.Source.{Source}
-use Rattle.holder_model.specs.memory_accesses.declared.source.Source.TheVariants.{Slot, Argument, Object, Borrow, Upcast, Loan, Field, Part, Other}
+use Rattle.whole_objects.specs.holder_model.memory_accesses.Locations.{below, below_by, is_object, locate, located_by, location_of, object_built, object_lent, upcast_from}
+use Rattle.whole_objects.specs.holder_model.memory_accesses.Sources.{source_at}
+use Rattle.whole_objects.specs.holder_model.memory_accesses.declared.location.Location.{Location}
+use Rattle.whole_objects.specs.holder_model.memory_accesses.declared.source.Source.{Source}
+use Rattle.whole_objects.specs.holder_model.memory_accesses.declared.source.Source.TheVariants.{Slot, Argument, Object, Borrow, Upcast, Loan, Field, Part, Other}
 use Rattle.memory_parts.specs.Building.{builds, is_object_of}
 use Rattle.sil_ast.specs.declared.place.ValueId.{ValueId}
 use Rattle.built_objects.specs.inner.Building.{IsAbout, IsFieldAddress}

@@ -4,16 +4,16 @@ use Rattle.std.proofs.lemmas.Bool.{false≢true, or_right}
 use Rattle.std.proofs.lemmas.Option.{same_Some}
 use Rattle.argument_conventions.specs.declared.row.Content.{Content}
 use Rattle.argument_conventions.specs.declared.row.Content.TheVariants as content
-use Rattle.holder_model.specs.Data.{AddressOf, home_references, references_in}
-use Rattle.holder_model.specs.Frames.{Entry}
-use Rattle.holder_model.specs.MemoryEffects.{asked_before, holds}
-use Rattle.holder_model.specs.ModuleShapes.{ModuleShapes}
-use Rattle.holder_model.specs.memory_accesses.Locations.{object_built}
-use Rattle.holder_model.specs.memory_accesses.Rows.{field_has, has_by, is_part}
-use Rattle.holder_model.specs.memory_accesses.declared.access.Operation.{Operation}
-use Rattle.holder_model.specs.memory_accesses.declared.access.Operation.TheVariants.{FirstWrite, Read, Lend, Write, TrivialStore, Handed, Take}
-use Rattle.holder_model.specs.memory_accesses.declared.location.Location.{Location}
-use Rattle.holder_model.specs.memory_accesses.declared.source.Source.{Source}
+use Rattle.whole_objects.specs.holder_model.Data.{AddressOf, home_references, references_in}
+use Rattle.whole_objects.specs.holder_model.Frames.{Entry}
+use Rattle.whole_objects.specs.holder_model.MemoryEffects.{asked_before, holds}
+use Rattle.whole_objects.specs.holder_model.ModuleShapes.{ModuleShapes}
+use Rattle.whole_objects.specs.holder_model.memory_accesses.Locations.{object_built}
+use Rattle.whole_objects.specs.holder_model.memory_accesses.Rows.{field_has, has_by, is_part}
+use Rattle.whole_objects.specs.holder_model.memory_accesses.declared.access.Operation.{Operation}
+use Rattle.whole_objects.specs.holder_model.memory_accesses.declared.access.Operation.TheVariants.{FirstWrite, Read, Lend, Write, TrivialStore, Handed, Take}
+use Rattle.whole_objects.specs.holder_model.memory_accesses.declared.location.Location.{Location}
+use Rattle.whole_objects.specs.holder_model.memory_accesses.declared.source.Source.{Source}
 use Rattle.memory_cells.specs.inner.Cells.{IsCell, IsInside, IsPlace, cell_at}
 use Rattle.memory_cells.proofs.PlaceCells.{cell_number, empty_test, full_value, there_test}
 use Rattle.memory_parts.specs.Building.{builds}
@@ -134,8 +134,7 @@ fields_asked shapes sources said memory entries h wm v l of k address p names in
 
 pub fields_of : AreFieldsOf
 fields_of shapes sources said memory entries h v l of k address p names =
-    let at = h.placed v l of k address p names in
-    (
+    let at = h.placed v l of k address p names in (
       at.0,
       at.1.home,
       by at.0 (address_may shapes sources said memory entries h v p at.0 names at.1.home),

@@ -4,12 +4,12 @@ use Rattle.std.specs.Prelude.{map, slice_get, sum}
 use Rattle.std.proofs.lemmas.Bool.{false≢true}
 use Rattle.std.proofs.lemmas.List.{length-append, length-replicate}
 use Rattle.std.proofs.lemmas.Option.{same_Some}
-use Rattle.holder_model.specs.Data.{AddressOf, Datum, ValueOf, references_in}
-use Rattle.holder_model.specs.Frames.{Entry, datum_in, entry_at, is_held}
-use Rattle.holder_model.specs.ModuleShapes.{ModuleShapes, field_shapes}
-use Rattle.holder_model.specs.memory_accesses.Sources.{source_at}
-use Rattle.holder_model.specs.memory_accesses.declared.source.Source.{Source}
-use Rattle.holder_model.specs.memory_accesses.declared.source.Source.TheVariants as source
+use Rattle.whole_objects.specs.holder_model.Data.{AddressOf, Datum, ValueOf, references_in}
+use Rattle.whole_objects.specs.holder_model.Frames.{Entry, datum_in, entry_at, is_held}
+use Rattle.whole_objects.specs.holder_model.ModuleShapes.{ModuleShapes, field_shapes}
+use Rattle.whole_objects.specs.holder_model.memory_accesses.Sources.{source_at}
+use Rattle.whole_objects.specs.holder_model.memory_accesses.declared.source.Source.{Source}
+use Rattle.whole_objects.specs.holder_model.memory_accesses.declared.source.Source.TheVariants as source
 use Rattle.memory_cells.proofs.Lists.{get_replicate}
 use Rattle.memory_cells.proofs.PlaceCells.{cell_within}
 use Rattle.numbered_form.specs.Lists.{Each}
@@ -116,9 +116,9 @@ module _ (shapes : ModuleShapes) (sources : List Source) (said now : Progress) (
   which w o un holds = ⊎_elim
       (λ (same : w ≡ object). Which.new_one same (held_same behind object o (new_object memory) (subst (λ v. Holds behind v o) same holds) new.holds))
       (λ (differ : w ≡ object → ⊥).
-        let was = before w differ un in
-        let held = holds_before w o differ holds in
-        Which.old_one differ was held (h.built w o was held).0)
+      let was = before w differ un in
+      let held = holds_before w o differ holds in
+      Which.old_one differ was held (h.built w o was held).0)
       (which_value w object)
 
   built_behind : (w : ValueId) (o : ObjectId) → Which w o → (o.0 < length later.objects) × IsBuiltAs shapes sources now w o (object_at later o)
@@ -126,9 +126,10 @@ module _ (shapes : ModuleShapes) (sources : List Source) (said now : Progress) (
       subst (λ v. (o.0 < length later.objects) × IsBuiltAs shapes sources now v o (object_at later o)) (sym same)
       (subst (λ q. (q.0 < length later.objects) × IsBuiltAs shapes sources now object q (object_at later q)) (sym is) (more, new_built))
   built_behind w o (Which.old_one differ un holds made) =
-      let b = h.built w o un holds in
-      (omega (arith, made, more),
-      subst (IsBuiltAs shapes sources now w o) (sym (old_same o made)) (built_so shapes sources said now w o (object_at memory o) (is_made.others w differ) b.1))
+      let b = h.built w o un holds in (
+        omega (arith, made, more),
+        subst (IsBuiltAs shapes sources now w o) (sym (old_same o made)) (built_so shapes sources said now w o (object_at memory o) (is_made.others w differ) b.1),
+      )
 
   apart_behind : (v w : ValueId) (o : ObjectId) → Which v o → Which w o → v ≡ w
   apart_behind v w o (Which.new_one sv ov) (Which.new_one sw ow) = sv ∙ sym sw
@@ -142,13 +143,13 @@ module _ (shapes : ModuleShapes) (sources : List Source) (said now : Progress) (
   begun = record {
     named = λ v y names. ⊎_elim
         (λ (same : v ≡ object).
-          let is : ValueOf (value.Object (new_object memory)) ≡ y =
-          same_Some (ValueOf (value.Object (new_object memory))) y (sym (ap datum_in new.holds) ∙ subst (λ w. Names behind w y) same names) in
-          subst (λ w. Each (MayName shapes sources now later behind w) (references_in y)) (sym same)
-          (subst (λ z. Each (MayName shapes sources now later behind object) (references_in z)) is (new_may, tt)))
+        let is : ValueOf (value.Object (new_object memory)) ≡ y =
+        same_Some (ValueOf (value.Object (new_object memory))) y (sym (ap datum_in new.holds) ∙ subst (λ w. Names behind w y) same names) in
+        subst (λ w. Each (MayName shapes sources now later behind w) (references_in y)) (sym same)
+        (subst (λ z. Each (MayName shapes sources now later behind object) (references_in z)) is (new_may, tt)))
         (λ (differ : v ≡ object → ⊥).
-          each_of (MayName shapes sources said memory entries v) (MayName shapes sources now later behind v) (may v) (references_in y)
-          (h.named v y (names_before v differ y names)))
+        each_of (MayName shapes sources said memory entries v) (MayName shapes sources now later behind v) (may v) (references_in y)
+        (h.named v y (names_before v differ y names)))
         (which_value v object);
     held = λ w un. ⊎_elim
         (λ (same : w ≡ object). (new_object memory, subst (λ v. Holds behind v (new_object memory)) (sym same) new.holds))
@@ -158,22 +159,22 @@ module _ (shapes : ModuleShapes) (sources : List Source) (said now : Progress) (
     apart = λ v w o uv uw hv hw. apart_behind v w o (which v o uv hv) (which w o uw hw);
     same = λ w v about since y names o holds. ⊎_elim
         (λ (itself : v ≡ object).
-          let is : object ≡ w = new_about sources w (length (field_shapes shapes class)) object count (subst (IsAbout sources w) itself about) in
-          holds_names behind object o y (subst (λ u. Holds behind u o) (sym is) holds) (subst (λ u. Names behind u y) itself names))
+        let is : object ≡ w = new_about sources w (length (field_shapes shapes class)) object count (subst (IsAbout sources w) itself about) in
+        holds_names behind object o y (subst (λ u. Holds behind u o) (sym is) holds) (subst (λ u. Names behind u y) itself names))
         (λ (differ : v ≡ object → ⊥).
-          let was = is_made.as_made w v differ since in
-          h.same w v about was.1 y (names_before v differ y names) o (holds_before w o was.0 holds))
+        let was = is_made.as_made w v differ since in
+        h.same w v about was.1 y (names_before v differ y names) o (holds_before w o was.0 holds))
         (which_value v object);
     placed = λ v l of k address p names. ⊎_elim
         (λ (itself : v ≡ object).
-          let is : ValueOf (value.Object (new_object memory)) ≡ AddressOf p =
-          same_Some (ValueOf (value.Object (new_object memory))) (AddressOf p) (sym (ap datum_in new.holds) ∙ subst (λ w. Names behind w (AddressOf p)) itself names) in
-          absurd (cc))
+        let is : ValueOf (value.Object (new_object memory)) ≡ AddressOf p =
+        same_Some (ValueOf (value.Object (new_object memory))) (AddressOf p) (sym (ap datum_in new.holds) ∙ subst (λ w. Names behind w (AddressOf p)) itself names) in
+        absurd (cc))
         (λ (differ : v ≡ object → ⊥).
-          let was = names_before v differ (AddressOf p) names in
-          let at = h.placed v l of k address p was in
-          let made = made_may shapes sources said memory entries h v at.0 (address_may shapes sources said memory entries h v p at.0 was at.1.home) in
-          (at.0, in_field_of shapes at.0 (object_at memory at.0) (object_at later at.0) l k p (ap (λ y. y.class) (old_same at.0 made)) at.1))
+        let was = names_before v differ (AddressOf p) names in
+        let at = h.placed v l of k address p was in
+        let made = made_may shapes sources said memory entries h v at.0 (address_may shapes sources said memory entries h v p at.0 was at.1.home) in
+        (at.0, in_field_of shapes at.0 (object_at memory at.0) (object_at later at.0) l k p (ap (λ y. y.class) (old_same at.0 made)) at.1))
         (which_value v object);
   }
 

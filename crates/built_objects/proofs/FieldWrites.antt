@@ -3,13 +3,13 @@ use Rattle.std.proofs.Common.{◌≡◌, ◌⊎◌, ⊎_elim, inl, inr, ℕ, Lis
 use Rattle.std.specs.Prelude.{map, slice_get, sum}
 use Rattle.std.proofs.lemmas.Bool.{cases_eq, false≢true}
 use Rattle.std.proofs.lemmas.Option.{same_Some}
-use Rattle.holder_model.specs.Data.{ValueOf}
-use Rattle.holder_model.specs.Frames.{Entry, Held}
-use Rattle.holder_model.specs.ModuleShapes.{ModuleShapes, field_shapes}
-use Rattle.holder_model.specs.memory_accesses.Rows.{is_part}
-use Rattle.holder_model.specs.memory_accesses.Sources.{source_at}
-use Rattle.holder_model.specs.memory_accesses.declared.source.Source.{Source}
-use Rattle.holder_model.specs.memory_accesses.declared.source.Source.TheVariants as source
+use Rattle.whole_objects.specs.holder_model.Data.{ValueOf}
+use Rattle.whole_objects.specs.holder_model.Frames.{Entry, Held}
+use Rattle.whole_objects.specs.holder_model.ModuleShapes.{ModuleShapes, field_shapes}
+use Rattle.whole_objects.specs.holder_model.memory_accesses.Rows.{is_part}
+use Rattle.whole_objects.specs.holder_model.memory_accesses.Sources.{source_at}
+use Rattle.whole_objects.specs.holder_model.memory_accesses.declared.source.Source.{Source}
+use Rattle.whole_objects.specs.holder_model.memory_accesses.declared.source.Source.TheVariants as source
 use Rattle.memory_cells.specs.inner.Cells.{ChangesAt, IsCell, IsInside, cell_at, has_cell}
 use Rattle.memory_cells.proofs.PlaceCells.{not_cell}
 use Rattle.memory_cells.proofs.Writes.{filled_changes, filled_full, object_other}
@@ -108,12 +108,12 @@ module _ (shapes : ModuleShapes) (sources : List Source) (said now : Progress) (
   full_now n has = ⊎_elim
       (λ (e : has_cell p n ≡ true). subst (λ g. IsCell true (cell_at later g n)) at.1.home (filled_full memory p x inside fit n e))
       (λ (e : has_cell p n ≡ false). ⊎_elim
-        (λ (all : is_part write.l ≡ false). absurd (false≢true (sym e ∙ at.1.whole all n has)))
-        (λ (written : said.unwritten object k ≡ Some false).
-          let f = was.fields k at.1.shape at.1.there in
-          let so : f.unwritten ≡ false = same_Some f.unwritten false (sym f.is ∙ written) in
-          subst (IsCell true) (sym (cell_same n e)) (subst (λ u. IsCell (not u) (slice_get (object_at memory at.0).cells n)) so (f.cells n has)))
-        write.covers)
+      (λ (all : is_part write.l ≡ false). absurd (false≢true (sym e ∙ at.1.whole all n has)))
+      (λ (written : said.unwritten object k ≡ Some false).
+      let f = was.fields k at.1.shape at.1.there in
+      let so : f.unwritten ≡ false = same_Some f.unwritten false (sym f.is ∙ written) in
+      subst (IsCell true) (sym (cell_same n e)) (subst (λ u. IsCell (not u) (slice_get (object_at memory at.0).cells n)) so (f.cells n has)))
+      write.covers)
       (true_or_false (has_cell p n))
 
   -- its fields, by the class that it had
@@ -124,22 +124,29 @@ module _ (shapes : ModuleShapes) (sources : List Source) (said now : Progress) (
     where
       written : j ≡ k → (u : Bool) × (now.unwritten object j ≡ Some u)
           × ((n : ℕ) → has_cell (place_of_field shapes at.0 (object_at memory at.0) j s) n ≡ true → IsCell (not u) (slice_get (object_at later at.0).cells n))
-      written same = (false, ap (now.unwritten object) same ∙ is_now.written, λ n has.
-          let shape_same : at.1.shape ≡ s = same_Some at.1.shape s (sym at.1.there ∙ ap (slice_get (fields_of_object shapes (object_at memory at.0))) (sym same) ∙ e) in
-          let has_k : has_cell (place_of_field shapes at.0 (object_at memory at.0) k s) n ≡ true =
-          subst (λ i. has_cell (place_of_field shapes at.0 (object_at memory at.0) i s) n ≡ true) same has in
-          let has_at : has_cell (place_of_field shapes at.0 (object_at memory at.0) k at.1.shape) n ≡ true =
-          subst (λ t. has_cell (place_of_field shapes at.0 (object_at memory at.0) k t) n ≡ true) (sym shape_same) has_k in
-          full_now n has_at)
+      written same = (
+        false,
+        ap (now.unwritten object) same ∙ is_now.written,
+        λ n has.
+            let shape_same : at.1.shape ≡ s = same_Some at.1.shape s (sym at.1.there ∙ ap (slice_get (fields_of_object shapes (object_at memory at.0))) (sym same) ∙ e) in
+            let has_k : has_cell (place_of_field shapes at.0 (object_at memory at.0) k s) n ≡ true =
+            subst (λ i. has_cell (place_of_field shapes at.0 (object_at memory at.0) i s) n ≡ true) same has in
+            let has_at : has_cell (place_of_field shapes at.0 (object_at memory at.0) k at.1.shape) n ≡ true =
+            subst (λ t. has_cell (place_of_field shapes at.0 (object_at memory at.0) k t) n ≡ true) (sym shape_same) has_k in
+            full_now n has_at,
+      )
 
       unchanged : (j ≡ k → ⊥) → (u : Bool) × (now.unwritten object j ≡ Some u)
           × ((n : ℕ) → has_cell (place_of_field shapes at.0 (object_at memory at.0) j s) n ≡ true → IsCell (not u) (slice_get (object_at later at.0).cells n))
       unchanged differ =
-          let f = was.fields j s e in
-          (f.unwritten, is_now.others object j (λ both. differ both.1) ∙ f.is, λ n has.
-          let not_k = not_of_other at.0 (fields_of_object shapes (object_at memory at.0)) j k s at.1.shape e at.1.there differ n has in
-          let out : has_cell p n ≡ false = not_cell p n (λ in_p. absurd (false≢true (sym not_k ∙ at.1.within n in_p))) in
-          subst (IsCell (not f.unwritten)) (sym (cell_same n out)) (f.cells n has))
+          let f = was.fields j s e in (
+            f.unwritten,
+            is_now.others object j (λ both. differ both.1) ∙ f.is,
+            λ n has.
+                let not_k = not_of_other at.0 (fields_of_object shapes (object_at memory at.0)) j k s at.1.shape e at.1.there differ n has in
+                let out : has_cell p n ≡ false = not_cell p n (λ in_p. absurd (false≢true (sym not_k ∙ at.1.within n in_p))) in
+                subst (IsCell (not f.unwritten)) (sym (cell_same n out)) (f.cells n has),
+          )
 
   built_now : IsBuiltAs shapes sources now object at.0 (object_at later at.0)
   built_now = record {
@@ -160,13 +167,13 @@ module _ (shapes : ModuleShapes) (sources : List Source) (said now : Progress) (
   still_built : (w : ValueId) (o : ObjectId) → IsUnfinished sources said w → Holds entries w o → IsBuiltAs shapes sources now w o (object_at later o)
   still_built w o un holds = ⊎_elim
       (λ (same : w ≡ object).
-        let here : at.0 ≡ o = held_same entries object at.0 o holds_it (subst (λ v. Holds entries v o) same holds) in
-        subst (λ v. IsBuiltAs shapes sources now v o (object_at later o)) (sym same)
-        (subst (λ q. IsBuiltAs shapes sources now object q (object_at later q)) here built_now))
+      let here : at.0 ≡ o = held_same entries object at.0 o holds_it (subst (λ v. Holds entries v o) same holds) in
+      subst (λ v. IsBuiltAs shapes sources now v o (object_at later o)) (sym same)
+      (subst (λ q. IsBuiltAs shapes sources now object q (object_at later q)) here built_now))
       (λ (differ : w ≡ object → ⊥).
-        let other : o ≡ at.0 → ⊥ = λ e. differ (h.apart w object o un unfinished holds (subst (Holds entries object) (sym e) holds_it)) in
-        subst (λ y. IsBuiltAs shapes sources now w o y) (sym (others_same o other))
-        (built_so shapes sources said now w o (object_at memory o) (λ j. is_now.others w j (λ both. differ both.0)) (h.built w o un holds).1))
+      let other : o ≡ at.0 → ⊥ = λ e. differ (h.apart w object o un unfinished holds (subst (Holds entries object) (sym e) holds_it)) in
+      subst (λ y. IsBuiltAs shapes sources now w o y) (sym (others_same o other))
+      (built_so shapes sources said now w o (object_at memory o) (λ j. is_now.others w j (λ both. differ both.0)) (h.built w o un holds).1))
       (which_value w object)
 
   pub field_progress : Progresses shapes sources said now entries memory later

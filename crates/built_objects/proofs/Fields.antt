@@ -53,17 +53,17 @@ pub field_of_cell : (ss : List Shape) (n : ℕ) → n < cells_of_all ss → IsOf
 field_of_cell [] n lt = let none : cells_of_all [] ≡ 0 = refl in absurd (omega (arith, lt, none))
 field_of_cell (s ∷ ss) n lt = ⊎_elim
     (λ (early : n < cell_count s).
-      let none : offset (s ∷ ss) 0 ≡ 0 = refl in
-      record { field = 0; shape = s; there = refl; from = omega (arith, none); to = omega (arith, early, none) })
+    let none : offset (s ∷ ss) 0 ≡ 0 = refl in
+    record { field = 0; shape = s; there = refl; from = omega (arith, none); to = omega (arith, early, none) })
     (λ (late : cell_count s ≤ n).
-      let r = field_of_cell ss (n - cell_count s) (omega (arith, lt, late, all_more s ss)) in
-      record {
-        field = suc r.field;
-        shape = r.shape;
-        there = r.there;
-        from = omega (arith, r.from, late, offset_more s ss r.field);
-        to = omega (arith, r.to, late, offset_more s ss r.field);
-      })
+    let r = field_of_cell ss (n - cell_count s) (omega (arith, lt, late, all_more s ss)) in
+    record {
+      field = suc r.field;
+      shape = r.shape;
+      there = r.there;
+      from = omega (arith, r.from, late, offset_more s ss r.field);
+      to = omega (arith, r.to, late, offset_more s ss r.field);
+    })
     (cases_lt n (cell_count s))
 
 -- a cell of one field is none of another
@@ -79,9 +79,9 @@ not_of_other o ss j k s t ej ek differ n has = not_cell (field_in o ss k t) n (�
     ⊎_elim
     (λ (lt : j < k). let clear = fields_apart ss j k s t ej ek lt in absurd (omega (arith, clear, w1, u0)))
     (λ (le : k ≤ j).
-      let lt : k < j = before k j le (λ e. differ (sym e)) in
-      let clear = fields_apart ss k j t s ek ej lt in
-      absurd (omega (arith, clear, u1, w0)))
+    let lt : k < j = before k j le (λ e. differ (sym e)) in
+    let clear = fields_apart ss k j t s ek ej lt in
+    absurd (omega (arith, clear, u1, w0)))
     (cases_lt j k))
   where
     before : (k j : ℕ) → k ≤ j → (k ≡ j → ⊥) → k < j

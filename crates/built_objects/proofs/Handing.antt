@@ -3,11 +3,11 @@ use Rattle.std.proofs.Common.{◌≡◌, ℕ, List, [], ◌∷◌, true, Option,
 use Rattle.std.specs.Prelude.{option_map, slice_get}
 use Rattle.std.proofs.lemmas.Bool.{false≢true}
 use Rattle.std.proofs.lemmas.Option.{none-some, same_Some}
-use Rattle.holder_model.specs.Data.{AddressOf, Datum, ValueOf, home_references, references_in}
-use Rattle.holder_model.specs.Frames.{Entry}
-use Rattle.holder_model.specs.ModuleShapes.{ModuleShapes}
-use Rattle.holder_model.specs.memory_accesses.declared.location.Location.{Location}
-use Rattle.holder_model.specs.memory_accesses.declared.source.Source.{Source}
+use Rattle.whole_objects.specs.holder_model.Data.{AddressOf, Datum, ValueOf, home_references, references_in}
+use Rattle.whole_objects.specs.holder_model.Frames.{Entry}
+use Rattle.whole_objects.specs.holder_model.ModuleShapes.{ModuleShapes}
+use Rattle.whole_objects.specs.holder_model.memory_accesses.declared.location.Location.{Location}
+use Rattle.whole_objects.specs.holder_model.memory_accesses.declared.source.Source.{Source}
 use Rattle.memory_cells.specs.inner.Cells.{has_cell}
 use Rattle.memory_cells.proofs.PlaceCells.{cell_from, cell_within}
 use Rattle.numbered_form.specs.Lists.{Each}
@@ -94,12 +94,14 @@ name_member shapes sources said memory entries h y v p names goes j q is located
         → IsFieldAddress sources v l of k → (r : Place) → q ≡ r → (o : ObjectId) × IsInField shapes o (object_at memory o) l k r
     placed_in s there part l of k address r same =
         let at = located l of k address in
-        let was = h.placed y at.1.0 of k at.1.1 p names in
-        (was.0, subst (IsInField shapes was.0 (object_at memory was.0) l k) (part ∙ same) (record {
-          shape = was.1.shape;
-          there = was.1.there;
-          home = was.1.home;
-          part = sym at.0;
-          within = λ n has. was.1.within n (member_within p j s there n has);
-          whole = λ all. absurd (false≢true (sym all ∙ at.0));
-        }))
+        let was = h.placed y at.1.0 of k at.1.1 p names in (
+          was.0,
+          subst (IsInField shapes was.0 (object_at memory was.0) l k) (part ∙ same) (record {
+            shape = was.1.shape;
+            there = was.1.there;
+            home = was.1.home;
+            part = sym at.0;
+            within = λ n has. was.1.within n (member_within p j s there n has);
+            whole = λ all. absurd (false≢true (sym all ∙ at.0));
+          }),
+        )

@@ -8,3 +8,4 @@ pub mod Beginning
 pub mod Results
 pub mod Unfinished
 pub mod Handing
+pub use Rattle.whole_objects.proofs as whole_objects

@@ -3,9 +3,9 @@ use Rattle.std.proofs.Common.{◌≡◌, ◌<◌, ◌⊎◌, ⊎_elim, inl, inr,
 use Rattle.std.specs.Prelude.{slice_get}
 use Rattle.std.proofs.lemmas.Bool.{cases_eq}
 use Rattle.std.proofs.lemmas.Option.{same_Some}
-use Rattle.holder_model.specs.Data.{references_in}
-use Rattle.holder_model.specs.ModuleShapes.{ModuleShapes}
-use Rattle.holder_model.specs.memory_accesses.declared.source.Source.{Source}
+use Rattle.whole_objects.specs.holder_model.Data.{references_in}
+use Rattle.whole_objects.specs.holder_model.ModuleShapes.{ModuleShapes}
+use Rattle.whole_objects.specs.holder_model.memory_accesses.declared.source.Source.{Source}
 use Rattle.memory_cells.specs.inner.Cells.{IsCell, IsEmptyCell, cell_at}
 use Rattle.memory_cells.proofs.Lists.{element}
 use Rattle.memory_cells.proofs.PlaceCells.{cell_from}
@@ -50,7 +50,7 @@ module _ (shapes : ModuleShapes) (sources : List Source) (said : Progress) (obje
       → IsUnfinished sources said object ⊎ IsWhole memory o
   built_or_whole made is = ⊎_elim
       (λ (r : (k : ℕ) × (k < length ss) × (said.unwritten object k ≡ Some true)).
-        inl (record { field = r.0; of = record { fields = length ss; is = is.count; within = r.1 }; unwritten = r.2 }))
+      inl (record { field = r.0; of = record { fields = length ss; is = is.count; within = r.1 }; unwritten = r.2 }))
       (λ (r : (k : ℕ) → k < length ss → said.unwritten object k ≡ Some false). inr (record { made = made; written = full r }))
       (some_or_none (said.unwritten object) (length ss) known)
     where

@@ -1,9 +1,9 @@
 -- A frame holds its objects behind results that name whole objects, or are about unfinished ones.
 use Rattle.std.proofs.Common.{◌≡◌, ⊎_elim, ℕ, List, [], ◌∷◌, true, refl, sym, ap, ◌∙◌, subst}
 use Rattle.std.proofs.lemmas.Option.{same_Some}
-use Rattle.holder_model.specs.Data.{AddressOf, Datum, ValueOf, references_in}
-use Rattle.holder_model.specs.Frames.{Entry, datum_in, entry_at}
-use Rattle.holder_model.specs.memory_accesses.declared.location.Location.{Location}
+use Rattle.whole_objects.specs.holder_model.Data.{AddressOf, Datum, ValueOf, references_in}
+use Rattle.whole_objects.specs.holder_model.Frames.{Entry, datum_in, entry_at}
+use Rattle.whole_objects.specs.holder_model.memory_accesses.declared.location.Location.{Location}
 use Rattle.numbered_form.specs.Lists.{Each}
 use Rattle.run_values.specs.Memory.{object_at}
 use Rattle.run_values.specs.Places.{Place}

@@ -2,11 +2,11 @@
 use Rattle.std.proofs.Common.{◌≡◌, ◌<◌, ⊎_elim, ℕ, List, length, Some, true, sym, ap, ◌∙◌, subst, arith}
 use Rattle.std.specs.Prelude.{slice_get}
 use Rattle.std.proofs.lemmas.Option.{none-some}
-use Rattle.holder_model.specs.Data.{AddressOf, Datum, ValueOf, home_references, references_in}
-use Rattle.holder_model.specs.Frames.{Entry, Gone, datum_in, entry_at}
-use Rattle.holder_model.specs.ModuleShapes.{ModuleShapes, field_shapes}
-use Rattle.holder_model.specs.memory_accesses.declared.location.Location.{Location}
-use Rattle.holder_model.specs.memory_accesses.declared.source.Source.{Source}
+use Rattle.whole_objects.specs.holder_model.Data.{AddressOf, Datum, ValueOf, home_references, references_in}
+use Rattle.whole_objects.specs.holder_model.Frames.{Entry, Gone, datum_in, entry_at}
+use Rattle.whole_objects.specs.holder_model.ModuleShapes.{ModuleShapes, field_shapes}
+use Rattle.whole_objects.specs.holder_model.memory_accesses.declared.location.Location.{Location}
+use Rattle.whole_objects.specs.holder_model.memory_accesses.declared.source.Source.{Source}
 use Rattle.memory_cells.specs.inner.Cells.{has_cell}
 use Rattle.numbered_form.specs.Lists.{Each}
 use Rattle.numbered_form.specs.Names.{Name}

@@ -1,1 +1,2 @@
 pub mod inner
+pub use Rattle.whole_objects.specs as whole_objects

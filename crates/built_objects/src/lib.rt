@@ -3,4 +3,7 @@
 
 mod laws;
 
-pub use laws::{fields_are_asked, fields_are_written, objects_are_begun, objects_stay, results_are_held, results_may_begin};
+pub use laws::{
+    fields_are_asked, fields_are_written, objects_are_begun, objects_stay, results_are_held,
+    results_may_begin,
+};

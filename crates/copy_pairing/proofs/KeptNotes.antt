@@ -26,13 +26,13 @@ use Rattle.rewriting_order.specs.inner.Laws.{
   MovingLetsNoneBorrow,
   MovingMakesNoCopy,
 }
-use Rattle.copy_pairing.specs.declared.answers.Answer.{Answer}
+use Rattle.borrowable_copies.specs.declared.answers.Answer.{Answer}
 use Rattle.copy_pairing.specs.declared.notes.Age.{Age}
 use Rattle.copy_pairing.specs.declared.notes.Age.TheVariants.{Current, Moved, Lent}
 use Rattle.copy_pairing.specs.declared.notes.Notes.{Notes}
 use Rattle.copy_pairing.specs.declared.surveys.Survey.{Survey}
 use Rattle.copy_pairing.specs.declared.turns.Turn.TheVariants.{Lend, Move}
-use Rattle.copy_pairing.specs.inner.Answers.{AreAnswers, AreSpared}
+use Rattle.borrowable_copies.specs.inner.Answers.{AreAnswers, AreSpared}
 use Rattle.copy_pairing.specs.inner.Surveys.{AreNotesOf, AreValuesOf, HoldsAt, IsKeptFor, IsKeptIn, IsLeftByLending, IsLeftByMove, IsSurveyOf, after_move}
 use Rattle.copy_pairing.specs.inner.Turns.{IsMovableTo, IsTurnThere}
 

@@ -28,7 +28,7 @@ use Rattle.copy_removal.specs.borrow_scopes.inner.Tables.{lent_bases_in}
 use Rattle.copy_removal.proofs.DestroyShown.{destroy_shown}
 use Rattle.copy_removal.specs.Copies.{IsDestroy}
 use Rattle.copy_removal.specs.Removable.{IsDestroyedNext, IsMovable, IsUnlent, concerns}
-use Rattle.copy_pairing.specs.inner.Asked.{AreFreeAt}
+use Rattle.borrowable_copies.specs.inner.Asked.{AreFreeAt}
 use Rattle.copy_pairing.specs.inner.Turns.{IsMovableTo, IsOwnedUpTo}
 
 -- the scopes that borrow from a value

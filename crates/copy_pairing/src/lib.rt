@@ -2,20 +2,13 @@
 //! What can go is defined in `copy_removal`. It knows of no run and no text.
 #![tactic(auto)]
 
-mod answers;
-mod consumers;
-mod copies;
-mod held;
-mod lending;
 mod moves;
 mod notes;
 mod optimiser;
 mod passes;
 mod removals;
 mod surveys;
-mod together;
 mod turns;
-mod watched;
 
 pub use copy_removal::Removal;
 pub use optimiser::{Unfinished, optimize};

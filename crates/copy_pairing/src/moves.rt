@@ -18,10 +18,8 @@ ghost use Rattle.ownership_kinds.specs.Facts.{facts_in};
 ghost use Rattle.copy_pairing.specs.inner.Surveys.{AreNotesOf, AreValuesOf};
 ghost use Rattle.copy_pairing.specs.inner.Turns.{IsMovableTo, IsOwnedUpTo};
 
-use crate::copies::{Copied, is_destroyed_at};
-use crate::held::are_free_at;
 use crate::notes::{Notes, surveyed, with_values};
-use crate::watched::{is_among, is_mark};
+use borrowable_copies::{Copied, are_free_at, is_among, is_destroyed_at, is_mark};
 use ownership_marks::{Kinds, Mark, MarkSort};
 use sil_ast::{Block, Exhausted, Function, PointId, ValueId};
 use sil_cfg::Item;

@@ -7,8 +7,8 @@ ghost use Rattle.point_checks.specs.inner.Numbered.{IsOfNumberedModule};
 ghost use Rattle.copy_pairing.specs.inner.Surveys as surveys;
 ghost use Rattle.copy_pairing.specs.inner.Surveys.{AreNotesOf, AreValuesOf, IsKeptFor, IsLeftByLending, IsLeftByMove, IsSurveyOf};
 
-use crate::answers::{Answer, all_answers, forget};
 use crate::surveys::{Survey, new_survey};
+use borrowable_copies::{Answer, all_answers, forget};
 use sil_ast::{Exhausted, Function, ValueId};
 use sil_types::TypeTable;
 use std::alloc::Global;

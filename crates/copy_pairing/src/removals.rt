@@ -11,9 +11,9 @@ ghost use Rattle.copy_removal.specs.Copies.{IsCopy};
 ghost use Rattle.copy_removal.specs.Optimised as optimised;
 ghost use Rattle.copy_removal.specs.Removable.{IsRemoval};
 
-use crate::copies::{Copied, copy_at};
 use crate::notes::unanswered;
 use crate::turns::{Turn, turn_by_notes};
+use borrowable_copies::{Copied, copy_at};
 use copy_removal::Removal;
 use sil_ast::{Exhausted, FuncId, Function, PointId};
 use sil_types::TypeTable;

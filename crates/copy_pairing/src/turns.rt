@@ -7,15 +7,13 @@ ghost use Rattle.sil_cfg.specs.inner.Build.{HasGraph};
 ghost use Rattle.point_checks.specs.inner.Numbered.{IsOfNumberedModule};
 ghost use Rattle.ownership_kinds.specs.Facts.{facts_in};
 ghost use Rattle.copy_removal.specs.Copies.{IsCopy};
-ghost use Rattle.copy_pairing.specs.inner.Answers.{IsToldOf};
+ghost use Rattle.borrowable_copies.specs.inner.Answers.{IsToldOf};
 ghost use Rattle.copy_pairing.specs.inner.Surveys.{AreNotesOf, IsKeptFor};
 ghost use Rattle.copy_pairing.specs.inner.Turns.{IsTurnIn, IsTurnOf};
 
-use crate::answers::answer_to;
-use crate::copies::{Copied, copy_at};
-use crate::lending::is_borrowable;
 use crate::moves::moves_to;
 use crate::notes::{Notes, kept_or_new, surveyed};
+use borrowable_copies::{Copied, answer_to, copy_at, is_borrowable};
 use sil_ast::{Exhausted, Function, PointId, ValueId};
 use sil_types::TypeTable;
 use std::alloc::Global;

@@ -1,5 +1,6 @@
 -- What makes a value that is about a new object takes another one that is about it, so the object is as it was when the value was made.
-use Rattle.std.proofs.Common.{◌≡◌, ◌⊎◌, inl, inr, ℕ, zero, suc, List, [], ◌∷◌, ◌++◌, length, map, reverse, refl, sym, ap, ap₂, ◌∙◌, subst, Bool, true, false, not, ◌&&◌, ◌||◌, Option, Some, None, eq-eqb}
+use Rattle.std.proofs.Common.{◌≡◌, ◌⊎◌, inl, inr, ℕ, zero, suc, List, [], ◌∷◌, ◌++◌, length, map, reverse, refl, sym, ap, ap₂, ◌∙◌, subst, Bool, true, false, not, ◌&&◌, ◌||◌}
+use Rattle.std.proofs.Common.{Option, Some, None, eq-eqb}
 use Rattle.std.specs.Prelude.{◌==◌, Contains, cond, option_map, slice_get}
 use Rattle.std.specs.List.{list_any}
 use Rattle.std.proofs.lemmas.Bool.{eqb-true, false≢true, true≢false}
@@ -11,41 +12,43 @@ use Rattle.argument_conventions.specs.declared.row.AddressRow.{AddressRow}
 use Rattle.instruction_table.specs.Forms.{is_terminator}
 use Rattle.instruction_table.specs.declared.op.Op.{Op}
 use Rattle.instruction_table.specs.declared.op.Op.TheVariants as op
-use Rattle.accepted_memory.specs.accepted_trails.inner.Bases.{IsAsMade}
-use Rattle.accepted_memory.specs.accepted_trails.inner.Defined.{IsDefinedOn, makes}
-use Rattle.accepted_memory.specs.memory_accesses.Locations.{below, below_by, is_object, locate, located_by, object_lent, upcast_from, whole}
-use Rattle.accepted_memory.specs.memory_accesses.Operations.{access_kind_of}
-use Rattle.accepted_memory.specs.memory_accesses.Sources.{argument_source_or, borrow_source, element_place, field_source, handed_source, is_trivial_member}
-use Rattle.accepted_memory.specs.memory_accesses.Sources.{loan_source, member_place, object_source, part_source, result_source, slot_source, source_at, source_by, sources_of, upcast_source}
-use Rattle.accepted_memory.specs.memory_accesses.declared.columns.AccessKind.{AccessKind}
-use Rattle.accepted_memory.specs.memory_accesses.declared.columns.AccessKind.TheVariants as access
-use Rattle.accepted_memory.specs.memory_accesses.declared.location.Location.{Location}
-use Rattle.accepted_memory.specs.memory_accesses.declared.source.Source.{Source}
-use Rattle.accepted_memory.specs.memory_accesses.declared.source.Source.TheVariants as source
-use Rattle.accepted_memory.specs.memory_parts.Building.{builds, is_object_of}
-use Rattle.accepted_memory.specs.run_trails.inner.RunTrails.{IsTurnedTrail}
-use Rattle.accepted_memory.specs.run_trails.inner.Since.{is_none_since}
-use Rattle.accepted_memory.proofs.accepted_trails.Tests.{any_alike, any_reversed, each_weaker, or_right, picked}
-use Rattle.accepted_memory.proofs.run_trails.RunPaths.{are_trails}
-use Rattle.accepted_memory.proofs.run_trails.SplicedRuns.{are_spliced}
-use Rattle.accepted_memory.proofs.run_trails.TurnedTrails.{are_of_items, turned_item, turned_older}
-use Rattle.accepted_places.proofs.Fields.{has_among}
-use Rattle.accepted_places.proofs.ItemStacks.{accepted_in}
-use Rattle.accepted_places.proofs.Locating.{member_location, root_location, taken_before}
-use Rattle.accepted_places.proofs.Made.{IsMadeBy, argument, made_so, result}
-use Rattle.accepted_places.specs.inner.Located.{IsRoot}
-use Rattle.accepted_places.specs.inner.Located as located
-use Rattle.accepted_premises.proofs.MadeAtStops.{made_at_stops}
-use Rattle.accepted_values.specs.inner.Known.{IsAcceptedBody}
-use Rattle.accepted_values.specs.inner.Rows.{source_of_argument}
-use Rattle.accepted_values.specs.run_typing.EndForms.{value_in}
-use Rattle.accepted_values.proofs.Accepted.{in_ownership_form, typed, well_typed}
-use Rattle.built_objects.specs.inner.Building.{IsAbout, IsFieldAddress, address, borrow, itself}
+use Rattle.held_places.specs.accepted_places.accepted_memory.accepted_trails.inner.Bases.{IsAsMade}
+use Rattle.held_places.specs.accepted_places.accepted_memory.accepted_trails.inner.Defined.{IsDefinedOn, makes}
+use Rattle.held_places.specs.accepted_places.accepted_memory.memory_accesses.Locations.{below, below_by, is_object, locate, located_by, object_lent, upcast_from, whole}
+use Rattle.held_places.specs.accepted_places.accepted_memory.memory_accesses.Operations.{access_kind_of}
+use Rattle.held_places.specs.accepted_places.accepted_memory.memory_accesses.Sources.{argument_source_or, borrow_source, element_place, field_source, handed_source, is_trivial_member}
+use Rattle.held_places.specs.accepted_places.accepted_memory.memory_accesses.Sources.{loan_source, member_place, object_source, part_source}
+use Rattle.held_places.specs.accepted_places.accepted_memory.memory_accesses.Sources.{result_source, slot_source, source_at, source_by, sources_of}
+use Rattle.held_places.specs.accepted_places.accepted_memory.memory_accesses.Sources.{upcast_source}
+use Rattle.held_places.specs.accepted_places.accepted_memory.memory_accesses.declared.columns.AccessKind.{AccessKind}
+use Rattle.held_places.specs.accepted_places.accepted_memory.memory_accesses.declared.columns.AccessKind.TheVariants as access
+use Rattle.held_places.specs.accepted_places.accepted_memory.memory_accesses.declared.location.Location.{Location}
+use Rattle.held_places.specs.accepted_places.accepted_memory.memory_accesses.declared.source.Source.{Source}
+use Rattle.held_places.specs.accepted_places.accepted_memory.memory_accesses.declared.source.Source.TheVariants as source
+use Rattle.held_places.specs.accepted_places.accepted_memory.memory_parts.Building.{builds, is_object_of}
+use Rattle.held_places.specs.accepted_places.accepted_memory.run_trails.inner.RunTrails.{IsTurnedTrail}
+use Rattle.held_places.specs.accepted_places.accepted_memory.run_trails.inner.Since.{is_none_since}
+use Rattle.held_places.proofs.accepted_places.accepted_memory.accepted_trails.Tests.{any_alike, any_reversed, each_weaker, or_right, picked}
+use Rattle.held_places.proofs.accepted_places.accepted_memory.run_trails.RunPaths.{are_trails}
+use Rattle.held_places.proofs.accepted_places.accepted_memory.run_trails.SplicedRuns.{are_spliced}
+use Rattle.held_places.proofs.accepted_places.accepted_memory.run_trails.TurnedTrails.{are_of_items, turned_item, turned_older}
+use Rattle.held_places.proofs.accepted_places.Fields.{has_among}
+use Rattle.held_places.proofs.accepted_places.ItemStacks.{accepted_in}
+use Rattle.held_places.proofs.accepted_places.Locating.{member_location, root_location, taken_before}
+use Rattle.held_places.proofs.accepted_places.Made.{IsMadeBy, argument, made_so, result}
+use Rattle.held_places.specs.accepted_places.inner.Located.{IsRoot}
+use Rattle.held_places.specs.accepted_places.inner.Located as located
+use Rattle.held_places.proofs.accepted_places.accepted_premises.MadeAtStops.{made_at_stops}
+use Rattle.held_places.specs.accepted_places.accepted_values.inner.Known.{IsAcceptedBody}
+use Rattle.held_places.specs.accepted_places.accepted_values.inner.Rows.{source_of_argument}
+use Rattle.held_places.specs.accepted_places.accepted_values.run_typing.EndForms.{value_in}
+use Rattle.held_places.proofs.accepted_places.accepted_values.Accepted.{in_ownership_form, typed, well_typed}
+use Rattle.held_objects.specs.built_objects.inner.Building.{IsAbout, IsFieldAddress, address, borrow, itself}
 use Rattle.item_operands.specs.Items.{item_defined, item_taken}
 use Rattle.item_operands.specs.Parts.{inst_at, item_inst}
 use Rattle.item_operands.specs.declared.taken.Taken.{Taken}
 use Rattle.numbered_form.specs.Lists.{Each}
-use Rattle.owned_run_typing.proofs.OwnedInsts.{owned_inst}
+use Rattle.held_places.proofs.accepted_places.owned_run_typing.OwnedInsts.{owned_inst}
 use Rattle.ownership_chains.specs.Facts.{value_of}
 use Rattle.point_checks.proofs.Among.{Among, among_contained, contained_among}
 use Rattle.sil_ast.specs.declared.function.Function.{Function}
@@ -68,7 +71,7 @@ use Rattle.followed_objects.specs.inner.About.{AreAboutAsMade, AreAboutTaken, Is
 
 -- ---- the operand that a source is made of
 
-abbrev operand_of : Source → Option ValueId
+abbrev pub operand_of : Source → Option ValueId
 operand_of (source.Slot trivial) = None
 operand_of (source.Argument row trivial) = None
 operand_of (source.Object fields) = None
@@ -109,7 +112,7 @@ part_of None k w e = e
 part_of (Some v) None w e = absurd (none-some w e)
 part_of (Some v) (Some k) w e = e
 
-first_of : (d : Declarations) (i : Inst) (k : AccessKind) (w : ValueId) → operand_of (source_by k d i) ≡ Some w → first_value i ≡ Some w
+pub first_of : (d : Declarations) (i : Inst) (k : AccessKind) (w : ValueId) → operand_of (source_by k d i) ≡ Some w → first_value i ≡ Some w
 first_of d i access.NoAccess w e = absurd (none-some w e)
 first_of d i access.AllocatesSlot w e = absurd (slot_of d i.ty w e)
 first_of d i access.AllocatesObject w e = absurd (object_of d i.ty w e)
@@ -148,25 +151,25 @@ ending_idle _ e d i = absurd (false≢true e)
 -- ---- building borrows, step by step
 
 module _ (sources : List Source) (object : ValueId) where
-  abbrev lends : Source → Bool
+  abbrev pub lends : Source → Bool
   lends s = is_object_of object (object_lent sources s)
 
-  abbrev lent : ℕ → ValueId → Bool
+  abbrev pub lent : ℕ → ValueId → Bool
   lent n v = lends (source_at sources (below sources n v))
 
   object_lends : (of : ValueId) (b : Bool) → is_object_of object (cond b (Some of) None) ≡ true → source.Borrow of ≡ source.Borrow object
   object_lends of false e = absurd (false≢true e)
   object_lends of true e = ap (λ v. source.Borrow v) (ap value_of (eqb-true of.0 object.0 e))
 
-  lent_is : (s : Source) → lends s ≡ true → s ≡ source.Borrow object
+  pub lent_is : (s : Source) → lends s ≡ true → s ≡ source.Borrow object
   lent_is (source.Borrow of) e = object_lends of (is_object (source_at sources of)) e
   lent_is _ e = absurd (false≢true e)
 
-  borrow_stays : (n : ℕ) (v : ValueId) → source_at sources v ≡ source.Borrow object → below sources n v ≡ v
+  pub borrow_stays : (n : ℕ) (v : ValueId) → source_at sources v ≡ source.Borrow object → below sources n v ≡ v
   borrow_stays zero v is = refl
   borrow_stays (suc n) v is = ap (below_by (below sources n) v) is
 
-  lent_more : (n : ℕ) (v : ValueId) → lent n v ≡ true → lent (suc n) v ≡ true
+  pub lent_more : (n : ℕ) (v : ValueId) → lent n v ≡ true → lent (suc n) v ≡ true
   lent_more zero v e = ap (λ w. lends (source_at sources w)) (borrow_stays 1 v (lent_is (source_at sources v) e)) ∙ e
   lent_more (suc n) v e = by (λ of h. lent_more n of h) (source_at sources v) refl e
     where
@@ -201,12 +204,12 @@ module _ (sources : List Source) (object : ValueId) where
       by source.Other is h = inl (lent_is (source_at sources v) h)
 
   -- it borrows the object, or is an upcast of another one
-  builder : (v : ValueId) → builds sources object v ≡ true
+  pub builder : (v : ValueId) → builds sources object v ≡ true
       → (source_at sources v ≡ source.Borrow object) ⊎ ((of : ValueId) × (source_at sources v ≡ source.Upcast of) × (builds sources object of ≡ true))
   unfolding upcast_from
   builder v e = builder_by (length sources) v e
 
-  unlocated : (n : ℕ) (v : ValueId) (l : Location) (s : Source) → source_at sources v ≡ s → ((others : ValueId → Option Location) → located_by others v s ≡ None)
+  pub unlocated : (n : ℕ) (v : ValueId) (l : Location) (s : Source) → source_at sources v ≡ s → ((others : ValueId → Option Location) → located_by others v s ≡ None)
       → locate sources n v ≡ Some l → ⊥
   unlocated zero v l s is none e = none-some l e
   unlocated (suc n) v l s is none e = none-some l (sym (none (locate sources n)) ∙ sym (ap (located_by (locate sources n) v) is) ∙ e)
@@ -245,7 +248,7 @@ module _ (m : Module) (n : ℕ) (f : Function) (a : IsAcceptedBody m n f) where
   taken_by_item (items.Edge g) x is w e = absurd (ends_idle g.block.0 x ((typed m n f a).ends g.block.0 x is).1.ends w e)
   taken_by_item (items.Exit p) x is w e = absurd (ends_idle p.block.0 x ((typed m n f a).ends p.block.0 x is).1.ends w e)
 
-  taken_for : (i : Item) (v w : ValueId) → makes f v i ≡ true → operand_of (source_at sources v) ≡ Some w → (y : Taken) × Contains (item_taken f i) y × (y.value ≡ w)
+  pub taken_for : (i : Item) (v w : ValueId) → makes f v i ≡ true → operand_of (source_at sources v) ≡ Some w → (y : Taken) × Contains (item_taken f i) y × (y.value ≡ w)
   taken_for i v w made e = by (made_so m n f a i v (contained_among v (item_defined f i) (has_among (item_defined f i) v made)))
     where
       by : IsMadeBy d f i v → (y : Taken) × Contains (item_taken f i) y × (y.value ≡ w)
@@ -337,7 +340,7 @@ module _ (m : Module) (n : ℕ) (f : Function) (a : IsAcceptedBody m n f) (objec
   abbrev IsTakenAt : Item → ValueId → Type 0
   IsTakenAt i w = list_any (λ (y : Taken). y.value.0 == w.0) (item_taken f i) ≡ true
 
-  before_item : (t : List Item) (i : Item) → IsTurnedTrail f (i ∷ t) → (y : Taken) → Contains (item_taken f i) y → IsDefinedOn f t y.value
+  pub before_item : (t : List Item) (i : Item) → IsTurnedTrail f (i ∷ t) → (y : Taken) → Contains (item_taken f i) y → IsDefinedOn f t y.value
   before_item t i h y c = taken_before m n f a t i h y.value (among_any y (item_taken f i) (among_contained y (item_taken f i) c))
 
   -- the object is defined where something about it is

@@ -10,21 +10,21 @@ use Rattle.instruction_table.specs.declared.entries.Role.{Role}
 use Rattle.instruction_table.specs.declared.entries.Role.TheVariants as role
 use Rattle.instruction_table.specs.declared.op.Op.{Op}
 use Rattle.instruction_table.specs.declared.op.Op.TheVariants as op
-use Rattle.accepted_memory.specs.accepted_trails.inner.Passing.{is_end}
-use Rattle.accepted_memory.specs.holder_model.Frames.{Gone, entry_at, ends, has_any}
-use Rattle.accepted_memory.specs.memory_accesses.Accesses.{allowance_of}
-use Rattle.accepted_memory.specs.memory_accesses.Operations.{access_kind_of, deallocates, deallocates_by}
-use Rattle.accepted_memory.specs.memory_accesses.Sources.{sources_of}
-use Rattle.accepted_memory.specs.memory_parts.Building.{goes_by_borrow, builds, takes_borrow, takes_object}
-use Rattle.accepted_memory.specs.memory_parts.Switches.{is_same}
-use Rattle.accepted_memory.specs.memory_parts.declared.part.Part.TheVariants.{Building}
-use Rattle.accepted_memory.specs.ownership_kinds.Facts.{facts_in}
-use Rattle.accepted_memory.specs.run_trails.inner.RunTrails.{IsRunTrail}
-use Rattle.accepted_memory.specs.inner.PartTrails.{is_on}
-use Rattle.accepted_places.proofs.Fields.{unfinished_allowed}
-use Rattle.accepted_values.specs.inner.Known.{IsAcceptedBody}
-use Rattle.accepted_values.proofs.Accepted.{typed}
-use Rattle.accepted_values.proofs.Counted.{nothing_in}
+use Rattle.held_places.specs.accepted_places.accepted_memory.accepted_trails.inner.Passing.{is_end}
+use Rattle.held_places.specs.accepted_places.accepted_memory.holder_model.Frames.{Gone, entry_at, ends, has_any}
+use Rattle.held_places.specs.accepted_places.accepted_memory.memory_accesses.Accesses.{allowance_of}
+use Rattle.held_places.specs.accepted_places.accepted_memory.memory_accesses.Operations.{access_kind_of, deallocates, deallocates_by}
+use Rattle.held_places.specs.accepted_places.accepted_memory.memory_accesses.Sources.{sources_of}
+use Rattle.held_places.specs.accepted_places.accepted_memory.memory_parts.Building.{goes_by_borrow, builds, takes_borrow, takes_object}
+use Rattle.held_places.specs.accepted_places.accepted_memory.memory_parts.Switches.{is_same}
+use Rattle.held_places.specs.accepted_places.accepted_memory.memory_parts.declared.part.Part.TheVariants.{Building}
+use Rattle.held_places.specs.accepted_places.accepted_memory.ownership_kinds.Facts.{facts_in}
+use Rattle.held_places.specs.accepted_places.accepted_memory.run_trails.inner.RunTrails.{IsRunTrail}
+use Rattle.held_places.specs.accepted_places.accepted_memory.inner.PartTrails.{is_on}
+use Rattle.held_places.proofs.accepted_places.Fields.{unfinished_allowed}
+use Rattle.held_places.specs.accepted_places.accepted_values.inner.Known.{IsAcceptedBody}
+use Rattle.held_places.proofs.accepted_places.accepted_values.Accepted.{typed}
+use Rattle.held_places.proofs.accepted_places.accepted_values.Counted.{nothing_in}
 use Rattle.item_operands.specs.Items.{item_taken, taken_along_in, taken_in}
 use Rattle.item_operands.specs.Parts.{edge_in, item_edge, item_inst}
 use Rattle.item_operands.specs.Roles.{by_row, conventions_in, last_roles, roles_for, taken_as, taken_by, taken_each}
@@ -34,7 +34,7 @@ use Rattle.ownership_chains.specs.Facts.{known_or, value_of}
 use Rattle.ownership_chains.specs.declared.facts.Facts.{Facts}
 use Rattle.ownership_marks.specs.Marks.{ended_by, ended_with, end_of, ends_owned, ends_scope}
 use Rattle.point_checks.proofs.Among.{among_contained, contained_among}
-use Rattle.accepted_places.proofs.PartsThere.{each_where_among}
+use Rattle.held_places.proofs.accepted_places.PartsThere.{each_where_among}
 use Rattle.sil_ast.specs.declared.function.Function.{Function}
 use Rattle.sil_ast.specs.declared.inst.Inst.{Inst}
 use Rattle.sil_ast.specs.declared.module.Module.{Module}

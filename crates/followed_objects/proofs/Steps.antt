@@ -1,5 +1,6 @@
 -- How each item leaves what a trail says of new objects.
-use Rattle.std.proofs.Common.{◌≡◌, ◌⊎◌, inl, inr, ℕ, zero, suc, ◌<◌, List, [], ◌∷◌, map, refl, sym, ap, ◌∙◌, subst, arith, Bool, true, false, not, ◌&&◌, ◌||◌, Option, Some, None, eq-eqb}
+use Rattle.std.proofs.Common.{◌≡◌, ◌⊎◌, inl, inr, ℕ, zero, suc, ◌<◌, List, [], ◌∷◌, map, refl, sym, ap, ◌∙◌, subst, arith, Bool, true, false, not, ◌&&◌, ◌||◌, Option, Some}
+use Rattle.std.proofs.Common.{None, eq-eqb}
 use Rattle.std.specs.Prelude.{◌==◌, Contains, cond, nat_lt, option_and_then, slice_get, unwrap_or}
 use Rattle.std.specs.List.{list_any}
 use Rattle.std.proofs.lemmas.Bool.{and_parts, eqb-true, false≢true, true≢false}
@@ -8,41 +9,41 @@ use Rattle.std.proofs.lemmas.Bool.Decides.{nat_tests}
 use Rattle.argument_conventions.specs.Arguments.{Told, arguments_of}
 use Rattle.argument_conventions.specs.Rows.{address_row}
 use Rattle.argument_conventions.specs.declared.row.AddressRow.{AddressRow}
-use Rattle.accepted_memory.specs.accepted_trails.inner.Defined.{makes}
-use Rattle.accepted_memory.specs.memory_accesses.Accesses.{does_of}
-use Rattle.accepted_memory.specs.memory_accesses.Locations.{cell_by, cell_of, field_cell, location_of, object_built}
-use Rattle.accepted_memory.specs.memory_accesses.Operations.{operations_of}
-use Rattle.accepted_memory.specs.memory_accesses.Sources.{argument_source_or, handed_source, is_trivial_at, source_at, sources_of}
-use Rattle.accepted_memory.specs.memory_accesses.declared.access.Access.{Access}
-use Rattle.accepted_memory.specs.memory_accesses.declared.access.Access.TheVariants.{Does}
-use Rattle.accepted_memory.specs.memory_accesses.declared.access.Operated.{Operated}
-use Rattle.accepted_memory.specs.memory_accesses.declared.location.Cell.{Cell}
-use Rattle.accepted_memory.specs.memory_accesses.declared.location.Location.{Location}
-use Rattle.accepted_memory.specs.memory_accesses.declared.source.Source.{Source}
-use Rattle.accepted_memory.specs.memory_accesses.declared.source.Source.TheVariants as source
-use Rattle.accepted_memory.specs.memory_parts.Building.{fills, is_object_of}
-use Rattle.accepted_memory.specs.memory_parts.Contents.{counts_at_part, operation_mark, same_cell}
-use Rattle.accepted_memory.specs.memory_parts.Switches.{is_turned_on, when}
-use Rattle.accepted_memory.specs.memory_parts.declared.part.Part.{Part}
-use Rattle.accepted_memory.specs.memory_parts.declared.part.Part.TheVariants.{Building, Contents}
-use Rattle.accepted_memory.specs.run_trails.inner.RunTrails.{IsRunTrail}
-use Rattle.accepted_memory.specs.run_trails.inner.Since.{is_none_since}
-use Rattle.accepted_memory.specs.inner.PartTrails.{IsPartOf, is_on}
-use Rattle.accepted_memory.proofs.PartsFollowed.{parts_followed}
-use Rattle.accepted_memory.proofs.PartsTurned.{turn_by}
-use Rattle.accepted_memory.proofs.accepted_trails.Tests.{or_right}
-use Rattle.accepted_places.proofs.CellsKept.{fields_followed}
-use Rattle.accepted_places.proofs.CellsRight.{operations_right}
-use Rattle.accepted_places.proofs.Fields.{fields_built, has_among, item_turns, made_unwritten, unwritten_empty, written_once}
-use Rattle.accepted_places.proofs.Items.{all_of, each_contained, turn_step}
-use Rattle.accepted_places.proofs.ItemStacks.{accepted_in}
-use Rattle.accepted_places.proofs.Made.{IsMadeBy, argument, made_so, result}
-use Rattle.accepted_places.specs.inner.Cells.{IsDoneAt, IsFoundSo, mark_at}
-use Rattle.accepted_values.specs.inner.Known.{IsAcceptedBody}
-use Rattle.accepted_values.specs.inner.Rows.{source_of_argument}
-use Rattle.accepted_values.proofs.Counted.{nothing_in}
-use Rattle.built_objects.specs.inner.Building.{IsNewField}
-use Rattle.built_objects.specs.inner.Laws.{IsMadeNow, IsWrittenNow}
+use Rattle.held_places.specs.accepted_places.accepted_memory.accepted_trails.inner.Defined.{makes}
+use Rattle.held_places.specs.accepted_places.accepted_memory.memory_accesses.Accesses.{does_of}
+use Rattle.held_places.specs.accepted_places.accepted_memory.memory_accesses.Locations.{cell_by, cell_of, field_cell, location_of, object_built}
+use Rattle.held_places.specs.accepted_places.accepted_memory.memory_accesses.Operations.{operations_of}
+use Rattle.held_places.specs.accepted_places.accepted_memory.memory_accesses.Sources.{argument_source_or, handed_source, is_trivial_at, source_at, sources_of}
+use Rattle.held_places.specs.accepted_places.accepted_memory.memory_accesses.declared.access.Access.{Access}
+use Rattle.held_places.specs.accepted_places.accepted_memory.memory_accesses.declared.access.Access.TheVariants.{Does}
+use Rattle.held_places.specs.accepted_places.accepted_memory.memory_accesses.declared.access.Operated.{Operated}
+use Rattle.held_places.specs.accepted_places.accepted_memory.memory_accesses.declared.location.Cell.{Cell}
+use Rattle.held_places.specs.accepted_places.accepted_memory.memory_accesses.declared.location.Location.{Location}
+use Rattle.held_places.specs.accepted_places.accepted_memory.memory_accesses.declared.source.Source.{Source}
+use Rattle.held_places.specs.accepted_places.accepted_memory.memory_accesses.declared.source.Source.TheVariants as source
+use Rattle.held_places.specs.accepted_places.accepted_memory.memory_parts.Building.{fills, is_object_of}
+use Rattle.held_places.specs.accepted_places.accepted_memory.memory_parts.Contents.{counts_at_part, operation_mark, same_cell}
+use Rattle.held_places.specs.accepted_places.accepted_memory.memory_parts.Switches.{is_turned_on, when}
+use Rattle.held_places.specs.accepted_places.accepted_memory.memory_parts.declared.part.Part.{Part}
+use Rattle.held_places.specs.accepted_places.accepted_memory.memory_parts.declared.part.Part.TheVariants.{Building, Contents}
+use Rattle.held_places.specs.accepted_places.accepted_memory.run_trails.inner.RunTrails.{IsRunTrail}
+use Rattle.held_places.specs.accepted_places.accepted_memory.run_trails.inner.Since.{is_none_since}
+use Rattle.held_places.specs.accepted_places.accepted_memory.inner.PartTrails.{IsPartOf, is_on}
+use Rattle.held_places.proofs.accepted_places.accepted_memory.PartsFollowed.{parts_followed}
+use Rattle.held_places.proofs.accepted_places.accepted_memory.PartsTurned.{turn_by}
+use Rattle.held_places.proofs.accepted_places.accepted_memory.accepted_trails.Tests.{or_right}
+use Rattle.held_places.proofs.accepted_places.CellsKept.{fields_followed}
+use Rattle.held_places.proofs.accepted_places.CellsRight.{operations_right}
+use Rattle.held_places.proofs.accepted_places.Fields.{fields_built, has_among, item_turns, made_unwritten, unwritten_empty, written_once}
+use Rattle.held_places.proofs.accepted_places.Items.{all_of, each_contained, turn_step}
+use Rattle.held_places.proofs.accepted_places.ItemStacks.{accepted_in}
+use Rattle.held_places.proofs.accepted_places.Made.{IsMadeBy, argument, made_so, result}
+use Rattle.held_places.specs.accepted_places.inner.Cells.{IsDoneAt, IsFoundSo, mark_at}
+use Rattle.held_places.specs.accepted_places.accepted_values.inner.Known.{IsAcceptedBody}
+use Rattle.held_places.specs.accepted_places.accepted_values.inner.Rows.{source_of_argument}
+use Rattle.held_places.proofs.accepted_places.accepted_values.Counted.{nothing_in}
+use Rattle.held_objects.specs.built_objects.inner.Building.{IsNewField}
+use Rattle.held_objects.specs.built_objects.inner.Laws.{IsMadeNow, IsWrittenNow}
 use Rattle.item_operands.specs.Items.{item_defined}
 use Rattle.item_operands.specs.Parts.{inst_at, item_inst}
 use Rattle.numbered_form.specs.Lists.{Each}
@@ -70,7 +71,7 @@ below_so k fields e = grind (arith, nat_tests)
 below_told : (k fields : ℕ) → k < fields → nat_lt k fields ≡ true
 below_told k fields h = grind (arith, nat_tests)
 
-field_told : (s : Source) (k : ℕ) → has_new_field s k ≡ true → (fields : ℕ) × (s ≡ source.Object fields) × (k < fields)
+pub field_told : (s : Source) (k : ℕ) → has_new_field s k ≡ true → (fields : ℕ) × (s ≡ source.Object fields) × (k < fields)
 field_told (source.Object fields) k e = (fields, refl, below_so k fields e)
 field_told _ k e = absurd (false≢true e)
 
@@ -276,7 +277,8 @@ module _ (m : Module) (n : ℕ) (f : Function) (a : IsAcceptedBody m n f) (t : L
       (subst (λ c. IsPartOf decls f (Contents c false None)) (sym at_cell) (held_there m n f a object k is_new))
 
   abbrev mark : Mark
-  mark = operation_mark (is_trivial_at (sources_of (declarations_of m) f) filled.location.root) (counts_at_part (sources_of (declarations_of m) f) filled.location filled.does.operation) filled.does.operation
+  mark = operation_mark (is_trivial_at (sources_of (declarations_of m) f) filled.location.root)
+      (counts_at_part (sources_of (declarations_of m) f) filled.location filled.does.operation) filled.does.operation
 
   both : (on : Bool) × (is_on decls f (Building object k) (item.Inst p ∷ t) ≡ Some on) × (is_on decls f (Contents cell false None) (item.Inst p ∷ t) ≡ Some (not on))
   both =

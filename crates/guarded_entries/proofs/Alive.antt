@@ -16,19 +16,19 @@ use Rattle.type_definitions.specs.Declarations.{Declarations, declarations_of}
 use Rattle.run_values.specs.declared.phase.Phase.{Phase}
 use Rattle.run_values.specs.declared.phase.Phase.TheVariants.{Dead, Deiniting, Live}
 use Rattle.run_values.specs.Memory.{Memory, is_dead, is_dead_phase, phase_of}
-use Rattle.held_entries.specs.accepted_trails.ownership_kinds.Facts.{facts_in}
-use Rattle.holder_counts.specs.holder_model.Data.{Datum, references_in}
-use Rattle.holder_counts.specs.holder_model.Faults.{HolderFault, ConsumesLent, NamesDead}
-use Rattle.holder_counts.specs.holder_model.Frames.{Entry, Frame, Gone, Held, Lent, Plain, and_more, any_dead, datum_in, datum_or_fault, ended_entry, ends}
-use Rattle.holder_counts.specs.holder_model.Frames.{entry_at, is_consumed, operand, operand_data, operands_of, unless_dead, used_datum, with_ok, without_ended}
-use Rattle.holder_counts.specs.holder_model.Holders.{in_memory, one_object}
-use Rattle.holder_counts.specs.holder_model.HolderStates.{HolderState, in_task}
-use Rattle.holder_counts.specs.holder_model.States.{Runs, Task}
-use Rattle.holder_counts.specs.inner.Moving.{in_tasks}
-use Rattle.holder_counts.specs.inner.Taking.{in_entries}
-use Rattle.holder_counts.proofs.Entries.{IsLeftOf, left_of, was_there}
-use Rattle.holder_counts.proofs.Moves.{with_left}
-use Rattle.holder_counts.proofs.Sums.{total_cons}
+use Rattle.followed_objects.specs.scoped_addresses.held_entries.accepted_trails.ownership_kinds.Facts.{facts_in}
+use Rattle.followed_objects.specs.holder_counts.holder_model.Data.{Datum, references_in}
+use Rattle.followed_objects.specs.holder_counts.holder_model.Faults.{HolderFault, ConsumesLent, NamesDead}
+use Rattle.followed_objects.specs.holder_counts.holder_model.Frames.{Entry, Frame, Gone, Held, Lent, Plain, and_more, any_dead, datum_in, datum_or_fault, ended_entry, ends}
+use Rattle.followed_objects.specs.holder_counts.holder_model.Frames.{entry_at, is_consumed, operand, operand_data, operands_of, unless_dead, used_datum, with_ok, without_ended}
+use Rattle.followed_objects.specs.holder_counts.holder_model.Holders.{in_memory, one_object}
+use Rattle.followed_objects.specs.holder_counts.holder_model.HolderStates.{HolderState, in_task}
+use Rattle.followed_objects.specs.holder_counts.holder_model.States.{Runs, Task}
+use Rattle.followed_objects.specs.holder_counts.inner.Moving.{in_tasks}
+use Rattle.followed_objects.specs.holder_counts.inner.Taking.{in_entries}
+use Rattle.followed_objects.proofs.holder_counts.Entries.{IsLeftOf, left_of, was_there}
+use Rattle.followed_objects.proofs.holder_counts.Moves.{with_left}
+use Rattle.followed_objects.proofs.holder_counts.Sums.{total_cons}
 use Rattle.guarded_entries.specs.inner.Guards.{AreLentGuarded, AreOfKinds, IsCurrent, IsNamed}
 use Rattle.guarded_entries.specs.inner.GuardedStates.{BelowIsGuarded, IsGuardedFrame, IsGuardedState, Loans, TasksAreGuarded, finishes_of, is_deiniting_phase}
 use Rattle.guarded_entries.specs.inner.Kept.{AreGuardedAlive, AreOperandsAlive}

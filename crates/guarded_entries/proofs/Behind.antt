@@ -1,16 +1,16 @@
 -- Lent entries are guarded behind the ends of an item, and behind its results.
 use Rattle.std.proofs.Common.{◌≡◌, ◌∷◌, refl, sym, ap, ◌∙◌, subst, Bool, true, false, not, ◌&&◌, ◌||◌, inl, inr, ⊎_elim, Some, Ok}
 use Rattle.std.proofs.lemmas.Bool.{cases_Bool, false≢true, true≢false}
-use Rattle.held_entries.specs.accepted_trails.inner.Defined.{makes}
-use Rattle.held_entries.specs.accepted_trails.ownership_kinds.Facts.{facts_in}
-use Rattle.held_entries.specs.accepted_trails.run_trails.inner.Since.{is_none_since}
+use Rattle.followed_objects.specs.scoped_addresses.held_entries.accepted_trails.inner.Defined.{makes}
+use Rattle.followed_objects.specs.scoped_addresses.held_entries.accepted_trails.ownership_kinds.Facts.{facts_in}
+use Rattle.followed_objects.specs.scoped_addresses.held_entries.accepted_trails.run_trails.inner.Since.{is_none_since}
 use Rattle.item_operands.specs.Items.{item_defined}
 use Rattle.sil_ast.specs.declared.place.ObjectId.{ObjectId}
 use Rattle.sil_ast.specs.declared.place.ValueId.{ValueId}
-use Rattle.accepted_values.specs.inner.Known.{kind_at}
-use Rattle.holder_counts.specs.holder_model.Data.{Datum, references_in}
-use Rattle.holder_counts.specs.holder_model.Frames.{Entry, Held, Lent, entry_at, made_entry}
-use Rattle.holder_counts.proofs.Entries.{IsLeftOf, left_of, was_there}
+use Rattle.followed_objects.specs.scoped_addresses.accepted_values.inner.Known.{kind_at}
+use Rattle.followed_objects.specs.holder_counts.holder_model.Data.{Datum, references_in}
+use Rattle.followed_objects.specs.holder_counts.holder_model.Frames.{Entry, Held, Lent, entry_at, made_entry}
+use Rattle.followed_objects.proofs.holder_counts.Entries.{IsLeftOf, left_of, was_there}
 use Rattle.guarded_entries.specs.inner.Guards.{AreLentGuarded, AreOfKinds, Guard, IsGuarded, IsNamed, IsThere, argument, loan, scope}
 use Rattle.guarded_entries.specs.inner.Kept.{AreGuardedBehind, AreGuardedLeft, IsAnchor, IsNewlyGuarded, StayAnchored, borrows, by_base, by_caller, lends_cell}
 use Rattle.guarded_entries.proofs.Entries.{made_lent_same, results_either, results_held, results_made, results_others, results_there}

@@ -26,22 +26,22 @@ use Rattle.run_values.specs.Memory as memory
 use Rattle.run_values.specs.Memory.{Memory, is_dead, is_dead_phase, no_object, phase_of}
 use Rattle.run_values.specs.Shapes.{Shape}
 use Rattle.run_values.specs.Values.{Value, Int, Object, Group, Case, Full}
-use Rattle.holder_counts.specs.holder_model.Data.{AddressOf, Datum, FunctionOf, ValueOf, as_value, references_in}
-use Rattle.holder_counts.specs.holder_model.Edges.{carried_by, first_value_of, is_default, payload_data, switched_data}
-use Rattle.holder_counts.specs.holder_model.Effects.{Change}
-use Rattle.holder_counts.specs.holder_model.Faults.{HolderFault, NamesDead}
-use Rattle.holder_counts.specs.holder_model.Frames.{Entry, and_more, any_dead, datum_in, datum_or_fault, ends, entry_at, operand, operand_data, unless_dead, used_datum}
-use Rattle.holder_counts.specs.holder_model.Holders.{of_references, one_object}
-use Rattle.holder_counts.specs.inner.Doing as doing
-use Rattle.holder_counts.specs.inner.Doing.{Leaves}
-use Rattle.holder_counts.specs.inner.Naming.{IsAlive, in_data, in_datum}
-use Rattle.holder_counts.specs.holder_model.ModuleShapes.{ModuleShapes}
-use Rattle.holder_counts.proofs.Alive.{after_phase, all_dead_before, all_left_alive}
-use Rattle.holder_counts.proofs.Changes.{changes_told}
-use Rattle.holder_counts.proofs.Entries.{chosen_ok, ok_through}
-use Rattle.holder_counts.proofs.Most.{place_phases}
-use Rattle.holder_counts.proofs.Moves.{operands_are}
-use Rattle.holder_counts.proofs.Sums.{total_cons}
+use Rattle.followed_objects.specs.holder_counts.holder_model.Data.{AddressOf, Datum, FunctionOf, ValueOf, as_value, references_in}
+use Rattle.followed_objects.specs.holder_counts.holder_model.Edges.{carried_by, first_value_of, is_default, payload_data, switched_data}
+use Rattle.followed_objects.specs.holder_counts.holder_model.Effects.{Change}
+use Rattle.followed_objects.specs.holder_counts.holder_model.Faults.{HolderFault, NamesDead}
+use Rattle.followed_objects.specs.holder_counts.holder_model.Frames.{Entry, and_more, any_dead, datum_in, datum_or_fault, ends, entry_at, operand, operand_data, unless_dead, used_datum}
+use Rattle.followed_objects.specs.holder_counts.holder_model.Holders.{of_references, one_object}
+use Rattle.followed_objects.specs.holder_counts.inner.Doing as doing
+use Rattle.followed_objects.specs.holder_counts.inner.Doing.{Leaves}
+use Rattle.followed_objects.specs.holder_counts.inner.Naming.{IsAlive, in_data, in_datum}
+use Rattle.followed_objects.specs.holder_counts.holder_model.ModuleShapes.{ModuleShapes}
+use Rattle.followed_objects.proofs.holder_counts.Alive.{after_phase, all_dead_before, all_left_alive}
+use Rattle.followed_objects.proofs.holder_counts.Changes.{changes_told}
+use Rattle.followed_objects.proofs.holder_counts.Entries.{chosen_ok, ok_through}
+use Rattle.followed_objects.proofs.holder_counts.Most.{place_phases}
+use Rattle.followed_objects.proofs.holder_counts.Moves.{operands_are}
+use Rattle.followed_objects.proofs.holder_counts.Sums.{total_cons}
 use Rattle.guarded_entries.specs.inner.Changing.{AreCarriedAlive, AreChangesAlive, AreDeadUnnamed, AreGivenAlive}
 use Rattle.guarded_entries.specs.inner.GuardedStates.{is_deiniting_phase}
 
@@ -54,7 +54,7 @@ operand_alive facts m before left t x h =
     let same : y.0 ≡ x = let e = put.1 in cc in
     subst (IsAlive m) same put.0
 
-more_parts : (x : Datum) (r : Result (List Datum) HolderFault) (all : List Datum) → and_more x r ≡ Ok all → (xs : List Datum) × (r ≡ Ok xs) × (x ∷ xs ≡ all)
+pub more_parts : (x : Datum) (r : Result (List Datum) HolderFault) (all : List Datum) → and_more x r ≡ Ok all → (xs : List Datum) × (r ≡ Ok xs) × (x ∷ xs ≡ all)
 more_parts x (Ok xs) all h = (xs, refl, cc)
 more_parts x (Err e) all h = cc
 
@@ -85,7 +85,7 @@ object_at_number : (m : Memory) (o p : ObjectId) → o.0 ≡ p.0 → is_dead m o
 object_at_number m o p e = ap (λ n. is_dead_phase (unwrap_or (slice_get m.objects n) no_object).phase) e
 
 -- another object than one that is dead, where it isn't
-alive_other : (m : Memory) (o p : ObjectId) → is_dead m o ≡ true → is_dead m p ≡ false → one_object o p ≡ 0
+pub alive_other : (m : Memory) (o p : ObjectId) → is_dead m o ≡ true → is_dead m p ≡ false → one_object o p ≡ 0
 alive_other m o p dead alive = ⊎_elim
     (λ same. absurd (true≢false (sym dead ∙ object_at_number m o p (eqb-true o.0 p.0 same) ∙ alive)))
     (λ other. counts_other o p other)
@@ -183,7 +183,7 @@ first_alive m (x ∷ xs) v e h = at x e h.0
     at (AddressOf p) e alive = cc
     at (FunctionOf g) e alive = cc
 
-some_through : {A B : Type 0} (f : A → Option B) (x : Option A) (y : B) → option_and_then f x ≡ Some y → (z : A) × (x ≡ Some z) × (f z ≡ Some y)
+pub some_through : {A B : Type 0} (f : A → Option B) (x : Option A) (y : B) → option_and_then f x ≡ Some y → (z : A) × (x ≡ Some z) × (f z ≡ Some y)
 some_through f None y h = cc
 some_through f (Some z) y h = (z, refl, h)
 

@@ -25,13 +25,13 @@ use Rattle.type_definitions.specs.declared.kind.Kind.TheVariants as kind
 use Rattle.run_values.specs.Memory.{Memory}
 use Rattle.run_values.specs.Values.{Case, Full, Group, Int, Object, Value, references_of}
 use Rattle.value_tables.specs.FirstValue.{first_value, value_of}
-use Rattle.held_entries.specs.accepted_trails.inner.Bases.{IsBaseOf}
-use Rattle.held_entries.specs.accepted_trails.ownership_kinds.Facts.{facts_in}
-use Rattle.accepted_values.specs.inner.Known.{IsAcceptedBody, kind_at}
-use Rattle.accepted_values.proofs.Accepted.{typed}
-use Rattle.holder_counts.specs.holder_model.Data.{AddressOf, Datum, FunctionOf, ValueOf, references_in}
-use Rattle.holder_counts.specs.holder_model.Frames.{Entry, Lent, Operands}
-use Rattle.holder_counts.specs.holder_model.Frames.{made_entry, operands_of}
+use Rattle.followed_objects.specs.scoped_addresses.held_entries.accepted_trails.inner.Bases.{IsBaseOf}
+use Rattle.followed_objects.specs.scoped_addresses.held_entries.accepted_trails.ownership_kinds.Facts.{facts_in}
+use Rattle.followed_objects.specs.scoped_addresses.accepted_values.inner.Known.{IsAcceptedBody, kind_at}
+use Rattle.followed_objects.proofs.scoped_addresses.accepted_values.Accepted.{typed}
+use Rattle.followed_objects.specs.holder_counts.holder_model.Data.{AddressOf, Datum, FunctionOf, ValueOf, references_in}
+use Rattle.followed_objects.specs.holder_counts.holder_model.Frames.{Entry, Lent, Operands}
+use Rattle.followed_objects.specs.holder_counts.holder_model.Frames.{made_entry, operands_of}
 use Rattle.guarded_entries.specs.inner.Guards.{AreLentGuarded, AreOfKinds, IsCurrent, IsNamed, Lending}
 use Rattle.guarded_entries.specs.inner.Kept.{IsNewlyGuarded}
 use Rattle.guarded_entries.specs.inner.Kept as kept
@@ -39,7 +39,6 @@ use Rattle.guarded_entries.proofs.RowTables.{Gives, Opens}
 use Rattle.guarded_entries.proofs.RowTables as table
 use Rattle.guarded_entries.proofs.Sources as sources
 use Rattle.guarded_entries.proofs.Sources.{ended_fact, held, lends_it, named_datum, value_lent}
-
 use Rattle.std.specs.Prelude.{option_and_then, option_map}
 use Rattle.std.specs.List.{AllZip}
 use Rattle.instruction_table.specs.Forms.{ending_of}
@@ -54,14 +53,14 @@ use Rattle.sil_ast.specs.Blocks.{args_of}
 use Rattle.sil_ast.specs.declared.function.BlockArg.{BlockArg}
 use Rattle.sil_ast.specs.declared.inst.Edge.{Edge}
 use Rattle.sil_ast.specs.declared.place.EdgeId.{EdgeId}
-use Rattle.accepted_values.specs.inner.Handed.{TakenBy, Takes, TakesOver}
-use Rattle.accepted_values.specs.inner.Handed as handed
-use Rattle.accepted_values.proofs.Branches.{taken_over}
-use Rattle.accepted_values.proofs.Switches.{switched}
-use Rattle.accepted_values.proofs.Switching.{only_switch}
-use Rattle.held_entries.specs.sil_types.Typing.SwitchRules.{has_wrong_cases_by, switches_wrongly}
-use Rattle.accepted_values.proofs.run_typing_laws.FunctionFacts.{TypedInst}
-use Rattle.holder_counts.specs.holder_model.Edges.{carried_along, carried_by, first_value_of, is_default, payload_data, switched_data}
+use Rattle.followed_objects.specs.scoped_addresses.accepted_values.inner.Handed.{TakenBy, Takes, TakesOver}
+use Rattle.followed_objects.specs.scoped_addresses.accepted_values.inner.Handed as handed
+use Rattle.followed_objects.proofs.scoped_addresses.accepted_values.Branches.{taken_over}
+use Rattle.followed_objects.proofs.scoped_addresses.accepted_values.Switches.{switched}
+use Rattle.followed_objects.proofs.scoped_addresses.accepted_values.Switching.{only_switch}
+use Rattle.followed_objects.specs.scoped_addresses.held_entries.sil_types.Typing.SwitchRules.{has_wrong_cases_by, switches_wrongly}
+use Rattle.followed_objects.proofs.scoped_addresses.accepted_values.run_typing_laws.FunctionFacts.{TypedInst}
+use Rattle.followed_objects.specs.holder_counts.holder_model.Edges.{carried_along, carried_by, first_value_of, is_default, payload_data, switched_data}
 use Rattle.guarded_entries.specs.inner.EdgesLend.{AreEdgesGuarded}
 
 slice_append : {A : Type 0} (xs ys : List A) (k : ℕ) (x : A) → slice_get (xs ++ ys) k ≡ Some x → (slice_get xs k ≡ Some x) ⊎ ((j : ℕ) × (slice_get ys j ≡ Some x))

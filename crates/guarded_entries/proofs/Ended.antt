@@ -4,12 +4,12 @@ use Rattle.std.specs.Prelude.{◌==◌, slice_get, unwrap_or}
 use Rattle.std.specs.List.{list_any}
 use Rattle.std.proofs.lemmas.Bool.{and_parts, cases_Bool, eqb-true, false≢true, or_cases, true≢false}
 use Rattle.item_operands.specs.declared.taken.Taken.{Taken}
-use Rattle.held_entries.specs.accepted_trails.inner.Passing.{is_end}
+use Rattle.followed_objects.specs.scoped_addresses.held_entries.accepted_trails.inner.Passing.{is_end}
 use Rattle.ownership_chains.specs.declared.facts.Facts.{Facts}
 use Rattle.sil_ast.specs.declared.place.ValueId.{ValueId}
-use Rattle.holder_counts.specs.holder_model.Data.{Datum}
-use Rattle.holder_counts.specs.holder_model.Frames.{Entry, Gone, Held, Lent, Plain, ended_entry, ends, entry_at, with_ok, without_ended}
-use Rattle.holder_counts.proofs.Entries.{left_of}
+use Rattle.followed_objects.specs.holder_counts.holder_model.Data.{Datum}
+use Rattle.followed_objects.specs.holder_counts.holder_model.Frames.{Entry, Gone, Held, Lent, Plain, ended_entry, ends, entry_at, with_ok, without_ended}
+use Rattle.followed_objects.proofs.holder_counts.Entries.{left_of}
 
 or_first : (a b : Bool) → (a || b) ≡ false → a ≡ false
 or_first true b h = h

@@ -13,12 +13,12 @@ use Rattle.type_definitions.specs.declared.kind.Kind.{Kind}
 use Rattle.type_definitions.specs.declared.kind.Kind.TheVariants as kind
 use Rattle.run_values.specs.Places.{Home, Inside, OnStack}
 use Rattle.run_values.specs.Values.{references_of}
-use Rattle.accepted_values.specs.inner.Known.{kind_at}
-use Rattle.holder_counts.specs.holder_model.Data.{AddressOf, Datum, FunctionOf, ValueOf, home_references, references_in}
-use Rattle.holder_counts.specs.holder_model.Faults.{OverwritesHeld, WrongShape}
-use Rattle.holder_counts.specs.holder_model.Frames.{Entry, Gone, Held, Lent, Plain, entry_at, has_any, is_held, made_entry, plain_address, plain_entry, put_entry, result_put}
-use Rattle.holder_counts.specs.holder_model.Frames.{results_put}
-use Rattle.holder_counts.proofs.Entries.{chosen_ok, ok_through}
+use Rattle.followed_objects.specs.scoped_addresses.accepted_values.inner.Known.{kind_at}
+use Rattle.followed_objects.specs.holder_counts.holder_model.Data.{AddressOf, Datum, FunctionOf, ValueOf, home_references, references_in}
+use Rattle.followed_objects.specs.holder_counts.holder_model.Faults.{OverwritesHeld, WrongShape}
+use Rattle.followed_objects.specs.holder_counts.holder_model.Frames.{Entry, Gone, Held, Lent, Plain, entry_at, has_any, is_held, made_entry, plain_address, plain_entry, put_entry, result_put}
+use Rattle.followed_objects.specs.holder_counts.holder_model.Frames.{results_put}
+use Rattle.followed_objects.proofs.holder_counts.Entries.{chosen_ok, ok_through}
 use Rattle.guarded_entries.specs.inner.Guards.{AreOfKinds, IsThere}
 
 -- ---- a plain entry names nothing

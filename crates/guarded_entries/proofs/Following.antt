@@ -25,35 +25,37 @@ use Rattle.type_definitions.specs.declared.kind.Kind.{Kind}
 use Rattle.type_definitions.specs.declared.kind.Kind.TheVariants as kind
 use Rattle.run_values.specs.Memory.{Memory}
 use Rattle.value_tables.specs.Borrows.{is_borrow}
-use Rattle.held_entries.specs.accepted_trails.inner.Accepted.{IsAcceptedIn}
-use Rattle.held_entries.specs.accepted_trails.inner.Bases.{HasBasesAsMade, IsAsMade, IsBaseOf}
-use Rattle.held_entries.specs.accepted_trails.inner.Defined.{IsDefinedOn, makes}
-use Rattle.held_entries.specs.accepted_trails.inner.Lives.{BorrowsFrom, IsOwnedIn, is_open}
-use Rattle.held_entries.specs.accepted_trails.inner.Passing.{IsFoundRight, is_begin, is_end, is_use, left_by, on_behind}
-use Rattle.held_entries.specs.accepted_trails.ownership_kinds.Facts.{facts_in}
-use Rattle.held_entries.specs.accepted_trails.run_trails.inner.RunTrails.{IsTurnedTrail}
-use Rattle.held_entries.proofs.accepted_trails.BasesMade.{bases_as_made}
-use Rattle.held_entries.proofs.accepted_trails.BasesOpen.{begins_where_made, scope_begins}
-use Rattle.held_entries.proofs.accepted_trails.LivesPassed.{lives_passed}
-use Rattle.held_entries.proofs.accepted_trails.ScopesPassed.{bases_kept, scopes_passed}
-use Rattle.held_entries.proofs.accepted_trails.Tests.{first_of}
-use Rattle.held_entries.proofs.accepted_trails.Unbroken.{are_accepted}
-use Rattle.held_entries.specs.inner.Tracked.{AreTracked, IsOwnScope, IsWhile}
-use Rattle.accepted_premises.proofs.BasesOfTaken.{bases_of_taken}
-use Rattle.accepted_premises.proofs.MadeAtStops.{made_at_stops, makes_so}
-use Rattle.accepted_values.specs.inner.Bases.{IsLender}
-use Rattle.accepted_values.specs.inner.Known.{IsAcceptedBody, kind_at}
-use Rattle.accepted_values.specs.inner.Operands.{SuitsRole}
-use Rattle.accepted_values.proofs.Addresses.{addresses_of_lenders}
-use Rattle.accepted_values.proofs.Based.{guaranteed_value, lenders_own_bases, lent_by_lenders, owned_own_bases, owned_value}
-use Rattle.accepted_values.proofs.Borrowed.{number_of_parameter}
-use Rattle.accepted_values.proofs.Made.{parameters_of_entry}
-use Rattle.accepted_values.proofs.Suited.{suited}
-use Rattle.accepted_values.proofs.lowering_laws.Lowerable.{contained}
-use Rattle.holder_counts.specs.holder_model.Data.{Datum}
-use Rattle.holder_counts.specs.holder_model.Frames.{Entry, Gone, Held, Lent, entry_at, has_any, without_ended}
-use Rattle.holder_counts.proofs.Entries.{left_of, was_there}
-use Rattle.guarded_entries.specs.inner.Following.{AreArgumentsOfEntry, AreBorrowedKept, AreOperandsCurrent, AreScopesNotRenewed, GoAlong, TakesAddressesInScopes}
+use Rattle.followed_objects.specs.scoped_addresses.held_entries.accepted_trails.inner.Accepted.{IsAcceptedIn}
+use Rattle.followed_objects.specs.scoped_addresses.held_entries.accepted_trails.inner.Bases.{HasBasesAsMade, IsAsMade, IsBaseOf}
+use Rattle.followed_objects.specs.scoped_addresses.held_entries.accepted_trails.inner.Defined.{IsDefinedOn, makes}
+use Rattle.followed_objects.specs.scoped_addresses.held_entries.accepted_trails.inner.Lives.{BorrowsFrom, IsOwnedIn, is_open}
+use Rattle.followed_objects.specs.scoped_addresses.held_entries.accepted_trails.inner.Passing.{IsFoundRight, is_begin, is_end, is_use, left_by, on_behind}
+use Rattle.followed_objects.specs.scoped_addresses.held_entries.accepted_trails.ownership_kinds.Facts.{facts_in}
+use Rattle.followed_objects.specs.scoped_addresses.held_entries.accepted_trails.run_trails.inner.RunTrails.{IsTurnedTrail}
+use Rattle.followed_objects.proofs.scoped_addresses.held_entries.accepted_trails.BasesMade.{bases_as_made}
+use Rattle.followed_objects.proofs.scoped_addresses.held_entries.accepted_trails.BasesOpen.{begins_where_made, scope_begins}
+use Rattle.followed_objects.proofs.scoped_addresses.held_entries.accepted_trails.LivesPassed.{lives_passed}
+use Rattle.followed_objects.proofs.scoped_addresses.held_entries.accepted_trails.ScopesPassed.{bases_kept, scopes_passed}
+use Rattle.followed_objects.proofs.scoped_addresses.held_entries.accepted_trails.Tests.{first_of}
+use Rattle.followed_objects.proofs.scoped_addresses.held_entries.accepted_trails.Unbroken.{are_accepted}
+use Rattle.followed_objects.specs.scoped_addresses.held_entries.inner.Tracked.{AreTracked, IsOwnScope, IsWhile}
+use Rattle.followed_objects.proofs.tracked_frames.accepted_premises.BasesOfTaken.{bases_of_taken}
+use Rattle.followed_objects.proofs.tracked_frames.accepted_premises.MadeAtStops.{made_at_stops, makes_so}
+use Rattle.followed_objects.specs.scoped_addresses.accepted_values.inner.Bases.{IsLender}
+use Rattle.followed_objects.specs.scoped_addresses.accepted_values.inner.Known.{IsAcceptedBody, kind_at}
+use Rattle.followed_objects.specs.scoped_addresses.accepted_values.inner.Operands.{SuitsRole}
+use Rattle.followed_objects.proofs.scoped_addresses.accepted_values.Addresses.{addresses_of_lenders}
+use Rattle.followed_objects.proofs.scoped_addresses.accepted_values.Based.{lenders_own_bases, lent_by_lenders, owned_own_bases, owned_value}
+use Rattle.followed_objects.proofs.scoped_addresses.accepted_values.Borrowed.{number_of_parameter}
+use Rattle.followed_objects.proofs.scoped_addresses.accepted_values.Made.{parameters_of_entry}
+use Rattle.followed_objects.proofs.scoped_addresses.accepted_values.Suited.{suited}
+use Rattle.followed_objects.proofs.scoped_addresses.accepted_values.lowering_laws.Lowerable.{contained}
+use Rattle.followed_objects.specs.holder_counts.holder_model.Data.{Datum}
+use Rattle.followed_objects.specs.holder_counts.holder_model.Frames.{Entry, Gone, Held, Lent, entry_at, has_any, without_ended}
+use Rattle.followed_objects.proofs.holder_counts.Entries.{left_of, was_there}
+use Rattle.followed_objects.specs.scoped_addresses.inner.Addresses.{TakesAddressesInScopes}
+use Rattle.followed_objects.proofs.scoped_addresses.OwnScopes.{lender_kind, own_scope}
+use Rattle.guarded_entries.specs.inner.Following.{AreArgumentsOfEntry, AreBorrowedKept, AreOperandsCurrent, AreScopesNotRenewed, GoAlong}
 use Rattle.guarded_entries.specs.inner.Guards.{IsArgument, IsCurrent, IsThere, Lending}
 use Rattle.guarded_entries.proofs.Ended.{ended_gone, unended_stays}
 
@@ -134,23 +136,8 @@ module _ (m : Module) (n : ℕ) (f : Function) (a : IsAcceptedBody m n f) where
   accepted : IsAcceptedIn d f
   accepted = are_accepted m n f a.verified a.body
 
-  lender_kind : (b : ValueId) → IsLender d f b → kind_at d f b ≡ kind.Guaranteed
-  lender_kind b l = ap (λ (o : Option Facts). (known_or (λ _. o) b).kind) l.facts
-
-  -- a borrow is a scope of its own
-  pub own_scope : (s : ValueId) → is_borrow f s ≡ true → IsOwnScope d f s
-  own_scope s borrow =
-      let l = lenders_own_bases m n f a s (inr borrow) in
-      record {
-        scope = record {
-          is_value = guaranteed_value m n f a s (lender_kind s l);
-          scope = ap (λ (k : Kind). is_guaranteed k && is_borrow f s) (lender_kind s l) ∙ borrow;
-        };
-        own = ap (λ (o : Option Facts). has (known_or (λ _. o) s).bases s.0) l.facts ∙ ap (λ b. b || false) (eq-eqb s.0 s.0 refl);
-      }
-
   not_owned : (b : ValueId) → IsLender d f b → IsOwnedIn d f b → ⊥
-  not_owned b l owned = false≢true (sym (ap is_owned (lender_kind b l)) ∙ owned.owned)
+  not_owned b l owned = false≢true (sym (ap is_owned (lender_kind d f b l)) ∙ owned.owned)
 
   not_scope : (b : ValueId) → is_borrow f b ≡ false → IsOwnScope d f b → ⊥
   not_scope b none own = false≢true (sym none ∙ (and_parts (is_guaranteed (known_or facts b).kind) (is_borrow f b) own.scope.scope).1)
@@ -215,8 +202,8 @@ module _ (m : Module) (n : ℕ) (f : Function) (a : IsAcceptedBody m n f) where
             let own : has (x.value ∷ []) b.0 ≡ true = sym (ap (λ (o : Option Facts). has (known_or (λ _. o) x.value).bases b.0) l.facts) ∙ base in
             let here : (x.value.0 == b.0) ≡ true = ⊎_elim (λ e. e) (λ e. absurd (false≢true e)) (or_cases (x.value.0 == b.0) false own) in
             inl (
-              ap (λ o. has_any (ended_with o x) && (x.value.0 == b.0)) known
-              ∙ ap (λ r. has_any (cond r (end_of x.value ∷ []) []) && (x.value.0 == b.0)) is ∙ here)
+            ap (λ o. has_any (ended_with o x) && (x.value.0 == b.0)) known
+            ∙ ap (λ r. has_any (cond r (end_of x.value ∷ []) []) && (x.value.0 == b.0)) is ∙ here)
         by_role bases known has_it false is = inr (
             ap (λ o. list_any (λ k. k.subject.0 == b.0) (used_with o x)) known
             ∙ ap (λ r. list_any (λ k. k.subject.0 == b.0) (cond r [] (map use_of bases))) is ∙ used_among bases b has_it)
@@ -245,9 +232,9 @@ module _ (m : Module) (n : ℕ) (f : Function) (a : IsAcceptedBody m n f) where
             subst (λ (v : ValueId). IsThere (entry_at entries v)) same
             (held_there x.value (record { is_value = owned_value m n f a x.value is; owned = ap is_owned is }) front rest x parts (owned_touched x.value x refl known))
         at kind.Guaranteed is =
-            by_lender (lent_by_lenders m n f a x.value b is base) (λ borrow. used_there b (own_scope b borrow) front rest x parts (guaranteed_touched b x among is base))
+            by_lender (lent_by_lenders m n f a x.value b is base) (λ borrow. used_there b (own_scope m n f a b borrow) front rest x parts (guaranteed_touched b x among is base))
         at kind.Plain is =
-            by_lender (addresses_of_lenders m n f a x.value b is base) (λ borrow. scope_there b (own_scope b borrow) (addresses x b among is base borrow))
+            by_lender (addresses_of_lenders m n f a x.value b is base) (λ borrow. scope_there b (own_scope m n f a b borrow) (addresses x b among is base borrow))
 
     current_operands : (lends : Lending) (memory : Memory) → TakesAddressesInScopes d f t i
         → Each (λ (x : Taken). IsCurrent d f lends memory entries t x.value) (item_taken f i)
@@ -266,7 +253,7 @@ module _ (m : Module) (n : ℕ) (f : Function) (a : IsAcceptedBody m n f) where
     -- a scope that is lent is open
     lent_open : (s : ValueId) (x : Datum) → is_borrow f s ≡ true → entry_at entries s ≡ Lent x → is_open d f s t ≡ Some true
     lent_open s x borrow e =
-        let own = own_scope s borrow in
+        let own = own_scope m n f a s borrow in
         let pass = scopes_passed d f accepted s own.scope t i h in
         at pass.on pass.was (tracked.scopes s own pass.on pass.was)
       where
@@ -283,13 +270,13 @@ module _ (m : Module) (n : ℕ) (f : Function) (a : IsAcceptedBody m n f) where
         → IsThere (entry_at entries b) → IsThere (entry_at left b)
     borrowed s b x borrow e there from there_b =
         subst IsThere (sym (unended_stays facts b (item_taken f i) entries left
-        (bases_kept d f accepted s b (own_scope s borrow).scope from t i h (lent_open s x borrow e) (left_unended s x e there)) ends_are)) there_b
+        (bases_kept d f accepted s b (own_scope m n f a s borrow).scope from t i h (lent_open s x borrow e) (left_unended s x e there)) ends_are)) there_b
 
     not_renewed : (s : ValueId) (x : Datum) → is_borrow f s ≡ true → entry_at left s ≡ Lent x → makes f s i ≡ false
     not_renewed s x borrow e = ⊎_elim (λ made. absurd (never made)) (λ none. none) (cases_Bool (makes f s i))
       where
         own : IsOwnScope d f s
-        own = own_scope s borrow
+        own = own_scope m n f a s borrow
 
         there : IsThere (entry_at left s)
         there gone = cc
@@ -309,7 +296,7 @@ module _ (m : Module) (n : ℕ) (f : Function) (a : IsAcceptedBody m n f) where
 
   -- ---- arguments
 
-  argument_made : (v : ValueId) → IsArgument f v → makes f v item.Entry ≡ true
+  pub argument_made : (v : ValueId) → IsArgument f v → makes f v item.Entry ≡ true
   argument_made v lt = at (slice_get (args_of f 0) v.0) refl
     where
       at : (o : Option BlockArg) → slice_get (args_of f 0) v.0 ≡ o → has (map arg_value (args_of f 0)) v.0 ≡ true

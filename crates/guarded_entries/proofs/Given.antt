@@ -8,22 +8,22 @@ use Rattle.sil_ast.specs.declared.inst.Inst.{Inst}
 use Rattle.sil_ast.specs.declared.module.Module.{Module}
 use Rattle.type_definitions.specs.Declarations.{declarations_of}
 use Rattle.run_values.specs.Shapes.{Shape, Reference}
-use Rattle.accepted_values.specs.inner.Known.{kind_at}
-use Rattle.accepted_values.specs.run_typing.Forms.{Form, OfValue, form_of}
-use Rattle.accepted_values.specs.run_typing.RowForms as lowered
-use Rattle.accepted_values.specs.run_typing.RowForms.{RowForms}
-use Rattle.owned_run_typing.specs.inner.OwnedRows as owned
-use Rattle.owned_run_typing.specs.inner.OwnedRows.{OwnedRowForms}
-use Rattle.typed_memory.specs.inner.Worlds.{DatumIs, World}
-use Rattle.typed_holders.specs.inner.TypedStates.{EntryIs}
-use Rattle.typed_holders.proofs.Data.{read_value}
-use Rattle.tracked_frames.specs.inner.TrackedStates.{GoesAlong}
-use Rattle.tracked_frames.specs.inner.TrackedStates as tracked
-use Rattle.holder_counts.specs.holder_model.Data.{Datum}
-use Rattle.holder_counts.specs.holder_model.Effects.{effect_of}
-use Rattle.holder_counts.specs.holder_model.Frames.{Entry, Gone, Held, Lent, Plain, entry_at, made_entry}
-use Rattle.holder_counts.specs.holder_model.declared.row_effect.RowEffect.{RowEffect}
-use Rattle.holder_counts.specs.holder_model.declared.row_effect.RowEffect.TheVariants as row
+use Rattle.followed_objects.specs.scoped_addresses.accepted_values.inner.Known.{kind_at}
+use Rattle.followed_objects.specs.scoped_addresses.accepted_values.run_typing.Forms.{Form, OfValue, form_of}
+use Rattle.followed_objects.specs.scoped_addresses.accepted_values.run_typing.RowForms as lowered
+use Rattle.followed_objects.specs.scoped_addresses.accepted_values.run_typing.RowForms.{RowForms}
+use Rattle.followed_objects.specs.scoped_addresses.owned_run_typing.inner.OwnedRows as owned
+use Rattle.followed_objects.specs.scoped_addresses.owned_run_typing.inner.OwnedRows.{OwnedRowForms}
+use Rattle.followed_objects.specs.tracked_frames.typed_memory.inner.Worlds.{DatumIs, World}
+use Rattle.followed_objects.specs.tracked_frames.typed_holders.inner.TypedStates.{EntryIs}
+use Rattle.followed_objects.proofs.tracked_frames.typed_holders.Data.{read_value}
+use Rattle.followed_objects.specs.tracked_frames.inner.TrackedStates.{GoesAlong}
+use Rattle.followed_objects.specs.tracked_frames.inner.TrackedStates as tracked
+use Rattle.followed_objects.specs.holder_counts.holder_model.Data.{Datum}
+use Rattle.followed_objects.specs.holder_counts.holder_model.Effects.{effect_of}
+use Rattle.followed_objects.specs.holder_counts.holder_model.Frames.{Entry, Gone, Held, Lent, Plain, entry_at, made_entry}
+use Rattle.followed_objects.specs.holder_counts.holder_model.declared.row_effect.RowEffect.{RowEffect}
+use Rattle.followed_objects.specs.holder_counts.holder_model.declared.row_effect.RowEffect.TheVariants as row
 use Rattle.guarded_entries.specs.inner.Given.{AreTrackedAlong, AreTypedOfKinds, HandTypedValues}
 use Rattle.guarded_entries.specs.inner.Guards.{IsThere}
 use Rattle.guarded_entries.specs.inner.Rows.{HandsValues}

@@ -8,14 +8,14 @@ use Rattle.sil_ast.specs.declared.place.ObjectId.{ObjectId}
 use Rattle.sil_ast.specs.declared.place.ValueId.{ValueId}
 use Rattle.type_definitions.specs.Declarations.{Declarations, declarations_of}
 use Rattle.run_values.specs.Memory.{Memory}
-use Rattle.holder_counts.specs.holder_model.Data.{references_in}
-use Rattle.holder_counts.specs.holder_model.Frames.{Entry, Frame, entry_at}
-use Rattle.holder_counts.specs.holder_model.Holders.{in_memory, of_references, one_object}
-use Rattle.holder_counts.specs.holder_model.HolderStates.{in_entry, in_task}
-use Rattle.holder_counts.specs.holder_model.States.{Drops, Finishes, Runs, Task}
-use Rattle.holder_counts.specs.inner.Moving.{in_tasks}
-use Rattle.holder_counts.specs.inner.Taking.{in_entries}
-use Rattle.holder_counts.proofs.Sums.{total_cons}
+use Rattle.followed_objects.specs.holder_counts.holder_model.Data.{references_in}
+use Rattle.followed_objects.specs.holder_counts.holder_model.Frames.{Entry, Frame, entry_at}
+use Rattle.followed_objects.specs.holder_counts.holder_model.Holders.{in_memory, of_references, one_object}
+use Rattle.followed_objects.specs.holder_counts.holder_model.HolderStates.{in_entry, in_task}
+use Rattle.followed_objects.specs.holder_counts.holder_model.States.{Drops, Finishes, Runs, Task}
+use Rattle.followed_objects.specs.holder_counts.inner.Moving.{in_tasks}
+use Rattle.followed_objects.specs.holder_counts.inner.Taking.{in_entries}
+use Rattle.followed_objects.proofs.holder_counts.Sums.{total_cons}
 use Rattle.guarded_entries.specs.inner.Guards.{Guard, IsArgument, IsThere, Lending, argument, loan, owner, scope}
 use Rattle.guarded_entries.specs.inner.GuardedStates.{BelowIsGuarded, IsGuardedIn, KeepsBelow, Loans, finishes_of}
 use Rattle.guarded_entries.specs.inner.Kept.{AreGuardsKept, AreOperandsGuarded, HaveGuardedHolders, HaveKeptHolders, IsHeldSomehow, from_argument, here}

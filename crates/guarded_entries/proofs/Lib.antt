@@ -12,3 +12,23 @@ pub mod Sources
 pub mod Rows
 pub mod EdgesLend
 pub mod Given
+pub mod Handing
+pub mod CallRows
+pub mod LentArguments
+pub mod CallOperands
+pub mod FramesCurrent
+pub mod TypedLoads
+pub mod TypedGiven
+pub mod Begun
+pub mod FirstFrames
+pub mod GuardedCalls
+pub mod EnteredFrames
+pub mod DeadFaults
+pub mod GuardedReturns
+pub mod GuardedItems
+pub mod GuardedWays
+pub mod GuardedDeinits
+pub mod GuardedSteps
+pub use Rattle.followed_objects.proofs.holder_counts as holder_counts
+pub use Rattle.followed_objects.proofs.held_places as held_places
+pub use Rattle.followed_objects.proofs as followed_objects

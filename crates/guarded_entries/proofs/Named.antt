@@ -9,12 +9,12 @@ use Rattle.sil_ast.specs.declared.place.ValueId.{ValueId}
 use Rattle.run_values.specs.Cells.{Cell, Empty, Keeps}
 use Rattle.run_values.specs.Memory.{Memory, is_dead}
 use Rattle.run_values.specs.Values.{Value, references_of}
-use Rattle.holder_counts.specs.holder_model.Frames.{Entry, Gone, any_dead, entry_at}
-use Rattle.holder_counts.specs.holder_model.Holders.{in_cell, in_cells, in_memory, of_references, one_object}
-use Rattle.holder_counts.specs.holder_model.HolderStates.{in_entry}
-use Rattle.holder_counts.specs.inner.Taking.{in_entries}
-use Rattle.holder_counts.proofs.Most.{at_most}
-use Rattle.holder_counts.proofs.Sums.{total_append, total_cons}
+use Rattle.followed_objects.specs.holder_counts.holder_model.Frames.{Entry, Gone, any_dead, entry_at}
+use Rattle.followed_objects.specs.holder_counts.holder_model.Holders.{in_cell, in_cells, in_memory, of_references, one_object}
+use Rattle.followed_objects.specs.holder_counts.holder_model.HolderStates.{in_entry}
+use Rattle.followed_objects.specs.holder_counts.inner.Taking.{in_entries}
+use Rattle.followed_objects.proofs.holder_counts.Most.{at_most}
+use Rattle.followed_objects.proofs.holder_counts.Sums.{total_append, total_cons}
 use Rattle.guarded_entries.specs.inner.Guards.{IsNamed, KeepsAt}
 
 pub counts_itself : (o : ObjectId) → one_object o o ≡ 1

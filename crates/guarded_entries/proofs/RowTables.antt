@@ -13,9 +13,9 @@ use Rattle.instruction_table.specs.declared.op.Op.{Op}
 use Rattle.instruction_table.specs.declared.op.Op.TheVariants as op
 use Rattle.item_operands.specs.Roles.{by_convention, by_row, last_roles, role_handed, roles_for}
 use Rattle.item_operands.specs.declared.taken.Treatment.{Treatment}
-use Rattle.holder_counts.specs.holder_model.declared.row_effect.RowEffect.{RowEffect}
-use Rattle.holder_counts.specs.holder_model.declared.row_effect.RowEffect.TheVariants as row
-use Rattle.holder_counts.specs.holder_model.Effects.{effect_of}
+use Rattle.followed_objects.specs.holder_counts.holder_model.declared.row_effect.RowEffect.{RowEffect}
+use Rattle.followed_objects.specs.holder_counts.holder_model.declared.row_effect.RowEffect.TheVariants as row
+use Rattle.followed_objects.specs.holder_counts.holder_model.Effects.{effect_of}
 
 -- ---- the kinds of results by what the row does
 

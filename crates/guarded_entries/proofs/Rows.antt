@@ -39,47 +39,47 @@ use Rattle.run_values.specs.Memory.{new_object}
 use Rattle.run_values.specs.Values.{Case, Full, Object, Value, grouped, references_of}
 use Rattle.value_tables.specs.Borrows.{borrow_at, borrow_by, borrow_in, borrows, borrows_of, is_borrow, lends, takes_address}
 use Rattle.value_tables.specs.FirstValue.{first_value, value_of}
-use Rattle.held_entries.specs.accepted_trails.inner.Bases.{IsBaseOf}
-use Rattle.held_entries.specs.accepted_trails.inner.Lives.{BorrowsFrom}
-use Rattle.held_entries.specs.accepted_trails.inner.Passing.{is_end}
-use Rattle.held_entries.specs.accepted_trails.borrow_scopes.Scopes.{bases_in}
-use Rattle.held_entries.specs.sil_types.Typing.RowTypes.{made_types}
-use Rattle.accepted_values.specs.run_typing.CallForms.{IsOf}
+use Rattle.followed_objects.specs.scoped_addresses.held_entries.accepted_trails.inner.Bases.{IsBaseOf}
+use Rattle.followed_objects.specs.scoped_addresses.held_entries.accepted_trails.inner.Lives.{BorrowsFrom}
+use Rattle.followed_objects.specs.scoped_addresses.held_entries.accepted_trails.inner.Passing.{is_end}
+use Rattle.followed_objects.specs.scoped_addresses.held_entries.accepted_trails.borrow_scopes.Scopes.{bases_in}
+use Rattle.followed_objects.specs.scoped_addresses.held_entries.sil_types.Typing.RowTypes.{made_types}
+use Rattle.followed_objects.specs.scoped_addresses.accepted_values.run_typing.CallForms.{IsOf}
 use Rattle.point_checks.specs.Points.{IsAt}
-use Rattle.held_entries.specs.accepted_trails.ownership_kinds.Facts.{facts_in}
-use Rattle.held_entries.specs.ownership_origins.Origins.{chain_operands, definitions_of, is_trivial_or_untyped, result_origin}
-use Rattle.accepted_values.specs.inner.Known.{IsAcceptedBody, IsValue, facts_at, kind_at, type_in}
-use Rattle.accepted_values.specs.inner.Operands.{kind_by_row, kind_of_result, kind_together}
-use Rattle.accepted_values.specs.inner.Rows.{IsResult}
-use Rattle.accepted_values.proofs.Accepted.{typed}
-use Rattle.accepted_values.proofs.Addresses.{addresses_of_lenders}
-use Rattle.accepted_values.proofs.Based.{bases_of_addresses, handed_on, owned_own_bases}
-use Rattle.accepted_values.proofs.Made.{items_of}
-use Rattle.accepted_values.proofs.Suited.{results_of_kinds}
-use Rattle.accepted_values.proofs.TableRows.{result_rows}
-use Rattle.accepted_values.proofs.lowering_laws.Lowerable.{contained}
-use Rattle.accepted_values.proofs.run_typing_laws.ItemFacts.{values_counted}
-use Rattle.holder_counts.specs.holder_model.declared.row_effect.RowEffect.{RowEffect}
-use Rattle.holder_counts.specs.holder_model.declared.row_effect.RowEffect.TheVariants as row
-use Rattle.holder_counts.specs.holder_model.Data as given
-use Rattle.holder_counts.specs.holder_model.Data.{AddressOf, Datum, FunctionOf, ValueOf, home_references, references_in}
-use Rattle.holder_counts.specs.holder_model.Effects.{Change, effect_of}
-use Rattle.holder_counts.specs.holder_model.Frames.{Entry, Lent, Operands, datum_in, ends, entry_at}
-use Rattle.holder_counts.specs.holder_model.Frames.{made_entry, operands_of, without_ended}
-use Rattle.holder_counts.specs.holder_model.Holders.{of_references, one_object}
-use Rattle.holder_counts.specs.holder_model.ModuleShapes.{ModuleShapes}
-use Rattle.holder_counts.specs.inner.Doing.{Leaves}
-use Rattle.holder_counts.specs.inner.Doing as doing
-use Rattle.holder_counts.specs.inner.Naming.{in_data, in_datum}
-use Rattle.holder_counts.proofs.Alive.{member_home, member_named, members_named, object_references, values_named}
-use Rattle.holder_counts.proofs.Changes.{changes_told}
-use Rattle.holder_counts.proofs.Sums.{total_cons}
+use Rattle.followed_objects.specs.scoped_addresses.held_entries.accepted_trails.ownership_kinds.Facts.{facts_in}
+use Rattle.followed_objects.specs.scoped_addresses.held_entries.ownership_origins.Origins.{chain_operands, definitions_of, is_trivial_or_untyped, result_origin}
+use Rattle.followed_objects.specs.scoped_addresses.accepted_values.inner.Known.{IsAcceptedBody, IsValue, facts_at, kind_at, type_in}
+use Rattle.followed_objects.specs.scoped_addresses.accepted_values.inner.Operands.{kind_by_row, kind_of_result, kind_together}
+use Rattle.followed_objects.specs.scoped_addresses.accepted_values.inner.Rows.{IsResult}
+use Rattle.followed_objects.proofs.scoped_addresses.accepted_values.Accepted.{typed}
+use Rattle.followed_objects.proofs.scoped_addresses.accepted_values.Addresses.{addresses_of_lenders}
+use Rattle.followed_objects.proofs.scoped_addresses.accepted_values.Based.{bases_of_addresses, handed_on, owned_own_bases}
+use Rattle.followed_objects.proofs.scoped_addresses.accepted_values.Made.{items_of}
+use Rattle.followed_objects.proofs.scoped_addresses.accepted_values.Suited.{results_of_kinds}
+use Rattle.followed_objects.proofs.scoped_addresses.accepted_values.TableRows.{result_rows}
+use Rattle.followed_objects.proofs.scoped_addresses.accepted_values.lowering_laws.Lowerable.{contained}
+use Rattle.followed_objects.proofs.scoped_addresses.accepted_values.run_typing_laws.ItemFacts.{values_counted}
+use Rattle.followed_objects.specs.holder_counts.holder_model.declared.row_effect.RowEffect.{RowEffect}
+use Rattle.followed_objects.specs.holder_counts.holder_model.declared.row_effect.RowEffect.TheVariants as row
+use Rattle.followed_objects.specs.holder_counts.holder_model.Data as given
+use Rattle.followed_objects.specs.holder_counts.holder_model.Data.{AddressOf, Datum, FunctionOf, ValueOf, home_references, references_in}
+use Rattle.followed_objects.specs.holder_counts.holder_model.Effects.{Change, effect_of}
+use Rattle.followed_objects.specs.holder_counts.holder_model.Frames.{Entry, Lent, Operands, datum_in, ends, entry_at}
+use Rattle.followed_objects.specs.holder_counts.holder_model.Frames.{made_entry, operands_of, without_ended}
+use Rattle.followed_objects.specs.holder_counts.holder_model.Holders.{of_references, one_object}
+use Rattle.followed_objects.specs.holder_counts.holder_model.ModuleShapes.{ModuleShapes}
+use Rattle.followed_objects.specs.holder_counts.inner.Doing.{Leaves}
+use Rattle.followed_objects.specs.holder_counts.inner.Doing as doing
+use Rattle.followed_objects.specs.holder_counts.inner.Naming.{in_data, in_datum}
+use Rattle.followed_objects.proofs.holder_counts.Alive.{member_home, member_named, members_named, object_references, values_named}
+use Rattle.followed_objects.proofs.holder_counts.Changes.{changes_told}
+use Rattle.followed_objects.proofs.holder_counts.Sums.{total_cons}
 use Rattle.guarded_entries.specs.inner.Guards.{AreLentGuarded, AreOfKinds, IsCurrent, IsGuarded, IsNamed, Lending, owner}
 use Rattle.guarded_entries.specs.inner.Kept.{IsNewlyGuarded}
 use Rattle.guarded_entries.specs.inner.Kept as kept
 use Rattle.guarded_entries.specs.inner.Rows.{AreRowsGuarded, HandsValues, LendsLoaded}
 use Rattle.guarded_entries.proofs.Ended.{unended_stays}
-use Rattle.guarded_entries.proofs.Following.{own_scope}
+use Rattle.followed_objects.proofs.scoped_addresses.OwnScopes.{own_scope}
 use Rattle.guarded_entries.proofs.Named.{named_nowhere}
 use Rattle.guarded_entries.proofs.RowTables.{Gives, Opens}
 use Rattle.guarded_entries.proofs.RowTables as table

@@ -24,23 +24,23 @@ use Rattle.type_definitions.specs.declared.kind.Kind.TheVariants as kind
 use Rattle.run_values.specs.Memory.{Memory}
 use Rattle.run_values.specs.Places.{Home, Inside, OnStack}
 use Rattle.run_values.specs.Values.{Value, references_of}
-use Rattle.held_entries.specs.accepted_trails.inner.Bases.{IsBaseOf}
-use Rattle.held_entries.specs.accepted_trails.inner.Passing.{is_end}
-use Rattle.held_entries.proofs.accepted_trails.Tests.{first_of}
-use Rattle.held_entries.specs.accepted_trails.ownership_kinds.Facts.{facts_in}
-use Rattle.accepted_values.specs.inner.Bases.{IsLender}
-use Rattle.accepted_values.specs.inner.Known.{IsAcceptedBody, kind_at}
-use Rattle.accepted_values.proofs.Addresses.{addresses_of_lenders}
-use Rattle.accepted_values.proofs.Based.{lent_by_lenders}
-use Rattle.holder_counts.specs.holder_model.Data.{AddressOf, Datum, FunctionOf, ValueOf, references_in}
-use Rattle.holder_counts.specs.holder_model.Faults.{HolderFault, NamesDead, WrongShape}
-use Rattle.holder_counts.specs.holder_model.Frames.{Entry, Gone, Held, Lent, Operands, Plain, and_more, any_dead, datum_in, datum_or_fault, ends, entry_at, has_any}
-use Rattle.holder_counts.specs.holder_model.Frames.{made_entry, operand, operand_data, operands_of, plain_address, plain_entry, unless_dead, used_datum, without_ended}
-use Rattle.holder_counts.specs.holder_model.Holders.{one_object}
-use Rattle.holder_counts.specs.inner.Naming.{in_data, in_datum}
-use Rattle.holder_counts.proofs.Entries.{IsLeftOf, chosen_ok, left_of, ok_through, was_there}
-use Rattle.holder_counts.proofs.Moves.{operands_are}
-use Rattle.holder_counts.proofs.Sums.{total_cons}
+use Rattle.followed_objects.specs.scoped_addresses.held_entries.accepted_trails.inner.Bases.{IsBaseOf}
+use Rattle.followed_objects.specs.scoped_addresses.held_entries.accepted_trails.inner.Passing.{is_end}
+use Rattle.followed_objects.proofs.scoped_addresses.held_entries.accepted_trails.Tests.{first_of}
+use Rattle.followed_objects.specs.scoped_addresses.held_entries.accepted_trails.ownership_kinds.Facts.{facts_in}
+use Rattle.followed_objects.specs.scoped_addresses.accepted_values.inner.Bases.{IsLender}
+use Rattle.followed_objects.specs.scoped_addresses.accepted_values.inner.Known.{IsAcceptedBody, kind_at}
+use Rattle.followed_objects.proofs.scoped_addresses.accepted_values.Addresses.{addresses_of_lenders}
+use Rattle.followed_objects.proofs.scoped_addresses.accepted_values.Based.{lent_by_lenders}
+use Rattle.followed_objects.specs.holder_counts.holder_model.Data.{AddressOf, Datum, FunctionOf, ValueOf, references_in}
+use Rattle.followed_objects.specs.holder_counts.holder_model.Faults.{HolderFault, NamesDead, WrongShape}
+use Rattle.followed_objects.specs.holder_counts.holder_model.Frames.{Entry, Gone, Held, Lent, Operands, Plain, and_more, any_dead, datum_in, datum_or_fault, ends, entry_at, has_any}
+use Rattle.followed_objects.specs.holder_counts.holder_model.Frames.{made_entry, operand, operand_data, operands_of, plain_address, plain_entry, unless_dead, used_datum, without_ended}
+use Rattle.followed_objects.specs.holder_counts.holder_model.Holders.{one_object}
+use Rattle.followed_objects.specs.holder_counts.inner.Naming.{in_data, in_datum}
+use Rattle.followed_objects.proofs.holder_counts.Entries.{IsLeftOf, chosen_ok, left_of, ok_through, was_there}
+use Rattle.followed_objects.proofs.holder_counts.Moves.{operands_are}
+use Rattle.followed_objects.proofs.holder_counts.Sums.{total_cons}
 use Rattle.guarded_entries.specs.inner.Guards.{AreLentGuarded, AreOfKinds, IsCurrent, IsGuarded, IsNamed, IsThere, Lending}
 use Rattle.guarded_entries.proofs.Ended.{unended_stays}
 use Rattle.guarded_entries.proofs.Entries.{made_lent_same, plain_bare}
@@ -306,4 +306,3 @@ module _ (m : Module) (n : ℕ) (f : Function) (a : IsAcceptedBody m n f) (it : 
       at (Plain z) is h =
           let same : z ≡ y = cc in
           absurd (named_nowhere o (subst (λ os. IsNamed o os) (ap references_in (sym same) ∙ plain_bare d f entries kinds w z is) named))
-

@@ -16,28 +16,28 @@ use Rattle.run_values.specs.Places.{Place}
 use Rattle.sil_cfg.specs.declared.item.Item.{Item}
 use Rattle.sil_cfg.specs.declared.item.Item.TheVariants as item
 use Rattle.sil_ast.specs.declared.place.FuncId.{FuncId}
-use Rattle.accepted_values.specs.inner.Known.{kind_at}
+use Rattle.followed_objects.specs.scoped_addresses.accepted_values.inner.Known.{kind_at}
 use Rattle.item_operands.specs.Items.{item_defined, item_taken}
-use Rattle.held_entries.specs.accepted_trails.inner.Defined.{makes}
-use Rattle.held_entries.specs.accepted_trails.ownership_kinds.Facts.{facts_in}
-use Rattle.holder_counts.specs.holder_model.Data.{Datum, references_in}
-use Rattle.holder_counts.specs.holder_model.Dropping.{ended, field_references, in_phase}
-use Rattle.holder_counts.specs.holder_model.Effects.{Change, SameSlots, unchanged}
-use Rattle.holder_counts.specs.holder_model.Outcomes.{object_number}
-use Rattle.holder_counts.specs.holder_model.Calling.{value_count}
-use Rattle.holder_counts.specs.holder_model.Frames.{Entry, Frame, Gone, Held, Lent, LentPlace, Operands, entry_at, made_entry, no_entries, operands_of, results_put, without_ended}
-use Rattle.holder_counts.specs.holder_model.Holders.{in_memory, of_references, one_object}
-use Rattle.holder_counts.specs.holder_model.HolderStates.{in_entry}
-use Rattle.holder_counts.specs.holder_model.StepParts.{new_frame}
-use Rattle.holder_counts.specs.holder_model.States.{Drops, Finishes, Runs, Task, dropping}
-use Rattle.holder_counts.specs.inner.Moving.{in_tasks}
-use Rattle.holder_counts.specs.inner.Naming.{HoldsNone, in_data, in_datum}
-use Rattle.holder_counts.specs.inner.Taking.{in_entries}
-use Rattle.holder_counts.proofs.Bounds.{results_most}
-use Rattle.holder_counts.proofs.Entries.{IsLeftOf, ends_counted, left_of, was_there}
-use Rattle.holder_counts.proofs.Moves.{first_task, operands_are, waiting_counted}
-use Rattle.holder_counts.proofs.Places.{deaths_counted, live_not_dead, made_object, phases_counted, references_counted}
-use Rattle.holder_counts.proofs.Sums.{total_cons, total_none}
+use Rattle.followed_objects.specs.scoped_addresses.held_entries.accepted_trails.inner.Defined.{makes}
+use Rattle.followed_objects.specs.scoped_addresses.held_entries.accepted_trails.ownership_kinds.Facts.{facts_in}
+use Rattle.followed_objects.specs.holder_counts.holder_model.Data.{Datum, references_in}
+use Rattle.followed_objects.specs.holder_counts.holder_model.Dropping.{ended, field_references, in_phase}
+use Rattle.followed_objects.specs.holder_counts.holder_model.Effects.{Change, SameSlots, unchanged}
+use Rattle.followed_objects.specs.holder_counts.holder_model.Outcomes.{object_number}
+use Rattle.followed_objects.specs.holder_counts.holder_model.Calling.{value_count}
+use Rattle.followed_objects.specs.holder_counts.holder_model.Frames.{Entry, Frame, Gone, Held, Lent, LentPlace, Operands, entry_at, made_entry, no_entries, operands_of, results_put, without_ended}
+use Rattle.followed_objects.specs.holder_counts.holder_model.Holders.{in_memory, of_references, one_object}
+use Rattle.followed_objects.specs.holder_counts.holder_model.HolderStates.{in_entry}
+use Rattle.followed_objects.specs.holder_counts.holder_model.StepParts.{new_frame}
+use Rattle.followed_objects.specs.holder_counts.holder_model.States.{Drops, Finishes, Runs, Task, dropping}
+use Rattle.followed_objects.specs.holder_counts.inner.Moving.{in_tasks}
+use Rattle.followed_objects.specs.holder_counts.inner.Naming.{HoldsNone, in_data, in_datum}
+use Rattle.followed_objects.specs.holder_counts.inner.Taking.{in_entries}
+use Rattle.followed_objects.proofs.holder_counts.Bounds.{results_most}
+use Rattle.followed_objects.proofs.holder_counts.Entries.{IsLeftOf, ends_counted, left_of, was_there}
+use Rattle.followed_objects.proofs.holder_counts.Moves.{first_task, operands_are, waiting_counted}
+use Rattle.followed_objects.proofs.holder_counts.Places.{deaths_counted, live_not_dead, made_object, phases_counted, references_counted}
+use Rattle.followed_objects.proofs.holder_counts.Sums.{total_cons, total_none}
 use Rattle.guarded_entries.proofs.Named.{counts_itself}
 use Rattle.guarded_entries.specs.inner.Guards.{AreLentGuarded, AreOfKinds, Guard, IsArgument, IsNamed, Lending}
 use Rattle.guarded_entries.specs.inner.GuardedStates.{AreFinishesRight, BelowIsGuarded, IsGuardedFrame, IsGuardedRun, KeepsBelow, Loans, TasksAreGuarded}
@@ -109,7 +109,7 @@ finishes_dropping o (p ∷ os) tasks = refl
 
 module _ (m : Module) (loans : Loans) where
   -- slots' cells stay as they are
-  stack_kept : (memory later : Memory) → later.stack ≡ memory.stack → (tasks : List (Task Frame)) → KeepLoans m loans memory later tasks
+  pub stack_kept : (memory later : Memory) → later.stack ≡ memory.stack → (tasks : List (Task Frame)) → KeepLoans m loans memory later tasks
   stack_kept memory later same [] = tt
   stack_kept memory later same (Runs frame ∷ rest) = (λ f s x k y is borrow e l keeps. ap (λ cells. slice_get cells k) same ∙ keeps, stack_kept memory later same rest)
   stack_kept memory later same (Drops references ∷ rest) = stack_kept memory later same rest
@@ -254,7 +254,7 @@ items_guarded m loans memory rest frame f i ops c slots entries h goes =
     goes.put goes.arguments goes.right goes.phases goes.none goes.below
 
 -- nothing changes in memory
-same_phases : (memory : Memory) → KeepsPhases memory memory
+pub same_phases : (memory : Memory) → KeepsPhases memory memory
 same_phases memory = record { dead = λ o h. h; deiniting = λ o. refl }
 
 pub returns_guarded : (m : Module) (loans : Loans) → AreReturnsGuarded m loans

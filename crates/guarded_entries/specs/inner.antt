@@ -7,3 +7,6 @@ pub mod Following
 pub mod Rows
 pub mod EdgesLend
 pub mod Given
+pub mod LoansKept
+pub mod Premises
+pub mod Laws

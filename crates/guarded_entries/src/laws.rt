@@ -28,6 +28,14 @@ ghost use Rattle.guarded_entries.specs.inner.Kept.{
   HaveGuardedHolders,
   HaveKeptHolders,
 };
+ghost use Rattle.guarded_entries.specs.inner.Laws.{AreStepsGuarded, NoDeadFaults};
+ghost use Rattle.guarded_entries.specs.inner.Premises.{
+  AreFramesCurrent,
+  AreTypedForRows,
+  BeginGuarded,
+  CarryTypedValues,
+  LoadTypedStrongly,
+};
 ghost use Rattle.guarded_entries.specs.inner.Rows.{AreRowsGuarded};
 ghost use Rattle.guarded_entries.specs.inner.Stepping.{
   AreCallsGuarded,
@@ -138,4 +146,32 @@ pub fn tracked_go_along()
 pub fn typed_are_of_kinds()
     ensures kinds { AreTypedOfKinds }
     ensures handed { HandTypedValues }
+{}
+
+/// The operands of the item at which a tracked frame stands are current.
+pub fn frames_are_current()
+    ensures { AreFramesCurrent }
+{}
+
+/// Where entries and memory are typed, the operands of an instruction are as its row asks, what is loaded is kept strongly, and what an edge carries
+/// are values.
+pub fn typed_operands_are_right()
+    ensures loads { LoadTypedStrongly }
+    ensures rows { AreTypedForRows }
+    ensures edges { CarryTypedValues }
+{}
+
+/// A run begins guarded.
+pub fn runs_begin_guarded()
+    ensures { BeginGuarded }
+{}
+
+/// A step leads from a guarded state to a guarded one, where open scopes keep what they lend.
+pub fn steps_stay_guarded()
+    ensures { AreStepsGuarded }
+{}
+
+/// It ends in no fault of dead objects.
+pub fn no_dead_faults()
+    ensures { NoDeadFaults }
 {}

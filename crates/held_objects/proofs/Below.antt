@@ -5,18 +5,18 @@ use Rattle.std.proofs.lemmas.Option.{same_Some}
 use Rattle.built_objects.specs.inner.Building.{Progress}
 use Rattle.built_objects.proofs.Staying.{stay_in_memory}
 use Rattle.built_objects.proofs.Unfinished.{unfinished_not_whole}
-use Rattle.holder_model.specs.Frames.{Frame}
-use Rattle.holder_model.specs.ModuleShapes.{shapes_of}
-use Rattle.holder_model.specs.States.{Drops, Finishes, Runs, Task}
-use Rattle.holder_model.specs.memory_accesses.Sources.{sources_of}
+use Rattle.holder_steps.specs.holder_model.Frames.{Frame}
+use Rattle.holder_steps.specs.holder_model.ModuleShapes.{shapes_of}
+use Rattle.holder_steps.specs.holder_model.States.{Drops, Finishes, Runs, Task}
+use Rattle.holder_steps.specs.holder_model.memory_accesses.Sources.{sources_of}
 use Rattle.run_values.specs.Memory.{Memory, object_at}
 use Rattle.sil_ast.specs.declared.function.Function.{Function}
 use Rattle.sil_ast.specs.declared.module.Module.{Module}
 use Rattle.sil_ast.specs.declared.place.ObjectId.{ObjectId}
 use Rattle.sil_cfg.specs.declared.item.Item.{Item}
 use Rattle.type_definitions.specs.Declarations.{declarations_of}
-use Rattle.whole_objects.specs.inner.Whole.{IsWhole, NameWhole, StayWhole}
-use Rattle.whole_objects.proofs.Lists.{each_of}
+use Rattle.built_objects.specs.whole_objects.inner.Whole.{IsWhole, NameWhole, StayWhole}
+use Rattle.built_objects.proofs.whole_objects.Lists.{each_of}
 use Rattle.held_objects.specs.inner.ObjectStates.{BelowBuild, BuildsNone, FrameBuilds, IsBuilding, TasksBuild}
 use Rattle.held_objects.specs.inner.Laws.{AreOthersBuilt, InEach, StayBelow}
 
@@ -71,7 +71,7 @@ module _ (m : Module) (said : Function → List Item → Progress) where
         let at = building_of frame b.f g b.is g_is o building in
         ⊎_elim
         (λ (is : IsWhole memory o). unfinished_not_whole (shapes_of m) (sources_of (declarations_of m) b.f) (said b.f frame.trail) memory frame.entries b.holds
-          at.object o at.unfinished at.holds is)
+        at.object o at.unfinished at.holds is)
         (λ (le : length memory.objects ≤ o.0). let made = (b.holds.built at.object o at.unfinished at.holds).0 in absurd (omega (arith, le, made)))
         other
 

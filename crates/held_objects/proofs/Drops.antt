@@ -3,11 +3,11 @@ use Rattle.std.proofs.Common.{◌≡◌, ◌<◌, ⊎_elim, inl, ℕ, List, leng
 use Rattle.std.proofs.lemmas.Bool.{cases_eq}
 use Rattle.std.proofs.lemmas.List.{length-set}
 use Rattle.built_objects.specs.inner.Building.{Progress}
-use Rattle.holder_model.specs.Dropping.{ended, field_references}
-use Rattle.holder_model.specs.Frames.{Frame}
-use Rattle.holder_model.specs.HolderStates.{HolderNext, HolderState}
-use Rattle.holder_model.specs.ModuleFacts.{ModuleFacts}
-use Rattle.holder_model.specs.States.{Ends, Goes, Task}
+use Rattle.holder_steps.specs.holder_model.Dropping.{ended, field_references}
+use Rattle.holder_steps.specs.holder_model.Frames.{Frame}
+use Rattle.holder_steps.specs.holder_model.HolderStates.{HolderNext, HolderState}
+use Rattle.holder_steps.specs.holder_model.ModuleFacts.{ModuleFacts}
+use Rattle.holder_steps.specs.holder_model.States.{Ends, Goes, Task}
 use Rattle.holder_steps.specs.inner.Ways.{DropsOne, FinishesOne}
 use Rattle.holder_steps.proofs.TaskStacks.{going_dropping}
 use Rattle.memory_cells.proofs.Writes.{object_other, object_same}
@@ -17,10 +17,10 @@ use Rattle.sil_ast.specs.declared.function.Function.{Function}
 use Rattle.sil_ast.specs.declared.module.Module.{Module}
 use Rattle.sil_ast.specs.declared.place.ObjectId.{ObjectId}
 use Rattle.sil_cfg.specs.declared.item.Item.{Item}
-use Rattle.whole_objects.specs.inner.Whole.{IsWhole, NameWhole}
-use Rattle.whole_objects.specs.inner.Laws.{KeepsWhole}
-use Rattle.whole_objects.proofs.Keeping.{ended_whole, read_whole}
-use Rattle.whole_objects.proofs.Lists.{each_of}
+use Rattle.built_objects.specs.whole_objects.inner.Whole.{IsWhole, NameWhole}
+use Rattle.built_objects.specs.whole_objects.inner.Laws.{KeepsWhole}
+use Rattle.built_objects.proofs.whole_objects.Keeping.{ended_whole, read_whole}
+use Rattle.built_objects.proofs.whole_objects.Lists.{each_of}
 use Rattle.held_objects.specs.inner.ObjectStates.{AreObjectsRight, BuildsNone, DeinitsBuilding, FinishedWhole, FrameBuilds, TasksBuild, WaitsBuilding}
 use Rattle.held_objects.specs.inner.Laws.{AreDropsRight, AreFinishesRight, InEach}
 use Rattle.held_objects.proofs.Below.{tasks_other, tasks_stay}
@@ -37,8 +37,8 @@ module _ (m : Module) (said : Function → List Item → Progress) (memory : Mem
       classes : (q : ObjectId) → q.0 < length memory.objects → (object_at (with_object memory o x) q).class ≡ (object_at memory q).class
       classes q made = ⊎_elim
           (λ (e : q.0 ≡ o.0).
-            subst (λ r. (object_at (with_object memory o x) r).class ≡ (object_at memory r).class) (sym (same_number q o e))
-            (ap (λ y. y.class) (object_same memory o x is.made) ∙ same_class))
+          subst (λ r. (object_at (with_object memory o x) r).class ≡ (object_at memory r).class) (sym (same_number q o e))
+          (ap (λ y. y.class) (object_same memory o x is.made) ∙ same_class))
           (λ (differ : q.0 ≡ o.0 → ⊥). ap (λ y. y.class) (object_other memory o q x differ))
           (cases_eq q.0 o.0)
 

@@ -8,12 +8,12 @@ use Rattle.built_objects.specs.inner.Building.{Progress}
 use Rattle.built_objects.specs.inner.FrameObjects.{Holds, HoldsObjects, MayName}
 use Rattle.built_objects.proofs.FieldWrites.{which_value}
 use Rattle.built_objects.proofs.Results.{holds_names}
-use Rattle.holder_model.specs.Calling.{emptied_for, handed_over, value_count}
-use Rattle.holder_model.specs.Data.{AddressOf, references_in}
-use Rattle.holder_model.specs.Frames.{Entry, Frame, Gone, LentPlace, datum_in, no_entries}
-use Rattle.holder_model.specs.ModuleShapes.{shapes_of}
-use Rattle.holder_model.specs.StepParts.{new_frame}
-use Rattle.holder_model.specs.States.{Finishes, Runs, Task}
+use Rattle.holder_steps.specs.holder_model.Calling.{emptied_for, handed_over, value_count}
+use Rattle.holder_steps.specs.holder_model.Data.{AddressOf, references_in}
+use Rattle.holder_steps.specs.holder_model.Frames.{Entry, Frame, Gone, LentPlace, datum_in, no_entries}
+use Rattle.holder_steps.specs.holder_model.ModuleShapes.{shapes_of}
+use Rattle.holder_steps.specs.holder_model.StepParts.{new_frame}
+use Rattle.holder_steps.specs.holder_model.States.{Finishes, Runs, Task}
 use Rattle.memory_cells.specs.inner.Cells.{IsInside}
 use Rattle.memory_cells.proofs.Writes.{emptied_changes}
 use Rattle.numbered_form.specs.Lists.{Each}
@@ -26,10 +26,10 @@ use Rattle.sil_ast.specs.declared.place.FuncId.{FuncId}
 use Rattle.sil_ast.specs.declared.place.ObjectId.{ObjectId}
 use Rattle.sil_cfg.specs.declared.item.Item.{Item}
 use Rattle.sil_cfg.specs.declared.item.Item.TheVariants as item
-use Rattle.whole_objects.specs.inner.Whole.{IsWhole, IsWholeMemory, NameWhole, cell_references}
-use Rattle.whole_objects.specs.inner.Laws.{KeepsWhole}
-use Rattle.whole_objects.proofs.Keeping.{taken_whole}
-use Rattle.whole_objects.proofs.Lists.{each_of}
+use Rattle.built_objects.specs.whole_objects.inner.Whole.{IsWhole, IsWholeMemory, NameWhole, cell_references}
+use Rattle.built_objects.specs.whole_objects.inner.Laws.{KeepsWhole}
+use Rattle.built_objects.proofs.whole_objects.Keeping.{taken_whole}
+use Rattle.built_objects.proofs.whole_objects.Lists.{each_of}
 use Rattle.held_objects.specs.inner.ObjectStates.{FrameBuilds, TasksBuild}
 use Rattle.held_objects.specs.inner.Items.{AreCallsRight, AreDeinitsRight, AreEntered, BeginRight, IsOnStack, LosesEntries, Stands, sources_in}
 use Rattle.held_objects.proofs.Below.{below_stays}
@@ -152,14 +152,17 @@ module _ (m : Module) (said : Function → List Item → Progress) where
 
     pub call_one : (g : FuncId) (callee : Function) (entries : List Entry) → slice_get m.functions g.0 ≡ Some callee → AreEntered m said memory callee entries
         → IsWholeMemory handed × TasksBuild m said handed (Runs (new_frame g entries) ∷ Runs waits ∷ rest)
-    call_one g callee entries is e = (alone_so.whole.0, (
+    call_one g callee entries is e = (
+      alone_so.whole.0,
+      (
         entered_builds handed g callee entries (Runs waits ∷ rest) is (record {
           none = e.none;
           named = λ v x names. let n = e.named v x names in (each_of (IsWhole memory) (IsWhole handed) alone_so.whole.1 (references_in x) n.0, n.1);
         }),
         below_stays m said memory handed alone_so.whole.1 (omega (arith, ap length alone_so.objects)) (λ o made. ap (λ y. y.class) (object_same o)) (Runs waits ∷ rest)
             (λ o some. object_same o) (new_frame g entries) (waiting, below_same m said memory frame waits rest stands.below),
-      ))
+      ),
+    )
 
   pub calls_right : AreCallsRight m said
   calls_right memory rest frame f left lent g callee entries stands loses on is e = call_one memory rest frame f left lent stands loses on g callee entries is e

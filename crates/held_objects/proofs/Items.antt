@@ -10,9 +10,9 @@ use Rattle.built_objects.proofs.Beginning.{objects_begun}
 use Rattle.built_objects.proofs.FieldWrites.{field_written, held_same, unfinished_earlier, which_value}
 use Rattle.built_objects.proofs.Results.{results_held}
 use Rattle.built_objects.proofs.Staying.{stay_in_memory, stay_where_ended}
-use Rattle.holder_model.specs.Frames.{Entry, Frame}
-use Rattle.holder_model.specs.ModuleShapes.{field_shapes, shapes_of}
-use Rattle.holder_model.specs.States.{Runs, Task, dropping}
+use Rattle.holder_steps.specs.holder_model.Frames.{Entry, Frame}
+use Rattle.holder_steps.specs.holder_model.ModuleShapes.{field_shapes, shapes_of}
+use Rattle.holder_steps.specs.holder_model.States.{Runs, Task, dropping}
 use Rattle.holder_steps.proofs.TaskStacks.{below_another, going_dropping}
 use Rattle.memory_cells.specs.inner.Cells.{ChangesAt}
 use Rattle.memory_cells.proofs.Writes.{filled_changes}
@@ -26,9 +26,9 @@ use Rattle.sil_ast.specs.declared.module.Module.{Module}
 use Rattle.sil_ast.specs.declared.place.ObjectId.{ObjectId}
 use Rattle.sil_ast.specs.declared.place.ValueId.{ValueId}
 use Rattle.sil_cfg.specs.declared.item.Item.{Item}
-use Rattle.whole_objects.specs.inner.Whole.{IsWholeMemory, NameWhole}
-use Rattle.whole_objects.specs.inner.Laws.{KeepsWhole}
-use Rattle.whole_objects.proofs.Keeping.{filled_whole, made_whole}
+use Rattle.built_objects.specs.whole_objects.inner.Whole.{IsWholeMemory, NameWhole}
+use Rattle.built_objects.specs.whole_objects.inner.Laws.{KeepsWhole}
+use Rattle.built_objects.proofs.whole_objects.Keeping.{filled_whole, made_whole}
 use Rattle.held_objects.specs.inner.ObjectStates.{BelowBuild, BuildsNone, DeinitsBuilding, FinishedWhole, FrameBuilds, IsBuilding, TasksBuild, WaitsBuilding}
 use Rattle.held_objects.specs.inner.Items.{AreFieldWritesRight, AreMakingsRight, AreQuietRight, IsFieldWrite, IsMaking, LosesEntries, Stands, frame_behind, sources_in}
 use Rattle.held_objects.proofs.Below.{below_other, below_stays, building_of}
@@ -64,15 +64,15 @@ module _ (m : Module) (said : Function → List Item → Progress) where
 
   pub quiet_right : AreQuietRight m said
   quiet_right memory later rest frame f i left behind slots dropped stands quiet whole = dropping_build later dropped (Runs (frame_behind frame i behind slots) ∷ rest) whole (
-      record {
-        f = f;
-        is = stands.is;
-        holds = results_held (shapes_of m) (sources_in m said f) (said f frame.trail) (said f (i ∷ frame.trail)) later left behind in_later quiet.unwritten quiet.begins quiet.objects;
-        alone = λ o b. alone memory rest frame f stands o (building_before o b);
-      },
-      below_same later frame (frame_behind frame i behind slots) rest
-          (below_stays m said memory later quiet.stays.whole quiet.stays.more quiet.stays.classes rest (λ o some. quiet.stays.building o (λ none. some none.1)) frame stands.below),
-    )
+    record {
+      f = f;
+      is = stands.is;
+      holds = results_held (shapes_of m) (sources_in m said f) (said f frame.trail) (said f (i ∷ frame.trail)) later left behind in_later quiet.unwritten quiet.begins quiet.objects;
+      alone = λ o b. alone memory rest frame f stands o (building_before o b);
+    },
+    below_same later frame (frame_behind frame i behind slots) rest
+        (below_stays m said memory later quiet.stays.whole quiet.stays.more quiet.stays.classes rest (λ o some. quiet.stays.building o (λ none. some none.1)) frame stands.below),
+  )
     where
       left_now : HoldsObjects (shapes_of m) (sources_in m said f) (said f frame.trail) memory left
       left_now = held_left memory rest frame f stands left quiet.loses
@@ -122,11 +122,14 @@ module _ (m : Module) (said : Function → List Item → Progress) where
 
     pub first_one : (dropped : List ObjectId) → NameWhole later dropped
         → IsWholeMemory later × TasksBuild m said later (dropping dropped (Runs (frame_behind frame i left slots) ∷ rest))
-    first_one dropped whole = (keeps.0, dropping_build later dropped (Runs (frame_behind frame i left slots) ∷ rest) whole (
+    first_one dropped whole = (
+      keeps.0,
+      dropping_build later dropped (Runs (frame_behind frame i left slots) ∷ rest) whole (
         record { f = f; is = stands.is; holds = now.0; alone = λ o b. alone memory rest frame f stands o (building_before o b) },
         below_same later frame (frame_behind frame i left slots) rest
             (below_stays m said memory later keeps.1 (omega (arith, changes.objects)) (λ o made. changes.classes o) rest building frame stands.below),
-      ))
+      ),
+    )
 
   pub first_right : AreFieldWritesRight m said
   first_right memory rest frame f i left p x slots dropped stands first whole = first_one memory rest frame f i left p x slots stands first dropped whole
@@ -156,22 +159,25 @@ module _ (m : Module) (said : Function → List Item → Progress) where
     alone_now : (o : ObjectId) → IsBuilding m said f (frame_behind frame i behind slots) o → BuildsNone m said rest o
     alone_now o b = ⊎_elim
         (λ (same : b.object ≡ making.object).
-          let is : o ≡ new_object memory = held_same behind making.object o (new_object memory) (subst (λ v. Holds behind v o) same b.holds) making.new.holds in
-          below_other m said memory o (inr (subst (λ (q : ObjectId). length memory.objects ≤ q.0) (sym is) (omega arith))) rest frame stands.below)
+        let is : o ≡ new_object memory = held_same behind making.object o (new_object memory) (subst (λ v. Holds behind v o) same b.holds) making.new.holds in
+        below_other m said memory o (inr (subst (λ (q : ObjectId). length memory.objects ≤ q.0) (sym is) (omega arith))) rest frame stands.below)
         (λ (differ : b.object ≡ making.object → ⊥).
-          let un : IsUnfinished (sources_in m said f) (said f frame.trail) b.object =
-          record { field = b.unfinished.field; of = b.unfinished.of; unwritten = sym (making.now.others b.object differ b.unfinished.field) ∙ b.unfinished.unwritten } in
-          alone memory rest frame f stands o (building_left memory rest frame f stands left making.loses b.object o un (sym (making.new.others b.object differ) ∙ b.holds)))
+        let un : IsUnfinished (sources_in m said f) (said f frame.trail) b.object =
+        record { field = b.unfinished.field; of = b.unfinished.of; unwritten = sym (making.now.others b.object differ b.unfinished.field) ∙ b.unfinished.unwritten } in
+        alone memory rest frame f stands o (building_left memory rest frame f stands left making.loses b.object o un (sym (making.new.others b.object differ) ∙ b.holds)))
         (which_value b.object making.object)
 
     pub making_one : IsWholeMemory grown × TasksBuild m said grown (Runs (frame_behind frame i behind slots) ∷ rest)
-    making_one = (kept.0, (
+    making_one = (
+      kept.0,
+      (
         record { f = f; is = stands.is; holds = begun.0; alone = alone_now },
         below_same grown frame (frame_behind frame i behind slots) rest
             (below_stays m said memory grown kept.1
             (omega (arith, length-append memory.objects (record { class = class; phase = Live; cells = empty_fields (field_shapes (shapes_of m) class) } ∷ [])))
             (λ o made. ap (λ y. y.class) (begun.1 o made)) rest (λ o some. begun.1 o (made_or_none o some)) frame stands.below),
-      ))
+      ),
+    )
 
   pub making_right : AreMakingsRight m said
   making_right memory rest frame f i left behind class slots stands making = making_one memory rest frame f i left behind class slots stands making

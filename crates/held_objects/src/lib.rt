@@ -3,4 +3,6 @@
 
 mod laws;
 
-pub use laws::{drops_and_finishes_are_right, entered_objects_are_right, items_keep_objects, objects_stay_below};
+pub use laws::{
+    drops_and_finishes_are_right, entered_objects_are_right, items_keep_objects, objects_stay_below,
+};

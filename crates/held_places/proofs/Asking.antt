@@ -1,25 +1,25 @@
 -- A place that is as full as an operation's mark needs it is as the run asks it to be.
-use Rattle.std.proofs.Common.{◌≡◌, ◌⊎◌, ⊎_elim, ◌||◌, List, Bool, true, false, not, cond, is_some, Option, Some, None, refl, sym, ap, ◌∙◌, subst}
+use Rattle.std.proofs.Common.{◌≡◌, List, Bool, true, false, cond, is_some, Option, Some, None, refl, ap, ◌∙◌, subst}
 use Rattle.std.proofs.lemmas.Bool.{false≢true, or_right}
 use Rattle.std.proofs.lemmas.Option.{none-some}
-use Rattle.accepted_memory.specs.holder_model.Effects.{Effect, Faults}
-use Rattle.accepted_memory.specs.holder_model.Faults.{HolderFault, NotLastSlot}
-use Rattle.accepted_memory.specs.holder_model.MemoryEffects.{asked_before, fault_of, holds, where_held}
-use Rattle.accepted_memory.specs.holder_model.ModuleShapes.{ModuleShapes}
-use Rattle.accepted_memory.specs.memory_accesses.Operations.{load_operation, operation_by, store_operation}
-use Rattle.accepted_memory.specs.memory_accesses.declared.access.Operation.{Operation}
-use Rattle.accepted_memory.specs.memory_accesses.declared.access.Operation.TheVariants.{FirstWrite, Read, Lend, Write, TrivialStore, Handed, Take}
-use Rattle.accepted_memory.specs.memory_accesses.declared.columns.AccessKind.{AccessKind}
-use Rattle.accepted_memory.specs.memory_accesses.declared.columns.AccessKind.TheVariants as access
-use Rattle.accepted_memory.specs.memory_parts.Contents.{operation_mark}
-use Rattle.accepted_memory.specs.run_trails.inner.Switched.{finds}
+use Rattle.tracked_frames.specs.placed_values.accepted_memory.holder_model.Effects.{Effect, Faults}
+use Rattle.tracked_frames.specs.placed_values.accepted_memory.holder_model.Faults.{HolderFault, NotLastSlot}
+use Rattle.tracked_frames.specs.placed_values.accepted_memory.holder_model.MemoryEffects.{asked_before, fault_of, holds, where_held}
+use Rattle.tracked_frames.specs.placed_values.accepted_memory.holder_model.ModuleShapes.{ModuleShapes}
+use Rattle.tracked_frames.specs.placed_values.accepted_memory.memory_accesses.Operations.{load_operation, operation_by, store_operation}
+use Rattle.tracked_frames.specs.placed_values.accepted_memory.memory_accesses.declared.access.Operation.{Operation}
+use Rattle.tracked_frames.specs.placed_values.accepted_memory.memory_accesses.declared.access.Operation.TheVariants.{FirstWrite, Read, Lend, Write, TrivialStore, Handed, Take}
+use Rattle.tracked_frames.specs.placed_values.accepted_memory.memory_accesses.declared.columns.AccessKind.{AccessKind}
+use Rattle.tracked_frames.specs.placed_values.accepted_memory.memory_accesses.declared.columns.AccessKind.TheVariants as access
+use Rattle.tracked_frames.specs.placed_values.accepted_memory.memory_parts.Contents.{operation_mark}
+use Rattle.tracked_frames.specs.placed_values.accepted_memory.run_trails.inner.Switched.{finds}
 use Rattle.argument_conventions.specs.declared.row.AddressRow.{AddressRow}
 use Rattle.argument_conventions.specs.declared.row.Content.{Content}
 use Rattle.argument_conventions.specs.declared.row.Content.TheVariants as content
 use Rattle.memory_cells.specs.inner.Cells.{IsPlace}
 use Rattle.memory_cells.proofs.PlaceCells.{empty_test, full_value, there_test}
 use Rattle.run_values.specs.Memory.{Memory}
-use Rattle.run_values.specs.Places.{Place, is_empty_at, is_there_at, value_at}
+use Rattle.run_values.specs.Places.{Place, is_empty_at}
 use Rattle.run_values.specs.Shapes.{Shape}
 use Rattle.run_values.specs.Trivial.{is_trivial}
 use Rattle.sil_ast.specs.declared.inst.Inst.{Inst}

@@ -1,34 +1,28 @@
 -- What an instruction does at its operand's place on the stack: the place is as the run asks, and the frame holds its places behind it.
-use Rattle.std.proofs.Common.{◌≡◌, ◌⊎◌, ⊎_elim, inl, inr, ◌==◌, ◌<◌, ◌≤◌, ℕ, List, [], ◌∷◌, length, Bool, true, false, Contains, Option, Some, None, refl, sym, ap, ◌∙◌, subst, arith, eqb-true}
+use Rattle.std.proofs.Common.{◌≡◌, ◌⊎◌, ⊎_elim, inl, inr, ◌==◌, ◌≤◌, ℕ, List, [], ◌∷◌, length, Bool, true, false, Contains, Some, refl, sym, ap, ◌∙◌, subst, arith, eqb-true}
 use Rattle.std.specs.Prelude.{unwrap_or}
-use Rattle.std.proofs.lemmas.Bool.{false≢true, true≢false}
-use Rattle.std.proofs.lemmas.Option.{same_Some}
+use Rattle.std.proofs.lemmas.Bool.{true≢false}
 use Rattle.std.proofs.lemmas.List.Elements.{Contains-push}
-use Rattle.accepted_memory.specs.accepted_trails.inner.Bases.{IsAsMade}
-use Rattle.accepted_memory.specs.holder_model.Effects.{Effect}
-use Rattle.accepted_memory.specs.holder_model.Faults.{HolderFault}
-use Rattle.accepted_memory.specs.holder_model.Frames.{Frame}
-use Rattle.accepted_memory.specs.holder_model.MemoryEffects.{asked_before, where_held}
-use Rattle.accepted_memory.specs.holder_model.ModuleShapes.{ModuleShapes}
-use Rattle.accepted_memory.specs.holder_model.States.{Task}
-use Rattle.accepted_memory.specs.memory_accesses.Locations.{location_of}
-use Rattle.accepted_memory.specs.memory_accesses.Operations.{operated}
-use Rattle.accepted_memory.specs.memory_accesses.Rows.{has_operation, is_part}
-use Rattle.accepted_memory.specs.memory_accesses.Sources.{is_trivial_at, is_trivial_source, source_at, sources_of}
-use Rattle.accepted_memory.specs.memory_accesses.declared.access.Operation.{Operation}
-use Rattle.accepted_memory.specs.memory_accesses.declared.access.Operation.TheVariants.{Handed, Take, TrivialStore}
-use Rattle.accepted_memory.specs.memory_accesses.declared.location.Location.{Location}
-use Rattle.accepted_memory.specs.memory_accesses.declared.source.Source.TheVariants as source
-use Rattle.accepted_memory.specs.memory_parts.Parts.{whole_cell}
-use Rattle.accepted_memory.specs.run_trails.inner.RunTrails.{GoesOn, IsRunTrail}
-use Rattle.accepted_places.specs.inner.Cells.{IsDoneAt, mark_at, touches}
-use Rattle.accepted_places.specs.inner.Stacks.{slots_on}
-use Rattle.accepted_values.specs.inner.Known.{IsAcceptedBody}
-use Rattle.argument_conventions.specs.Rows.{keeps_full, keeps_full_by}
+use Rattle.tracked_frames.specs.placed_values.accepted_memory.accepted_trails.inner.Bases.{IsAsMade}
+use Rattle.tracked_frames.specs.placed_values.accepted_memory.holder_model.Effects.{Effect}
+use Rattle.tracked_frames.specs.placed_values.accepted_memory.holder_model.Faults.{HolderFault}
+use Rattle.tracked_frames.specs.placed_values.accepted_memory.holder_model.Frames.{Frame}
+use Rattle.tracked_frames.specs.placed_values.accepted_memory.holder_model.MemoryEffects.{asked_before, where_held}
+use Rattle.tracked_frames.specs.placed_values.accepted_memory.holder_model.ModuleShapes.{ModuleShapes}
+use Rattle.tracked_frames.specs.placed_values.accepted_memory.holder_model.States.{Task}
+use Rattle.tracked_frames.specs.placed_values.accepted_memory.memory_accesses.Locations.{location_of}
+use Rattle.tracked_frames.specs.placed_values.accepted_memory.memory_accesses.Operations.{operated}
+use Rattle.tracked_frames.specs.placed_values.accepted_memory.memory_accesses.Rows.{has_operation, is_part}
+use Rattle.tracked_frames.specs.placed_values.accepted_memory.memory_accesses.Sources.{is_trivial_at, source_at, sources_of}
+use Rattle.tracked_frames.specs.placed_values.accepted_memory.memory_accesses.declared.access.Operation.{Operation}
+use Rattle.tracked_frames.specs.placed_values.accepted_memory.memory_accesses.declared.access.Operation.TheVariants.{Handed, Take}
+use Rattle.tracked_frames.specs.placed_values.accepted_memory.memory_accesses.declared.location.Location.{Location}
+use Rattle.tracked_frames.specs.placed_values.accepted_memory.memory_parts.Parts.{whole_cell}
+use Rattle.tracked_frames.specs.placed_values.accepted_memory.run_trails.inner.RunTrails.{GoesOn, IsRunTrail}
+use Rattle.tracked_frames.specs.placed_values.accepted_places.inner.Cells.{IsDoneAt, mark_at, touches}
+use Rattle.tracked_frames.specs.placed_values.accepted_places.inner.Stacks.{slots_on}
+use Rattle.tracked_frames.specs.placed_values.accepted_values.inner.Known.{IsAcceptedBody}
 use Rattle.argument_conventions.specs.declared.row.AddressRow.{AddressRow}
-use Rattle.argument_conventions.specs.declared.row.Content.{Content}
-use Rattle.argument_conventions.specs.declared.row.Content.TheVariants as content
-use Rattle.item_operands.specs.Items.{item_defined}
 use Rattle.item_operands.specs.Parts.{item_inst}
 use Rattle.memory_cells.specs.inner.Cells.{ChangesAt, IsPlace, cell_at}
 use Rattle.memory_cells.proofs.Writes.{emptied_changes, emptied_empty, filled_changes, filled_full}
@@ -48,7 +42,7 @@ use Rattle.type_definitions.specs.Declarations.{Declarations, declarations_of}
 use Rattle.held_places.specs.inner.FramePlaces.{HoldsPlaces, IsFree, Names}
 use Rattle.held_places.specs.inner.Roots.{IsThere, argument, is_full_on, is_shared, slot}
 use Rattle.held_places.specs.inner.TrailLaws.{TrailLaws}
-use Rattle.held_places.proofs.Asking.{asked_by, met}
+use Rattle.held_places.proofs.Asking.{IsAsked, asked_by, met}
 use Rattle.held_places.proofs.Contents.{FoundAt, OperatesAt, found_at, on_stack, others_untouched, stays_full}
 use Rattle.held_places.proofs.GoingOn.{IsDoneAt as DoneAt, OthersStay, cells_behind, goes_on, stays_below, stays_quiet}
 use Rattle.held_places.proofs.Keeping.{Keeps, keeps_roots, slot_no_part, there_still}
@@ -102,14 +96,14 @@ module _ (laws : TrailLaws) (m : Module) (number : ℕ) (f : Function) (body : I
             ∙ slot_no_part frame.entries (slots_on (declarations_of m) f frame.trail) frame.slots l.root s.holds.slots there within.whole within.names))
         by (argument row t is) e same = absurd (true≢false (sym (ap (λ q. q.is_part) (sym same) ∙ part) ∙ s.holds.handed l.root row t is within.whole within.names))
 
+    pub asked_so : ((row : AddressRow) → o ≡ Handed row → ⊥) → IsAsked (asked_before p.is_part o) found.on
+    asked_so own = asked_by (is_trivial_at (sources_of (declarations_of m) f) l.root) (is_part l) o found.on p.is_part own found.found part_by_location
+
     -- so the place is as the run asks
     pub is_as_asked : (d : Declarations) (shapes : ModuleShapes) (values : List Shape) → ((row : AddressRow) → o ≡ Handed row → ⊥)
         → (e : Effect HolderFault)
         → where_held d shapes values memory x p (asked_before p.is_part o) e ≡ e
-    is_as_asked d shapes values own e =
-        met d shapes values memory x p found.on as_full (asked_before p.is_part o)
-        (asked_by (is_trivial_at (sources_of (declarations_of m) f) l.root) (is_part l) o found.on p.is_part own found.found
-        part_by_location) e
+    is_as_asked d shapes values own e = met d shapes values memory x p found.on as_full (asked_before p.is_part o) (asked_so own) e
 
     -- ---- behind it
 

@@ -1,28 +1,28 @@
 -- A slot is allocated, or the newest one is deallocated.
-use Rattle.std.proofs.Common.{◌≡◌, ◌⊎◌, ⊎_elim, inl, inr, ◌==◌, ◌&&◌, ◌||◌, ◌≤◌, ℕ, List, [], ◌∷◌, length, Bool, true, false, cond, not, Some, None, Ok, Err, refl, sym, ap, ◌∙◌, subst, arith, eq-eqb, eqb-true}
+use Rattle.std.proofs.Common.{◌≡◌, ◌⊎◌, ⊎_elim, ◌==◌, ◌&&◌, ◌≤◌, ℕ, List, [], ◌∷◌, length, Bool, true, false, cond, not, Some, None, Ok, Err, refl, sym, ap, ◌∙◌, subst, arith, eq-eqb, eqb-true}
 use Rattle.std.specs.List.{list_any}
 use Rattle.std.proofs.lemmas.Bool.{and_from, and_right, false≢true, or_cases, or_from, or_left, or_right, true≢false}
-use Rattle.accepted_memory.specs.holder_model.Effects.{ClosesSlot, Effect, Faults}
-use Rattle.accepted_memory.specs.holder_model.Faults.{HolderFault, NotLastSlot}
-use Rattle.accepted_memory.specs.holder_model.Frames.{Frame, entry_at}
-use Rattle.accepted_memory.specs.holder_model.MemoryEffects.{fault_of, holds, where_held}
-use Rattle.accepted_memory.specs.holder_model.ModuleShapes.{ModuleShapes}
-use Rattle.accepted_memory.specs.holder_model.Standing as standing
-use Rattle.accepted_memory.specs.holder_model.StepParts as parts
-use Rattle.accepted_memory.specs.holder_model.States.{Task}
-use Rattle.accepted_memory.specs.memory_accesses.Operations.{access_kind_of, addresses_of, deallocates, operations_of}
-use Rattle.accepted_memory.specs.memory_accesses.Sources.{is_slot, is_slot_source, source_at, sources_of}
-use Rattle.accepted_memory.specs.memory_accesses.declared.columns.AccessKind.TheVariants as access
-use Rattle.accepted_memory.specs.memory_accesses.declared.source.Source.TheVariants as source
-use Rattle.accepted_memory.specs.memory_parts.Contents.{deallocation_mark}
-use Rattle.accepted_memory.specs.memory_parts.Parts.{whole_cell}
-use Rattle.accepted_memory.specs.memory_parts.Switches.{is_same}
-use Rattle.accepted_memory.specs.memory_parts.declared.part.Part.TheVariants.{Contents}
-use Rattle.accepted_memory.specs.run_trails.inner.RunTrails.{GoesOn, IsRunTrail}
-use Rattle.accepted_memory.specs.run_trails.inner.Switched.{finds}
-use Rattle.accepted_places.specs.inner.Cells.{IsFoundSo, operates_on, part_by, touches}
-use Rattle.accepted_places.specs.inner.Stacks.{slots_on}
-use Rattle.accepted_values.specs.inner.Known.{IsAcceptedBody}
+use Rattle.tracked_frames.specs.placed_values.accepted_memory.holder_model.Effects.{ClosesSlot, Effect, Faults}
+use Rattle.tracked_frames.specs.placed_values.accepted_memory.holder_model.Faults.{HolderFault, NotLastSlot}
+use Rattle.tracked_frames.specs.placed_values.accepted_memory.holder_model.Frames.{Frame, entry_at}
+use Rattle.tracked_frames.specs.placed_values.accepted_memory.holder_model.MemoryEffects.{fault_of, holds, where_held}
+use Rattle.tracked_frames.specs.placed_values.accepted_memory.holder_model.ModuleShapes.{ModuleShapes}
+use Rattle.tracked_frames.specs.placed_values.accepted_memory.holder_model.Standing as standing
+use Rattle.tracked_frames.specs.placed_values.accepted_memory.holder_model.StepParts as parts
+use Rattle.tracked_frames.specs.placed_values.accepted_memory.holder_model.States.{Task}
+use Rattle.tracked_frames.specs.placed_values.accepted_memory.memory_accesses.Operations.{access_kind_of, deallocates, operations_of}
+use Rattle.tracked_frames.specs.placed_values.accepted_memory.memory_accesses.Sources.{is_slot, is_slot_source, source_at, sources_of}
+use Rattle.tracked_frames.specs.placed_values.accepted_memory.memory_accesses.declared.columns.AccessKind.TheVariants as access
+use Rattle.tracked_frames.specs.placed_values.accepted_memory.memory_accesses.declared.source.Source.TheVariants as source
+use Rattle.tracked_frames.specs.placed_values.accepted_memory.memory_parts.Contents.{deallocation_mark}
+use Rattle.tracked_frames.specs.placed_values.accepted_memory.memory_parts.Parts.{whole_cell}
+use Rattle.tracked_frames.specs.placed_values.accepted_memory.memory_parts.Switches.{is_same}
+use Rattle.tracked_frames.specs.placed_values.accepted_memory.memory_parts.declared.part.Part.TheVariants.{Contents}
+use Rattle.tracked_frames.specs.placed_values.accepted_memory.run_trails.inner.RunTrails.{GoesOn, IsRunTrail}
+use Rattle.tracked_frames.specs.placed_values.accepted_memory.run_trails.inner.Switched.{finds}
+use Rattle.tracked_frames.specs.placed_values.accepted_places.inner.Cells.{IsFoundSo, operates_on, part_by, touches}
+use Rattle.tracked_frames.specs.placed_values.accepted_places.inner.Stacks.{slots_on}
+use Rattle.tracked_frames.specs.placed_values.accepted_values.inner.Known.{IsAcceptedBody}
 use Rattle.argument_conventions.specs.declared.row.AddressRow.{AddressRow}
 use Rattle.argument_conventions.specs.declared.row.Content.TheVariants as content
 use Rattle.item_operands.specs.Items.{item_defined}
@@ -49,7 +49,7 @@ use Rattle.held_places.proofs.Contents.{nothing_touched, on_stack, stays_full}
 use Rattle.held_places.proofs.GoingOn.{KeepsRoots, goes_on}
 use Rattle.held_places.proofs.Keeping.{slot_no_part, slot_there, slots_still}
 use Rattle.held_places.proofs.Naming.{names_once, other_way}
-use Rattle.held_places.proofs.Opening.{Closes, Opens, closed_cells, closes_below, opens, slot_of, with_slot}
+use Rattle.held_places.proofs.Opening.{Closes, closed_cells, closes_below, opens, slot_of, with_slot}
 use Rattle.held_places.proofs.PartsNamed.{ArePartsNamed}
 use Rattle.held_places.proofs.RowsAt.{Removes}
 
@@ -110,9 +110,12 @@ module _ (laws : TrailLaws) (m : Module) (number : ℕ) (f : Function) (body : I
         (laws.made_once m number f body frame.trail i here.trail here.goes v old);
     parts = a.parts;
     slots = subst (λ ps. AreSlotsOf next.entries (slots_of next.trail) ps) (sym a.slots)
-        (subst (λ vs. AreSlotsOf next.entries vs (slot_of memory shape ∷ frame.slots)) (sym (ap slots_of a.trail ∙ opened.0))
-        (a.names, refl, slots_still frame.entries next.entries (slots_of frame.trail) frame.slots
-        (λ v there. a.entries v (slot_there laws m number f body frame.trail v there)) here.holds.slots));
+        (subst (λ vs. AreSlotsOf next.entries vs (slot_of memory shape ∷ frame.slots)) (sym (ap slots_of a.trail ∙ opened.0)) (
+          a.names,
+          refl,
+          slots_still frame.entries next.entries (slots_of frame.trail) frame.slots
+              (λ v there. a.entries v (slot_there laws m number f body frame.trail v there)) here.holds.slots,
+        ));
   })
     where
       part : part_by (sources_of (declarations_of m) f) s (source_at (sources_of (declarations_of m) f) s) ≡ Some (Contents (whole_cell s) a.trivial None)
@@ -288,3 +291,6 @@ module _ (laws : TrailLaws) (m : Module) (number : ℕ) (f : Function) (body : I
 
       pub removed_below : (n : ℕ) → IsFree m rest n ⊎ (cell_at (removed memory p) OnStack n ≡ cell_at memory OnStack n)
       removed_below n = closes_below m f frame next rest memory (removed memory p) here.holds v p closes n
+
+      pub removed_more : length memory.stack ≤ length (removed memory p).stack
+      removed_more = let size = closes.changes.sizes OnStack in omega (arith, size)

@@ -3,22 +3,20 @@ use Rattle.std.proofs.Common.{◌≡◌, ℕ, zero, suc, List, [], ◌∷◌, Bo
 use Rattle.std.specs.Prelude.{unwrap_or}
 use Rattle.std.proofs.lemmas.Bool.{and_parts, false≢true}
 use Rattle.std.proofs.lemmas.Option.{none-some}
-use Rattle.accepted_memory.specs.holder_model.Calling.{argument_data, given_places, places_given, value_count}
-use Rattle.accepted_memory.specs.holder_model.Frames.{Entry, Gone, LentPlace, entry_at, has_any, no_entries}
-use Rattle.accepted_memory.specs.holder_model.Outcomes.{begins, may_start}
-use Rattle.accepted_values.specs.inner.Known.{IsAcceptedBody}
-use Rattle.argument_conventions.specs.Arguments.{Told, arguments_of}
+use Rattle.tracked_frames.specs.placed_values.accepted_memory.holder_model.Calling.{argument_data, given_places, places_given, value_count}
+use Rattle.tracked_frames.specs.placed_values.accepted_memory.holder_model.Frames.{Entry, Gone, LentPlace, has_any, no_entries}
+use Rattle.tracked_frames.specs.placed_values.accepted_memory.holder_model.Outcomes.{begins, may_start}
+use Rattle.tracked_frames.specs.placed_values.accepted_values.inner.Known.{IsAcceptedBody}
+use Rattle.argument_conventions.specs.Arguments.{arguments_of}
 use Rattle.item_operands.specs.Items.{item_defined}
 use Rattle.point_checks.proofs.Among.{Among}
-use Rattle.run_values.specs.Memory.{Memory}
 use Rattle.sil_ast.specs.declared.function.Function.{Function}
 use Rattle.sil_ast.specs.declared.module.Module.{Module}
 use Rattle.sil_ast.specs.declared.place.FuncId.{FuncId}
-use Rattle.sil_ast.specs.declared.place.ValueId.{ValueId}
 use Rattle.sil_cfg.specs.declared.item.Item.TheVariants as item
 use Rattle.held_places.specs.inner.PlaceStates.{AreSlotsRight}
 use Rattle.held_places.specs.inner.TrailLaws.{TrailLaws}
-use Rattle.held_places.proofs.Entering.{IsGiven, begins_so, told_of}
+use Rattle.held_places.proofs.Entering.{begins_so, told_of}
 use Rattle.held_places.proofs.Given.{ArePairsApart}
 
 none_of : {A : Type 0} (xs : List A) → has_any xs ≡ false → xs ≡ []

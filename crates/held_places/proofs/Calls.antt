@@ -1,17 +1,18 @@
 -- A call: the frame that waits, the new frame, and those below hold what they should while the callee begins.
-use Rattle.std.proofs.Common.{◌≡◌, ◌⊎◌, ⊎_elim, inl, inr, ◌==◌, ◌&&◌, ◌||◌, ◌<◌, ◌≤◌, ℕ, List, [], ◌∷◌, length, Bool, true, false, not, Some, refl, sym, ap, ◌∙◌, subst, arith, map, slice_get}
+use Rattle.std.proofs.Common.{◌≡◌, ◌⊎◌, ⊎_elim, inl, inr, ◌≤◌, ℕ, List, [], ◌∷◌, length, Bool, true, false, not, Some, refl, sym, ap, ◌∙◌, subst, arith, map, slice_get}
 use Rattle.std.specs.List.{list_any}
 use Rattle.std.proofs.lemmas.Bool.{and_from, and_parts, and_right, false≢true, or_cases, true≢false}
-use Rattle.accepted_memory.specs.holder_model.Calling.{handed_over, places_given}
-use Rattle.accepted_memory.specs.holder_model.Frames.{Entry, Frame, Gone, LentPlace, entry_at}
-use Rattle.accepted_memory.specs.holder_model.Standing.{stands_at}
-use Rattle.accepted_memory.specs.holder_model.StepParts.{new_frame}
-use Rattle.accepted_memory.specs.holder_model.States.{Drops, Finishes, Runs, Task}
-use Rattle.accepted_memory.specs.memory_accesses.Operations.{operations_of}
-use Rattle.accepted_memory.specs.memory_accesses.Sources.{source_at, sources_of}
-use Rattle.accepted_memory.specs.memory_accesses.declared.source.Source.TheVariants as source
-use Rattle.accepted_places.specs.inner.Cells.{is_full}
-use Rattle.accepted_values.specs.inner.Known.{IsAcceptedBody}
+use Rattle.tracked_frames.specs.placed_values.accepted_memory.holder_model.Calling.{handed_over, places_given}
+use Rattle.tracked_frames.specs.placed_values.accepted_memory.holder_model.Effects.{effect_of}
+use Rattle.tracked_frames.specs.placed_values.accepted_memory.holder_model.Frames.{Entry, Frame, Gone, LentPlace, entry_at}
+use Rattle.tracked_frames.specs.placed_values.accepted_memory.holder_model.Standing.{stands_at}
+use Rattle.tracked_frames.specs.placed_values.accepted_memory.holder_model.StepParts.{new_frame}
+use Rattle.tracked_frames.specs.placed_values.accepted_memory.holder_model.States.{Drops, Finishes, Runs, Task}
+use Rattle.tracked_frames.specs.placed_values.accepted_memory.holder_model.declared.row_effect.RowEffect.TheVariants.{CallsFunction}
+use Rattle.tracked_frames.specs.placed_values.accepted_memory.memory_accesses.Sources.{source_at, sources_of}
+use Rattle.tracked_frames.specs.placed_values.accepted_memory.memory_accesses.declared.source.Source.TheVariants as source
+use Rattle.tracked_frames.specs.placed_values.accepted_places.inner.Cells.{is_full}
+use Rattle.tracked_frames.specs.placed_values.accepted_values.inner.Known.{IsAcceptedBody}
 use Rattle.argument_conventions.specs.declared.row.AddressRow.{AddressRow}
 use Rattle.argument_conventions.specs.declared.row.Content.{Content}
 use Rattle.argument_conventions.specs.declared.row.Content.TheVariants as content
@@ -31,18 +32,16 @@ use Rattle.sil_ast.specs.declared.place.PointId.{PointId}
 use Rattle.sil_ast.specs.declared.place.ValueId.{ValueId}
 use Rattle.sil_cfg.specs.declared.item.Item.TheVariants as item
 use Rattle.type_definitions.specs.Declarations.{declarations_of}
-use Rattle.held_places.specs.inner.FramePlaces.{Frees, HoldsPlaces, IsFree, Names, is_lent, lends}
-use Rattle.held_places.specs.inner.PlaceStates.{AreLentBy, BelowPlaced, GoesPlaced, TasksPlaced, WaitsPlaced, as_given}
-use Rattle.held_places.specs.inner.Roots.{IsThere}
+use Rattle.held_places.specs.inner.FramePlaces.{HoldsPlaces, IsFree, Names, is_lent, lends}
+use Rattle.held_places.specs.inner.PlaceStates.{BelowPlaced, TasksPlaced, as_given}
 use Rattle.held_places.specs.inner.TrailLaws.{TrailLaws}
 use Rattle.held_places.proofs.Entering.{IsGiven, begins_so}
 use Rattle.held_places.proofs.Given.{ArePairsApart, any_among, pairs_given, two_apart}
 use Rattle.held_places.proofs.HandedOver.{IsHandedOver, all_handed}
-use Rattle.held_places.proofs.Lending.{IsLentBy, is_alone, own_where_empty}
+use Rattle.held_places.proofs.Lending.{is_alone, own_where_empty}
 use Rattle.held_places.proofs.Lent.{Calling, all_apart, lent_at, lent_found, lent_inside, lent_within}
-use Rattle.held_places.proofs.Naming.{inside_stack, stack_inside}
 use Rattle.held_places.proofs.Reading.{IsWithin}
-use Rattle.held_places.proofs.Staying.{Stays, below_still}
+use Rattle.held_places.proofs.Staying.{below_still}
 
 pub among_any : {A : Type 0} (test : A → Bool) (xs : List A) → list_any test xs ≡ true → (x : A) × Among x xs × (test x ≡ true)
 among_any test [] e = absurd (false≢true e)
@@ -77,6 +76,7 @@ below_same m memory callee next (Runs frame ∷ rest) same kept h = (
     holds = h.0.holds;
     call = h.0.call;
     stands = h.0.stands;
+    calls = h.0.calls;
     lent = h.0.lent;
     body = h.0.body;
     there = ap (λ g. slice_get m.functions g.0) same ∙ h.0.there;
@@ -123,6 +123,7 @@ module _ (laws : TrailLaws) (m : Module) (number : ℕ) (f : Function) (body : I
     apart = s.holds.apart;
     free = s.holds.free;
     parts = s.holds.parts;
+    fields = s.holds.fields;
     handed = s.holds.handed;
     slots = s.holds.slots;
   }
@@ -132,8 +133,7 @@ module _ (laws : TrailLaws) (m : Module) (number : ℕ) (f : Function) (body : I
   free_of l c own n has =
       let by = lent_at laws m number f body point x memory frame rest lent s l c in
       let at = s.call.located by.by by.among in
-      let w = within l c in
-      (
+      let w = within l c in (
         λ g is v p there names hasp. cell_lent lent l c own n has,
         s.holds.free at.location.root at.there (is_alone laws m number f body frame.trail point x s.call by.by by.among l.row by.operation own)
             w.whole w.names n (w.within n has),
@@ -187,8 +187,7 @@ module _ (laws : TrailLaws) (m : Module) (number : ℕ) (f : Function) (body : I
           let k = one_given l c in
           let w = within k.0 k.1 in
           let fits = w.inside in
-          let size = handed.sizes k.0.place.home in
-          (
+          let size = handed.sizes k.0.place.home in (
             ap (λ z. z.place.home) k.2 ∙ w.home,
             subst (λ z. IsInside after z.place) (sym k.2) (omega (arith, fits, size)),
             ap (λ z. z.place.is_part) k.2,
@@ -202,9 +201,9 @@ module _ (laws : TrailLaws) (m : Module) (number : ℕ) (f : Function) (body : I
     }
 
     -- the callee goes on over the frame that waits
-    pub calls_placed : slice_get m.functions frame.function.0 ≡ Some f → inst_at f (stands_at f frame.trail) ≡ Some x → BelowPlaced m memory frame rest
+    pub calls_placed : slice_get m.functions frame.function.0 ≡ Some f → inst_at f (stands_at f frame.trail) ≡ Some x → effect_of x.op ≡ CallsFunction → BelowPlaced m memory frame rest
         → TasksPlaced m after (Runs (new_frame g entries) ∷ Runs waiting ∷ rest)
-    calls_placed is stands below = (
+    calls_placed is stands calls below = (
       record {
         f = callee;
         is = there;
@@ -218,6 +217,7 @@ module _ (laws : TrailLaws) (m : Module) (number : ℕ) (f : Function) (body : I
           holds = waiting_holds;
           call = x;
           stands = stands;
+          calls = calls;
           lent = s.by;
           body = callee;
           there = there;

@@ -1,16 +1,15 @@
 -- A trail that has come to a call: what it hands over is at roots that are there, as no field of an object is handed over.
-use Rattle.std.proofs.Common.{◌≡◌, ◌⊎◌, ⊎_elim, inl, inr, ◌++◌, ◌&&◌, ℕ, List, [], ◌∷◌, Bool, true, false, Some, is_some, refl, sym, ap, ◌∙◌, subst}
+use Rattle.std.proofs.Common.{◌≡◌, ⊎_elim, ℕ, List, ◌∷◌, true, false, Some, sym, ap, ◌∙◌}
 use Rattle.std.proofs.lemmas.Bool.{false≢true}
-use Rattle.accepted_memory.specs.memory_accesses.Locations.{location_of, object_built}
-use Rattle.accepted_memory.specs.memory_accesses.Operations.{deallocates, operations_of}
-use Rattle.accepted_memory.specs.memory_accesses.Rows.{has_by, has_operation, is_part}
-use Rattle.accepted_memory.specs.memory_accesses.Sources.{source_at, sources_of}
-use Rattle.accepted_memory.specs.memory_accesses.declared.access.Operated.{Operated}
-use Rattle.accepted_memory.specs.memory_accesses.declared.access.Operation.TheVariants.{Handed}
-use Rattle.accepted_memory.specs.memory_accesses.declared.location.Location.{Location}
-use Rattle.accepted_memory.specs.memory_accesses.declared.source.Source.TheVariants as source
-use Rattle.accepted_memory.specs.run_trails.inner.RunTrails.{GoesOn, IsRunTrail}
-use Rattle.accepted_values.specs.inner.Known.{IsAcceptedBody}
+use Rattle.tracked_frames.specs.placed_values.accepted_memory.memory_accesses.Locations.{location_of}
+use Rattle.tracked_frames.specs.placed_values.accepted_memory.memory_accesses.Operations.{deallocates, operations_of}
+use Rattle.tracked_frames.specs.placed_values.accepted_memory.memory_accesses.Rows.{has_by, has_operation, is_part}
+use Rattle.tracked_frames.specs.placed_values.accepted_memory.memory_accesses.Sources.{sources_of}
+use Rattle.tracked_frames.specs.placed_values.accepted_memory.memory_accesses.declared.access.Operated.{Operated}
+use Rattle.tracked_frames.specs.placed_values.accepted_memory.memory_accesses.declared.access.Operation.TheVariants.{Handed}
+use Rattle.tracked_frames.specs.placed_values.accepted_memory.memory_accesses.declared.location.Location.{Location}
+use Rattle.tracked_frames.specs.placed_values.accepted_memory.run_trails.inner.RunTrails.{GoesOn, IsRunTrail}
+use Rattle.tracked_frames.specs.placed_values.accepted_values.inner.Known.{IsAcceptedBody}
 use Rattle.argument_conventions.specs.Rows.{row_of}
 use Rattle.argument_conventions.specs.declared.convention.AddressConvention.{AddressConvention}
 use Rattle.argument_conventions.specs.declared.row.AddressRow.{AddressRow}

@@ -1,27 +1,27 @@
 -- How full the roots on the stack are behind an item: as its operation leaves them, or as they were.
-use Rattle.std.proofs.Common.{◌≡◌, ℕ, ◌==◌, ◌&&◌, ◌||◌, List, [], ◌∷◌, Bool, true, false, Contains, Option, Some, None, refl, sym, ap, ◌∙◌, subst}
+use Rattle.std.proofs.Common.{◌≡◌, ℕ, ◌==◌, ◌&&◌, List, [], ◌∷◌, Bool, true, false, Option, Some, None, refl, sym, ap, ◌∙◌, subst}
 use Rattle.std.specs.Prelude.{cond, unwrap_or}
 use Rattle.std.specs.List.{list_any}
 use Rattle.std.proofs.lemmas.Bool.{and_left, and_right, or_from}
-use Rattle.accepted_memory.specs.memory_accesses.Locations.{cell_by, cell_of, field_cell, location_of, object_built}
-use Rattle.accepted_memory.specs.memory_accesses.Operations.{addresses_of, deallocates, operated, operations_of}
-use Rattle.accepted_memory.specs.memory_accesses.Sources.{is_slot, source_at, sources_of}
-use Rattle.accepted_memory.specs.memory_accesses.declared.access.Operated.{Operated}
-use Rattle.accepted_memory.specs.memory_accesses.declared.access.Operation.{Operation}
-use Rattle.accepted_memory.specs.memory_accesses.declared.location.Cell.{Cell}
-use Rattle.accepted_memory.specs.memory_accesses.declared.location.Location.{Location}
-use Rattle.accepted_memory.specs.memory_accesses.declared.source.Source.{Source}
-use Rattle.accepted_memory.specs.memory_accesses.declared.source.Source.TheVariants as source
-use Rattle.accepted_memory.specs.memory_parts.Contents.{same_cell}
-use Rattle.accepted_memory.specs.memory_parts.Parts.{whole_cell}
-use Rattle.accepted_memory.specs.memory_parts.Switches.{is_same}
-use Rattle.accepted_memory.specs.memory_parts.declared.part.Part.{Part}
-use Rattle.accepted_memory.specs.memory_parts.declared.part.Part.TheVariants.{Contents}
-use Rattle.accepted_memory.specs.run_trails.inner.RunTrails.{IsRunTrail}
-use Rattle.accepted_memory.specs.run_trails.inner.Switched.{finds}
-use Rattle.accepted_memory.specs.inner.PartTrails.{IsPartOf, is_on}
-use Rattle.accepted_places.specs.inner.Cells.{IsDoneAt, is_at_cell, mark_at, operates_on, part_at, part_by, touches}
-use Rattle.accepted_values.specs.inner.Known.{IsAcceptedBody}
+use Rattle.tracked_frames.specs.placed_values.accepted_memory.memory_accesses.Locations.{cell_by, cell_of, field_cell, location_of, object_built}
+use Rattle.tracked_frames.specs.placed_values.accepted_memory.memory_accesses.Operations.{addresses_of, deallocates, operated, operations_of}
+use Rattle.tracked_frames.specs.placed_values.accepted_memory.memory_accesses.Sources.{is_slot, source_at, sources_of}
+use Rattle.tracked_frames.specs.placed_values.accepted_memory.memory_accesses.declared.access.Operated.{Operated}
+use Rattle.tracked_frames.specs.placed_values.accepted_memory.memory_accesses.declared.access.Operation.{Operation}
+use Rattle.tracked_frames.specs.placed_values.accepted_memory.memory_accesses.declared.location.Cell.{Cell}
+use Rattle.tracked_frames.specs.placed_values.accepted_memory.memory_accesses.declared.location.Location.{Location}
+use Rattle.tracked_frames.specs.placed_values.accepted_memory.memory_accesses.declared.source.Source.{Source}
+use Rattle.tracked_frames.specs.placed_values.accepted_memory.memory_accesses.declared.source.Source.TheVariants as source
+use Rattle.tracked_frames.specs.placed_values.accepted_memory.memory_parts.Contents.{same_cell}
+use Rattle.tracked_frames.specs.placed_values.accepted_memory.memory_parts.Parts.{whole_cell}
+use Rattle.tracked_frames.specs.placed_values.accepted_memory.memory_parts.Switches.{is_same}
+use Rattle.tracked_frames.specs.placed_values.accepted_memory.memory_parts.declared.part.Part.{Part}
+use Rattle.tracked_frames.specs.placed_values.accepted_memory.memory_parts.declared.part.Part.TheVariants.{Contents}
+use Rattle.tracked_frames.specs.placed_values.accepted_memory.run_trails.inner.RunTrails.{IsRunTrail}
+use Rattle.tracked_frames.specs.placed_values.accepted_memory.run_trails.inner.Switched.{finds}
+use Rattle.tracked_frames.specs.placed_values.accepted_memory.inner.PartTrails.{IsPartOf, is_on}
+use Rattle.tracked_frames.specs.placed_values.accepted_places.inner.Cells.{IsDoneAt, is_at_cell, mark_at, operates_on, part_at, part_by, touches}
+use Rattle.tracked_frames.specs.placed_values.accepted_values.inner.Known.{IsAcceptedBody}
 use Rattle.argument_conventions.specs.declared.row.AddressRow.{AddressRow}
 use Rattle.argument_conventions.specs.declared.row.Content.{Content}
 use Rattle.item_operands.specs.Items.{item_defined}

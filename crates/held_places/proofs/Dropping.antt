@@ -1,17 +1,16 @@
 -- Drops and finishes touch no place on the stack.
-use Rattle.std.proofs.Common.{◌≡◌, ◌⊎◌, inr, ℕ, List, [], ◌∷◌, length, refl, sym, ap, ◌∙◌, subst, slice_get, arith}
-use Rattle.accepted_memory.specs.holder_model.Frames.{Frame}
-use Rattle.accepted_memory.specs.holder_model.HolderStates.{HolderNext, HolderState}
-use Rattle.accepted_memory.specs.holder_model.ModuleFacts.{ModuleFacts}
-use Rattle.accepted_memory.specs.holder_model.States.{Drops, Ending, Ends, Finishes, Goes, Runs, Task, dropping}
-use Rattle.accepted_memory.specs.holder_model.Dropping.{deinits_of, ended, field_references, in_phase}
-use Rattle.accepted_memory.specs.holder_model.Faults.{HolderFault}
-use Rattle.holder_steps.specs.inner.Ways.{DropsOne, FinishesOne, deinitialising, finished}
+use Rattle.std.proofs.Common.{◌≡◌, inr, ℕ, List, length, refl, sym, ap, slice_get, arith}
+use Rattle.tracked_frames.specs.placed_values.accepted_memory.holder_model.Frames.{Frame}
+use Rattle.tracked_frames.specs.placed_values.accepted_memory.holder_model.HolderStates.{HolderNext, HolderState}
+use Rattle.tracked_frames.specs.placed_values.accepted_memory.holder_model.ModuleFacts.{ModuleFacts}
+use Rattle.tracked_frames.specs.placed_values.accepted_memory.holder_model.States.{Task}
+use Rattle.tracked_frames.specs.placed_values.accepted_memory.holder_model.Dropping.{ended, field_references, in_phase}
+use Rattle.tracked_frames.specs.holder_steps.inner.Ways.{DropsOne, FinishesOne}
 use Rattle.run_values.specs.Memory.{Memory, object_at, with_object}
 use Rattle.run_values.specs.declared.phase.Phase.TheVariants.{Deiniting}
 use Rattle.sil_ast.specs.declared.module.Module.{Module}
-use Rattle.sil_ast.specs.declared.place.FuncId.{FuncId}
 use Rattle.sil_ast.specs.declared.place.ObjectId.{ObjectId}
+use Rattle.held_places.specs.inner.Items.{PlacedNext}
 use Rattle.held_places.specs.inner.PlaceStates.{AreSlotsRight, BelowPlaced, TasksPlaced}
 use Rattle.held_places.proofs.Staying.{below_still, tasks_still}
 use Rattle.held_places.proofs.Taking.{dropping_placed}
@@ -26,21 +25,15 @@ module _ (m : Module) (before after : Memory) (same : after.stack ≡ before.sta
   pub same_stack_below : (callee : Frame) (tasks : List (Task Frame)) → BelowPlaced m before callee tasks → BelowPlaced m after callee tasks
   same_stack_below callee tasks h = let long = size in below_still m before after (omega (arith, long)) callee tasks h (λ n lt. inr (ap (λ cells. slice_get cells n) same))
 
--- the next state is right, or the run ends in no fault
-pub data NextPlaced (m : Module) : HolderNext → Type 0 where
-  goes : (s : HolderState) → AreSlotsRight m s → NextPlaced m (Goes s)
-  ends : (e : Ending HolderFault) (s : HolderState) → NextPlaced m (Ends e s)
+module _ (m : Module) (told : ModuleFacts) (bound : ℕ) (s : HolderState) (Found : Type 0) where
+  pub drops_one : (o : ObjectId) → AreSlotsRight m s → (next : HolderNext) → DropsOne m told bound s o next → PlacedNext Found m next
+  drops_one o h _ (DropsOne.held_still left is) = h
+  drops_one o h _ (DropsOne.not_live none dead) = h
+  drops_one o h _ (DropsOne.deinitialises none live turn) = (tt, same_stack m s.memory (in_phase Deiniting s.memory o) refl s.tasks h)
+  drops_one o h _ (DropsOne.no_turn none live turn) = tt
 
-module _ (m : Module) (told : ModuleFacts) (bound : ℕ) (s : HolderState) where
-  pub drops_one : (o : ObjectId) → AreSlotsRight m s → (next : HolderNext) → DropsOne m told bound s o next → NextPlaced m next
-  drops_one o h _ (DropsOne.held_still left is) = NextPlaced.goes s h
-  drops_one o h _ (DropsOne.not_live none dead) = NextPlaced.goes s h
-  drops_one o h _ (DropsOne.deinitialises none live turn) =
-      NextPlaced.goes (deinitialising m told bound s o) (tt, same_stack m s.memory (in_phase Deiniting s.memory o) refl s.tasks h)
-  drops_one o h _ (DropsOne.no_turn none live turn) = NextPlaced.ends _ s
-
-  pub finishes_one : (o : ObjectId) → AreSlotsRight m s → (next : HolderNext) → FinishesOne m told bound s o next → NextPlaced m next
+  pub finishes_one : (o : ObjectId) → AreSlotsRight m s → (next : HolderNext) → FinishesOne m told bound s o next → PlacedNext Found m next
   finishes_one o h _ (FinishesOne.finishes none) =
-      NextPlaced.goes (finished m told bound s o) (dropping_placed m (with_object s.memory o (ended (object_at s.memory o))) (field_references (object_at s.memory o)) s.tasks
-      (same_stack m s.memory (with_object s.memory o (ended (object_at s.memory o))) refl s.tasks h))
-  finishes_one o h _ (FinishesOne.escapes left is) = NextPlaced.ends _ s
+      dropping_placed m (with_object s.memory o (ended (object_at s.memory o))) (field_references (object_at s.memory o)) s.tasks
+      (same_stack m s.memory (with_object s.memory o (ended (object_at s.memory o))) refl s.tasks h)
+  finishes_one o h _ (FinishesOne.escapes left is) = tt

@@ -1,59 +1,51 @@
 -- A function with a body is called: what the frame that waits and the new frame hold.
-use Rattle.std.proofs.Common.{◌≡◌, ◌⊎◌, ⊎_elim, inl, inr, ◌==◌, ◌&&◌, ◌<◌, ◌≤◌, ℕ, List, [], ◌∷◌, length, Bool, true, false, Option, Some, None, refl, sym, ap, ◌∙◌, subst, arith, map, slice_get, eqb-true, eq-eqb}
+use Rattle.std.proofs.Common.{◌≡◌, ⊎_elim, ◌==◌, ◌&&◌, ◌<◌, ◌≤◌, ℕ, List, [], ◌∷◌, Bool, true, false, Option, Some, None, refl, sym, ap, ◌∙◌, subst, arith, slice_get, eq-eqb}
 use Rattle.std.specs.Prelude.{cond}
-use Rattle.std.proofs.lemmas.Bool.{and_from, and_left, and_right, cases_eq, cases_lt, false≢true, true≢false}
+use Rattle.std.proofs.lemmas.Bool.{and_right, cases_eq, cases_lt, false≢true, true≢false}
 use Rattle.std.proofs.lemmas.Option.{none-some, same_Some}
-use Rattle.accepted_memory.specs.holder_model.Calling.{argument_data, given_places, handed_over, lent_by, places_given}
-use Rattle.accepted_memory.specs.holder_model.Data.{AddressOf}
-use Rattle.accepted_memory.specs.holder_model.Frames.{Entry, Frame, Gone, LentPlace, datum_in, entry_at}
-use Rattle.accepted_memory.specs.holder_model.StepParts.{new_frame}
-use Rattle.accepted_memory.specs.holder_model.States.{Drops, Finishes, Runs, Task}
-use Rattle.accepted_memory.specs.memory_accesses.Locations.{location_of}
-use Rattle.accepted_memory.specs.memory_accesses.Rows.{is_part}
-use Rattle.accepted_memory.specs.memory_accesses.Sources.{source_at, sources_of}
-use Rattle.accepted_memory.specs.memory_accesses.declared.location.Location.{Location}
-use Rattle.accepted_memory.specs.memory_accesses.declared.source.Source.{Source}
-use Rattle.accepted_memory.specs.memory_accesses.declared.source.Source.TheVariants as source
-use Rattle.accepted_memory.specs.memory_parts.Parts.{whole_cell}
-use Rattle.accepted_memory.specs.memory_parts.declared.part.Part.TheVariants.{Contents}
-use Rattle.placed_values.specs.inner.Arguments.{IsTold}
-use Rattle.accepted_places.specs.inner.Cells.{is_full, part_by}
-use Rattle.accepted_places.specs.inner.Stacks.{slots_on}
-use Rattle.accepted_values.specs.inner.Known.{IsAcceptedBody}
+use Rattle.tracked_frames.specs.placed_values.accepted_memory.holder_model.Calling.{argument_data, lent_by, places_given}
+use Rattle.tracked_frames.specs.placed_values.accepted_memory.holder_model.Frames.{Entry, Frame, Gone, LentPlace, datum_in, entry_at}
+use Rattle.tracked_frames.specs.placed_values.accepted_memory.holder_model.StepParts.{new_frame}
+use Rattle.tracked_frames.specs.placed_values.accepted_memory.holder_model.States.{Task}
+use Rattle.tracked_frames.specs.placed_values.accepted_memory.memory_accesses.Locations.{location_of}
+use Rattle.tracked_frames.specs.placed_values.accepted_memory.memory_accesses.Rows.{is_part}
+use Rattle.tracked_frames.specs.placed_values.accepted_memory.memory_accesses.Sources.{argument_source_or, handed_source, source_at, sources_of}
+use Rattle.tracked_frames.specs.placed_values.accepted_memory.memory_accesses.declared.location.Location.{Location}
+use Rattle.tracked_frames.specs.placed_values.accepted_memory.memory_accesses.declared.source.Source.TheVariants as source
+use Rattle.tracked_frames.specs.placed_values.accepted_memory.memory_parts.Parts.{whole_cell}
+use Rattle.tracked_frames.specs.placed_values.accepted_memory.memory_parts.declared.part.Part.TheVariants.{Contents}
+use Rattle.tracked_frames.specs.placed_values.inner.Arguments.{IsTold}
+use Rattle.tracked_frames.specs.placed_values.accepted_places.inner.Cells.{is_full, part_by}
+use Rattle.tracked_frames.specs.placed_values.accepted_places.inner.Stacks.{slots_on}
+use Rattle.tracked_frames.proofs.placed_values.accepted_places.Fields.{has_among}
+use Rattle.tracked_frames.proofs.placed_values.accepted_values.Counted.{stands}
+use Rattle.tracked_frames.specs.placed_values.accepted_values.accepted_modules.sil_types.Typing.Shapes.{is_trivial_object}
+use Rattle.tracked_frames.specs.placed_values.accepted_values.inner.Known.{IsAcceptedBody}
+use Rattle.tracked_frames.proofs.placed_values.ArgumentsTold.{entry_source}
 use Rattle.argument_conventions.specs.Arguments.{Told, arguments_of}
 use Rattle.argument_conventions.specs.Rows.{address_row}
 use Rattle.argument_conventions.specs.declared.convention.AddressConvention.TheVariants as address
 use Rattle.argument_conventions.specs.declared.convention.ArgumentConvention.{ArgumentConvention}
 use Rattle.argument_conventions.specs.declared.convention.ArgumentConvention.TheVariants as convention
 use Rattle.argument_conventions.specs.declared.row.AddressRow.{AddressRow}
-use Rattle.argument_conventions.specs.declared.row.Content.{Content}
 use Rattle.argument_conventions.specs.declared.row.Content.TheVariants as content
 use Rattle.item_operands.specs.Items.{item_defined}
 use Rattle.memory_cells.specs.inner.Cells.{AreApart, IsCell, IsInside, cell_at, has_cell}
 use Rattle.ownership_chains.specs.Facts.{has}
-use Rattle.point_checks.proofs.Among.{Among, among_map, map_among}
+use Rattle.point_checks.proofs.Among.{Among, contained_among}
 use Rattle.run_values.specs.Memory.{Memory}
-use Rattle.run_values.specs.Places.{Home, OnStack, Place, home_cells}
+use Rattle.run_values.specs.Places.{OnStack, Place}
 use Rattle.sil_ast.specs.declared.function.Function.{Function}
-use Rattle.sil_ast.specs.declared.inst.Inst.{Inst}
 use Rattle.sil_ast.specs.declared.module.Module.{Module}
 use Rattle.sil_ast.specs.declared.place.FuncId.{FuncId}
-use Rattle.sil_ast.specs.declared.place.PointId.{PointId}
 use Rattle.sil_ast.specs.declared.place.ValueId.{ValueId}
-use Rattle.sil_cfg.specs.declared.item.Item.{Item}
 use Rattle.sil_cfg.specs.declared.item.Item.TheVariants as item
 use Rattle.type_definitions.specs.Declarations.{declarations_of}
-use Rattle.held_places.specs.inner.FramePlaces.{AreSlotsOf, Frees, HoldsPlaces, IsFree, IsNamed, Names, is_lent, lends}
-use Rattle.held_places.specs.inner.PlaceStates.{as_given}
-use Rattle.held_places.specs.inner.Roots.{IsThere, argument, full_by, is_full_on, is_shared, is_shared_source, slot}
+use Rattle.held_places.specs.inner.FramePlaces.{AreSlotsOf, HoldsPlaces, IsFree, Names}
+use Rattle.held_places.specs.inner.Roots.{IsThere, argument, full_by, is_full_on, is_shared_source, slot}
 use Rattle.held_places.specs.inner.TrailLaws.{TrailLaws}
-use Rattle.held_places.proofs.Contents.{FoundAt}
-use Rattle.held_places.proofs.Given.{ArePairsApart, IsApartFrom, any_among, apart_turned, get_mapped, given_apart, given_has, has_at, pairs_given, two_apart}
-use Rattle.held_places.proofs.HandedOver.{IsHandedOver, all_handed}
-use Rattle.held_places.proofs.Lending.{IsLentBy, is_alone, own_where_empty}
-use Rattle.held_places.proofs.Lent.{Calling, all_apart, lent_at, lent_found, lent_inside, lent_within}
-use Rattle.held_places.proofs.Naming.{inside_stack, names_once, stack_inside}
-use Rattle.held_places.proofs.Reading.{IsWithin}
+use Rattle.held_places.proofs.Given.{ArePairsApart, apart_turned, get_mapped, given_apart, given_has, has_at}
+use Rattle.held_places.proofs.Reading.{root_itself}
 
 -- what is shared is full before and behind a call
 pub shared_full : (c : ArgumentConvention) (row : AddressRow) → address_row c ≡ Some row → row.shared ≡ true → (row.before ≡ content.Full) × (row.after ≡ content.Full)
@@ -166,6 +158,7 @@ module _ (laws : TrailLaws) (m : Module) (number : ℕ) (f : Function) (body : I
         let a = there_at_entry v there in
         x.free (lent_by a.0 p) (argument_place entries v a.0 a.1 a.2 p names) (sym (ap is_shared_source a.2) ∙ own) n has;
     parts = λ v l is part made whole p one two. absurd (no_part v l is part p two (has (item_defined f item.Entry) v.0) refl);
+    fields = λ v l is of k trivial src p names home. no_field v l is of k trivial src p names (has (item_defined f item.Entry) v.0) refl;
     handed = λ v row trivial is p names. (x.each (lent_by row p) (argument_place entries v row trivial is p names)).2;
     slots = subst (λ vs. AreSlotsOf entries vs []) (sym no_slots) tt;
   }
@@ -174,3 +167,22 @@ module _ (laws : TrailLaws) (m : Module) (number : ℕ) (f : Function) (body : I
           → (b : Bool) → has (item_defined f item.Entry) v.0 ≡ b → ⊥
       no_part v l is part p names true e = true≢false (sym part ∙ laws.whole m number f body v e l is)
       no_part v l is part p names false e = none-some _ (ap datum_in (sym (x.others v e)) ∙ names)
+
+      -- what an argument of the entry is by its source
+      no_source : (o : Option Told) (of : ValueId) (k : ℕ) (trivial : Bool) → argument_source_or (declarations_of m) o ≡ source.Field of k trivial → ⊥
+      no_source None of k trivial e = absurd (cc)
+      no_source (Some a) of k trivial e = handed_no (address_row a.convention) e
+        where
+          handed_no : (r : Option AddressRow) → handed_source (is_trivial_object (declarations_of m) a.ty) r ≡ source.Field of k trivial → ⊥
+          handed_no None e = absurd (cc)
+          handed_no (Some row) e = absurd (cc)
+
+      no_field : (v : ValueId) (l : Location) → location_of (sources_of (declarations_of m) f) v ≡ Some l → (of : ValueId) (k : ℕ) (trivial : Bool)
+          → source_at (sources_of (declarations_of m) f) l.root ≡ source.Field of k trivial → (p : Place) → Names entries v p
+          → (b : Bool) → has (item_defined f item.Entry) v.0 ≡ b → ⊥
+      no_field v l is of k trivial src p names false e = none-some _ (ap datum_in (sym (x.others v e)) ∙ names)
+      no_field v l is of k trivial src p names true e =
+          let at = stands (item_defined f item.Entry) v (contained_among v (item_defined f item.Entry) (has_among (item_defined f item.Entry) v e)) in
+          let itself = root_itself (sources_of (declarations_of m) f) v l is (laws.whole m number f body v e l is) in
+          no_source (slice_get (arguments_of f.signature) at.0) of k trivial
+          (sym (entry_source m number f body at.0 v at.1) ∙ ap (source_at (sources_of (declarations_of m) f)) (sym itself) ∙ src)

@@ -1,14 +1,16 @@
 -- What becomes of entries: an item takes those of operands that end, and puts its results.
-use Rattle.std.proofs.Common.{◌≡◌, ◌⊎◌, ⊎_elim, inl, inr, ◌==◌, ◌||◌, ◌<◌, ℕ, zero, suc, List, [], ◌∷◌, length, set, Bool, true, false, cond, Option, Some, None, Ok, Err, refl, sym, ap, ◌∙◌, subst, slice_get, eq-eqb, eqb-true, arith}
+use Rattle.std.proofs.Common.{◌≡◌, ◌⊎◌, ⊎_elim, inl, inr, ◌==◌, ◌<◌, ℕ, zero, suc, List, [], ◌∷◌, length, set}
+use Rattle.std.proofs.Common.{Bool, true, false, cond, Option, Some, Ok, Err, refl, sym, ap, ◌∙◌, subst, slice_get, eqb-true, arith}
 use Rattle.std.specs.declared.result.Result.{Result}
-use Rattle.std.proofs.lemmas.Bool.{cases_Bool, or_parts, or_left, true≢false}
+use Rattle.std.proofs.lemmas.Bool.{cases_Bool, or_parts}
 use Rattle.std.proofs.lemmas.List.{length-set}
 use Rattle.std.proofs.lemmas.Option.{none-some, same_Some}
-use Rattle.accepted_memory.specs.holder_model.Data.{AddressOf, Datum, FunctionOf, ValueOf}
-use Rattle.accepted_memory.specs.holder_model.Faults.{HolderFault, NoEntry, OverwritesHeld, WrongShape}
-use Rattle.accepted_memory.specs.holder_model.Frames.{Entry, Gone, Held, Lent, Plain, datum_in, ended_entry, ends, entry_at, is_held, made_entry, plain_address, plain_entry, put_entry, results_put}
-use Rattle.accepted_memory.specs.holder_model.Frames.{result_put, with_ok, without_ended, has_any}
-use Rattle.held_entries.proofs.EntriesEnded.{entry_set_other, entry_set_same, other_way}
+use Rattle.tracked_frames.specs.placed_values.accepted_memory.holder_model.Data.{AddressOf, Datum, FunctionOf, ValueOf}
+use Rattle.tracked_frames.specs.placed_values.accepted_memory.holder_model.Faults.{HolderFault, OverwritesHeld, WrongShape}
+use Rattle.tracked_frames.specs.placed_values.accepted_memory.holder_model.Frames.{Entry, Gone, Held, Lent, Plain, datum_in, ended_entry}
+use Rattle.tracked_frames.specs.placed_values.accepted_memory.holder_model.Frames.{ends, entry_at, is_held, made_entry, plain_address, put_entry, results_put}
+use Rattle.tracked_frames.specs.placed_values.accepted_memory.holder_model.Frames.{result_put, with_ok, without_ended, has_any}
+use Rattle.tracked_frames.proofs.placed_values.held_entries.EntriesEnded.{entry_set_other, entry_set_same, other_way}
 use Rattle.item_operands.specs.declared.taken.Taken.{Taken}
 use Rattle.ownership_chains.specs.Facts.{has, known_or}
 use Rattle.ownership_chains.specs.declared.facts.Facts.{Facts}
@@ -27,7 +29,7 @@ wrong x = Err x
 pub ok_once : {A : Type 0} (x y : A) → okay x ≡ okay y → x ≡ y
 ok_once x y e = cc
 
-never_ok : {A : Type 0} (x : HolderFault) (y : A) → wrong x ≡ okay y → ⊥
+pub never_ok : {A : Type 0} (x : HolderFault) (y : A) → wrong x ≡ okay y → ⊥
 never_ok x y e = cc
 
 module _ (facts : ValueId → Option Facts) where

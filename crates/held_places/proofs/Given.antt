@@ -1,17 +1,16 @@
 -- The places that a function was given, by its arguments: which argument has which, and that those of two arguments are apart.
-use Rattle.std.proofs.Common.{◌≡◌, ◌⊎◌, ⊎_elim, inl, inr, ◌&&◌, ◌||◌, ◌++◌, ◌==◌, ◌<◌, ℕ, zero, suc, List, [], ◌∷◌, Bool, true, false, Option, Some, None, refl, sym, ap, ◌∙◌, subst, arith, map, slice_get, eq-eqb}
-use Rattle.std.specs.Prelude.{option_map}
-use Rattle.std.specs.Option.{option_to_list}
+use Rattle.std.proofs.Common.{◌≡◌, ⊎_elim, inl, inr, ◌&&◌, ◌++◌, ◌==◌, ◌<◌, ℕ, zero, suc, List, [], ◌∷◌}
+use Rattle.std.proofs.Common.{Bool, true, false, Option, Some, None, refl, sym, ap, ◌∙◌, subst, arith, map, slice_get, eq-eqb}
 use Rattle.std.specs.List.{list_any}
 use Rattle.std.proofs.lemmas.Bool.{or_left, or_right, true≢false}
 use Rattle.std.proofs.lemmas.Option.{none-some, same_Some}
-use Rattle.accepted_memory.specs.holder_model.Calling.{argument_data, given_places, lent_by, lent_with, place_in}
-use Rattle.accepted_memory.specs.holder_model.Data.{AddressOf, Datum, FunctionOf, ValueOf, as_place}
-use Rattle.accepted_memory.specs.holder_model.Frames.{Entry, LentPlace, datum_in, entry_at}
+use Rattle.tracked_frames.specs.placed_values.accepted_memory.holder_model.Calling.{given_places, lent_by, lent_with, place_in}
+use Rattle.tracked_frames.specs.placed_values.accepted_memory.holder_model.Data.{AddressOf, Datum, FunctionOf, ValueOf}
+use Rattle.tracked_frames.specs.placed_values.accepted_memory.holder_model.Frames.{LentPlace}
 use Rattle.argument_conventions.specs.Arguments.{Told}
 use Rattle.argument_conventions.specs.Rows.{address_row}
 use Rattle.argument_conventions.specs.declared.row.AddressRow.{AddressRow}
-use Rattle.memory_cells.specs.inner.Cells.{AreApart, has_cell}
+use Rattle.memory_cells.specs.inner.Cells.{AreApart}
 use Rattle.memory_cells.proofs.PlaceCells.{not_cell}
 use Rattle.ownership_chains.specs.Facts.{has}
 use Rattle.point_checks.proofs.Among.{Among, among_either, among_left, among_right}

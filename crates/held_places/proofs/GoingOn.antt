@@ -1,15 +1,11 @@
 -- What a frame holds behind an item: its roots and their entries stay, and what is done at one place is done there alone.
-use Rattle.std.proofs.Common.{◌≡◌, ◌<◌, ◌≤◌, ◌⊎◌, ⊎_elim, inl, inr, ◌==◌, ◌&&◌, ℕ, List, [], ◌∷◌, length, Bool, true, false, Some, refl, sym, ap, ◌∙◌, subst, arith, eqb-true}
+use Rattle.std.proofs.Common.{◌≡◌, ◌≤◌, ◌⊎◌, ⊎_elim, inl, inr, ◌==◌, ◌&&◌, ℕ, List, [], length, Bool, true, false, Some, refl, sym, ap, ◌∙◌, subst, arith, eqb-true}
 use Rattle.std.proofs.lemmas.Bool.{and_right, true≢false}
 use Rattle.std.proofs.lemmas.Option.{same_Some}
-use Rattle.accepted_memory.specs.accepted_trails.inner.Bases.{IsAsMade}
-use Rattle.accepted_memory.specs.memory_accesses.Locations.{location_of}
-use Rattle.accepted_memory.specs.memory_accesses.Rows.{is_part}
-use Rattle.accepted_memory.specs.memory_accesses.Sources.{sources_of}
-use Rattle.accepted_memory.specs.memory_accesses.declared.location.Location.{Location}
-use Rattle.accepted_places.specs.inner.Stacks.{slots_on}
-use Rattle.accepted_memory.specs.holder_model.Frames.{Frame, entry_at}
-use Rattle.accepted_memory.specs.holder_model.States.{Task}
+use Rattle.tracked_frames.specs.placed_values.accepted_memory.memory_accesses.Sources.{sources_of}
+use Rattle.tracked_frames.specs.placed_values.accepted_places.inner.Stacks.{slots_on}
+use Rattle.tracked_frames.specs.placed_values.accepted_memory.holder_model.Frames.{Frame, entry_at}
+use Rattle.tracked_frames.specs.placed_values.accepted_memory.holder_model.States.{Task}
 use Rattle.memory_cells.specs.inner.Cells.{ChangesAt, IsCell, IsPlace, cell_at, has_cell}
 use Rattle.run_values.specs.Memory.{Memory}
 use Rattle.run_values.specs.Places.{OnStack, Place}
@@ -17,7 +13,8 @@ use Rattle.sil_ast.specs.declared.function.Function.{Function}
 use Rattle.sil_ast.specs.declared.module.Module.{Module}
 use Rattle.sil_ast.specs.declared.place.ValueId.{ValueId}
 use Rattle.type_definitions.specs.Declarations.{declarations_of}
-use Rattle.held_places.specs.inner.FramePlaces.{AreSlotsOf, HoldsPlaces, IsFree, IsPartAt, Names, is_lent}
+use Rattle.held_places.specs.inner.FramePlaces.{AreSlotsOf, HoldsPlaces, IsFree, Names, is_lent}
+use Rattle.held_places.specs.inner.PartsNamed.{ArePartsNamed}
 use Rattle.held_places.specs.inner.Roots.{IsThere, argument, is_full_on, is_shared}
 use Rattle.memory_cells.proofs.PlaceCells.{not_cell}
 use Rattle.held_places.proofs.Naming.{inside_stack, names_kept, names_once, names_still, stack_inside}
@@ -27,8 +24,7 @@ module _ (m : Module) (f : Function) (frame next : Frame) (rest : List (Task Fra
   pub record KeepsRoots : Type 0 where
     pub roots : (v : ValueId) → IsThere (declarations_of m) f next.trail v → IsThere (declarations_of m) f frame.trail v
     pub entries : (v : ValueId) → IsThere (declarations_of m) f next.trail v → entry_at next.entries v ≡ entry_at frame.entries v
-    pub parts : (v : ValueId) (l : Location) → location_of (sources_of (declarations_of m) f) v ≡ Some l → is_part l ≡ true → IsAsMade f next.trail l.root v
-        → (whole p : Place) → Names next.entries l.root whole → Names next.entries v p → IsPartAt whole l.path p
+    pub parts : ArePartsNamed (sources_of (declarations_of m) f) f next.trail next.entries
     pub slots : AreSlotsOf next.entries (slots_on (declarations_of m) f next.trail) next.slots
 
   -- behind the item each cell of a root that is there is as the trail says
@@ -53,7 +49,8 @@ module _ (m : Module) (f : Function) (frame next : Frame) (rest : List (Task Fra
     apart = λ v w a b other shared p q one two. h.apart v w (keeps.roots v a) (keeps.roots w b) other shared p q
         (names_kept frame.entries next.entries v (keeps.entries v a) p one) (names_kept frame.entries next.entries w (keeps.entries w b) q two);
     free = λ v a shared p names. h.free v (keeps.roots v a) shared p (names_kept frame.entries next.entries v (keeps.entries v a) p names);
-    parts = keeps.parts;
+    parts = keeps.parts.parts;
+    fields = keeps.parts.fields;
     handed = λ v row trivial is p names. h.handed v row trivial is p
         (names_kept frame.entries next.entries v (keeps.entries v (argument row trivial is)) p names);
     slots = keeps.slots;

@@ -1,17 +1,17 @@
 -- The memory in which a callee begins: the places that it is to fill are empty, and all other cells are as they were.
-use Rattle.std.proofs.Common.{◌≡◌, ◌≤◌, ◌⊎◌, ⊎_elim, inl, inr, ℕ, List, [], ◌∷◌, length, Bool, true, false, Some, refl, sym, ap, ◌∙◌, subst, arith}
+use Rattle.std.proofs.Common.{◌≡◌, ⊎_elim, inl, inr, ℕ, List, [], ◌∷◌, length, Bool, true, false, Some, refl, sym, ap, ◌∙◌, subst, arith}
 use Rattle.std.specs.List.{list_all}
 use Rattle.std.proofs.lemmas.Bool.{and_from}
-use Rattle.accepted_memory.specs.holder_model.Calling.{emptied_for, handed_over}
-use Rattle.accepted_memory.specs.holder_model.Frames.{LentPlace}
+use Rattle.tracked_frames.specs.placed_values.accepted_memory.holder_model.Calling.{emptied_for, handed_over}
+use Rattle.tracked_frames.specs.placed_values.accepted_memory.holder_model.Frames.{LentPlace}
 use Rattle.argument_conventions.specs.declared.row.Content.{Content}
 use Rattle.argument_conventions.specs.declared.row.Content.TheVariants as content
-use Rattle.memory_cells.specs.inner.Cells.{ChangesAt, IsInside, behind, cell_at, has_cell}
+use Rattle.memory_cells.specs.inner.Cells.{ChangesAt, IsInside, cell_at, has_cell}
 use Rattle.memory_cells.proofs.Writes.{emptied_changes, emptied_empty}
 use Rattle.point_checks.proofs.Among.{Among}
 use Rattle.run_values.specs.Cells.{Empty}
 use Rattle.run_values.specs.Memory.{Memory}
-use Rattle.run_values.specs.Places.{Home, OnStack, Place, emptied, home_cells}
+use Rattle.run_values.specs.Places.{Home, OnStack, emptied, home_cells}
 
 pub each_all : {A : Type 0} (test : A → Bool) (xs : List A) → ((x : A) → Among x xs → test x ≡ true) → list_all test xs ≡ true
 each_all test [] h = refl

@@ -1,37 +1,22 @@
 -- The places that a call lends, by its operands, and that the callee is given, by its arguments.
-use Rattle.std.proofs.Common.{◌≡◌, ◌⊎◌, ⊎_elim, inl, inr, ◌<◌, ◌++◌, ℕ, zero, suc, List, [], ◌∷◌, length, map, Bool, true, false, cond, Option, Some, None, Ok, refl, sym, ap, ◌∙◌, subst, slice_get}
+use Rattle.std.proofs.Common.{◌≡◌, ◌++◌, List, [], ◌∷◌, map, cond, Option, Some, None, refl, sym, ap, ◌∙◌, subst}
 use Rattle.std.specs.Prelude.{flat_map, option_map}
 use Rattle.std.specs.Option.{option_or, option_to_list}
-use Rattle.std.proofs.lemmas.Option.{none-some}
-use Rattle.accepted_memory.specs.holder_model.Calling.{argument_data, as_argument, given_places, lent_by, lent_places, lent_with, place_in}
-use Rattle.accepted_memory.specs.holder_model.Data.{AddressOf, Datum, FunctionOf, ValueOf, as_place}
-use Rattle.accepted_memory.specs.holder_model.Frames.{Entry, LentPlace, datum_in, entry_at, results_put}
-use Rattle.accepted_memory.specs.memory_accesses.Operations.{is_address_role, operated, operated_at, operation_by}
-use Rattle.accepted_memory.specs.memory_accesses.declared.access.Operated.{Operated}
-use Rattle.accepted_memory.specs.memory_accesses.declared.access.Operation.TheVariants.{Handed}
-use Rattle.accepted_memory.specs.memory_accesses.declared.columns.AccessKind.{AccessKind}
-use Rattle.accepted_memory.specs.memory_accesses.declared.columns.AccessKind.TheVariants as access
+use Rattle.tracked_frames.specs.placed_values.accepted_memory.holder_model.Calling.{as_argument, given_places, lent_places, lent_with}
+use Rattle.tracked_frames.specs.placed_values.accepted_memory.holder_model.Data.{AddressOf, Datum, FunctionOf, ValueOf, as_place}
+use Rattle.tracked_frames.specs.placed_values.accepted_memory.holder_model.Frames.{Entry}
+use Rattle.tracked_frames.specs.placed_values.accepted_memory.memory_accesses.Operations.{is_address_role, operated, operated_at}
+use Rattle.tracked_frames.specs.placed_values.accepted_memory.memory_accesses.declared.access.Operation.TheVariants.{Handed}
+use Rattle.tracked_frames.specs.placed_values.accepted_memory.memory_accesses.declared.columns.AccessKind.TheVariants as access
 use Rattle.argument_conventions.specs.Arguments.{Told}
-use Rattle.argument_conventions.specs.Rows.{address_row}
 use Rattle.argument_conventions.specs.declared.row.AddressRow.{AddressRow}
 use Rattle.item_operands.specs.declared.taken.Taken.{Taken}
-use Rattle.run_values.specs.Places.{Place}
 use Rattle.sil_ast.specs.declared.inst.Qualifier.{Qualifier}
-use Rattle.sil_ast.specs.declared.place.ValueId.{ValueId}
-use Rattle.held_places.specs.inner.FramePlaces.{Names}
 use Rattle.held_places.specs.inner.PlaceStates.{AreLentBy, as_given}
+pub use Rattle.held_places.specs.inner.TakenPlaces.{AreAlike, AreHandedAs, IsHandedAs}
 use Rattle.held_places.proofs.RowsAt.{nothing_at}
 
 -- ---- the caller
-
--- what is handed over is the address of a place, which the entry names
-abbrev pub IsHandedAs : List Entry → Taken → Datum → Type 0
-IsHandedAs entries t x = (row : AddressRow) → t.handed ≡ Some row → (p : Place) × (x ≡ AddressOf p) × Names entries t.value p
-
-abbrev pub AreHandedAs : List Entry → List Taken → List Datum → Type 0
-AreHandedAs entries [] xs = Unit {0}
-AreHandedAs entries (t ∷ ts) [] = ⊥
-AreHandedAs entries (t ∷ ts) (x ∷ xs) = IsHandedAs entries t x × AreHandedAs entries ts xs
 
 pub lent_each : (entries : List Entry) (q : Qualifier) (ts : List Taken) (xs : List Datum) → AreHandedAs entries ts xs
     → AreLentBy entries (flat_map (operated_at access.Passes q) ts) (lent_places ts xs)
@@ -52,13 +37,6 @@ lent_each entries q (t ∷ ts) (x ∷ xs) h = at t.handed refl (lent_each entrie
         (refl, p.2, more))
 
 -- ---- the callee
-
--- operands are handed over as the signature of the callee says
-abbrev pub AreAlike : List Told → List Taken → Type 0
-AreAlike [] [] = Unit {0}
-AreAlike [] (t ∷ ts) = ⊥
-AreAlike (a ∷ told) [] = ⊥
-AreAlike (a ∷ told) (t ∷ ts) = (t.handed ≡ address_row a.convention) × AreAlike told ts
 
 map_both : {A B : Type 0} (g : A → B) (xs ys : List A) → map g (xs ++ ys) ≡ map g xs ++ map g ys
 map_both g [] ys = refl

@@ -1,14 +1,13 @@
 -- A frame behind an item that neither allocates nor deallocates a slot: the same roots are there, and name what they named.
-use Rattle.std.proofs.Common.{◌≡◌, ℕ, ◌==◌, ⊎_elim, List, [], ◌∷◌, Bool, true, false, Some, refl, sym, ap, ◌∙◌, subst, eq-eqb, eqb-true}
-
+use Rattle.std.proofs.Common.{◌≡◌, ℕ, ◌==◌, ⊎_elim, List, [], ◌∷◌, Bool, true, false, refl, sym, ap, ◌∙◌, subst, eq-eqb, eqb-true}
 use Rattle.std.proofs.lemmas.Bool.{false≢true, or_cases, or_left, or_right}
-use Rattle.accepted_memory.specs.holder_model.Frames.{Entry, Frame, entry_at}
-use Rattle.accepted_memory.specs.holder_model.States.{Task}
-use Rattle.accepted_memory.specs.memory_accesses.Sources.{is_slot, is_slot_source, source_at, sources_of}
-use Rattle.accepted_memory.specs.memory_accesses.declared.source.Source.{Source}
-use Rattle.accepted_memory.specs.memory_accesses.declared.source.Source.TheVariants as source
-use Rattle.accepted_places.specs.inner.Stacks.{slots_on}
-use Rattle.accepted_values.specs.inner.Known.{IsAcceptedBody}
+use Rattle.tracked_frames.specs.placed_values.accepted_memory.holder_model.Frames.{Entry, Frame, entry_at}
+use Rattle.tracked_frames.specs.placed_values.accepted_memory.holder_model.States.{Task}
+use Rattle.tracked_frames.specs.placed_values.accepted_memory.memory_accesses.Sources.{is_slot, is_slot_source, source_at, sources_of}
+use Rattle.tracked_frames.specs.placed_values.accepted_memory.memory_accesses.declared.source.Source.{Source}
+use Rattle.tracked_frames.specs.placed_values.accepted_memory.memory_accesses.declared.source.Source.TheVariants as source
+use Rattle.tracked_frames.specs.placed_values.accepted_places.inner.Stacks.{slots_on}
+use Rattle.tracked_frames.specs.placed_values.accepted_values.inner.Known.{IsAcceptedBody}
 use Rattle.numbered_form.specs.Lists.{Each}
 use Rattle.ownership_chains.specs.Facts.{has}
 use Rattle.run_values.specs.Memory.{Memory}
@@ -38,7 +37,7 @@ is_the_slot (source.Field of k trivial) e = absurd (false≢true e)
 is_the_slot (source.Part of k) e = absurd (false≢true e)
 is_the_slot source.Other e = absurd (false≢true e)
 
-each_has : (P : ValueId → Type 0) (vs : List ValueId) (v : ValueId) → Each P vs → has vs v.0 ≡ true → P v
+pub each_has : (P : ValueId → Type 0) (vs : List ValueId) (v : ValueId) → Each P vs → has vs v.0 ≡ true → P v
 each_has P [] v each h = absurd (false≢true h)
 each_has P (w ∷ vs) v each h = ⊎_elim
     (λ (here : (w.0 == v.0) ≡ true). subst P (ap (λ (k : ℕ). record { 0 = k }) (eqb-true w.0 v.0 here)) each.0)

@@ -1,20 +1,17 @@
 -- A return: no slot is left, the places that were given are as they are asked for, and the frame that waited goes on.
-use Rattle.std.proofs.Common.{◌≡◌, ◌⊎◌, ⊎_elim, inl, inr, ◌≤◌, ℕ, List, [], ◌∷◌, length, map, Bool, true, false, Option, Some, Ok, refl, sym, ap, ◌∙◌, subst, slice_get, arith}
-use Rattle.std.proofs.lemmas.Bool.{false≢true, true≢false}
-use Rattle.accepted_memory.specs.holder_model.Calling.{are_as_after, places_given}
-use Rattle.accepted_memory.specs.holder_model.Data.{Datum}
-use Rattle.accepted_memory.specs.holder_model.Frames.{Entry, Frame, LentPlace, has_any, results_put}
-use Rattle.accepted_memory.specs.holder_model.States.{Runs, Task}
-use Rattle.accepted_memory.specs.memory_accesses.Operations.{operations_of}
-use Rattle.accepted_memory.specs.memory_accesses.Sources.{is_trivial_source, source_at, sources_of}
-use Rattle.accepted_memory.specs.memory_accesses.declared.source.Source.TheVariants as source
-use Rattle.accepted_places.specs.inner.Stacks.{keeps_slots}
-use Rattle.accepted_values.specs.inner.Known.{IsAcceptedBody}
-use Rattle.item_operands.specs.Items.{item_defined}
-use Rattle.item_operands.specs.Parts.{inst_at, item_inst}
+use Rattle.std.proofs.Common.{◌≡◌, inr, ℕ, List, [], ◌∷◌, map, true, false, Option, Some, refl, sym, ap, ◌∙◌, slice_get, arith}
+use Rattle.std.proofs.lemmas.Bool.{true≢false}
+use Rattle.tracked_frames.specs.placed_values.accepted_memory.holder_model.Calling.{are_as_after, places_given}
+use Rattle.tracked_frames.specs.placed_values.accepted_memory.holder_model.Data.{Datum}
+use Rattle.tracked_frames.specs.placed_values.accepted_memory.holder_model.Frames.{Entry, Frame, has_any}
+use Rattle.tracked_frames.specs.placed_values.accepted_memory.holder_model.States.{Runs, Task}
+use Rattle.tracked_frames.specs.placed_values.accepted_memory.memory_accesses.Operations.{operations_of}
+use Rattle.tracked_frames.specs.placed_values.accepted_memory.memory_accesses.Sources.{is_trivial_source, sources_of}
+use Rattle.tracked_frames.specs.placed_values.accepted_places.inner.Stacks.{keeps_slots}
+use Rattle.tracked_frames.specs.placed_values.accepted_values.inner.Known.{IsAcceptedBody}
+use Rattle.item_operands.specs.Parts.{item_inst}
 use Rattle.ownership_chains.specs.declared.facts.Facts.{Facts}
 use Rattle.run_values.specs.Memory.{Memory}
-use Rattle.run_values.specs.Places.{Place}
 use Rattle.sil_ast.specs.declared.function.Function.{Function}
 use Rattle.sil_ast.specs.declared.inst.Inst.{Inst}
 use Rattle.sil_ast.specs.declared.module.Module.{Module}
@@ -23,9 +20,8 @@ use Rattle.sil_ast.specs.declared.place.ValueId.{ValueId}
 use Rattle.sil_cfg.specs.declared.item.Item.{Item}
 use Rattle.sil_cfg.specs.declared.item.Item.TheVariants as item
 use Rattle.type_definitions.specs.Declarations.{declarations_of}
-use Rattle.held_places.specs.inner.FramePlaces.{HoldsPlaces, Names}
 use Rattle.held_places.specs.inner.PlaceStates.{AreLentBy, BelowPlaced, TasksPlaced, as_given}
-use Rattle.held_places.specs.inner.Roots.{IsThere, argument}
+use Rattle.held_places.specs.inner.Roots.{argument}
 use Rattle.held_places.specs.inner.TrailLaws.{TrailLaws}
 use Rattle.held_places.proofs.Keeping.{keeps_roots}
 use Rattle.held_places.proofs.Lending.{IsCallAt}

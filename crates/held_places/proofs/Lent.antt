@@ -1,49 +1,43 @@
 -- What a frame that calls lends: the places hold what is asked of them, and of each two that aren't shared both the places are apart.
-use Rattle.std.proofs.Common.{◌≡◌, ◌⊎◌, ⊎_elim, inl, inr, ◌==◌, ◌&&◌, ◌||◌, ◌+◌, ◌++◌, ◌<◌, ◌≤◌, ℕ, List, [], ◌∷◌, length, Bool, true, false, Some, refl, sym, ap, ◌∙◌, subst, arith, eqb-true, eq-eqb}
+use Rattle.std.proofs.Common.{◌≡◌, ◌⊎◌, ⊎_elim, inl, inr, ◌==◌, ◌&&◌, ◌||◌, ◌++◌, ℕ, List, [], ◌∷◌, Bool, true, false, Some, refl, sym, ap, ◌∙◌, subst, arith, eqb-true}
 use Rattle.std.specs.List.{starts_with}
-use Rattle.std.proofs.lemmas.Bool.{and_from, false≢true, or_left, or_parts, true≢false}
+use Rattle.std.proofs.lemmas.Bool.{and_from, or_left, or_parts, true≢false}
 use Rattle.std.proofs.lemmas.List.{append_assoc}
-use Rattle.accepted_memory.specs.holder_model.Calling.{are_as_before, is_as_before}
-use Rattle.accepted_memory.specs.holder_model.Frames.{Frame, LentPlace}
-use Rattle.accepted_memory.specs.holder_model.MemoryEffects.{holds}
-use Rattle.accepted_memory.specs.holder_model.States.{Task}
-use Rattle.accepted_memory.specs.memory_accesses.Locations.{do_overlap, location_of, meet, same_step}
-use Rattle.accepted_memory.specs.memory_accesses.Operations.{operations_of}
-use Rattle.accepted_memory.specs.memory_accesses.Rows.{has_steps, is_part}
-use Rattle.accepted_memory.specs.memory_accesses.Sources.{is_trivial_at, source_at, sources_of}
-use Rattle.accepted_memory.specs.memory_accesses.declared.access.Operated.{Operated}
-use Rattle.accepted_memory.specs.memory_accesses.declared.access.Operation.TheVariants.{Handed}
-use Rattle.accepted_memory.specs.memory_accesses.declared.location.Location.{Location}
-use Rattle.accepted_places.specs.inner.Loans.{AreApartByCells, IsBefore}
-use Rattle.accepted_values.specs.inner.Known.{IsAcceptedBody}
+use Rattle.tracked_frames.specs.placed_values.accepted_memory.holder_model.Calling.{are_as_before, is_as_before}
+use Rattle.tracked_frames.specs.placed_values.accepted_memory.holder_model.Frames.{Frame, LentPlace}
+use Rattle.tracked_frames.specs.placed_values.accepted_memory.holder_model.MemoryEffects.{holds}
+use Rattle.tracked_frames.specs.placed_values.accepted_memory.holder_model.States.{Task}
+use Rattle.tracked_frames.specs.placed_values.accepted_memory.memory_accesses.Locations.{do_overlap, location_of, meet, same_step}
+use Rattle.tracked_frames.specs.placed_values.accepted_memory.memory_accesses.Operations.{operations_of}
+use Rattle.tracked_frames.specs.placed_values.accepted_memory.memory_accesses.Rows.{has_steps, is_part}
+use Rattle.tracked_frames.specs.placed_values.accepted_memory.memory_accesses.Sources.{is_trivial_at, sources_of}
+use Rattle.tracked_frames.specs.placed_values.accepted_memory.memory_accesses.declared.access.Operated.{Operated}
+use Rattle.tracked_frames.specs.placed_values.accepted_memory.memory_accesses.declared.access.Operation.TheVariants.{Handed}
+use Rattle.tracked_frames.specs.placed_values.accepted_memory.memory_accesses.declared.location.Location.{Location}
+use Rattle.tracked_frames.specs.placed_values.accepted_places.inner.Loans.{AreApartByCells, IsBefore}
+use Rattle.tracked_frames.specs.placed_values.accepted_values.inner.Known.{IsAcceptedBody}
 use Rattle.argument_conventions.specs.declared.row.Content.{Content}
 use Rattle.argument_conventions.specs.declared.row.Content.TheVariants as content
-use Rattle.memory_cells.specs.inner.Cells.{AreApart, IsInside, IsPlace, behind, has_cell}
+use Rattle.memory_cells.specs.inner.Cells.{AreApart, IsPlace, has_cell}
 use Rattle.memory_cells.proofs.PlaceCells.{cell_within, not_cell, there_test}
 use Rattle.point_checks.proofs.Among.{Among}
-use Rattle.run_values.specs.Cells.{cell_count}
 use Rattle.run_values.specs.Memory.{Memory}
-use Rattle.run_values.specs.Places.{OnStack, Place, is_empty_at}
+use Rattle.run_values.specs.Places.{Place, is_empty_at}
 use Rattle.run_values.specs.Trivial.{is_trivial}
 use Rattle.sil_ast.specs.declared.function.Function.{Function}
 use Rattle.sil_ast.specs.declared.inst.Inst.{Inst}
 use Rattle.sil_ast.specs.declared.module.Module.{Module}
 use Rattle.sil_ast.specs.declared.place.PointId.{PointId}
-use Rattle.sil_ast.specs.declared.place.ValueId.{ValueId}
-use Rattle.sil_cfg.specs.declared.item.Item.TheVariants as item
 use Rattle.type_definitions.specs.Declarations.{declarations_of}
-use Rattle.value_parts.specs.inner.Paths.{IsPart, cells_before}
 use Rattle.held_places.specs.inner.FramePlaces.{HoldsPlaces, IsPartAt, Names}
 use Rattle.held_places.specs.inner.PlaceStates.{AreLentBy}
-use Rattle.held_places.specs.inner.Roots.{IsThere, is_shared}
+use Rattle.held_places.specs.inner.Roots.{is_shared}
 use Rattle.held_places.specs.inner.TrailLaws.{TrailLaws}
 use Rattle.held_places.proofs.Asking.{holds_so}
-use Rattle.held_places.proofs.Contents.{FoundAt}
 use Rattle.held_places.proofs.Given.{ArePairsApart, IsApartFrom}
 use Rattle.held_places.proofs.HandedOver.{AreInside, each_all}
 use Rattle.held_places.proofs.Lending.{IsCallAt, IsLentBy, found_empty, found_full, found_there, is_alone, is_whole, lent_by_one}
-use Rattle.held_places.proofs.Naming.{names_once}
-use Rattle.held_places.proofs.Reading.{IsWithin, as_the_root, operand_within, root_itself}
+use Rattle.held_places.proofs.Reading.{IsWithin, as_the_root, operand_within}
 
 -- two parts of a place neither of which is within the other
 parts_apart : AreApartByCells → (whole p q : Place) (a b : List ℕ) → IsPartAt whole a p → IsPartAt whole b q → starts_with same_step a b ≡ false → starts_with same_step b a ≡ false
@@ -99,8 +93,7 @@ module _ (laws : TrailLaws) (m : Module) (number : ℕ) (f : Function) (body : I
     lent_found l c =
         let by = lent_at l c in
         let found = found_there laws m number f body frame.trail point x s.call by.by by.among in
-        let at = s.call.located by.by by.among in
-        (
+        let at = s.call.located by.by by.among in (
           found.on,
           as_the_root m memory f frame rest s.holds s.none_lent by.by.address at.location l.place (lent_within l c) found.on found.was,
           λ e. found_full laws m number f body frame.trail point x s.call by.by by.among l.row by.operation e,

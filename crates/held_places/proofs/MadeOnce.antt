@@ -1,17 +1,9 @@
 -- A root that is there isn't made anew by the next item: neither a slot that is allocated nor an argument of the entry is.
-use Rattle.std.specs.Prelude.{◌≡◌, List, ◌∷◌, Bool, true, false}
-use Rattle.accepted_memory.specs.memory_accesses.Sources.{source_at, sources_of}
-use Rattle.accepted_memory.specs.memory_accesses.declared.source.Source.TheVariants as source
-use Rattle.accepted_memory.specs.run_trails.inner.RunTrails.{GoesOn, IsRunTrail}
-use Rattle.accepted_places.specs.inner.Cells.{AreArgumentsMadeOnce}
-use Rattle.accepted_places.specs.inner.Stacks.{AreSlotsMadeOnce}
-use Rattle.accepted_values.specs.inner.Known.{IsAcceptedBody}
+use Rattle.std.specs.Prelude.{◌≡◌, false}
+use Rattle.tracked_frames.specs.placed_values.accepted_places.inner.Cells.{AreArgumentsMadeOnce}
+use Rattle.tracked_frames.specs.placed_values.accepted_places.inner.Stacks.{AreSlotsMadeOnce}
 use Rattle.item_operands.specs.Items.{item_defined}
 use Rattle.ownership_chains.specs.Facts.{has}
-use Rattle.sil_ast.specs.declared.function.Function.{Function}
-use Rattle.sil_ast.specs.declared.module.Module.{Module}
-use Rattle.sil_ast.specs.declared.place.ValueId.{ValueId}
-use Rattle.sil_cfg.specs.declared.item.Item.{Item}
 use Rattle.type_definitions.specs.Declarations.{declarations_of}
 use Rattle.held_places.specs.inner.Roots.{IsThere, argument, slot}
 use Rattle.held_places.specs.inner.TrailLaws.{AreRootsMadeOnce}

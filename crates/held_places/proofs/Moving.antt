@@ -1,27 +1,22 @@
 -- The state behind an item: its frame and those below hold what they should.
-use Rattle.std.proofs.Common.{◌≡◌, ◌⊎◌, ⊎_elim, inl, inr, ◌≤◌, ◌==◌, ℕ, List, [], ◌∷◌, length, Bool, true, false, cond, Option, Some, None, Ok, Contains, refl, sym, ap, ◌∙◌, subst, slice_get, arith, eqb-true}
-use Rattle.std.proofs.lemmas.Bool.{false_from_ne_true, false≢true, true≢false}
+use Rattle.std.proofs.Common.{◌≡◌, ◌⊎◌, ⊎_elim, inr, ◌≤◌, ◌==◌, ℕ, List, [], ◌∷◌, length, Bool, true, false, Option, Some, Contains, refl, sym, ap, ◌∙◌, subst, slice_get, arith, eqb-true}
+use Rattle.std.proofs.lemmas.Bool.{false_from_ne_true}
 use Rattle.std.proofs.lemmas.List.Elements.{Contains-push}
-use Rattle.std.proofs.lemmas.Option.{same_Some}
-use Rattle.accepted_memory.specs.holder_model.Calling.{places_given}
-use Rattle.accepted_memory.specs.holder_model.Data.{AddressOf, Datum}
-use Rattle.accepted_memory.specs.holder_model.Frames.{Entry, Frame, entry_at}
-use Rattle.accepted_memory.specs.holder_model.MemoryEffects.{asked_before, where_held}
-use Rattle.accepted_memory.specs.holder_model.ModuleShapes.{ModuleShapes}
-use Rattle.accepted_memory.specs.holder_model.States.{Runs, Task, dropping}
-use Rattle.accepted_memory.specs.memory_accesses.Locations.{location_of}
-use Rattle.accepted_memory.specs.memory_accesses.Operations.{deallocates, operated, operations_of}
-use Rattle.accepted_memory.specs.memory_accesses.Rows.{has_operation}
-use Rattle.accepted_memory.specs.memory_accesses.Sources.{source_at, sources_of}
-use Rattle.accepted_memory.specs.memory_accesses.declared.access.Operated.{Operated}
-use Rattle.accepted_memory.specs.memory_accesses.declared.access.Operation.{Operation}
-use Rattle.accepted_memory.specs.memory_accesses.declared.access.Operation.TheVariants.{Handed, Take}
-use Rattle.accepted_memory.specs.memory_accesses.declared.location.Location.{Location}
-use Rattle.accepted_memory.specs.memory_accesses.declared.source.Source.TheVariants as source
-use Rattle.accepted_memory.specs.memory_parts.Parts.{whole_cell}
-use Rattle.accepted_places.specs.inner.Cells.{touches}
-use Rattle.accepted_places.specs.inner.Stacks.{keeps_slots, slots_on}
-use Rattle.accepted_values.specs.inner.Known.{IsAcceptedBody}
+use Rattle.tracked_frames.specs.placed_values.accepted_memory.holder_model.Calling.{places_given}
+use Rattle.tracked_frames.specs.placed_values.accepted_memory.holder_model.Data.{Datum}
+use Rattle.tracked_frames.specs.placed_values.accepted_memory.holder_model.Frames.{Entry, Frame}
+use Rattle.tracked_frames.specs.placed_values.accepted_memory.holder_model.ModuleShapes.{ModuleShapes}
+use Rattle.tracked_frames.specs.placed_values.accepted_memory.holder_model.States.{Runs, Task, dropping}
+use Rattle.tracked_frames.specs.placed_values.accepted_memory.memory_accesses.Operations.{operated}
+use Rattle.tracked_frames.specs.placed_values.accepted_memory.memory_accesses.Rows.{has_operation}
+use Rattle.tracked_frames.specs.placed_values.accepted_memory.memory_accesses.Sources.{source_at, sources_of}
+use Rattle.tracked_frames.specs.placed_values.accepted_memory.memory_accesses.declared.access.Operation.{Operation}
+use Rattle.tracked_frames.specs.placed_values.accepted_memory.memory_accesses.declared.access.Operation.TheVariants.{Handed, Take}
+use Rattle.tracked_frames.specs.placed_values.accepted_memory.memory_accesses.declared.source.Source.TheVariants as source
+use Rattle.tracked_frames.specs.placed_values.accepted_memory.memory_parts.Parts.{whole_cell}
+use Rattle.tracked_frames.specs.placed_values.accepted_places.inner.Cells.{touches}
+use Rattle.tracked_frames.specs.placed_values.accepted_places.inner.Stacks.{keeps_slots, slots_on}
+use Rattle.tracked_frames.specs.placed_values.accepted_values.inner.Known.{IsAcceptedBody}
 use Rattle.argument_conventions.specs.declared.row.AddressRow.{AddressRow}
 use Rattle.item_operands.specs.Parts.{inst_at, item_inst}
 use Rattle.memory_cells.specs.inner.Cells.{cell_at}
@@ -45,13 +40,12 @@ use Rattle.held_places.specs.inner.FramePlaces.{HoldsPlaces, IsFree, Names}
 use Rattle.held_places.specs.inner.PlaceStates.{BelowPlaced, TasksPlaced}
 use Rattle.held_places.specs.inner.Roots.{IsThere, argument, slot}
 use Rattle.held_places.specs.inner.TrailLaws.{TrailLaws}
-use Rattle.held_places.proofs.AtPlaces.{Behind, StandsAt, empties, fills, is_as_asked, looks, within}
+use Rattle.held_places.proofs.AtPlaces.{StandsAt, empties, fills, is_as_asked, looks, within}
 use Rattle.held_places.proofs.Contents.{OperatesAt, others_untouched, on_stack}
 use Rattle.held_places.proofs.Locating.{IsInObject, IsOperandAt}
 use Rattle.held_places.proofs.Operating.{Fills, Looks}
 use Rattle.held_places.proofs.PartsNamed.{AreNewNamed}
 use Rattle.held_places.proofs.Quiet.{PutsResults, behind, keeps, quiet_behind, root_kept}
-use Rattle.held_places.proofs.Reading.{IsWithin}
 use Rattle.held_places.proofs.RowsHeld.{IsMet, stack_stays}
 use Rattle.held_places.proofs.Taking.{dropping_placed, given_kept, goes_placed}
 
@@ -179,7 +173,7 @@ module _ (laws : TrailLaws) (m : Module) (number : ℕ) (f : Function) (body : I
       (λ (there : IsThere (declarations_of m) f frame.trail s.operand.location.root).
       let at = stands (filled memory p y) s there in
       let b = fills laws m number f body frame (after_frame (filled memory p y) s) rest memory point x v o s.operand.location p at refl how y fit
-          (keeps laws m number f body facts memory (filled memory p y) frame rest (item.Inst point) results entries s.puts (same_slots (filled memory p y) s) s.news) in
+      (keeps laws m number f body facts memory (filled memory p y) frame rest (item.Inst point) results entries s.puts (same_slots (filled memory p y) s) s.news) in
       let size = (filled_changes memory p y (within laws m number f body frame (after_frame (filled memory p y) s) rest memory point x v o s.operand.location p at).inside fit).sizes OnStack in
       record { holds = b.holds; more = omega (arith, size); below = b.below })
       (λ (field : IsInObject laws m number f body s.operand.location.root).
@@ -192,7 +186,7 @@ module _ (laws : TrailLaws) (m : Module) (number : ℕ) (f : Function) (body : I
       (λ (there : IsThere (declarations_of m) f frame.trail s.operand.location.root).
       let at = stands (emptied memory p) s there in
       let b = empties laws m number f body frame (after_frame (emptied memory p) s) rest memory point x v o s.operand.location p at refl how
-          (keeps laws m number f body facts memory (emptied memory p) frame rest (item.Inst point) results entries s.puts (same_slots (emptied memory p) s) s.news) in
+      (keeps laws m number f body facts memory (emptied memory p) frame rest (item.Inst point) results entries s.puts (same_slots (emptied memory p) s) s.news) in
       let size = (emptied_changes memory p (within laws m number f body frame (after_frame (emptied memory p) s) rest memory point x v o s.operand.location p at).inside).sizes OnStack in
       record { holds = b.holds; more = omega (arith, size); below = b.below })
       (λ (field : IsInObject laws m number f body s.operand.location.root).

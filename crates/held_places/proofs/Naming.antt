@@ -1,14 +1,14 @@
 -- What entries name, and which cells are lent.
-use Rattle.std.proofs.Common.{◌≡◌, ◌<◌, ◌≤◌, ◌+◌, ◌==◌, ℕ, List, [], ◌∷◌, length, Bool, true, false, Option, Some, None, refl, sym, ap, ◌∙◌, subst, arith, eq-eqb, eqb-true}
+use Rattle.std.proofs.Common.{◌≡◌, ◌<◌, ◌≤◌, ◌==◌, ℕ, List, length, true, false, Some, sym, ap, ◌∙◌, subst, arith, eq-eqb, eqb-true}
 use Rattle.std.specs.Prelude.{option_and_then}
 use Rattle.std.proofs.lemmas.Bool.{false_from_ne_true, true≢false}
 use Rattle.std.proofs.lemmas.Option.{same_Some}
-use Rattle.accepted_memory.specs.holder_model.Data.{AddressOf, Datum, as_place}
-use Rattle.accepted_memory.specs.holder_model.Frames.{Entry, datum_in, entry_at}
+use Rattle.tracked_frames.specs.placed_values.accepted_memory.holder_model.Data.{AddressOf, as_place}
+use Rattle.tracked_frames.specs.placed_values.accepted_memory.holder_model.Frames.{Entry, datum_in, entry_at}
 use Rattle.memory_cells.specs.inner.Cells.{IsInside, behind, has_cell}
 use Rattle.memory_cells.proofs.PlaceCells.{cell_within}
 use Rattle.run_values.specs.Memory.{Memory}
-use Rattle.run_values.specs.Places.{Home, OnStack, Place, home_cells}
+use Rattle.run_values.specs.Places.{OnStack, Place, home_cells}
 use Rattle.sil_ast.specs.declared.module.Module.{Module}
 use Rattle.sil_ast.specs.declared.place.ValueId.{ValueId}
 use Rattle.held_places.specs.inner.FramePlaces.{IsNamed, Names}

@@ -1,17 +1,13 @@
 -- What a frame holds when a slot is allocated, and when one is deallocated.
-use Rattle.std.proofs.Common.{◌≡◌, ◌<◌, ◌≤◌, ◌+◌, ◌++◌, ◌⊎◌, ⊎_elim, inl, inr, ◌==◌, ◌&&◌, ℕ, List, [], ◌∷◌, length, Bool, true, false, Some, refl, sym, ap, ◌∙◌, subst, arith, eq-eqb, eqb-true}
+use Rattle.std.proofs.Common.{◌≡◌, ◌≤◌, ◌+◌, ◌++◌, ◌⊎◌, inl, inr, ◌==◌, ◌&&◌, ℕ, List, [], length, Bool, true, false, Some, refl, sym, ap, ◌∙◌, subst, arith, eq-eqb, eqb-true}
 use Rattle.std.proofs.lemmas.Bool.{and_right, true≢false}
 use Rattle.std.proofs.lemmas.Option.{same_Some}
-use Rattle.accepted_memory.specs.accepted_trails.inner.Bases.{IsAsMade}
-use Rattle.accepted_memory.specs.memory_accesses.Locations.{location_of}
-use Rattle.accepted_memory.specs.memory_accesses.Rows.{is_part}
-use Rattle.accepted_memory.specs.memory_accesses.Sources.{source_at, sources_of}
-use Rattle.accepted_memory.specs.memory_accesses.declared.location.Location.{Location}
-use Rattle.accepted_memory.specs.memory_accesses.declared.source.Source.TheVariants as source
-use Rattle.accepted_places.specs.inner.Stacks.{slots_on}
+use Rattle.tracked_frames.specs.placed_values.accepted_memory.memory_accesses.Sources.{source_at, sources_of}
+use Rattle.tracked_frames.specs.placed_values.accepted_memory.memory_accesses.declared.source.Source.TheVariants as source
+use Rattle.tracked_frames.specs.placed_values.accepted_places.inner.Stacks.{slots_on}
 use Rattle.argument_conventions.specs.declared.row.AddressRow.{AddressRow}
-use Rattle.accepted_memory.specs.holder_model.Frames.{Frame, entry_at}
-use Rattle.accepted_memory.specs.holder_model.States.{Task}
+use Rattle.tracked_frames.specs.placed_values.accepted_memory.holder_model.Frames.{Frame, entry_at}
+use Rattle.tracked_frames.specs.placed_values.accepted_memory.holder_model.States.{Task}
 use Rattle.memory_cells.specs.inner.Cells.{ChangesAt, IsCell, cell_at, has_cell}
 use Rattle.memory_cells.proofs.PlaceCells.{cell_within, not_cell, offset_of}
 use Rattle.memory_cells.proofs.Writes.{slots_new}
@@ -23,7 +19,8 @@ use Rattle.sil_ast.specs.declared.function.Function.{Function}
 use Rattle.sil_ast.specs.declared.module.Module.{Module}
 use Rattle.sil_ast.specs.declared.place.ValueId.{ValueId}
 use Rattle.type_definitions.specs.Declarations.{declarations_of}
-use Rattle.held_places.specs.inner.FramePlaces.{AreSlotsOf, HoldsPlaces, IsFree, IsNamed, IsPartAt, Names, is_lent}
+use Rattle.held_places.specs.inner.FramePlaces.{AreSlotsOf, HoldsPlaces, IsFree, IsNamed, Names, is_lent}
+use Rattle.held_places.specs.inner.PartsNamed.{ArePartsNamed}
 use Rattle.held_places.specs.inner.Roots.{IsThere, argument, is_full_on, is_shared}
 use Rattle.held_places.proofs.GoingOn.{AreCellsBehind, KeepsRoots}
 use Rattle.held_places.proofs.Naming.{inside_stack, named_cell, names_kept, names_once, names_still, stack_inside}
@@ -45,8 +42,7 @@ module _ (m : Module) (f : Function) (frame next : Frame) (rest : List (Task Fra
     pub entries : (v : ValueId) → IsThere (declarations_of m) f next.trail v → (v.0 == root.0) ≡ false → entry_at next.entries v ≡ entry_at frame.entries v
     pub stay : (v : ValueId) → IsThere (declarations_of m) f next.trail v → (v.0 == root.0) ≡ false
         → is_full_on (declarations_of m) f v next.trail ≡ is_full_on (declarations_of m) f v frame.trail
-    pub parts : (v : ValueId) (l : Location) → location_of (sources_of (declarations_of m) f) v ≡ Some l → is_part l ≡ true → IsAsMade f next.trail l.root v
-        → (whole p : Place) → Names next.entries l.root whole → Names next.entries v p → IsPartAt whole l.path p
+    pub parts : ArePartsNamed (sources_of (declarations_of m) f) f next.trail next.entries
     pub slots : AreSlotsOf next.entries (slots_on (declarations_of m) f next.trail) next.slots
 
   same_root : (v root : ValueId) → (v.0 == root.0) ≡ true → v ≡ root
@@ -106,7 +102,8 @@ module _ (m : Module) (f : Function) (frame next : Frame) (rest : List (Task Fra
     free = λ v a shared p names n has. by_root v root
         (λ e. free n (past n (subst (λ r. has_cell r n ≡ true) (is_new v e p names) has)))
         (λ old. h.free v (x.roots v a old) shared p (names_kept frame.entries next.entries v (x.entries v a old) p names) n has);
-    parts = x.parts;
+    parts = x.parts.parts;
+    fields = x.parts.fields;
     handed = λ v row trivial is p names. by_root v root
         (λ e. absurd (not_slot row trivial (sym (ap (λ w. source_at (sources_of (declarations_of m) f) w) e ∙ x.source) ∙ is)))
         (λ old. h.handed v row trivial is p (names_kept frame.entries next.entries v (x.entries v (argument row trivial is) old) p names));

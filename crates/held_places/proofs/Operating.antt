@@ -2,12 +2,12 @@
 use Rattle.std.proofs.Common.{◌≡◌, ◌⊎◌, inl, inr, List, Bool, true, false, cond, not, refl}
 use Rattle.std.specs.Prelude.{unwrap_or}
 use Rattle.std.proofs.lemmas.Bool.{false≢true}
-use Rattle.accepted_memory.specs.memory_accesses.Rows.{has_by, shared_has, slot_has}
-use Rattle.accepted_memory.specs.memory_accesses.declared.access.Operation.{Operation}
-use Rattle.accepted_memory.specs.memory_accesses.declared.access.Operation.TheVariants.{FirstWrite, Read, Lend, Write, TrivialStore, Take}
-use Rattle.accepted_memory.specs.memory_accesses.declared.source.Source.{Source}
-use Rattle.accepted_memory.specs.memory_parts.Contents.{operation_mark}
-use Rattle.accepted_memory.specs.run_trails.inner.Switched.{finds}
+use Rattle.tracked_frames.specs.placed_values.accepted_memory.memory_accesses.Rows.{has_by, shared_has, slot_has}
+use Rattle.tracked_frames.specs.placed_values.accepted_memory.memory_accesses.declared.access.Operation.{Operation}
+use Rattle.tracked_frames.specs.placed_values.accepted_memory.memory_accesses.declared.access.Operation.TheVariants.{FirstWrite, Read, Lend, Write, TrivialStore, Take}
+use Rattle.tracked_frames.specs.placed_values.accepted_memory.memory_accesses.declared.source.Source.{Source}
+use Rattle.tracked_frames.specs.placed_values.accepted_memory.memory_parts.Contents.{operation_mark}
+use Rattle.tracked_frames.specs.placed_values.accepted_memory.run_trails.inner.Switched.{finds}
 use Rattle.held_places.specs.inner.Roots.{is_shared_source}
 use Rattle.held_places.proofs.Contents.{IsOnStack}
 

@@ -1,25 +1,25 @@
 -- Addresses of parts behind an item: those that it names, and those that were named before.
-use Rattle.std.proofs.Common.{◌≡◌, ◌||◌, ◌&&◌, ◌+◌, ◌++◌, ℕ, List, [], ◌∷◌, Bool, true, false, not, Some, refl, sym, ap, ◌∙◌, subst, arith}
+use Rattle.std.proofs.Common.{◌≡◌, ◌||◌, ◌&&◌, ◌+◌, ◌++◌, ℕ, List, [], ◌∷◌, Bool, true, false, not, Some, refl, sym, ap, ◌∙◌, arith}
 use Rattle.std.specs.List.{list_any}
 use Rattle.std.specs.Prelude.{slice_get}
-use Rattle.std.proofs.lemmas.Bool.{false≢true, true≢false}
-use Rattle.accepted_memory.specs.accepted_trails.inner.Bases.{IsAsMade}
-use Rattle.accepted_memory.specs.accepted_trails.inner.Defined.{IsDefinedOn, makes}
-use Rattle.accepted_memory.specs.holder_model.Frames.{Entry}
-use Rattle.accepted_memory.specs.memory_accesses.Locations.{location_of}
-use Rattle.accepted_memory.specs.memory_accesses.Rows.{is_part}
-use Rattle.accepted_memory.specs.memory_accesses.declared.location.Location.{Location}
-use Rattle.accepted_memory.specs.memory_accesses.declared.source.Source.{Source}
-use Rattle.accepted_memory.specs.run_trails.inner.Since.{is_none_since}
-use Rattle.ownership_chains.specs.Facts.{has}
-use Rattle.run_values.specs.Places.{Place, offset, part_of}
+use Rattle.std.proofs.lemmas.Bool.{false≢true}
+use Rattle.tracked_frames.specs.placed_values.accepted_memory.accepted_trails.inner.Bases.{IsAsMade}
+use Rattle.tracked_frames.specs.placed_values.accepted_memory.accepted_trails.inner.Defined.{IsDefinedOn, makes}
+use Rattle.tracked_frames.specs.placed_values.accepted_memory.holder_model.Frames.{Entry}
+use Rattle.tracked_frames.specs.placed_values.accepted_memory.memory_accesses.Locations.{location_of}
+use Rattle.tracked_frames.specs.placed_values.accepted_memory.memory_accesses.Rows.{is_part}
+use Rattle.tracked_frames.specs.placed_values.accepted_memory.memory_accesses.declared.location.Location.{Location}
+use Rattle.tracked_frames.specs.placed_values.accepted_memory.memory_accesses.declared.source.Source.{Source}
+use Rattle.tracked_frames.specs.placed_values.accepted_memory.run_trails.inner.Since.{is_none_since}
+use Rattle.run_values.specs.Places.{OnStack, Place, part_of}
 use Rattle.run_values.specs.Shapes.{Shape, member_shapes}
 use Rattle.sil_ast.specs.declared.function.Function.{Function}
 use Rattle.sil_ast.specs.declared.place.ValueId.{ValueId}
 use Rattle.sil_cfg.specs.declared.item.Item.{Item}
-use Rattle.value_parts.specs.inner.Paths.{IsPart, cells_before, here, inside}
+use Rattle.value_parts.specs.inner.Paths.{here, inside}
 use Rattle.value_parts.proofs.Paths.{cells_before_member, member_of_part}
-use Rattle.held_places.specs.inner.FramePlaces.{IsPartAt, Names}
+use Rattle.held_places.specs.inner.FramePlaces.{AreFieldsInside, IsPartAt, Names}
+pub use Rattle.held_places.specs.inner.PartsNamed.{AreNewNamed, AreOldKept, ArePartsNamed}
 
 -- the first member of the whole, and a member of a part
 pub member_of_whole : (whole : Place) (k : ℕ) (s : Shape) → slice_get (member_shapes whole.shape) k ≡ Some s
@@ -59,26 +59,23 @@ made_before f t i b v not_so h =
     let parts = none_before f t i b v not_so h.since in
     (parts.0, record { defined = defined_before f t i b parts.0 h.defined; since = parts.1 })
 
--- addresses of parts name what they should
-abbrev pub ArePartsNamed : List Source → Function → List Item → List Entry → Type 0
-ArePartsNamed sources f t entries = (v : ValueId) (l : Location) → location_of sources v ≡ Some l → is_part l ≡ true → IsAsMade f t l.root v
-    → (whole p : Place) → Names entries l.root whole → Names entries v p → IsPartAt whole l.path p
-
 module _ (sources : List Source) (f : Function) (t : List Item) (i : Item) (old new : List Entry) where
-  -- so do those that the item makes
-  abbrev pub AreNewNamed : Type 0
-  AreNewNamed = (v : ValueId) → makes f v i ≡ true → (l : Location) → location_of sources v ≡ Some l → is_part l ≡ true → IsAsMade f (i ∷ t) l.root v
-      → (whole p : Place) → Names new l.root whole → Names new v p → IsPartAt whole l.path p
-
-  -- and what it doesn't make names what it named
-  abbrev pub AreOldKept : Type 0
-  AreOldKept = (v : ValueId) → makes f v i ≡ false → (p : Place) → Names new v p → Names old v p
-
-  pub parts_behind : ArePartsNamed sources f t old → AreNewNamed → AreOldKept → ArePartsNamed sources f (i ∷ t) new
-  parts_behind before news kept v l is part made whole p one two = at (makes f v i) refl
+  pub parts_behind : ArePartsNamed sources f t old → AreNewNamed sources f t i old new → AreOldKept f i old new → ArePartsNamed sources f (i ∷ t) new
+  parts_behind before news kept = record { parts = parts_kept; fields = fields_kept }
     where
-      at : (b : Bool) → makes f v i ≡ b → IsPartAt whole l.path p
-      at true e = news v e l is part made whole p one two
-      at false e =
-          let was = made_before f t i l.root v e made in
-          before v l is part was.1 whole p (kept l.root was.0 whole one) (kept v e p two)
+      parts_kept : (v : ValueId) (l : Location) → location_of sources v ≡ Some l → is_part l ≡ true → IsAsMade f (i ∷ t) l.root v
+          → (whole p : Place) → Names new l.root whole → Names new v p → IsPartAt whole l.path p
+      parts_kept v l is part made whole p one two = at (makes f v i) refl
+        where
+          at : (b : Bool) → makes f v i ≡ b → IsPartAt whole l.path p
+          at true e = news.parts v e l is part made whole p one two
+          at false e =
+              let was = made_before f t i l.root v e made in
+              before.parts v l is part was.1 whole p (kept l.root was.0 whole one) (kept v e p two)
+
+      fields_kept : AreFieldsInside sources new
+      fields_kept v l is of k trivial src p names = at (makes f v i) refl
+        where
+          at : (b : Bool) → makes f v i ≡ b → p.home ≡ OnStack → ⊥
+          at true e = news.fields v e l is of k trivial src p names
+          at false e = before.fields v l is of k trivial src p (kept v e p names)

@@ -1,44 +1,43 @@
 -- An item that does nothing to the places on the stack: edges, calls of functions without a body, and all rows that touch no place.
-use Rattle.std.proofs.Common.{◌≡◌, ◌⊎◌, inr, ◌≤◌, ◌==◌, ℕ, zero, suc, List, [], ◌∷◌, ◌++◌, length, Bool, true, false, cond, Option, Some, None, Ok, refl, sym, ap, ◌∙◌, subst, slice_get, arith}
-use Rattle.std.specs.Prelude.{option_map}
-use Rattle.std.proofs.lemmas.Bool.{false≢true, true≢false}
+use Rattle.std.proofs.Common.{◌≡◌, ◌≤◌, ℕ, zero, suc, List, [], ◌∷◌, length, Bool, true, false, Option, Some, Ok, refl, sym, ap, ◌∙◌}
+use Rattle.std.proofs.lemmas.Bool.{false≢true}
 use Rattle.std.proofs.lemmas.Option.{none-some, same_Some}
-use Rattle.accepted_memory.specs.accepted_trails.inner.Bases.{IsAsMade}
-use Rattle.accepted_memory.specs.accepted_trails.inner.Defined.{makes}
-use Rattle.accepted_memory.specs.holder_model.Data.{AddressOf, Datum}
-use Rattle.accepted_memory.specs.holder_model.Frames.{Entry, Frame, datum_in, entry_at, results_put}
-use Rattle.accepted_memory.specs.holder_model.States.{Task}
-use Rattle.accepted_memory.specs.memory_accesses.Locations.{extended, locate, located_by, location_of, whole}
-use Rattle.accepted_memory.specs.memory_accesses.Rows.{is_part}
-use Rattle.accepted_memory.specs.memory_accesses.Sources.{source_at, sources_of}
-use Rattle.accepted_memory.specs.memory_accesses.declared.location.Location.{Location}
-use Rattle.accepted_memory.specs.memory_accesses.declared.source.Source.{Source}
-use Rattle.accepted_memory.specs.memory_accesses.declared.source.Source.TheVariants as source
-use Rattle.accepted_memory.specs.memory_parts.Parts.{whole_cell}
-use Rattle.accepted_memory.specs.run_trails.inner.RunTrails.{GoesOn, IsRunTrail}
-use Rattle.accepted_places.specs.inner.Cells.{touches}
-use Rattle.accepted_places.specs.inner.Stacks.{slots_on}
-use Rattle.accepted_values.specs.inner.Known.{IsAcceptedBody}
+use Rattle.tracked_frames.specs.placed_values.accepted_memory.accepted_trails.inner.Defined.{makes}
+use Rattle.tracked_frames.specs.placed_values.accepted_memory.holder_model.Data.{Datum}
+use Rattle.tracked_frames.specs.placed_values.accepted_memory.holder_model.Frames.{Entry, Frame, datum_in, entry_at, results_put}
+use Rattle.tracked_frames.specs.placed_values.accepted_memory.holder_model.States.{Task}
+use Rattle.tracked_frames.specs.placed_values.accepted_memory.memory_accesses.Locations.{locate, located_by, location_of, whole}
+use Rattle.tracked_frames.specs.placed_values.accepted_memory.memory_accesses.Rows.{is_part}
+use Rattle.tracked_frames.specs.placed_values.accepted_memory.memory_accesses.Sources.{source_at, sources_of}
+use Rattle.tracked_frames.specs.placed_values.accepted_memory.memory_accesses.declared.location.Location.{Location}
+use Rattle.tracked_frames.specs.placed_values.accepted_memory.memory_accesses.declared.source.Source.{Source}
+use Rattle.tracked_frames.specs.placed_values.accepted_memory.memory_accesses.declared.source.Source.TheVariants as source
+use Rattle.tracked_frames.specs.placed_values.accepted_memory.memory_parts.Parts.{whole_cell}
+use Rattle.tracked_frames.specs.placed_values.accepted_memory.run_trails.inner.RunTrails.{GoesOn, IsRunTrail}
+use Rattle.tracked_frames.specs.placed_values.accepted_places.inner.Cells.{touches}
+use Rattle.tracked_frames.specs.placed_values.accepted_places.inner.Stacks.{slots_on}
+use Rattle.tracked_frames.specs.placed_values.accepted_values.inner.Known.{IsAcceptedBody}
 use Rattle.item_operands.specs.Items.{item_defined}
 use Rattle.item_operands.specs.Parts.{item_inst}
 use Rattle.memory_cells.specs.inner.Cells.{cell_at}
-use Rattle.ownership_chains.specs.Facts.{has}
 use Rattle.ownership_chains.specs.declared.facts.Facts.{Facts}
 use Rattle.run_values.specs.Memory.{Memory}
-use Rattle.run_values.specs.Places.{OnStack, Place}
+use Rattle.run_values.specs.Places.{OnStack}
 use Rattle.sil_ast.specs.declared.function.Function.{Function}
 use Rattle.sil_ast.specs.declared.module.Module.{Module}
 use Rattle.sil_ast.specs.declared.place.ValueId.{ValueId}
 use Rattle.sil_cfg.specs.declared.item.Item.{Item}
 use Rattle.type_definitions.specs.Declarations.{declarations_of}
-use Rattle.held_places.specs.inner.FramePlaces.{HoldsPlaces, IsPartAt, Names}
-use Rattle.held_places.specs.inner.Roots.{IsThere, is_full_on}
+use Rattle.held_places.specs.inner.FramePlaces.{HoldsPlaces}
+use Rattle.held_places.specs.inner.Roots.{IsThere}
 use Rattle.held_places.specs.inner.TrailLaws.{TrailLaws}
 use Rattle.held_places.proofs.Contents.{on_stack, stays_full}
 use Rattle.held_places.proofs.EntriesKept.{results_other}
 use Rattle.held_places.proofs.GoingOn.{goes_on, stays_quiet}
 use Rattle.held_places.proofs.Keeping.{Keeps, keeps_roots, there_still}
-use Rattle.held_places.proofs.PartsNamed.{AreNewNamed, AreOldKept, ArePartsNamed, parts_behind}
+use Rattle.held_places.specs.inner.PartsNamed.{AreNewNamed, AreOldKept, ArePartsNamed}
+use Rattle.held_places.proofs.PartsNamed.{parts_behind}
+use Rattle.held_places.proofs.Reading.{root_itself}
 
 -- ---- a part is named as a member of another address
 
@@ -66,6 +65,24 @@ by_steps sources (suc n) v l is part = by_source sources (locate sources n) v (s
 pub part_is_member : (sources : List Source) (v : ValueId) (l : Location) → location_of sources v ≡ Some l → is_part l ≡ true → IsMember sources v
 part_is_member sources v l is part = by_steps sources (length sources) v l is part
 
+-- a member of another address, or the address of a field
+pub data IsInner (sources : List Source) (v : ValueId) : Type 0 where
+  member : IsMember sources v → IsInner sources v
+  field : (of : ValueId) (k : ℕ) (trivial : Bool) → source_at sources v ≡ source.Field of k trivial → IsInner sources v
+
+-- no result is such
+pub none_named : (sources : List Source) (f : Function) (t : List Item) (i : Item) (old new : List Entry) → ((v : ValueId) → makes f v i ≡ true → IsInner sources v → ⊥)
+    → AreNewNamed sources f t i old new
+none_named sources f t i old new never = record {
+  parts = λ v made l is part at whole p one two. absurd (never v made (member (part_is_member sources v l is part)));
+  fields = λ v made l is of k trivial src p names home. by v made l is of k trivial src (is_part l) refl;
+}
+  where
+    by : (v : ValueId) → makes f v i ≡ true → (l : Location) → location_of sources v ≡ Some l → (of : ValueId) (k : ℕ) (trivial : Bool)
+        → source_at sources l.root ≡ source.Field of k trivial → (b : Bool) → is_part l ≡ b → ⊥
+    by v made l is of k trivial src true e = never v made (member (part_is_member sources v l is e))
+    by v made l is of k trivial src false e = never v made (field of k trivial (ap (source_at sources) (sym (root_itself sources v l is e)) ∙ src))
+
 -- ---- the frame behind the item
 
 module _ (laws : TrailLaws) (m : Module) (number : ℕ) (f : Function) (body : IsAcceptedBody m number f) (facts : ValueId → Option Facts)
@@ -84,17 +101,13 @@ module _ (laws : TrailLaws) (m : Module) (number : ℕ) (f : Function) (body : I
     pub root_kept : (v : ValueId) → IsThere (declarations_of m) f frame.trail v → entry_at entries v ≡ entry_at frame.entries v
     root_kept v there = results_other facts (item_defined f i) results frame.entries entries s.put v (laws.made_once m number f body frame.trail i s.trail s.goes v there)
 
-    pub old_kept : AreOldKept (sources_of (declarations_of m) f) f frame.trail i frame.entries entries
+    pub old_kept : AreOldKept f i frame.entries entries
     old_kept v not_made p names = sym (ap datum_in (results_other facts (item_defined f i) results frame.entries entries s.put v not_made)) ∙ names
 
     pub all_parts : AreNewNamed (sources_of (declarations_of m) f) f frame.trail i frame.entries entries
         → ArePartsNamed (sources_of (declarations_of m) f) f (i ∷ frame.trail) entries
-    all_parts news = parts_behind (sources_of (declarations_of m) f) f frame.trail i frame.entries entries s.holds.parts news old_kept
-
-    -- no result is a member of another address
-    pub none_named : ((v : ValueId) → makes f v i ≡ true → IsMember (sources_of (declarations_of m) f) v → ⊥)
-        → AreNewNamed (sources_of (declarations_of m) f) f frame.trail i frame.entries entries
-    none_named never v made l is part at whole p one two = absurd (never v made (part_is_member (sources_of (declarations_of m) f) v l is part))
+    all_parts news = parts_behind (sources_of (declarations_of m) f) f frame.trail i frame.entries entries
+        (record { parts = s.holds.parts; fields = s.holds.fields }) news old_kept
 
     pub keeps : slots_on (declarations_of m) f (i ∷ frame.trail) ≡ slots_on (declarations_of m) f frame.trail
         → AreNewNamed (sources_of (declarations_of m) f) f frame.trail i frame.entries entries → Keeps laws m number f body frame behind rest before after

@@ -1,17 +1,16 @@
 -- The frame that waited goes on: each place that it lent is left as its row says.
-use Rattle.std.proofs.Common.{◌≡◌, ◌⊎◌, ⊎_elim, inl, inr, ◌≤◌, ℕ, List, [], ◌∷◌, length, map, Bool, true, false, Some, refl, sym, ap, ◌∙◌, subst, slice_get, arith}
-use Rattle.std.proofs.lemmas.Bool.{false≢true, true≢false}
-use Rattle.accepted_memory.specs.holder_model.Calling.{places_given}
-use Rattle.accepted_memory.specs.holder_model.Frames.{Entry, Frame, LentPlace, has_any}
-use Rattle.accepted_memory.specs.holder_model.States.{Runs, Task}
-use Rattle.accepted_memory.specs.memory_accesses.Operations.{operations_of}
-use Rattle.accepted_memory.specs.memory_accesses.Rows.{is_part}
-use Rattle.accepted_memory.specs.memory_accesses.Sources.{is_trivial_at, is_trivial_source, source_at, sources_of}
-use Rattle.accepted_memory.specs.memory_accesses.declared.access.Operated.{Operated}
-use Rattle.accepted_memory.specs.memory_accesses.declared.access.Operation.TheVariants.{Handed}
-use Rattle.accepted_places.specs.inner.Stacks.{slots_on}
-use Rattle.accepted_values.specs.inner.Known.{IsAcceptedBody}
-use Rattle.argument_conventions.specs.Rows.{keeps_full, keeps_full_by}
+use Rattle.std.proofs.Common.{◌≡◌, ⊎_elim, ℕ, List, [], ◌∷◌, map, true, false, refl, sym, ap, ◌∙◌, subst}
+use Rattle.std.proofs.lemmas.Bool.{false≢true}
+use Rattle.tracked_frames.specs.placed_values.accepted_memory.holder_model.Calling.{places_given}
+use Rattle.tracked_frames.specs.placed_values.accepted_memory.holder_model.Frames.{Frame, LentPlace, has_any}
+use Rattle.tracked_frames.specs.placed_values.accepted_memory.holder_model.States.{Task}
+use Rattle.tracked_frames.specs.placed_values.accepted_memory.memory_accesses.Operations.{operations_of}
+use Rattle.tracked_frames.specs.placed_values.accepted_memory.memory_accesses.Rows.{is_part}
+use Rattle.tracked_frames.specs.placed_values.accepted_memory.memory_accesses.Sources.{is_trivial_at, is_trivial_source, sources_of}
+use Rattle.tracked_frames.specs.placed_values.accepted_memory.memory_accesses.declared.access.Operated.{Operated}
+use Rattle.tracked_frames.specs.placed_values.accepted_memory.memory_accesses.declared.access.Operation.TheVariants.{Handed}
+use Rattle.tracked_frames.specs.placed_values.accepted_values.inner.Known.{IsAcceptedBody}
+use Rattle.argument_conventions.specs.Rows.{keeps_full_by}
 use Rattle.argument_conventions.specs.declared.row.Content.{Content}
 use Rattle.argument_conventions.specs.declared.row.Content.TheVariants as content
 use Rattle.point_checks.proofs.Among.{Among, among_map}
@@ -26,11 +25,11 @@ use Rattle.sil_ast.specs.declared.place.ValueId.{ValueId}
 use Rattle.sil_cfg.specs.declared.item.Item.{Item}
 use Rattle.type_definitions.specs.Declarations.{declarations_of}
 use Rattle.held_places.specs.inner.FramePlaces.{AreSlotsOf, HoldsPlaces, Names}
-use Rattle.held_places.specs.inner.PlaceStates.{AreLentBy, as_given}
+use Rattle.held_places.specs.inner.PlaceStates.{as_given}
 use Rattle.held_places.specs.inner.Roots.{IsThere, argument}
 use Rattle.held_places.specs.inner.TrailLaws.{TrailLaws}
 use Rattle.held_places.proofs.Lending.{IsCallAt, part_full}
-use Rattle.held_places.proofs.Reading.{IsWithin, operand_within}
+use Rattle.held_places.proofs.Reading.{operand_within}
 use Rattle.held_places.proofs.Returning.{IsLeft, Returns, left_by, left_cells}
 
 -- a place is of a trivial type just where its root is

@@ -1,33 +1,31 @@
 -- A function returns: how the places that it was given are left, and what the frame that waited for it holds behind its call.
-use Rattle.std.proofs.Common.{◌≡◌, ◌⊎◌, ⊎_elim, inl, inr, ◌==◌, ◌&&◌, ◌||◌, ◌<◌, ◌≤◌, ℕ, List, [], ◌∷◌, length, Bool, true, false, not, Option, Some, None, refl, sym, ap, ◌∙◌, subst, arith, map, slice_get, eq-eqb, eqb-true}
+use Rattle.std.proofs.Common.{◌≡◌, ⊎_elim, ◌==◌, ℕ, List, [], ◌∷◌, Bool, true, false, Some, None, refl, sym, ap, ◌∙◌, subst, arith, eqb-true}
 use Rattle.std.specs.Prelude.{cond, unwrap_or}
 use Rattle.std.specs.List.{list_any}
-use Rattle.std.proofs.lemmas.Bool.{and_from, and_parts, and_right, false≢true, or_left, true≢false}
+use Rattle.std.proofs.lemmas.Bool.{and_parts, and_right, false≢true, or_left, true≢false}
 use Rattle.std.proofs.lemmas.Option.{none-some, same_Some}
-use Rattle.accepted_memory.specs.holder_model.Calling.{are_as_after, argument_data, is_as_after, places_given}
-use Rattle.accepted_memory.specs.holder_model.Data.{AddressOf}
-use Rattle.accepted_memory.specs.holder_model.Frames.{Entry, Frame, LentPlace, datum_in, entry_at}
-use Rattle.accepted_memory.specs.holder_model.MemoryEffects.{holds}
-use Rattle.accepted_memory.specs.holder_model.States.{Task}
-use Rattle.accepted_memory.specs.memory_accesses.Locations.{cell_of, location_of}
-use Rattle.accepted_memory.specs.memory_accesses.Operations.{operations_of}
-use Rattle.accepted_memory.specs.memory_accesses.Rows.{is_part}
-use Rattle.accepted_memory.specs.memory_accesses.Sources.{argument_source, handed_source, is_trivial_at, source_at, sources_of}
-use Rattle.accepted_memory.specs.memory_accesses.declared.access.Operated.{Operated}
-use Rattle.accepted_memory.specs.memory_accesses.declared.access.Operation.TheVariants.{Handed}
-use Rattle.accepted_memory.specs.memory_accesses.declared.location.Location.{Location}
-use Rattle.accepted_memory.specs.memory_accesses.declared.source.Source.{Source}
-use Rattle.accepted_memory.specs.memory_accesses.declared.source.Source.TheVariants as source
-use Rattle.accepted_memory.specs.memory_parts.Contents.{handed_mark, left_mark, same_cell}
-use Rattle.accepted_memory.specs.memory_parts.Parts.{whole_cell}
-use Rattle.accepted_memory.specs.memory_parts.Switches.{is_same}
-use Rattle.accepted_memory.specs.memory_parts.declared.part.Part.TheVariants.{Contents}
-use Rattle.accepted_memory.specs.inner.PartTrails.{IsPartOf, is_on}
-use Rattle.accepted_memory.specs.run_trails.inner.RunTrails.{GoesOn, IsRunTrail}
-use Rattle.accepted_memory.specs.run_trails.inner.Switched.{finds}
-use Rattle.accepted_places.specs.inner.Cells.{is_at_cell, mark_at, operates_on, part_by, touches}
-use Rattle.accepted_values.specs.accepted_modules.sil_types.Typing.Shapes.{is_trivial_object}
-use Rattle.accepted_values.specs.inner.Known.{IsAcceptedBody}
+use Rattle.tracked_frames.specs.placed_values.accepted_memory.holder_model.Calling.{are_as_after, argument_data, is_as_after, places_given}
+use Rattle.tracked_frames.specs.placed_values.accepted_memory.holder_model.Data.{AddressOf}
+use Rattle.tracked_frames.specs.placed_values.accepted_memory.holder_model.Frames.{Frame, LentPlace, datum_in, entry_at}
+use Rattle.tracked_frames.specs.placed_values.accepted_memory.holder_model.MemoryEffects.{holds}
+use Rattle.tracked_frames.specs.placed_values.accepted_memory.holder_model.States.{Task}
+use Rattle.tracked_frames.specs.placed_values.accepted_memory.memory_accesses.Operations.{operations_of}
+use Rattle.tracked_frames.specs.placed_values.accepted_memory.memory_accesses.Rows.{is_part}
+use Rattle.tracked_frames.specs.placed_values.accepted_memory.memory_accesses.Sources.{handed_source, is_trivial_at, source_at, sources_of}
+use Rattle.tracked_frames.specs.placed_values.accepted_memory.memory_accesses.declared.access.Operated.{Operated}
+use Rattle.tracked_frames.specs.placed_values.accepted_memory.memory_accesses.declared.access.Operation.TheVariants.{Handed}
+use Rattle.tracked_frames.specs.placed_values.accepted_memory.memory_accesses.declared.location.Location.{Location}
+use Rattle.tracked_frames.specs.placed_values.accepted_memory.memory_accesses.declared.source.Source.TheVariants as source
+use Rattle.tracked_frames.specs.placed_values.accepted_memory.memory_parts.Contents.{handed_mark, left_mark, same_cell}
+use Rattle.tracked_frames.specs.placed_values.accepted_memory.memory_parts.Parts.{whole_cell}
+use Rattle.tracked_frames.specs.placed_values.accepted_memory.memory_parts.Switches.{is_same}
+use Rattle.tracked_frames.specs.placed_values.accepted_memory.memory_parts.declared.part.Part.TheVariants.{Contents}
+use Rattle.tracked_frames.specs.placed_values.accepted_memory.inner.PartTrails.{IsPartOf, is_on}
+use Rattle.tracked_frames.specs.placed_values.accepted_memory.run_trails.inner.RunTrails.{GoesOn, IsRunTrail}
+use Rattle.tracked_frames.specs.placed_values.accepted_memory.run_trails.inner.Switched.{finds}
+use Rattle.tracked_frames.specs.placed_values.accepted_places.inner.Cells.{is_at_cell, mark_at, operates_on, part_by, touches}
+use Rattle.tracked_frames.specs.placed_values.accepted_values.accepted_modules.sil_types.Typing.Shapes.{is_trivial_object}
+use Rattle.tracked_frames.specs.placed_values.accepted_values.inner.Known.{IsAcceptedBody}
 use Rattle.argument_conventions.specs.Arguments.{arguments_of}
 use Rattle.argument_conventions.specs.Rows.{address_row, keeps_full, keeps_full_by, row_of}
 use Rattle.argument_conventions.specs.declared.convention.AddressConvention.{AddressConvention}
@@ -38,9 +36,7 @@ use Rattle.argument_conventions.specs.declared.row.AddressRow.{AddressRow}
 use Rattle.argument_conventions.specs.declared.row.Content.{Content}
 use Rattle.argument_conventions.specs.declared.row.Content.TheVariants as content
 use Rattle.item_operands.specs.Items.{item_defined}
-use Rattle.item_operands.specs.Parts.{inst_at}
 use Rattle.memory_cells.specs.inner.Cells.{IsCell, IsPlace, cell_at, has_cell}
-use Rattle.memory_cells.proofs.PlaceCells.{not_cell}
 use Rattle.path_patterns.specs.declared.mark.Mark.{Mark}
 use Rattle.point_checks.proofs.Among.{Among}
 use Rattle.run_values.specs.Memory.{Memory}
@@ -55,18 +51,17 @@ use Rattle.sil_cfg.specs.Returns.{is_return}
 use Rattle.sil_cfg.specs.declared.item.Item.{Item}
 use Rattle.sil_cfg.specs.declared.item.Item.TheVariants as item
 use Rattle.type_definitions.specs.Declarations.{declarations_of}
-use Rattle.held_places.specs.inner.FramePlaces.{HoldsPlaces, Names, is_lent, lends}
-use Rattle.held_places.specs.inner.PlaceStates.{AreLentBy, as_given}
+use Rattle.held_places.specs.inner.FramePlaces.{HoldsPlaces, Names, is_lent}
+use Rattle.held_places.specs.inner.PlaceStates.{AreLentBy}
 use Rattle.held_places.specs.inner.Roots.{IsThere, argument, full_by, is_full_on, is_shared}
 use Rattle.held_places.specs.inner.TrailLaws.{TrailLaws}
 use Rattle.held_places.proofs.Asking.{holds_so}
 use Rattle.held_places.proofs.Calls.{among_any, cell_lent, lent_cell}
-use Rattle.held_places.proofs.Contents.{FoundAt, IsOnStack, on_stack, own_cell, stays_full, untouched_by}
+use Rattle.held_places.proofs.Contents.{FoundAt, on_stack, own_cell, stays_full, untouched_by}
 use Rattle.held_places.proofs.Entering.{shared_full, told_of}
-use Rattle.held_places.proofs.Given.{any_among, given_from, mapped_get}
-use Rattle.held_places.proofs.GoingOn.{AreCellsBehind, KeepsRoots, goes_on}
+use Rattle.held_places.proofs.Given.{given_from, mapped_get}
+use Rattle.held_places.proofs.GoingOn.{KeepsRoots, goes_on}
 use Rattle.held_places.proofs.HandedOver.{each_all}
-use Rattle.held_places.proofs.Keeping.{there_still}
 use Rattle.held_places.proofs.Lending.{IsCallAt, IsLentBy, Lends, found_full, found_there, is_alone, lends_one, lent_by_one, off_needed, part_full, root_on_stack}
 use Rattle.held_places.proofs.Naming.{names_kept, names_once}
 use Rattle.held_places.proofs.Reading.{IsWithin, operand_within}
@@ -292,12 +287,12 @@ module _ (laws : TrailLaws) (m : Module) (number : ℕ) (f : Function) (body : I
               let d = declarations_of m in
               let trivial = is_trivial_at (sources_of d f) (s.call.located o.by o.among).location.root in
               let left_is : found_left ≡ left_on left.trivial l.row.after =
-                  ap (λ p. unwrap_or (mark_at d f (s.call.located o.by o.among).location p).turns found.on) o.operation
-                  ∙ ap (λ r. unwrap_or (handed_mark trivial r.before r.after).turns found.on) table.1
-                  ∙ turned_as_left trivial left.trivial found.on table.0
-                  (λ e. found_full laws m number f body frame.trail point x s.call o.by o.among l.row o.operation (ap (λ r. r.before) table.1 ∙ e))
-                  (λ e. left.alike o.by o.among o.operation o.names (ap (λ r. r.after) table.1 ∙ e))
-                  ∙ ap (λ r. left_on left.trivial r.after) (sym table.1) in
+              ap (λ p. unwrap_or (mark_at d f (s.call.located o.by o.among).location p).turns found.on) o.operation
+              ∙ ap (λ r. unwrap_or (handed_mark trivial r.before r.after).turns found.on) table.1
+              ∙ turned_as_left trivial left.trivial found.on table.0
+              (λ e. found_full laws m number f body frame.trail point x s.call o.by o.among l.row o.operation (ap (λ r. r.before) table.1 ∙ e))
+              (λ e. left.alike o.by o.among o.operation o.names (ap (λ r. r.after) table.1 ∙ e))
+              ∙ ap (λ r. left_on left.trivial r.after) (sym table.1) in
               subst (λ b. IsCell b (cell_at memory OnStack n)) (sym left_is ∙ same_Some found_left on (sym found.left
               ∙ ap (λ w. is_full_on d f w (item.Inst point ∷ frame.trail)) (sym (ap (λ (k : ℕ). record { 0 = k }) (eqb-true v.0 _ same))) ∙ behind))
               (left.cells n inside)

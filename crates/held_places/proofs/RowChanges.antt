@@ -1,23 +1,24 @@
--- What a row changes that does nothing at places: no cell of the stack, and no slot.
-use Rattle.std.proofs.Common.{◌≡◌, ℕ, List, [], ◌∷◌, Bool, true, false, cond, not, Option, Some, None, refl, sym, ap, ◌∙◌}
+-- What a row changes that does nothing at places: no cell of the stack, and no slot. Nor does it meet a fault.
+use Rattle.std.proofs.Common.{◌≡◌, ℕ, List, [], ◌∷◌, Bool, true, false, cond, Option, Some, None, refl}
 use Rattle.std.specs.Prelude.{map, option_and_then, unwrap_or}
 use Rattle.std.proofs.lemmas.Bool.{false≢true, true≢false}
-use Rattle.accepted_memory.specs.holder_model.Builtins.{builtin_value, is_set}
-use Rattle.accepted_memory.specs.holder_model.Data.{AddressOf, Datum, FunctionOf, ValueOf, all_of, as_function, as_place, as_value, values_of}
-use Rattle.accepted_memory.specs.holder_model.Effects as effects
-use Rattle.accepted_memory.specs.holder_model.Effects.{Calls, Change, Effect, Faults, Makes, SameSlots, Traps, Unfit, effect_by, effect_of, gives, gives_value, only, with_some}
-use Rattle.accepted_memory.specs.holder_model.Faults.{HolderFault}
-use Rattle.accepted_memory.specs.holder_model.ModuleShapes.{ModuleShapes, case_place}
-use Rattle.accepted_memory.specs.holder_model.declared.trap.Trap.TheVariants as trap
-use Rattle.accepted_memory.specs.holder_model.declared.row_effect.RowEffect.{RowEffect}
-use Rattle.accepted_memory.specs.holder_model.declared.row_effect.RowEffect.TheVariants as row
-use Rattle.accepted_memory.specs.memory_accesses.Operations.{access_kind_of}
-use Rattle.accepted_memory.specs.memory_accesses.Sources.{borrow_source, element_place, field_source, loan_source, member_place, object_source, part_source, slot_source, source_by, upcast_source}
-use Rattle.accepted_memory.specs.memory_accesses.declared.columns.AccessKind.{AccessKind}
-use Rattle.accepted_memory.specs.memory_accesses.declared.columns.AccessKind.TheVariants as access
-use Rattle.accepted_memory.specs.memory_accesses.declared.source.Source.{Source}
-use Rattle.accepted_memory.specs.memory_accesses.declared.source.Source.TheVariants as source
-use Rattle.accepted_places.specs.inner.Stacks.{keeps_slots_by}
+use Rattle.tracked_frames.specs.placed_values.accepted_memory.holder_model.Builtins.{builtin_value, is_set}
+use Rattle.tracked_frames.specs.placed_values.accepted_memory.holder_model.Data.{AddressOf, Datum, FunctionOf, ValueOf, all_of, as_function, as_place, as_value, values_of}
+use Rattle.tracked_frames.specs.placed_values.accepted_memory.holder_model.Effects as effects
+use Rattle.tracked_frames.specs.placed_values.accepted_memory.holder_model.Effects.{Calls, Change, Effect, Faults, Makes, SameSlots, Traps}
+use Rattle.tracked_frames.specs.placed_values.accepted_memory.holder_model.Effects.{Unfit, effect_by, effect_of, gives, gives_value, only, with_some}
+use Rattle.tracked_frames.specs.placed_values.accepted_memory.holder_model.Faults.{HolderFault}
+use Rattle.tracked_frames.specs.placed_values.accepted_memory.holder_model.ModuleShapes.{ModuleShapes, case_place}
+use Rattle.tracked_frames.specs.placed_values.accepted_memory.holder_model.declared.trap.Trap.TheVariants as trap
+use Rattle.tracked_frames.specs.placed_values.accepted_memory.holder_model.declared.row_effect.RowEffect.{RowEffect}
+use Rattle.tracked_frames.specs.placed_values.accepted_memory.holder_model.declared.row_effect.RowEffect.TheVariants as row
+use Rattle.tracked_frames.specs.placed_values.accepted_memory.memory_accesses.Operations.{access_kind_of}
+use Rattle.tracked_frames.specs.placed_values.accepted_memory.memory_accesses.Sources.{borrow_source, field_source, loan_source, member_place, object_source, slot_source, source_by, upcast_source}
+use Rattle.tracked_frames.specs.placed_values.accepted_memory.memory_accesses.declared.columns.AccessKind.{AccessKind}
+use Rattle.tracked_frames.specs.placed_values.accepted_memory.memory_accesses.declared.columns.AccessKind.TheVariants as access
+use Rattle.tracked_frames.specs.placed_values.accepted_memory.memory_accesses.declared.source.Source.{Source}
+use Rattle.tracked_frames.specs.placed_values.accepted_memory.memory_accesses.declared.source.Source.TheVariants as source
+use Rattle.tracked_frames.specs.placed_values.accepted_places.inner.Stacks.{keeps_slots_by}
 use Rattle.instruction_table.specs.declared.op.Op.{Op}
 use Rattle.instruction_table.specs.declared.op.Op.TheVariants as op
 use Rattle.run_values.specs.Memory.{Memory}
@@ -32,20 +33,20 @@ use Rattle.sil_ast.specs.declared.place.ValueId.{ValueId}
 use Rattle.sil_ast.specs.declared.type_name.TypeName.{TypeName}
 use Rattle.type_definitions.specs.Declarations.{Declarations}
 
--- if the effect is a change, then such a one
-abbrev pub MakesSo : (Change → Type 0) → Effect HolderFault → Type 0
-MakesSo P (Makes c) = P c
-MakesSo P (Calls g args) = Unit {0}
-MakesSo P (Traps t) = Unit {0}
-MakesSo P (Faults x) = Unit {0}
-MakesSo P Unfit = Unit {0}
+-- if the effect is a change, then such a one, and so it is where it is a fault
+abbrev pub MakesSo : Type 0 → (Change → Type 0) → Effect HolderFault → Type 0
+MakesSo Wrong P (Makes c) = P c
+MakesSo Wrong P (Calls g args) = Unit {0}
+MakesSo Wrong P (Traps t) = Unit {0}
+MakesSo Wrong P (Faults x) = Wrong
+MakesSo Wrong P Unfit = Unit {0}
 
-module _ (P : Change → Type 0) where
-  makes_some : {A : Type 0} (go : A → Effect HolderFault) (o : Option A) → ((x : A) → MakesSo P (go x)) → MakesSo P (with_some go o)
+module _ (W : Type 0) (P : Change → Type 0) where
+  pub makes_some : {A : Type 0} (go : A → Effect HolderFault) (o : Option A) → ((x : A) → MakesSo W P (go x)) → MakesSo W P (with_some go o)
   makes_some go None h = tt
   makes_some go (Some x) h = h x
 
-  makes_either : (b : Bool) (e g : Effect HolderFault) → MakesSo P e → MakesSo P g → MakesSo P (cond b e g)
+  pub makes_either : (b : Bool) (e g : Effect HolderFault) → MakesSo W P e → MakesSo W P g → MakesSo W P (cond b e g)
   makes_either true e g h k = h
   makes_either false e g h k = k
 
@@ -64,7 +65,7 @@ StaysStill m c = (c.slots ≡ SameSlots) × (c.memory.stack ≡ m.stack)
 
 module _ (d : Declarations) (shapes : ModuleShapes) (values : List Shape) (m : Memory) (i : Inst) (at : RowEffect → List Datum → Effect HolderFault) where
   abbrev Still : Effect HolderFault → Type 0
-  Still e = MakesSo (StaysStill m) e
+  Still e = MakesSo ⊥ (StaysStill m) e
 
   chosen : (k : ℕ) (xs : List Value) → Still (effects.chooses d shapes values m i k xs)
   chosen k [] = (refl, refl)
@@ -73,46 +74,46 @@ module _ (d : Declarations) (shapes : ModuleShapes) (values : List Shape) (m : M
 
   called : (xs : List Datum) → Still (effects.calls d shapes values m i xs)
   called [] = tt
-  called (f ∷ args) = makes_some (StaysStill m) (λ g. Calls g args) (as_function f) (λ g. tt)
+  called (f ∷ args) = makes_some ⊥ (StaysStill m) (λ g. Calls g args) (as_function f) (λ g. tt)
 
   named : (o : Option Member) (k : Option ℕ) (x : ObjectId) → Still (effects.names_field_of d shapes values m i o k x)
   named None k x = tt
-  named (Some owner) k x = makes_some (StaysStill m) (λ q. gives m (AddressOf q ∷ [])) (option_and_then (effects.field_of_object d shapes values m i owner x) k) (λ q. (refl, refl))
+  named (Some owner) k x = makes_some ⊥ (StaysStill m) (λ q. gives m (AddressOf q ∷ [])) (option_and_then (effects.field_of_object d shapes values m i owner x) k) (λ q. (refl, refl))
 
   one_value : (o : Option Value) → Still (with_some (gives_value m) o)
-  one_value o = makes_some (StaysStill m) (gives_value m) o (λ n. (refl, refl))
+  one_value o = makes_some ⊥ (StaysStill m) (gives_value m) o (λ n. (refl, refl))
 
   pub still_change : (r : RowEffect) → is_still r ≡ true → (xs : List Datum) → Still (effect_by d shapes values m i at r xs)
   still_change row.NoEffect e xs = (refl, refl)
-  still_change row.GivesLiteral e xs = makes_some (StaysStill m) (λ n. gives_value m (value.Int n)) i.number (λ n. (refl, refl))
-  still_change row.GivesFunction e xs = makes_some (StaysStill m) (λ g. gives m (FunctionOf g ∷ [])) i.function (λ n. (refl, refl))
+  still_change row.GivesLiteral e xs = makes_some ⊥ (StaysStill m) (λ n. gives_value m (value.Int n)) i.number (λ n. (refl, refl))
+  still_change row.GivesFunction e xs = makes_some ⊥ (StaysStill m) (λ g. gives m (FunctionOf g ∷ [])) i.function (λ n. (refl, refl))
   still_change row.Computes e xs = one_value (option_and_then (builtin_value i.text) (option_and_then (all_of integer_of) (values_of xs)))
-  still_change row.TrapsWhereSet e xs = makes_some (StaysStill m) (λ x. with_some (effects.traps_where d shapes values m i) (integer_of x)) (option_and_then as_value (only xs))
-      (λ x. makes_some (StaysStill m) (effects.traps_where d shapes values m i) (integer_of x)
-      (λ n. makes_either (StaysStill m) (is_set n) (Traps (trap.CondFail (unwrap_or i.text []))) (gives m []) tt (refl, refl)))
-  still_change row.MakesObject e xs = makes_some (StaysStill m) (effects.makes_object d shapes values m i) (class_in (effects.result_shape d shapes values m i)) (λ n. (refl, refl))
+  still_change row.TrapsWhereSet e xs = makes_some ⊥ (StaysStill m) (λ x. with_some (effects.traps_where d shapes values m i) (integer_of x)) (option_and_then as_value (only xs))
+      (λ x. makes_some ⊥ (StaysStill m) (effects.traps_where d shapes values m i) (integer_of x)
+      (λ n. makes_either ⊥ (StaysStill m) (is_set n) (Traps (trap.CondFail (unwrap_or i.text []))) (gives m []) tt (refl, refl)))
+  still_change row.MakesObject e xs = makes_some ⊥ (StaysStill m) (effects.makes_object d shapes values m i) (class_in (effects.result_shape d shapes values m i)) (λ n. (refl, refl))
   still_change row.MakesSlot e xs = absurd (false≢true e)
   still_change row.RemovesSlot e xs = absurd (false≢true e)
-  still_change row.GivesOperand e xs = makes_some (StaysStill m) (λ x. gives m (x ∷ [])) (only xs) (λ n. (refl, refl))
-  still_change row.CopiesOperand e xs = makes_some (StaysStill m) (effects.copies d shapes values m i) (only xs) (λ n. (refl, refl))
-  still_change row.RetainsOperand e xs = makes_some (StaysStill m) (effects.retains d shapes values m i) (only xs) (λ n. (refl, refl))
-  still_change row.DropsOperand e xs = makes_some (StaysStill m) (effects.drops d shapes values m i) (only xs) (λ n. (refl, refl))
+  still_change row.GivesOperand e xs = makes_some ⊥ (StaysStill m) (λ x. gives m (x ∷ [])) (only xs) (λ n. (refl, refl))
+  still_change row.CopiesOperand e xs = makes_some ⊥ (StaysStill m) (effects.copies d shapes values m i) (only xs) (λ n. (refl, refl))
+  still_change row.RetainsOperand e xs = makes_some ⊥ (StaysStill m) (effects.retains d shapes values m i) (only xs) (λ n. (refl, refl))
+  still_change row.DropsOperand e xs = makes_some ⊥ (StaysStill m) (effects.drops d shapes values m i) (only xs) (λ n. (refl, refl))
   still_change row.LoadsValue e xs = absurd (false≢true e)
   still_change row.StoresValue e xs = absurd (false≢true e)
   still_change row.DestroysPlace e xs = absurd (false≢true e)
   still_change row.LoadsName e xs = absurd (false≢true e)
-  still_change row.Groups e xs = makes_some (StaysStill m) (λ vs. gives_value m (grouped vs)) (values_of xs) (λ n. (refl, refl))
-  still_change row.ChoosesCase e xs = makes_some (StaysStill m) (λ k. with_some (effects.chooses d shapes values m i k) (values_of xs))
+  still_change row.Groups e xs = makes_some ⊥ (StaysStill m) (λ vs. gives_value m (grouped vs)) (values_of xs) (λ n. (refl, refl))
+  still_change row.ChoosesCase e xs = makes_some ⊥ (StaysStill m) (λ j. with_some (effects.chooses d shapes values m i j) (values_of xs))
       (case_place (effects.result_shape d shapes values m i) i.member)
-      (λ k. makes_some (StaysStill m) (effects.chooses d shapes values m i k) (values_of xs) (λ vs. chosen k vs))
-  still_change row.GivesMember e xs = makes_some (StaysStill m) (effects.gives_member d shapes values m i (effects.part_number d i)) (option_and_then as_value (only xs))
+      (λ j. makes_some ⊥ (StaysStill m) (effects.chooses d shapes values m i j) (values_of xs) (λ vs. chosen j vs))
+  still_change row.GivesMember e xs = makes_some ⊥ (StaysStill m) (effects.gives_member d shapes values m i (effects.part_number d i)) (option_and_then as_value (only xs))
       (λ x. one_value (option_and_then (λ k. effects.member_of d shapes values m i k x) (effects.part_number d i)))
-  still_change row.GivesMembers e xs = makes_some (StaysStill m) (effects.gives_members d shapes values m i) (option_and_then as_value (only xs))
-      (λ x. makes_some (StaysStill m) (λ members. gives m (map ValueOf members)) (members_of x) (λ n. (refl, refl)))
-  still_change row.AddressesMember e xs = makes_some (StaysStill m) (effects.names_member d shapes values m i (effects.part_number d i)) (option_and_then as_place (only xs))
-      (λ p. makes_some (StaysStill m) (λ q. gives m (AddressOf q ∷ [])) (option_and_then (places.member_place p) (effects.part_number d i)) (λ n. (refl, refl)))
-  still_change row.AddressesField e xs = makes_some (StaysStill m) (effects.names_field d shapes values m i) (option_and_then as_value (only xs))
-      (λ x. makes_some (StaysStill m) (effects.names_field_of d shapes values m i i.member (effects.part_number d i)) (object_of x)
+  still_change row.GivesMembers e xs = makes_some ⊥ (StaysStill m) (effects.gives_members d shapes values m i) (option_and_then as_value (only xs))
+      (λ x. makes_some ⊥ (StaysStill m) (λ members. gives m (map ValueOf members)) (members_of x) (λ n. (refl, refl)))
+  still_change row.AddressesMember e xs = makes_some ⊥ (StaysStill m) (effects.names_member d shapes values m i (effects.part_number d i)) (option_and_then as_place (only xs))
+      (λ p. makes_some ⊥ (StaysStill m) (λ q. gives m (AddressOf q ∷ [])) (option_and_then (places.member_place p) (effects.part_number d i)) (λ n. (refl, refl)))
+  still_change row.AddressesField e xs = makes_some ⊥ (StaysStill m) (effects.names_field d shapes values m i) (option_and_then as_value (only xs))
+      (λ x. makes_some ⊥ (StaysStill m) (effects.names_field_of d shapes values m i i.member (effects.part_number d i)) (object_of x)
       (λ o. named i.member (effects.part_number d i) o))
   still_change row.CallsFunction e xs = called xs
 

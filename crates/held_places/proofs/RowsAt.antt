@@ -4,13 +4,14 @@ use Rattle.std.specs.Prelude.{flat_map, option_map, option_to_list}
 use Rattle.std.specs.Option.{option_or}
 use Rattle.std.specs.List.{list_any}
 use Rattle.std.proofs.lemmas.Bool.{false≢true, or_parts, true≢false}
-use Rattle.accepted_memory.specs.holder_model.Effects.{effect_of}
-use Rattle.accepted_memory.specs.holder_model.declared.row_effect.RowEffect.{RowEffect}
-use Rattle.accepted_memory.specs.holder_model.declared.row_effect.RowEffect.TheVariants as row
-use Rattle.accepted_memory.specs.memory_accesses.Operations.{access_kind_of, address_of, addresses_of, deallocates, deallocates_by, is_address_role, operated, operated_at, operation_by, operations_of}
-use Rattle.accepted_memory.specs.memory_accesses.declared.access.Operation.{Operation}
-use Rattle.accepted_memory.specs.memory_accesses.declared.access.Operation.TheVariants.{Handed}
-use Rattle.accepted_memory.specs.memory_accesses.declared.columns.AccessKind.{AccessKind}
+use Rattle.tracked_frames.specs.placed_values.accepted_memory.holder_model.Effects.{effect_of}
+use Rattle.tracked_frames.specs.placed_values.accepted_memory.holder_model.declared.row_effect.RowEffect.{RowEffect}
+use Rattle.tracked_frames.specs.placed_values.accepted_memory.holder_model.declared.row_effect.RowEffect.TheVariants as row
+use Rattle.tracked_frames.specs.placed_values.accepted_memory.memory_accesses.Operations.{access_kind_of, address_of, addresses_of, deallocates, deallocates_by}
+use Rattle.tracked_frames.specs.placed_values.accepted_memory.memory_accesses.Operations.{is_address_role, operated, operated_at, operation_by, operations_of}
+use Rattle.tracked_frames.specs.placed_values.accepted_memory.memory_accesses.declared.access.Operation.{Operation}
+use Rattle.tracked_frames.specs.placed_values.accepted_memory.memory_accesses.declared.access.Operation.TheVariants.{Handed}
+use Rattle.tracked_frames.specs.placed_values.accepted_memory.memory_accesses.declared.columns.AccessKind.{AccessKind}
 use Rattle.argument_conventions.specs.declared.convention.ArgumentConvention.{ArgumentConvention}
 use Rattle.instruction_table.specs.Forms.{roles_of}
 use Rattle.instruction_table.specs.declared.entries.Role.{Role}
@@ -92,6 +93,13 @@ second_of r cs (o ∷ os) (suc n) s t e =
     let others : taken_each os (replicate n (by_row role.AddressRole)) ≡ t ∷ [] = cc in
     let all = all_addresses os n t others in
     (ap (λ x. x.role) (sym same), ap (λ x. x.handed) (sym same), all.0, all.1)
+
+pub takes_second : (i : Inst) (s t : Taken) → is_store (effect_of i.op) ≡ true → taken_by i ≡ s ∷ t ∷ [] → TakesAddress i t
+takes_second i s t is e =
+    let roles = second_address i.op is in
+    let all = second_of roles.0 (conventions_in i) i.operands (length i.operands) s t
+    (sym (ap (λ rs. taken_each i.operands (roles_for rs (conventions_in i) (length i.operands))) roles.1) ∙ e) in
+    record { role_is = all.2; handed = all.3 }
 
 -- ---- what is done
 

@@ -1,22 +1,18 @@
 -- What loads, stores and destroys do where their place is as they ask: no fault, and the change that they leave.
-use Rattle.std.proofs.Common.{◌≡◌, ◌⊎◌, ⊎_elim, inl, inr, ◌≤◌, ℕ, List, [], ◌∷◌, length, Bool, true, false, cond, Option, Some, None, refl, sym, ap, ◌∙◌, subst, arith}
-use Rattle.std.specs.Prelude.{option_and_then}
-use Rattle.std.proofs.lemmas.Option.{none-some, same_Some}
-use Rattle.accepted_memory.specs.holder_model.Data.{AddressOf, Datum, ValueOf, as_place, as_value}
-use Rattle.accepted_memory.specs.holder_model.Effects.{Change, ClosesSlot, Effect, Faults, Makes, effect_by, effect_of, only, unchanged, with_some}
-use Rattle.accepted_memory.specs.holder_model.Faults.{HolderFault}
-use Rattle.accepted_memory.specs.holder_model.Frames.{Frame}
-use Rattle.accepted_memory.specs.holder_model.MemoryEffects as effects
-use Rattle.accepted_memory.specs.holder_model.MemoryEffects.{asked_before, at_places, copies_with, effect, loaded_name, operation_done, references_at, takes, two, value_and_place, where_held}
-use Rattle.accepted_memory.specs.holder_model.ModuleShapes.{ModuleShapes}
-use Rattle.accepted_memory.specs.holder_model.States.{Task}
-use Rattle.accepted_memory.specs.holder_model.declared.row_effect.RowEffect.{RowEffect}
-use Rattle.accepted_memory.specs.holder_model.declared.row_effect.RowEffect.TheVariants as row
-use Rattle.accepted_memory.specs.memory_accesses.declared.access.Operation.{Operation}
-use Rattle.accepted_memory.specs.memory_accesses.declared.access.Operation.TheVariants.{FirstWrite, Read, Take, Write, TrivialStore}
+use Rattle.std.proofs.Common.{◌≡◌, List, [], ◌∷◌, cond, Some, refl, ap, ◌∙◌}
+use Rattle.tracked_frames.specs.placed_values.accepted_memory.holder_model.Data.{AddressOf, Datum, ValueOf}
+use Rattle.tracked_frames.specs.placed_values.accepted_memory.holder_model.Effects.{ClosesSlot, Effect, Makes, effect_by, effect_of, unchanged, with_some}
+use Rattle.tracked_frames.specs.placed_values.accepted_memory.holder_model.Faults.{HolderFault}
+use Rattle.tracked_frames.specs.placed_values.accepted_memory.holder_model.MemoryEffects as effects
+use Rattle.tracked_frames.specs.placed_values.accepted_memory.holder_model.MemoryEffects.{asked_before, at_places, copies_with, effect, loaded_name}
+use Rattle.tracked_frames.specs.placed_values.accepted_memory.holder_model.MemoryEffects.{operation_done, references_at, takes, two, value_and_place, where_held}
+use Rattle.tracked_frames.specs.placed_values.accepted_memory.holder_model.ModuleShapes.{ModuleShapes}
+use Rattle.tracked_frames.specs.placed_values.accepted_memory.holder_model.declared.row_effect.RowEffect.{RowEffect}
+use Rattle.tracked_frames.specs.placed_values.accepted_memory.holder_model.declared.row_effect.RowEffect.TheVariants as row
+use Rattle.tracked_frames.specs.placed_values.accepted_memory.memory_accesses.declared.access.Operation.{Operation}
 use Rattle.argument_conventions.specs.declared.row.Content.TheVariants as content
 use Rattle.run_values.specs.Memory.{Memory}
-use Rattle.run_values.specs.Places.{Home, Inside, OnStack, Place, emptied, filled, removed, value_at, with_home_cells}
+use Rattle.run_values.specs.Places.{Home, Inside, OnStack, Place, filled, removed, value_at, with_home_cells}
 use Rattle.run_values.specs.Cells.{Cell}
 use Rattle.run_values.specs.Shapes.{Shape, storage_in}
 use Rattle.run_values.specs.Values.{Value, references_of}

@@ -1,13 +1,11 @@
 -- The tasks behind an allocation of a slot, and behind a deallocation.
-use Rattle.std.proofs.Common.{◌≡◌, ◌⊎◌, ⊎_elim, inl, inr, ◌<◌, ◌≤◌, ℕ, List, [], ◌∷◌, length, Some, sym, slice_get, arith}
+use Rattle.std.proofs.Common.{◌≡◌, ⊎_elim, inl, inr, ◌<◌, ◌≤◌, ℕ, List, [], ◌∷◌, length, Some, slice_get, arith}
 use Rattle.std.proofs.lemmas.Bool.{cases_lt}
-use Rattle.accepted_memory.specs.holder_model.Calling.{places_given}
-use Rattle.accepted_memory.specs.holder_model.Frames.{Frame}
-use Rattle.accepted_memory.specs.holder_model.States.{Runs, Task}
-use Rattle.memory_cells.specs.inner.Cells.{cell_at}
+use Rattle.tracked_frames.specs.placed_values.accepted_memory.holder_model.Calling.{places_given}
+use Rattle.tracked_frames.specs.placed_values.accepted_memory.holder_model.Frames.{Frame}
+use Rattle.tracked_frames.specs.placed_values.accepted_memory.holder_model.States.{Runs, Task}
 use Rattle.memory_cells.proofs.Writes.{slots_new}
 use Rattle.run_values.specs.Memory.{Memory}
-use Rattle.run_values.specs.Places.{OnStack}
 use Rattle.run_values.specs.Shapes.{Shape}
 use Rattle.sil_ast.specs.declared.function.Function.{Function}
 use Rattle.sil_ast.specs.declared.module.Module.{Module}

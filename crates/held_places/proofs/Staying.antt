@@ -1,9 +1,9 @@
 -- What the frames below hold stays where each cell stays that one of them keeps for itself.
-use Rattle.std.proofs.Common.{◌≡◌, ◌<◌, ◌≤◌, ◌⊎◌, ⊎_elim, inl, inr, ℕ, List, [], ◌∷◌, length, Bool, true, false, Some, slice_get, sym, ◌∙◌, subst, arith}
+use Rattle.std.proofs.Common.{◌≡◌, ◌<◌, ◌≤◌, ◌⊎◌, ⊎_elim, inl, inr, ℕ, List, [], ◌∷◌, length, Some, slice_get, sym, ◌∙◌, subst, arith}
 use Rattle.std.proofs.lemmas.Bool.{true≢false}
 use Rattle.std.proofs.lemmas.Option.{same_Some}
-use Rattle.accepted_memory.specs.holder_model.Frames.{Frame}
-use Rattle.accepted_memory.specs.holder_model.States.{Drops, Finishes, Runs, Task}
+use Rattle.tracked_frames.specs.placed_values.accepted_memory.holder_model.Frames.{Frame}
+use Rattle.tracked_frames.specs.placed_values.accepted_memory.holder_model.States.{Drops, Finishes, Runs, Task}
 use Rattle.memory_cells.specs.inner.Cells.{IsCell, cell_at}
 use Rattle.run_values.specs.Memory.{Memory}
 use Rattle.run_values.specs.Places.{OnStack}
@@ -37,6 +37,7 @@ module _ (m : Module) (before after : Memory) (more : length before.stack ≤ le
     apart = h.apart;
     free = h.free;
     parts = h.parts;
+    fields = h.fields;
     handed = h.handed;
     slots = h.slots;
   }
@@ -57,6 +58,7 @@ module _ (m : Module) (before after : Memory) (more : length before.stack ≤ le
     holds = named_still h.f frame rest h.holds (λ n lt. ⊎_elim (λ free. inl (free.0 h.f h.is)) (λ same. inr same) (stays n lt));
     call = h.call;
     stands = h.stands;
+    calls = h.calls;
     lent = h.lent;
     body = h.body;
     there = h.there;

@@ -1,15 +1,15 @@
 -- A frame without the operands that ended holds what it held, and a frame that goes on stands over the frames below as before.
-use Rattle.std.proofs.Common.{◌≡◌, ◌⊎◌, ⊎_elim, inl, inr, ◌<◌, ◌≤◌, ◌++◌, ℕ, zero, suc, List, [], ◌∷◌, length, map, Bool, true, false, Option, Some, None, Ok, refl, sym, ap, ◌∙◌, subst, slice_get}
+use Rattle.std.proofs.Common.{◌≡◌, ◌⊎◌, ◌≤◌, ◌++◌, ℕ, suc, List, [], ◌∷◌, length, Bool, Option, Some, None, Ok, refl, sym, ap, ◌∙◌, subst, slice_get}
 use Rattle.std.proofs.lemmas.Option.{same_Some}
-use Rattle.accepted_memory.specs.holder_model.Calling.{argument_data, given_places, lent_with, place_in, places_given}
-use Rattle.accepted_memory.specs.holder_model.Data.{AddressOf, Datum}
-use Rattle.accepted_memory.specs.holder_model.Frames.{Entry, Frame, Plain, datum_in, entry_at, plain_address, without_ended}
-use Rattle.accepted_memory.specs.holder_model.States.{Runs, Task, dropping}
-use Rattle.accepted_memory.specs.memory_accesses.Sources.{handed_source, source_at, sources_of}
-use Rattle.accepted_memory.specs.memory_accesses.declared.source.Source.TheVariants as source
-use Rattle.accepted_places.specs.inner.Stacks.{slots_on}
-use Rattle.accepted_values.specs.accepted_modules.sil_types.Typing.Shapes.{is_trivial_object}
-use Rattle.accepted_values.specs.inner.Known.{IsAcceptedBody}
+use Rattle.tracked_frames.specs.placed_values.accepted_memory.holder_model.Calling.{argument_data, given_places, lent_with, place_in, places_given}
+use Rattle.tracked_frames.specs.placed_values.accepted_memory.holder_model.Data.{AddressOf}
+use Rattle.tracked_frames.specs.placed_values.accepted_memory.holder_model.Frames.{Entry, Frame, Plain, datum_in, entry_at, plain_address, without_ended}
+use Rattle.tracked_frames.specs.placed_values.accepted_memory.holder_model.States.{Runs, Task, dropping}
+use Rattle.tracked_frames.specs.placed_values.accepted_memory.memory_accesses.Sources.{handed_source, source_at, sources_of}
+use Rattle.tracked_frames.specs.placed_values.accepted_memory.memory_accesses.declared.source.Source.TheVariants as source
+use Rattle.tracked_frames.specs.placed_values.accepted_places.inner.Stacks.{slots_on}
+use Rattle.tracked_frames.specs.placed_values.accepted_values.accepted_modules.sil_types.Typing.Shapes.{is_trivial_object}
+use Rattle.tracked_frames.specs.placed_values.accepted_values.inner.Known.{IsAcceptedBody}
 use Rattle.argument_conventions.specs.Arguments.{Told, arguments_of}
 use Rattle.argument_conventions.specs.Rows.{address_row}
 use Rattle.argument_conventions.specs.declared.row.AddressRow.{AddressRow}
@@ -18,7 +18,7 @@ use Rattle.item_operands.specs.declared.taken.Taken.{Taken}
 use Rattle.memory_cells.specs.inner.Cells.{cell_at}
 use Rattle.ownership_chains.specs.declared.facts.Facts.{Facts}
 use Rattle.run_values.specs.Memory.{Memory}
-use Rattle.run_values.specs.Places.{Home, OnStack, Place}
+use Rattle.run_values.specs.Places.{OnStack, Place}
 use Rattle.sil_ast.specs.declared.function.Function.{Function}
 use Rattle.sil_ast.specs.declared.module.Module.{Module}
 use Rattle.sil_ast.specs.declared.place.ObjectId.{ObjectId}
@@ -63,6 +63,7 @@ module _ (laws : TrailLaws) (m : Module) (number : ℕ) (f : Function) (body : I
       apart = λ v w a b other shared p q pn qn. h.apart v w a b other shared p q (was v p pn) (was w q qn);
       free = λ v there own p names. h.free v there own p (was v p names);
       parts = λ v l loc part made whole p one two. h.parts v l loc part made whole p (was l.root whole one) (was v p two);
+      fields = λ v l loc of k trivial src p names. h.fields v l loc of k trivial src p (was v p names);
       handed = λ v row trivial src p names. h.handed v row trivial src p (was v p names);
       slots = slots_still frame.entries left (slots_on (declarations_of m) f frame.trail) frame.slots
           (λ v there. root_left h is plain v (slot_there laws m number f body frame.trail v there)) h.slots;
@@ -105,5 +106,5 @@ pub goes_placed : (m : Module) (before after : Memory) (f : Function) (frame nex
 goes_placed m before after f frame next rest is same none given holds more stays below = (
   record { f = f; is = ap (λ g. slice_get m.functions g.0) same ∙ is; holds = holds; none_lent = none },
   below_same m after frame next rest same (λ g there. subst (λ b. places_given b next.entries ≡ places_given b frame.entries) (same_Some f g (sym is ∙ there)) given)
-  (below_still m before after more frame rest below (λ n lt. stays n)),
+      (below_still m before after more frame rest below (λ n lt. stays n)),
 )

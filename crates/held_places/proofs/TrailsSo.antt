@@ -1,16 +1,16 @@
 -- The laws of trails hold: they are those of places, and of what values are to memory.
-use Rattle.accepted_places.proofs.Apart.{apart_by_cells}
-use Rattle.accepted_places.proofs.CellsKept.{cells_kept, deallocated_empty, given_so, new_are_empty, returned_so, roots_followed}
-use Rattle.accepted_places.proofs.CellsRight.{operations_right, others_full}
-use Rattle.accepted_places.proofs.ItemStacks.{accepted_in, none_left_over, slots_closed, slots_kept, slots_opened}
-use Rattle.accepted_places.proofs.MadeOnce.{arguments_made_once, slots_made_once}
-use Rattle.accepted_places.proofs.Mentioned.{are_in_allocated}
-use Rattle.accepted_places.proofs.OperationsRight.{are_apart, rows_right}
-use Rattle.accepted_places.proofs.RootsMade.{operands_located}
-use Rattle.accepted_places.proofs.StackTops.{are_slots, slots_allocated}
-use Rattle.placed_values.proofs.ArgumentsTold.{arguments_told, arguments_whole, told_arguments}
-use Rattle.placed_values.proofs.RootsTold.{begun_told, results_told, roots_trivial}
-use Rattle.placed_values.proofs.TrivialArguments.{trivial_full}
+use Rattle.tracked_frames.proofs.placed_values.accepted_places.Apart.{apart_by_cells}
+use Rattle.tracked_frames.proofs.placed_values.accepted_places.CellsKept.{cells_kept, deallocated_empty, given_so, new_are_empty, returned_so, roots_followed}
+use Rattle.tracked_frames.proofs.placed_values.accepted_places.CellsRight.{operations_right, others_full}
+use Rattle.tracked_frames.proofs.placed_values.accepted_places.ItemStacks.{accepted_in, none_left_over, slots_closed, slots_kept, slots_opened}
+use Rattle.tracked_frames.proofs.placed_values.accepted_places.MadeOnce.{arguments_made_once, slots_made_once}
+use Rattle.tracked_frames.proofs.placed_values.accepted_places.Mentioned.{are_in_allocated}
+use Rattle.tracked_frames.proofs.placed_values.accepted_places.OperationsRight.{are_apart, rows_right}
+use Rattle.tracked_frames.proofs.placed_values.accepted_places.RootsMade.{operands_located}
+use Rattle.tracked_frames.proofs.placed_values.accepted_places.StackTops.{are_slots, slots_allocated}
+use Rattle.tracked_frames.proofs.placed_values.ArgumentsTold.{arguments_told, arguments_whole, told_arguments}
+use Rattle.tracked_frames.proofs.placed_values.RootsTold.{begun_told, results_told, roots_trivial}
+use Rattle.tracked_frames.proofs.placed_values.TrivialArguments.{trivial_full}
 use Rattle.held_places.specs.inner.TrailLaws.{AreBodiesAccepted, AreRootsMadeOnce, TrailLaws}
 use Rattle.held_places.proofs.MadeOnce.{roots_made_once}
 
@@ -49,4 +49,5 @@ trail_laws = record {
   roots_trivial = roots_trivial;
   told = arguments_told;
   from_told = told_arguments;
-  whole = arguments_whole }
+  whole = arguments_whole;
+}

@@ -3,4 +3,7 @@
 
 mod laws;
 
-pub use laws::trails_serve_places;
+pub use laws::{
+    items_are_placed, places_are_as_asked, places_are_kept, rows_find_their_places,
+    runs_begin_placed,
+};

@@ -18,15 +18,15 @@ use Rattle.run_values.specs.Places.{Home, Inside, OnStack, Place, cells_at, empt
 use Rattle.run_values.specs.Shapes.{Shape, member_shapes}
 use Rattle.run_values.specs.Values.{Value, Int, Object, Group, Case, Full, Values, NoValue, More, grouped, listed, object_of, references_in_each, references_of, values_of}
 use Rattle.run_values.specs.Values as value
-use Rattle.holder_model.specs.memory_accesses.declared.access.Operation.{Operation}
-use Rattle.holder_model.specs.Data.{AddressOf, Datum, FunctionOf, ValueOf, as_value, home_references, with_first}
-use Rattle.holder_model.specs.Data as given
-use Rattle.holder_model.specs.declared.row_effect.RowEffect.TheVariants as row
-use Rattle.holder_model.specs.Effects.{Change, effect_of}
-use Rattle.holder_model.specs.Frames.{any_dead}
-use Rattle.holder_model.specs.Holders.{in_cells, in_memory, of_references}
-use Rattle.holder_model.specs.MemoryEffects.{after, all_live, references_at, takes}
-use Rattle.holder_model.specs.ModuleShapes.{ModuleShapes, field_shapes}
+use Rattle.holder_steps.specs.holder_model.memory_accesses.declared.access.Operation.{Operation}
+use Rattle.holder_steps.specs.holder_model.Data.{AddressOf, Datum, FunctionOf, ValueOf, as_value, home_references, with_first}
+use Rattle.holder_steps.specs.holder_model.Data as given
+use Rattle.holder_steps.specs.holder_model.declared.row_effect.RowEffect.TheVariants as row
+use Rattle.holder_steps.specs.holder_model.Effects.{Change, effect_of}
+use Rattle.holder_steps.specs.holder_model.Frames.{any_dead}
+use Rattle.holder_steps.specs.holder_model.Holders.{in_cells, in_memory, of_references}
+use Rattle.holder_steps.specs.holder_model.MemoryEffects.{after, all_live, references_at, takes}
+use Rattle.holder_steps.specs.holder_model.ModuleShapes.{ModuleShapes, field_shapes}
 use Rattle.holder_counts.specs.inner.Doing.{Leaves}
 use Rattle.holder_counts.specs.inner.Doing as doing
 use Rattle.holder_counts.specs.inner.Keeping.{IsAliveAt}
@@ -130,7 +130,7 @@ module _ (weight : ObjectId → ℕ) where
       let rest : of_references weight (references_in_each (values_of p.1)) ≡ in_data weight xs = values_named xs p.1 p.3 in
       let whole : in_data weight (x ∷ xs) ≡ in_datum weight x + in_data weight xs = total_cons (in_datum weight) x xs in
       let both : of_references weight (references_of p.0 ++ references_in_each (values_of p.1))
-          ≡ of_references weight (references_of p.0) + of_references weight (references_in_each (values_of p.1)) =
+      ≡ of_references weight (references_of p.0) + of_references weight (references_in_each (values_of p.1)) =
       total_append weight (references_of p.0) (references_in_each (values_of p.1)) in
       let same : of_references weight (references_in_each (values_of vs)) ≡ of_references weight (references_of p.0 ++ references_in_each (values_of p.1)) =
       ap (λ ws. of_references weight (references_in_each (values_of ws))) p.4 in

@@ -6,11 +6,11 @@ use Rattle.sil_ast.specs.declared.place.ObjectId.{ObjectId}
 use Rattle.sil_ast.specs.declared.place.ValueId.{ValueId}
 use Rattle.type_definitions.specs.declared.kind.Kind.{Kind}
 use Rattle.type_definitions.specs.declared.kind.Kind.TheVariants as kind
-use Rattle.holder_model.specs.Data.{Datum}
-use Rattle.holder_model.specs.Faults.{OverwritesHeld}
-use Rattle.holder_model.specs.Frames.{Entry, Gone, entry_at, is_held, made_entry, put_entry, result_put, results_put}
-use Rattle.holder_model.specs.HolderStates.{in_entry}
-use Rattle.holder_model.specs.Holders.{of_references}
+use Rattle.holder_steps.specs.holder_model.Data.{Datum}
+use Rattle.holder_steps.specs.holder_model.Faults.{OverwritesHeld}
+use Rattle.holder_steps.specs.holder_model.Frames.{Entry, Gone, entry_at, is_held, made_entry, put_entry, result_put, results_put}
+use Rattle.holder_steps.specs.holder_model.HolderStates.{in_entry}
+use Rattle.holder_steps.specs.holder_model.Holders.{of_references}
 use Rattle.holder_counts.specs.inner.Naming.{in_data, in_datum}
 use Rattle.holder_counts.specs.inner.Taking.{in_entries, owned_references}
 use Rattle.holder_counts.proofs.Entries.{chosen_ok, made_total, ok_through}

@@ -19,21 +19,21 @@ use Rattle.run_values.specs.Places.{Place, field_in, filled, is_there_at, member
 use Rattle.run_values.specs.Shapes.{Shape, class_in, storage_in}
 use Rattle.run_values.specs.Values as value
 use Rattle.run_values.specs.Values.{Value, object_of, references_of}
-use Rattle.holder_model.specs.memory_accesses.Typing.Builtins.{Builtin, bits, builtin_named}
-use Rattle.holder_model.specs.memory_accesses.declared.access.Operation as access
-use Rattle.holder_model.specs.declared.row_effect.RowEffect.{RowEffect}
-use Rattle.holder_model.specs.declared.row_effect.RowEffect.TheVariants as row
-use Rattle.holder_model.specs.declared.trap.Trap.{Trap}
-use Rattle.holder_model.specs.declared.trap.Trap.TheVariants as trap
-use Rattle.holder_model.specs.Builtins.{builtin_value, computed, computed_by, is_set}
-use Rattle.holder_model.specs.Data.{AddressOf, Datum, FunctionOf, ValueOf, all_of, as_function, as_place, as_value, values_of, with_first}
-use Rattle.holder_model.specs.Effects as effects
-use Rattle.holder_model.specs.Effects.{Calls, Change, Effect, Faults, Makes, Traps, Unfit, effect_by, effect_of, only, with_some}
-use Rattle.holder_model.specs.Faults.{HolderFault, NotLastSlot}
-use Rattle.holder_model.specs.MemoryEffects as memory
-use Rattle.holder_model.specs.MemoryEffects.{all_live, asked_before, at_place, at_places, copies_with, fault_of, holds, loaded_name, named_again, operation_done}
-use Rattle.holder_model.specs.MemoryEffects.{references_at, two, value_and_place, where_held}
-use Rattle.holder_model.specs.ModuleShapes.{ModuleShapes, case_place, field_shapes}
+use Rattle.holder_steps.specs.holder_model.memory_accesses.Typing.Builtins.{Builtin, bits, builtin_named}
+use Rattle.holder_steps.specs.holder_model.memory_accesses.declared.access.Operation as access
+use Rattle.holder_steps.specs.holder_model.declared.row_effect.RowEffect.{RowEffect}
+use Rattle.holder_steps.specs.holder_model.declared.row_effect.RowEffect.TheVariants as row
+use Rattle.holder_steps.specs.holder_model.declared.trap.Trap.{Trap}
+use Rattle.holder_steps.specs.holder_model.declared.trap.Trap.TheVariants as trap
+use Rattle.holder_steps.specs.holder_model.Builtins.{builtin_value, computed, computed_by, is_set}
+use Rattle.holder_steps.specs.holder_model.Data.{AddressOf, Datum, FunctionOf, ValueOf, all_of, as_function, as_place, as_value, values_of, with_first}
+use Rattle.holder_steps.specs.holder_model.Effects as effects
+use Rattle.holder_steps.specs.holder_model.Effects.{Calls, Change, Effect, Faults, Makes, Traps, Unfit, effect_by, effect_of, only, with_some}
+use Rattle.holder_steps.specs.holder_model.Faults.{HolderFault, NotLastSlot}
+use Rattle.holder_steps.specs.holder_model.MemoryEffects as memory
+use Rattle.holder_steps.specs.holder_model.MemoryEffects.{all_live, asked_before, at_place, at_places, copies_with, fault_of, holds, loaded_name, named_again, operation_done}
+use Rattle.holder_steps.specs.holder_model.MemoryEffects.{references_at, two, value_and_place, where_held}
+use Rattle.holder_steps.specs.holder_model.ModuleShapes.{ModuleShapes, case_place, field_shapes}
 use Rattle.holder_counts.specs.inner.Doing.{AreChangesTold, Leaves}
 use Rattle.holder_counts.specs.inner.Doing as doing
 
@@ -277,7 +277,7 @@ module _ (d : Declarations) (shapes : ModuleShapes) (values : List Shape) (m : M
   loads_value is h =
       let a = at_one (memory.loads_by d shapes values m i) h in
       let x = some_made (loading a.operation a.place) (value_at m a.place) c
-          (held_made a.place (asked_before a.place.is_part a.operation) (with_some (loading a.operation a.place) (value_at m a.place)) a.made) in
+      (held_made a.place (asked_before a.place.is_part a.operation) (with_some (loading a.operation a.place) (value_at m a.place)) a.made) in
       is_it _ x.2 (doing.loads a.operation a.place x.0 is a.done a.given x.1)
 
   loads_name : effect_of i.op ≡ row.LoadsName → IsChange c (at_places d shapes values m i row.LoadsName xs) → Told
@@ -285,7 +285,7 @@ module _ (d : Declarations) (shapes : ModuleShapes) (values : List Shape) (m : M
       let a = at_one (memory.names_by d shapes values m i) h in
       let behind = memory.after d shapes values m i a.operation a.place in
       let x = some_made (loaded_name (storage_in a.place.shape) m behind) (value_at m a.place) c
-          (held_made a.place (asked_before a.place.is_part a.operation) (with_some (loaded_name (storage_in a.place.shape) m behind) (value_at m a.place)) a.made) in
+      (held_made a.place (asked_before a.place.is_part a.operation) (with_some (loaded_name (storage_in a.place.shape) m behind) (value_at m a.place)) a.made) in
       by_storage a.operation a.place a.done a.given x.0 x.1 (storage_in a.place.shape) x.2
     where
       by_live : (o : access.Operation) (p : Place) → operation_done d shapes values m i ≡ Some o → xs ≡ AddressOf p ∷ [] → (x : Value) → value_at m p ≡ Some x

@@ -16,12 +16,12 @@ use Rattle.type_definitions.specs.declared.kind.Kind.{Kind}
 use Rattle.type_definitions.specs.declared.kind.Kind.TheVariants as kind
 use Rattle.run_values.specs.Places.{Home, Inside, OnStack}
 use Rattle.run_values.specs.Values.{references_of}
-use Rattle.holder_model.specs.Data.{AddressOf, Datum, FunctionOf, ValueOf}
-use Rattle.holder_model.specs.Faults.{HolderFault, OverwritesHeld, WrongShape}
-use Rattle.holder_model.specs.Frames.{Entry, Gone, Held, Lent, Plain, ended_entry, ends, entry_at, has_any, held_references, is_held, made_entry, plain_address}
-use Rattle.holder_model.specs.Frames.{plain_entry, put_entry, result_put, results_put, with_ok, without_ended}
-use Rattle.holder_model.specs.HolderStates.{in_entry}
-use Rattle.holder_model.specs.Holders.{of_references}
+use Rattle.holder_steps.specs.holder_model.Data.{AddressOf, Datum, FunctionOf, ValueOf}
+use Rattle.holder_steps.specs.holder_model.Faults.{HolderFault, OverwritesHeld, WrongShape}
+use Rattle.holder_steps.specs.holder_model.Frames.{Entry, Gone, Held, Lent, Plain, ended_entry, ends, entry_at, has_any, held_references, is_held, made_entry, plain_address}
+use Rattle.holder_steps.specs.holder_model.Frames.{plain_entry, put_entry, result_put, results_put, with_ok, without_ended}
+use Rattle.holder_steps.specs.holder_model.HolderStates.{in_entry}
+use Rattle.holder_steps.specs.holder_model.Holders.{of_references}
 use Rattle.holder_counts.specs.inner.Taking.{AreBeginsCounted, AreEndsCounted, IsBelow, in_entries, owned_references, references_begun, references_ended}
 use Rattle.holder_counts.specs.inner.Taking.{references_ended_by}
 use Rattle.holder_counts.proofs.Sums.{total_append, total_set}
@@ -189,7 +189,7 @@ module _ (weight : ObjectId → ℕ) (facts : ValueId → Option Facts) where
       begins_behind vs xs middle.0 behind middle.2 (subst (λ n. Each (IsBelow n) vs) (sym first.1) each.1) in
       let here = first.0 in
       let both : of_references weight (references_begun facts (v ∷ vs) (x ∷ xs))
-          ≡ of_references weight (owned_references (known_or facts v).kind x) + of_references weight (references_begun facts vs xs) =
+      ≡ of_references weight (owned_references (known_or facts v).kind x) + of_references weight (references_begun facts vs xs) =
       total_append weight (owned_references (known_or facts v).kind x) (references_begun facts vs xs) in
       omega (arith, here, rest, both)
 

@@ -9,7 +9,7 @@ use Rattle.run_values.specs.declared.phase.Phase.{Phase}
 use Rattle.run_values.specs.declared.phase.Phase.TheVariants.{Dead, Live}
 use Rattle.run_values.specs.Memory.{Memory, Object, is_dead_phase, no_object, object_at, phase_of, put_cells, with_object}
 use Rattle.run_values.specs.Places.{Home, Inside, OnStack, Place, cells_at, emptied, home_cells, removed, with_cells, with_home_cells}
-use Rattle.holder_model.specs.Holders.{in_cell, in_cells, in_memory, in_object}
+use Rattle.holder_steps.specs.holder_model.Holders.{in_cell, in_cells, in_memory, in_object}
 use Rattle.holder_counts.specs.inner.Keeping.{IsAliveAt}
 use Rattle.holder_counts.proofs.Sums.{total, total_cons, total_cut, total_none}
 
@@ -62,7 +62,8 @@ module _ (weight : ObjectId → ℕ) (how : Storage) where
       at true = omega arith
       at false = put
 
-  home_most : (m : Memory) (home : Home) (i : ℕ) (new : List Cell) → in_memory weight how (with_home_cells m home (put_cells (home_cells m home) i new)) ≤ in_memory weight how m + in_cells weight how new
+  home_most : (m : Memory) (home : Home) (i : ℕ) (new : List Cell)
+      → in_memory weight how (with_home_cells m home (put_cells (home_cells m home) i new)) ≤ in_memory weight how m + in_cells weight how new
   home_most m OnStack i new =
       let put : in_cells weight how (put_cells m.stack i new) ≤ in_cells weight how m.stack + in_cells weight how new = put_most (in_cell weight how) m.stack i new in
       omega (arith, put)
@@ -103,7 +104,7 @@ module _ (weight : ObjectId → ℕ) (how : Storage) where
       let first : in_cells weight how (take p.first (home_cells m p.home)) + in_cells weight how (drop p.first (home_cells m p.home)) ≡ in_cells weight how (home_cells m p.home) =
       total_cut (in_cell weight how) (home_cells m p.home) p.first in
       let rest : in_cells weight how (cells_at m p) + in_cells weight how (drop (cell_count p.shape) (drop p.first (home_cells m p.home)))
-          ≡ in_cells weight how (drop p.first (home_cells m p.home)) =
+      ≡ in_cells weight how (drop p.first (home_cells m p.home)) =
       total_cut (in_cell weight how) (drop p.first (home_cells m p.home)) (cell_count p.shape) in
       omega (arith, all, first, rest)
 

@@ -13,16 +13,16 @@ use Rattle.sil_cfg.specs.declared.item.Item.TheVariants as item
 use Rattle.run_values.specs.declared.phase.Phase.TheVariants.{Deiniting}
 use Rattle.run_values.specs.Memory.{Memory, object_at}
 use Rattle.std.specs.Prelude.{Option}
-use Rattle.holder_model.specs.Calling.{value_count}
-use Rattle.holder_model.specs.Data.{Datum}
-use Rattle.holder_model.specs.Dropping.{deinits_of, ended, field_references, in_phase}
-use Rattle.holder_model.specs.Faults.{HolderFault}
-use Rattle.holder_model.specs.Frames.{Entry, Frame, Gone, Operands, no_entries, operand_data, operands_of, with_ok, without_ended}
-use Rattle.holder_model.specs.Holders.{in_cells, in_memory, of_references}
-use Rattle.holder_model.specs.HolderStates.{HolderState, in_entry, in_state, in_task}
-use Rattle.holder_model.specs.ModuleFacts.{facts_told}
-use Rattle.holder_model.specs.StepParts.{new_frame}
-use Rattle.holder_model.specs.States.{Drops, Finishes, Runs, Task, dropping}
+use Rattle.holder_steps.specs.holder_model.Calling.{value_count}
+use Rattle.holder_steps.specs.holder_model.Data.{Datum}
+use Rattle.holder_steps.specs.holder_model.Dropping.{deinits_of, ended, field_references, in_phase}
+use Rattle.holder_steps.specs.holder_model.Faults.{HolderFault}
+use Rattle.holder_steps.specs.holder_model.Frames.{Entry, Frame, Gone, Operands, no_entries, operand_data, operands_of, with_ok, without_ended}
+use Rattle.holder_steps.specs.holder_model.Holders.{in_cells, in_memory, of_references}
+use Rattle.holder_steps.specs.holder_model.HolderStates.{HolderState, in_entry, in_state, in_task}
+use Rattle.holder_steps.specs.holder_model.ModuleFacts.{facts_told}
+use Rattle.holder_steps.specs.holder_model.StepParts.{new_frame}
+use Rattle.holder_steps.specs.holder_model.States.{Drops, Finishes, Runs, Task, dropping}
 use Rattle.holder_steps.specs.inner.Ways.{left_with, moved}
 use Rattle.type_definitions.specs.Declarations.{declarations_of}
 use Rattle.holder_counts.specs.inner.Moving.{AreDeinitsCounted, AreDropsCounted, AreEntriesCounted, AreFinishesCounted, AreItemsCounted, AreMovesCounted}
@@ -71,7 +71,7 @@ pub items_counted : InEach AreItemsCounted
 items_counted m told bound weight s rest frame f i ops c made slots entries at taken put each balanced =
     let move = moves_counted m told bound weight s rest (left_with m told bound frame ops) f i c slots entries put each in
     let ends = ends_counted weight (facts_told told frame.function) (item_taken f i) frame.entries ops.left
-        (operands_are (facts_told told frame.function) s.memory frame.entries (item_taken f i) ops taken).left in
+    (operands_are (facts_told told frame.function) s.memory frame.entries (item_taken f i) ops taken).left in
     let tasks : in_tasks weight s.tasks ≡ in_tasks weight (Runs frame ∷ rest) = ap (in_tasks weight) at in
     let first = first_task weight (Runs frame) rest in
     let balance = balanced.balance in
@@ -80,7 +80,7 @@ items_counted m told bound weight s rest frame f i ops c made slots entries at t
 pub entries_counted : InEach AreEntriesCounted
 entries_counted m told bound weight s rest g callee args entries put each =
     let begins = begins_counted weight (facts_told told g) (item_defined callee item.Entry) args (no_entries (value_count callee)) entries put
-        (subst (λ n. Each (IsBelow n) (item_defined callee item.Entry)) (sym (length-replicate (value_count callee) Gone)) each) in
+    (subst (λ n. Each (IsBelow n) (item_defined callee item.Entry)) (sym (length-replicate (value_count callee) Gone)) each) in
     let none : in_entries weight (no_entries (value_count callee)) ≡ 0 = total_none (in_entry weight) (value_count callee) Gone refl in
     let first = first_task weight (Runs (new_frame g entries)) rest in
     omega (arith, begins, none, first)

@@ -15,8 +15,8 @@ use Rattle.run_values.specs.declared.phase.Phase.TheVariants.{Dead, Deiniting, L
 use Rattle.run_values.specs.Memory.{Memory, Object, is_dead, is_dead_phase, is_live, is_live_phase, no_object, object_at, put_cells, with_object}
 use Rattle.run_values.specs.Places.{Home, Inside, OnStack, Place, cells_at, empty_fields, home_cells, with_home_cells}
 use Rattle.run_values.specs.Shapes.{Shape}
-use Rattle.holder_model.specs.Dropping.{ended}
-use Rattle.holder_model.specs.Holders.{in_cell, in_cells, in_memory, in_object, kept_references, of_references}
+use Rattle.holder_steps.specs.holder_model.Dropping.{ended}
+use Rattle.holder_steps.specs.holder_model.Holders.{in_cell, in_cells, in_memory, in_object, kept_references, of_references}
 use Rattle.holder_counts.specs.inner.Keeping.{AreDeathsCounted, AreEmptiedCounted, AreNewCounted, ArePhasesCounted, ArePlacesCounted, AreReferencesCounted, IsAliveAt}
 use Rattle.holder_counts.proofs.Sums.{total, total_append, total_cons, total_flat, total_none, total_put, total_set}
 
@@ -51,7 +51,7 @@ module _ (weight : ObjectId → ℕ) (how : Storage) where
 
   home_total : (m : Memory) (home : Home) (first n : ℕ) (new : List Cell) → IsAliveAt m home → first + n ≤ length (home_cells m home) → length new ≡ n
       → in_memory weight how (with_home_cells m home (put_cells (home_cells m home) first new)) + in_cells weight how (take n (drop first (home_cells m home)))
-        ≡ in_memory weight how m + in_cells weight how new
+      ≡ in_memory weight how m + in_cells weight how new
   home_total m OnStack first n new alive le count =
       let put : in_cells weight how (put_cells m.stack first new) + in_cells weight how (take (length new) (drop first m.stack)) ≡ in_cells weight how m.stack + in_cells weight how new =
       total_put (in_cell weight how) m.stack first new (omega (arith, le, count)) in

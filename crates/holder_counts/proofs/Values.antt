@@ -14,8 +14,8 @@ use Rattle.run_values.specs.Shapes.{Shape, Shapes, NoMember, Member, Integer, Re
 use Rattle.run_values.specs.Values.{Value, Int, Object, Group, Case, Full, Values, NoValue, More, grouped, references_in_each, references_of, values_of}
 use Rattle.run_values.specs.Values as value
 use Rattle.value_parts.proofs.Inductions.{InParts, by_parts}
-use Rattle.holder_model.specs.Holders.{in_cell, of_references}
-use Rattle.holder_model.specs.Holders as holders
+use Rattle.holder_steps.specs.holder_model.Holders.{in_cell, of_references}
+use Rattle.holder_steps.specs.holder_model.Holders as holders
 use Rattle.holder_counts.specs.inner.Keeping.{AreReadCounted, AreWrittenCounted, KeepsStrongly}
 use Rattle.holder_counts.proofs.Sums.{total_append, total_cons, total_cut}
 
@@ -79,7 +79,7 @@ module _ (weight : ObjectId → ℕ) where
       let rest : of_references weight (references_in_each (values_of parts.1)) ≡ held (drop (cell_count s) cs) =
       each_reads ss hs.1 (drop (cell_count s) cs) parts.1 strong.1 rest_count parts.3 in
       let both : of_references weight (references_of parts.0 ++ references_in_each (values_of parts.1))
-          ≡ of_references weight (references_of parts.0) + of_references weight (references_in_each (values_of parts.1)) =
+      ≡ of_references weight (references_of parts.0) + of_references weight (references_in_each (values_of parts.1)) =
       total_append weight (references_of parts.0) (references_in_each (values_of parts.1)) in
       let cut : held (take (cell_count s) cs) + held (drop (cell_count s) cs) ≡ held cs = total_cut (in_cell weight storage.Strong) cs (cell_count s) in
       let all : of_references weight (references_in_each (values_of vs)) ≡ of_references weight (references_of parts.0 ++ references_in_each (values_of parts.1)) =

@@ -1,5 +1,6 @@
 -- The cells of a place by their numbers in its home.
-use Rattle.std.proofs.Common.{◌≡◌, ◌<◌, ◌≤◌, ◌+◌, ◌-◌, ◌⊎◌, ⊎_elim, inl, inr, ℕ, drop, slice_get, nat_le, nat_lt, Option, Some, Bool, true, false, refl, sym, ap, ◌∙◌, subst, arith, leb-true, leb-false, ltb-true, ltb-false, le-leb, lt-ltb}
+use Rattle.std.proofs.Common.{◌≡◌, ◌<◌, ◌≤◌, ◌+◌, ◌-◌, ◌⊎◌, ⊎_elim, inl, inr, ℕ, drop, slice_get, nat_le, nat_lt, Option}
+use Rattle.std.proofs.Common.{Some, Bool, true, false, refl, sym, ap, ◌∙◌, subst, arith, leb-true, leb-false, ltb-true, ltb-false, le-leb, lt-ltb}
 use Rattle.std.specs.List.{list_all}
 use Rattle.std.proofs.lemmas.Bool.{and_cases, and_from, and_parts, false_from_ne_true, false≢true}
 use Rattle.std.proofs.lemmas.Option.{same_Some}

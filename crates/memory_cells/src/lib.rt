@@ -3,4 +3,7 @@
 
 mod laws;
 
-pub use laws::{places_are_empty_by_cells, places_are_full_by_cells, places_are_there_by_cells, slots_are_new, writes_are_right};
+pub use laws::{
+    places_are_empty_by_cells, places_are_full_by_cells, places_are_there_by_cells, slots_are_new,
+    writes_are_right,
+};

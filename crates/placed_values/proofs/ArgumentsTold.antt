@@ -1,37 +1,33 @@
 -- An argument that is an address is one that the signature tells of, and lies in no other one.
-use Rattle.std.proofs.Common.{◌≡◌, ◌<◌, ℕ, zero, suc, List, [], ◌∷◌, length, map, refl, sym, ap, ◌∙◌, subst, arith, Bool, true, false, Option, Some, None}
-use Rattle.std.specs.Prelude.{Contains, slice_get}
+use Rattle.std.proofs.Common.{◌≡◌, ◌<◌, ℕ, zero, suc, List, length, map, refl, sym, ap, ◌∙◌, subst, arith, Bool, false, Option, Some, None}
+use Rattle.std.specs.Prelude.{slice_get}
 use Rattle.std.proofs.lemmas.Bool.{false≢true}
 use Rattle.std.proofs.lemmas.List.{length-replicate}
 use Rattle.std.proofs.lemmas.List.FromFn.{length-map-range_with_len}
 use Rattle.std.proofs.lemmas.Option.{none-some, same_Some}
-use Rattle.accepted_memory.specs.memory_accesses.Locations.{locate, located_by, location_of, whole}
-use Rattle.accepted_memory.specs.memory_accesses.Operations.{access_kind_of}
-use Rattle.accepted_memory.specs.memory_accesses.Rows.{is_part}
-use Rattle.accepted_memory.specs.memory_accesses.Sources.{arg_sources, argument_source, argument_source_or, handed_source, result_source, result_sources, source_at, sources_of}
-use Rattle.accepted_memory.specs.memory_accesses.declared.location.Location.{Location}
-use Rattle.accepted_memory.specs.memory_accesses.declared.source.Source.{Source}
-use Rattle.accepted_memory.specs.memory_accesses.declared.source.Source.TheVariants as source
-use Rattle.accepted_values.specs.accepted_modules.sil_types.Typing.Shapes.{is_trivial_object}
-use Rattle.accepted_values.specs.inner.Known.{IsAcceptedBody, IsValue}
-use Rattle.accepted_values.specs.inner.Making.{IsMadeAt}
-use Rattle.accepted_values.proofs.Counted.{nothing_in, stands}
-use Rattle.accepted_values.proofs.Made.{made_somewhere}
-use Rattle.accepted_values.proofs.TableRows.{argument_rows, result_rows}
+use Rattle.accepted_places.specs.accepted_memory.memory_accesses.Locations.{locate, located_by, location_of, whole}
+use Rattle.accepted_places.specs.accepted_memory.memory_accesses.Operations.{access_kind_of}
+use Rattle.accepted_places.specs.accepted_memory.memory_accesses.Rows.{is_part}
+use Rattle.accepted_places.specs.accepted_memory.memory_accesses.Sources.{arg_sources, argument_source_or, handed_source, result_source, result_sources, source_at, sources_of}
+use Rattle.accepted_places.specs.accepted_memory.memory_accesses.declared.location.Location.{Location}
+use Rattle.accepted_places.specs.accepted_memory.memory_accesses.declared.source.Source.{Source}
+use Rattle.accepted_places.specs.accepted_memory.memory_accesses.declared.source.Source.TheVariants as source
+use Rattle.accepted_places.specs.accepted_values.accepted_modules.sil_types.Typing.Shapes.{is_trivial_object}
+use Rattle.accepted_places.specs.accepted_values.inner.Known.{IsAcceptedBody, IsValue}
+use Rattle.accepted_places.specs.accepted_values.inner.Making.{IsMadeAt}
+use Rattle.accepted_places.proofs.accepted_values.Counted.{stands}
+use Rattle.accepted_places.proofs.accepted_values.Made.{made_somewhere}
+use Rattle.accepted_places.proofs.accepted_values.TableRows.{argument_rows, result_rows}
 use Rattle.argument_conventions.specs.Arguments.{Told, arguments_of}
 use Rattle.argument_conventions.specs.Rows.{address_row}
 use Rattle.argument_conventions.specs.declared.row.AddressRow.{AddressRow}
 use Rattle.item_operands.specs.Items.{arg_value, item_defined}
-use Rattle.item_operands.specs.Parts.{inst_at}
 use Rattle.numbered_form.specs.Numbering.{values_of}
-use Rattle.ownership_chains.specs.Facts.{has}
-use Rattle.point_checks.proofs.Among.{among_contained, contained_among}
+use Rattle.point_checks.proofs.Among.{contained_among}
 use Rattle.sil_ast.specs.Blocks.{args_of}
 use Rattle.sil_ast.specs.declared.function.BlockArg.{BlockArg}
 use Rattle.sil_ast.specs.declared.function.Function.{Function}
-use Rattle.sil_ast.specs.declared.inst.Inst.{Inst}
 use Rattle.sil_ast.specs.declared.module.Module.{Module}
-use Rattle.sil_ast.specs.declared.place.PointId.{PointId}
 use Rattle.sil_ast.specs.declared.place.ValueId.{ValueId}
 use Rattle.sil_cfg.specs.declared.item.Item.TheVariants as item
 use Rattle.sil_cfg.specs.inner.Splice.{Stop}

@@ -1,41 +1,38 @@
 -- What values are to memory by what makes them, and that a slot or an argument is told to be trivial as its type is.
-use Rattle.std.proofs.Common.{◌≡◌, ℕ, zero, suc, List, [], ◌∷◌, length, map, refl, sym, ap, ◌∙◌, subst, Bool, true, false, Option, Some, None}
+use Rattle.std.proofs.Common.{◌≡◌, ℕ, zero, suc, List, [], ◌∷◌, map, refl, sym, ap, ◌∙◌, Bool, true, false, Option, Some, None}
 use Rattle.std.specs.Prelude.{Contains, option_map, slice_get, unwrap_or}
-use Rattle.std.proofs.lemmas.Bool.{false≢true, true≢false}
+use Rattle.std.proofs.lemmas.Bool.{true≢false}
 use Rattle.std.proofs.lemmas.Option.{none-some, same_Some}
 use Rattle.argument_conventions.specs.Arguments.{argument_type, arguments_of, handed_type}
 use Rattle.argument_conventions.specs.Rows.{address_row}
 use Rattle.argument_conventions.specs.declared.convention.ArgumentConvention.{ArgumentConvention}
 use Rattle.argument_conventions.specs.declared.convention.ArgumentConvention.TheVariants as convention
 use Rattle.argument_conventions.specs.declared.row.AddressRow.{AddressRow}
-use Rattle.accepted_memory.specs.memory_accesses.Operations.{access_kind_of}
-use Rattle.accepted_memory.specs.memory_accesses.Sources.{is_slot_source, result_source, slot_source, source_at, source_by, sources_of}
-use Rattle.accepted_memory.specs.memory_accesses.declared.source.Source.{Source}
-use Rattle.accepted_memory.specs.memory_accesses.declared.source.Source.TheVariants as source
-use Rattle.accepted_values.specs.accepted_modules.sil_types.Typing.RowTypes.{address_of, given_by, made_types}
-use Rattle.accepted_values.specs.accepted_modules.sil_types.Typing.Shapes.{is_trivial_object, target}
-use Rattle.accepted_values.specs.accepted_modules.sil_types.Typing.SignatureRules.{is_argument_for}
-use Rattle.accepted_values.specs.inner.Known.{IsAcceptedBody, IsValue, type_in}
-use Rattle.accepted_values.specs.inner.Making.{IsMadeAt}
-use Rattle.owned_run_typing.proofs.run_typing_laws.Rows.Layers.{target-Address}
-use Rattle.accepted_values.proofs.Counted.{nothing_in, stands}
-use Rattle.accepted_values.proofs.Made.{made_somewhere, parameters_of_entry}
-use Rattle.accepted_values.proofs.Parameters.{entry_pairs, pair_at, told_of}
-use Rattle.accepted_values.proofs.TableRows.{argument_rows, result_rows}
+use Rattle.accepted_places.specs.accepted_memory.memory_accesses.Operations.{access_kind_of}
+use Rattle.accepted_places.specs.accepted_memory.memory_accesses.Sources.{is_slot_source, result_source, slot_source, source_at, source_by, sources_of}
+use Rattle.accepted_places.specs.accepted_memory.memory_accesses.declared.source.Source.{Source}
+use Rattle.accepted_places.specs.accepted_memory.memory_accesses.declared.source.Source.TheVariants as source
+use Rattle.accepted_places.specs.accepted_values.accepted_modules.sil_types.Typing.RowTypes.{address_of, given_by, made_types}
+use Rattle.accepted_places.specs.accepted_values.accepted_modules.sil_types.Typing.Shapes.{is_trivial_object, target}
+use Rattle.accepted_places.specs.accepted_values.accepted_modules.sil_types.Typing.SignatureRules.{is_argument_for}
+use Rattle.accepted_places.specs.accepted_values.inner.Known.{IsAcceptedBody, type_in}
+use Rattle.accepted_places.specs.accepted_values.inner.Making.{IsMadeAt}
+use Rattle.accepted_places.proofs.owned_run_typing.run_typing_laws.Rows.Layers.{target-Address}
+use Rattle.accepted_places.proofs.accepted_values.Counted.{nothing_in, stands}
+use Rattle.accepted_places.proofs.accepted_values.Made.{made_somewhere, parameters_of_entry}
+use Rattle.accepted_places.proofs.accepted_values.Parameters.{entry_pairs, pair_at, told_of}
+use Rattle.accepted_places.proofs.accepted_values.TableRows.{argument_rows, result_rows}
 use Rattle.instruction_table.specs.declared.op.Op.{Op}
 use Rattle.instruction_table.specs.declared.op.Op.TheVariants as op
 use Rattle.item_operands.specs.Items.{arg_value, item_defined}
 use Rattle.item_operands.specs.Parts.{args_behind, edge_at}
-use Rattle.ownership_chains.specs.Facts.{has}
 use Rattle.point_checks.proofs.Among.{contained_among}
 use Rattle.point_checks.specs.Points.{IsAt}
 use Rattle.sil_ast.specs.Blocks.{args_of}
 use Rattle.sil_ast.specs.declared.function.Form.TheVariants.{Ossa}
 use Rattle.sil_ast.specs.declared.function.Function.{Function}
 use Rattle.sil_ast.specs.declared.inst.Edge.{Edge}
-use Rattle.sil_ast.specs.declared.inst.Inst.{Inst}
 use Rattle.sil_ast.specs.declared.module.Module.{Module}
-use Rattle.sil_ast.specs.declared.place.EdgeId.{EdgeId}
 use Rattle.sil_ast.specs.declared.place.ValueId.{ValueId}
 use Rattle.sil_ast.specs.declared.type_name.TypeName.{TypeName}
 use Rattle.sil_cfg.specs.declared.item.Item.TheVariants as item

@@ -5,14 +5,14 @@ use Rattle.std.proofs.lemmas.Bool.{false≢true}
 use Rattle.argument_conventions.specs.Arguments.{Told, arguments_of}
 use Rattle.argument_conventions.specs.Rows.{address_row}
 use Rattle.argument_conventions.specs.declared.row.AddressRow.{AddressRow}
-use Rattle.accepted_memory.specs.memory_accesses.Sources.{argument_source_or, borrow_source, element_place, field_source, handed_source, is_slot_source, is_trivial_member}
-use Rattle.accepted_memory.specs.memory_accesses.Sources.{loan_source, member_place, object_source, part_source, slot_source, source_by, upcast_source}
-use Rattle.accepted_memory.specs.memory_accesses.declared.columns.AccessKind.{AccessKind}
-use Rattle.accepted_memory.specs.memory_accesses.declared.columns.AccessKind.TheVariants as access
-use Rattle.accepted_memory.specs.memory_accesses.declared.source.Source.{Source}
-use Rattle.accepted_memory.specs.memory_accesses.declared.source.Source.TheVariants as source
-use Rattle.accepted_memory.proofs.accepted_trails.Tests.{or_right}
-use Rattle.accepted_values.specs.inner.Rows.{source_of_argument}
+use Rattle.accepted_places.specs.accepted_memory.memory_accesses.Sources.{argument_source_or, borrow_source, element_place, field_source, handed_source, is_slot_source, is_trivial_member}
+use Rattle.accepted_places.specs.accepted_memory.memory_accesses.Sources.{loan_source, member_place, object_source, part_source, slot_source, source_by, upcast_source}
+use Rattle.accepted_places.specs.accepted_memory.memory_accesses.declared.columns.AccessKind.{AccessKind}
+use Rattle.accepted_places.specs.accepted_memory.memory_accesses.declared.columns.AccessKind.TheVariants as access
+use Rattle.accepted_places.specs.accepted_memory.memory_accesses.declared.source.Source.{Source}
+use Rattle.accepted_places.specs.accepted_memory.memory_accesses.declared.source.Source.TheVariants as source
+use Rattle.accepted_places.proofs.accepted_memory.accepted_trails.Tests.{or_right}
+use Rattle.accepted_places.specs.accepted_values.inner.Rows.{source_of_argument}
 use Rattle.ownership_chains.specs.Facts.{has}
 use Rattle.point_checks.proofs.Among.{Among}
 use Rattle.sil_ast.specs.declared.function.Function.{Function}

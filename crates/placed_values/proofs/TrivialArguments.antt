@@ -1,64 +1,61 @@
 -- An argument of a trivial type stays full where it was given so: nothing is taken from it.
-use Rattle.std.proofs.Common.{◌≡◌, ◌⊎◌, inl, inr, ℕ, zero, suc, List, [], ◌∷◌, ◌++◌, refl, sym, ap, ◌∙◌, subst, Bool, true, false, not, ◌&&◌, ◌||◌, Option, Some, None, eq-eqb}
-use Rattle.std.specs.Prelude.{Contains, cond, is_some, length, option_and_then, option_map, slice_get}
+use Rattle.std.proofs.Common.{◌≡◌, inl, inr, ℕ, zero, suc, List, [], ◌∷◌, ◌++◌, refl, sym, ap, ◌∙◌, subst, Bool, true, false, not, ◌&&◌, ◌||◌, Option, Some, None}
+use Rattle.std.specs.Prelude.{Contains, cond, is_some, length, option_and_then, slice_get}
 use Rattle.std.proofs.lemmas.Bool.{and_parts, eqb-true, false≢true, not-false, not-true, true≢false}
 use Rattle.std.proofs.lemmas.Option.{none-some, same_Some}
-use Rattle.argument_conventions.specs.Arguments.{Told, argument_type, arguments_of, handed_type}
+use Rattle.argument_conventions.specs.Arguments.{argument_type, arguments_of, handed_type}
 use Rattle.argument_conventions.specs.Rows.{address_row}
 use Rattle.argument_conventions.specs.declared.convention.ArgumentConvention.{ArgumentConvention}
 use Rattle.argument_conventions.specs.declared.convention.ArgumentConvention.TheVariants as convention
 use Rattle.argument_conventions.specs.declared.row.AddressRow.{AddressRow}
 use Rattle.argument_conventions.specs.declared.row.Content.{Content}
 use Rattle.argument_conventions.specs.declared.row.Content.TheVariants.{Empty, Full}
-use Rattle.accepted_memory.specs.memory_accesses.Accesses.{made_by}
-use Rattle.accepted_memory.specs.memory_accesses.Locations.{cell_by, cell_of, extended, field_cell, locate, located_by, location_of, object_built, whole}
-use Rattle.accepted_memory.specs.memory_accesses.Operations.{access_kind_of, load_operation, operated, operation_by, operations_of, store_operation}
-use Rattle.accepted_memory.specs.memory_accesses.Rows.{has_by, has_operation, has_steps, is_part, shared_has, slot_has}
-use Rattle.accepted_memory.specs.memory_accesses.Sources.{is_slot, is_slot_source, is_trivial_at, is_trivial_source, source_at, sources_of}
-use Rattle.accepted_memory.specs.memory_accesses.declared.access.Access.{Access}
-use Rattle.accepted_memory.specs.memory_accesses.declared.access.Access.TheVariants.{Allocates, Deallocates, Does, Given}
-use Rattle.accepted_memory.specs.memory_accesses.declared.access.Operated.{Operated}
-use Rattle.accepted_memory.specs.memory_accesses.declared.access.Operation.{Operation}
-use Rattle.accepted_memory.specs.memory_accesses.declared.access.Operation.TheVariants.{FirstWrite, Handed, Lend, Read, Take, TrivialStore, Write}
-use Rattle.accepted_memory.specs.memory_accesses.declared.location.Cell.{Cell}
-use Rattle.accepted_memory.specs.memory_accesses.declared.location.Location.{Location}
-use Rattle.accepted_memory.specs.memory_accesses.declared.source.Source.{Source}
-use Rattle.accepted_memory.specs.memory_accesses.declared.source.Source.TheVariants as source
-use Rattle.accepted_memory.specs.memory_parts.Contents.{at_location, counts_at_part, deallocation_mark, given_mark, handed_mark, operation_mark, same_cell}
-use Rattle.accepted_memory.specs.memory_parts.Parts.{at_return, whole_cell}
-use Rattle.accepted_memory.specs.memory_parts.Switches.{is_same, when}
-use Rattle.accepted_memory.specs.memory_parts.declared.part.Part.{Part}
-use Rattle.accepted_memory.specs.memory_parts.declared.part.Part.TheVariants.{Contents}
-use Rattle.accepted_memory.specs.ownership_kinds.Facts.{facts_in}
-use Rattle.accepted_memory.specs.run_trails.inner.RunTrails.{GoesOn, IsNext, IsRunTrail}
-use Rattle.accepted_memory.specs.inner.PartTrails.{IsPartOf, accesses_in, is_on}
-use Rattle.accepted_memory.proofs.PartsTurned.{turn_by}
-use Rattle.accepted_memory.proofs.Turning.{turned_each}
-use Rattle.accepted_values.specs.accepted_modules.sil_types.Typing.FormRules.{has_word_by, has_wrong_qualifier, is_owned_form, is_read_word}
-use Rattle.accepted_values.specs.accepted_modules.sil_types.Typing.RowTypes.{given_by, passes, takes, type_of, written}
-use Rattle.accepted_values.specs.accepted_modules.sil_types.Typing.Shapes.{in_unowned, in_weak, is_nontrivial, is_object, is_object_layer, is_storage, is_storage_layer, is_trivial_object}
-use Rattle.accepted_values.specs.accepted_modules.sil_types.Typing.Shapes.{target, unowned_at, unowned_in, weak_at, weak_in, where_it}
-use Rattle.accepted_values.specs.accepted_modules.sil_types.Typing.OperandTypes.{is_as_written}
-use Rattle.accepted_values.specs.accepted_modules.sil_types.Typing.Typed.{BreaksAtPoint, at_point, point}
-use Rattle.accepted_values.specs.accepted_modules.sil_types.Typing.Values.{value_types}
-use Rattle.accepted_values.specs.inner.Known.{IsAcceptedBody, type_in}
-use Rattle.owned_run_typing.proofs.run_typing_laws.Rows.Layers.{target-Address}
-use Rattle.accepted_values.proofs.Accepted.{in_ownership_form, typed, well_typed}
-use Rattle.accepted_values.proofs.TableRows.{argument_rows}
-use Rattle.accepted_values.proofs.Parameters.{entry_pairs, pair_at, told_of}
-use Rattle.accepted_values.proofs.Written.{written_type}
-use Rattle.accepted_values.proofs.run_typing_laws.FunctionFacts.{TypedInst}
-use Rattle.accepted_values.proofs.run_typing_laws.Rows.Finding.{found_behind, mapped_from, mapped_some, never_passes, passed, passes_at, where_found}
-use Rattle.accepted_values.proofs.run_typing_laws.ValueForms.{operands_written, row_kept}
-use Rattle.accepted_values.specs.accepted_modules.sil_types.Typing.SignatureRules.{is_argument_for}
+use Rattle.accepted_places.specs.accepted_memory.memory_accesses.Accesses.{made_by}
+use Rattle.accepted_places.specs.accepted_memory.memory_accesses.Locations.{cell_by, cell_of, extended, field_cell, locate, located_by, location_of, object_built, whole}
+use Rattle.accepted_places.specs.accepted_memory.memory_accesses.Operations.{access_kind_of, load_operation, operated, operation_by, operations_of, store_operation}
+use Rattle.accepted_places.specs.accepted_memory.memory_accesses.Rows.{has_by, has_operation, has_steps, is_part, shared_has, slot_has}
+use Rattle.accepted_places.specs.accepted_memory.memory_accesses.Sources.{is_slot, is_slot_source, is_trivial_at, is_trivial_source, source_at, sources_of}
+use Rattle.accepted_places.specs.accepted_memory.memory_accesses.declared.access.Access.TheVariants.{Deallocates, Does}
+use Rattle.accepted_places.specs.accepted_memory.memory_accesses.declared.access.Operated.{Operated}
+use Rattle.accepted_places.specs.accepted_memory.memory_accesses.declared.access.Operation.{Operation}
+use Rattle.accepted_places.specs.accepted_memory.memory_accesses.declared.access.Operation.TheVariants.{FirstWrite, Handed, Lend, Read, Take, TrivialStore, Write}
+use Rattle.accepted_places.specs.accepted_memory.memory_accesses.declared.location.Location.{Location}
+use Rattle.accepted_places.specs.accepted_memory.memory_accesses.declared.source.Source.{Source}
+use Rattle.accepted_places.specs.accepted_memory.memory_accesses.declared.source.Source.TheVariants as source
+use Rattle.accepted_places.specs.accepted_memory.memory_parts.Contents.{at_location, counts_at_part, deallocation_mark, given_mark, handed_mark, operation_mark, same_cell}
+use Rattle.accepted_places.specs.accepted_memory.memory_parts.Parts.{at_return, whole_cell}
+use Rattle.accepted_places.specs.accepted_memory.memory_parts.Switches.{is_same, when}
+use Rattle.accepted_places.specs.accepted_memory.memory_parts.declared.part.Part.{Part}
+use Rattle.accepted_places.specs.accepted_memory.memory_parts.declared.part.Part.TheVariants.{Contents}
+use Rattle.accepted_places.specs.accepted_memory.ownership_kinds.Facts.{facts_in}
+use Rattle.accepted_places.specs.accepted_memory.run_trails.inner.RunTrails.{GoesOn, IsNext, IsRunTrail}
+use Rattle.accepted_places.specs.accepted_memory.inner.PartTrails.{IsPartOf, accesses_in, is_on}
+use Rattle.accepted_places.proofs.accepted_memory.PartsTurned.{turn_by}
+use Rattle.accepted_places.specs.accepted_values.accepted_modules.sil_types.Typing.FormRules.{has_word_by, has_wrong_qualifier, is_owned_form, is_read_word}
+use Rattle.accepted_places.specs.accepted_values.accepted_modules.sil_types.Typing.RowTypes.{given_by, passes, type_of, written}
+use Rattle.accepted_places.specs.accepted_values.accepted_modules.sil_types.Typing.Shapes.{in_unowned, in_weak, is_nontrivial, is_object}
+use Rattle.accepted_places.specs.accepted_values.accepted_modules.sil_types.Typing.Shapes.{is_object_layer, is_storage, is_storage_layer, is_trivial_object}
+use Rattle.accepted_places.specs.accepted_values.accepted_modules.sil_types.Typing.Shapes.{target, unowned_at, unowned_in, weak_at, weak_in, where_it}
+use Rattle.accepted_places.specs.accepted_values.accepted_modules.sil_types.Typing.OperandTypes.{is_as_written}
+use Rattle.accepted_places.specs.accepted_values.accepted_modules.sil_types.Typing.Typed.{BreaksAtPoint, at_point, point}
+use Rattle.accepted_places.specs.accepted_values.accepted_modules.sil_types.Typing.Values.{value_types}
+use Rattle.accepted_places.specs.accepted_values.inner.Known.{IsAcceptedBody, type_in}
+use Rattle.accepted_places.proofs.owned_run_typing.run_typing_laws.Rows.Layers.{target-Address}
+use Rattle.accepted_places.proofs.accepted_values.Accepted.{in_ownership_form, typed, well_typed}
+use Rattle.accepted_places.proofs.accepted_values.TableRows.{argument_rows}
+use Rattle.accepted_places.proofs.accepted_values.Parameters.{entry_pairs, pair_at, told_of}
+use Rattle.accepted_places.proofs.accepted_values.Written.{written_type}
+use Rattle.accepted_places.proofs.accepted_values.run_typing_laws.FunctionFacts.{TypedInst}
+use Rattle.accepted_places.proofs.accepted_values.run_typing_laws.Rows.Finding.{found_behind, mapped_from, mapped_some, never_passes, passed, passes_at, where_found}
+use Rattle.accepted_places.proofs.accepted_values.run_typing_laws.ValueForms.{operands_written, row_kept}
+use Rattle.accepted_places.specs.accepted_values.accepted_modules.sil_types.Typing.SignatureRules.{is_argument_for}
 use Rattle.instruction_table.specs.Forms.{type_words_of}
 use Rattle.instruction_table.specs.declared.op.Op.{Op}
 use Rattle.instruction_table.specs.declared.op.Op.TheVariants as op
-use Rattle.item_operands.specs.Items.{arg_value, item_defined}
+use Rattle.item_operands.specs.Items.{item_defined}
 use Rattle.item_operands.specs.Parts.{item_inst}
 use Rattle.numbered_form.specs.Lists.{Each}
 use Rattle.numbered_form.specs.inner.Parts.{has_operands, is_typed}
-use Rattle.ownership_chains.specs.Facts.{has}
 use Rattle.path_patterns.specs.declared.mark.Mark.{Mark}
 use Rattle.point_checks.proofs.Among.{Among, among_contained}
 use Rattle.point_checks.specs.Points.{IsAt}
@@ -423,11 +420,13 @@ module _ (m : Module) (n : ℕ) (f : Function) (a : IsAcceptedBody m n f) where
     makes_stay : (w : ValueId) (s : Source) → source_at sources w ≡ s → Each (λ x. StaysOn (turn_by d f p x)) (made_by w s)
     makes_stay w (source.Slot trivial) at =
         (turns_when (is_same w v) _ (λ same h. let two : source.Slot trivial ≡ source.Argument row true = same_source w (source.Slot trivial) at same in cc), tt)
-    makes_stay w (source.Argument r trivial) at =
-        (turns_when (is_same w v) (given_mark r.before) (λ same h.
-        let two : source.Argument r trivial ≡ source.Argument row true = same_source w (source.Argument r trivial) at same in
-        let rows : r ≡ row = cc in
-        full_on_given r (ap (λ (y : AddressRow). y.before) rows ∙ full) h), tt)
+    makes_stay w (source.Argument r trivial) at = (
+      turns_when (is_same w v) (given_mark r.before) (λ same h.
+          let two : source.Argument r trivial ≡ source.Argument row true = same_source w (source.Argument r trivial) at same in
+          let rows : r ≡ row = cc in
+          full_on_given r (ap (λ (y : AddressRow). y.before) rows ∙ full) h),
+      tt,
+    )
     makes_stay w (source.Object fields) at =
         (turns_when (is_same w v) _ (λ same h. let two : source.Object fields ≡ source.Argument row true = same_source w (source.Object fields) at same in cc), tt)
     makes_stay w (source.Borrow of) at = tt

@@ -4,7 +4,9 @@ ghost use Rattle.std.specs.Prelude.{◌≡◌, IfOk};
 ghost use Rattle.numbered_form.specs.inner.NumberedForm.{IsNumbered};
 ghost use Rattle.type_definitions.specs.Rules.{AreDeclarationsOf};
 ghost use Rattle.accepted_modules.specs.inner.Checked.{IsVerified, IsVerifiedWith};
+ghost use Rattle.accepted_runs.specs.inner.Laws.{NeverFaults};
 
+use accepted_runs::no_outcome_faults;
 use sil_ast::{Exhausted, Module};
 use sil_types::TypeTable;
 use std::alloc::Global;
@@ -50,11 +52,13 @@ impl Checked {
         (inner, table)
     }
 
-    /// The module.
+    /// The module. None of its runs by holders ends in a fault.
     pub fn module(&self) -> &Module
         ensures value { result.now ≡ self.now }
         ensures verified { IsVerified self.now }
+        ensures runs { NeverFaults self.now }
     {
+        no_outcome_faults();
         &self.inner
     }
 

@@ -8,6 +8,7 @@ ghost use Rattle.accepted_modules.specs.Refusals as types;
 ghost use Rattle.accepted_modules.specs.Refusals.{HasTypes};
 ghost use Rattle.accepted_modules.specs.Values.{IsValueRefusal};
 ghost use Rattle.accepted_modules.specs.declared.refusals.StaticRefusal.TheVariants as static;
+ghost use Rattle.accepted_runs.specs.inner.Laws.{NeverFaults};
 
 use crate::checked::Checked;
 use crate::refusal::Refusal;
@@ -15,6 +16,7 @@ use crate::reports::{item_refusal, typing_refusal, value_refusal};
 use crate::types::check_types;
 use crate::values::check_values;
 use accepted_modules::{StaticRefusal, ValueRefusal};
+use accepted_runs::no_outcome_faults;
 use sil_ast::Module;
 use sil_rules::LimitWord;
 use std::alloc::Global;
@@ -35,12 +37,15 @@ pub enum VerifyEnd {
 /// and those on values (301 to 305, 401 to 404, 501 to 505 and 601 to 611).
 /// The refusal is the first of all that is wrong: by item, by limit, by function and point, by vtable, and then function by
 /// function, by group, by value and by rule; of a rule on walks the walk has the fewest edges.
+/// No run by holders of an accepted module ends in a fault ([docs/RUNS.md](../../../docs/RUNS.md)).
 pub fn verify(alloc: Global, m: Module) -> Result<Checked, VerifyEnd>
     requires { IsNumbered m }
     ensures ok { IfOk result (λ checked. checked ≡ m) }
     ensures accepted { OnOk result (Accepted m) }
+    ensures runs { IfOk result (λ checked. NeverFaults checked) }
     ensures err { IfErr result (IsVerifyEnd m) }
 {
+    no_outcome_faults();
     let table = match check_types(alloc, &m) {
         Ok(table) => table,
         Err(reason) => return Err(end_of_types(alloc, m, reason)),

@@ -8,12 +8,12 @@ use Rattle.item_operands.specs.Items.{arg_value, item_defined}
 use Rattle.sil_ast.specs.Blocks.{args_of}
 use Rattle.sil_cfg.specs.declared.item.Item.TheVariants as item
 use Rattle.type_definitions.specs.Declarations.{declarations_of}
-use Rattle.accepted_premises.specs.accepted_values.inner.Handed.{IsToldOf}
-use Rattle.accepted_premises.proofs.accepted_values.Parameters.{entry_told}
-use Rattle.accepted_premises.specs.held_entries.holder_model.Calling.{value_count}
-use Rattle.accepted_premises.specs.held_entries.holder_model.Frames.{has_any, no_entries, results_put}
-use Rattle.accepted_premises.specs.held_entries.holder_model.StepParts.{new_frame}
-use Rattle.accepted_premises.specs.held_entries.ownership_kinds.Facts.{facts_in}
+use Rattle.typed_holders.specs.accepted_premises.accepted_values.inner.Handed.{IsToldOf}
+use Rattle.typed_holders.proofs.accepted_premises.accepted_values.Parameters.{entry_told}
+use Rattle.typed_holders.specs.accepted_premises.held_entries.holder_model.Calling.{value_count}
+use Rattle.typed_holders.specs.accepted_premises.held_entries.holder_model.Frames.{has_any, no_entries, results_put}
+use Rattle.typed_holders.specs.accepted_premises.held_entries.holder_model.StepParts.{new_frame}
+use Rattle.typed_holders.specs.accepted_premises.held_entries.ownership_kinds.Facts.{facts_in}
 use Rattle.tracked_frames.specs.inner.Laws.{BeginTracked}
 use Rattle.tracked_frames.specs.inner.TrackedStates.{GoesAlong}
 use Rattle.tracked_frames.proofs.Entering.{entered, entry_turned}

@@ -37,35 +37,35 @@ use Rattle.sil_cfg.specs.declared.item.Item.{Item}
 use Rattle.sil_cfg.specs.declared.item.Item.TheVariants.{Edge, Entry, Exit, Inst}
 use Rattle.type_definitions.specs.Declarations.{Declarations, declarations_of}
 use Rattle.type_definitions.specs.Measures.{is_trivial}
-use Rattle.accepted_premises.specs.held_entries.holder_model.declared.row_effect.RowEffect.{RowEffect}
-use Rattle.accepted_premises.specs.held_entries.holder_model.declared.row_effect.RowEffect.TheVariants as row
-use Rattle.accepted_premises.specs.held_entries.holder_model.Effects.{effect_of}
-use Rattle.accepted_premises.specs.held_entries.holder_model.Frames.{is_consumed}
-use Rattle.accepted_premises.specs.accepted_values.run_typing.EndForms.{EdgeForms, EndForms, value_in}
-use Rattle.accepted_premises.specs.accepted_values.run_typing.Forms.{Form, OfValue, form_by, form_of, form_with, forms_of}
-use Rattle.accepted_premises.specs.accepted_values.run_typing.RowForms.{RowForms}
-use Rattle.accepted_premises.specs.accepted_values.inner.Handed.{IsHanded}
-use Rattle.accepted_premises.specs.accepted_values.inner.Known.{IsAcceptedBody, type_in}
-use Rattle.accepted_premises.specs.accepted_values.accepted_modules.Refusals.{lowered}
-use Rattle.accepted_premises.specs.accepted_values.accepted_modules.inner.Checked.{IsVerified}
-use Rattle.accepted_premises.specs.accepted_values.accepted_modules.sil_types.Typing.Shapes.{is_object}
-use Rattle.accepted_premises.specs.accepted_values.accepted_modules.sil_types.Typing.SignatureRules.{fits_by}
-use Rattle.accepted_premises.specs.accepted_values.accepted_modules.sil_types.Typing.Values.{function_at, value_functions}
-use Rattle.accepted_premises.proofs.accepted_values.Accepted.{typed, well_typed}
-use Rattle.accepted_premises.proofs.accepted_values.Branches.{known_end}
-use Rattle.accepted_premises.proofs.accepted_values.Calls.{calls_handed}
-use Rattle.accepted_premises.proofs.accepted_values.Counted.{nothing_in, stands}
-use Rattle.accepted_premises.proofs.accepted_values.Parameters.{fits, told_fits}
-use Rattle.accepted_premises.proofs.accepted_values.lowering_laws.Lowerable.{contained}
-use Rattle.accepted_premises.proofs.accepted_values.run_typing_laws.CallFacts.{called}
-use Rattle.accepted_premises.proofs.accepted_values.run_typing_laws.Found.{each_at}
-use Rattle.accepted_premises.proofs.accepted_values.run_typing_laws.FunctionFacts.{typed_function}
-use Rattle.accepted_premises.proofs.accepted_values.run_typing_laws.Rows.Finding.{mapped_from}
-use Rattle.accepted_premises.proofs.accepted_values.run_typing_laws.Rows.Layers.{object_target}
-use Rattle.accepted_premises.specs.owned_run_typing.inner.OwnedEnds.{OwnedEndForms}
-use Rattle.accepted_premises.specs.owned_run_typing.inner.OwnedRows.{OwnedRowForms}
-use Rattle.accepted_premises.specs.owned_run_typing.inner.OwnedTyped.{OwnedTyped}
-use Rattle.accepted_premises.proofs.owned_run_typing.OwnedIsTyped.{owned_is_typed}
+use Rattle.typed_holders.specs.accepted_premises.held_entries.holder_model.declared.row_effect.RowEffect.{RowEffect}
+use Rattle.typed_holders.specs.accepted_premises.held_entries.holder_model.declared.row_effect.RowEffect.TheVariants as row
+use Rattle.typed_holders.specs.accepted_premises.held_entries.holder_model.Effects.{effect_of}
+use Rattle.typed_holders.specs.accepted_premises.held_entries.holder_model.Frames.{is_consumed}
+use Rattle.typed_holders.specs.accepted_premises.accepted_values.run_typing.EndForms.{EdgeForms, EndForms, value_in}
+use Rattle.typed_holders.specs.accepted_premises.accepted_values.run_typing.Forms.{Form, OfValue, form_by, form_of, form_with, forms_of}
+use Rattle.typed_holders.specs.accepted_premises.accepted_values.run_typing.RowForms.{RowForms}
+use Rattle.typed_holders.specs.accepted_premises.accepted_values.inner.Handed.{IsHanded}
+use Rattle.typed_holders.specs.accepted_premises.accepted_values.inner.Known.{IsAcceptedBody, type_in}
+use Rattle.typed_holders.specs.accepted_premises.accepted_values.accepted_modules.Refusals.{lowered}
+use Rattle.typed_holders.specs.accepted_premises.accepted_values.accepted_modules.inner.Checked.{IsVerified}
+use Rattle.typed_holders.specs.accepted_premises.accepted_values.accepted_modules.sil_types.Typing.Shapes.{is_object}
+use Rattle.typed_holders.specs.accepted_premises.accepted_values.accepted_modules.sil_types.Typing.SignatureRules.{fits_by}
+use Rattle.typed_holders.specs.accepted_premises.accepted_values.accepted_modules.sil_types.Typing.Values.{function_at, value_functions}
+use Rattle.typed_holders.proofs.accepted_premises.accepted_values.Accepted.{typed, well_typed}
+use Rattle.typed_holders.proofs.accepted_premises.accepted_values.Branches.{known_end}
+use Rattle.typed_holders.proofs.accepted_premises.accepted_values.Calls.{calls_handed}
+use Rattle.typed_holders.proofs.accepted_premises.accepted_values.Counted.{nothing_in, stands}
+use Rattle.typed_holders.proofs.accepted_premises.accepted_values.Parameters.{fits, told_fits}
+use Rattle.typed_holders.proofs.accepted_premises.accepted_values.lowering_laws.Lowerable.{contained}
+use Rattle.typed_holders.proofs.accepted_premises.accepted_values.run_typing_laws.CallFacts.{called}
+use Rattle.typed_holders.proofs.accepted_premises.accepted_values.run_typing_laws.Found.{each_at}
+use Rattle.typed_holders.proofs.accepted_premises.accepted_values.run_typing_laws.FunctionFacts.{typed_function}
+use Rattle.typed_holders.proofs.accepted_premises.accepted_values.run_typing_laws.Rows.Finding.{mapped_from}
+use Rattle.typed_holders.proofs.accepted_premises.accepted_values.run_typing_laws.Rows.Layers.{object_target}
+use Rattle.typed_holders.specs.accepted_premises.owned_run_typing.inner.OwnedEnds.{OwnedEndForms}
+use Rattle.typed_holders.specs.accepted_premises.owned_run_typing.inner.OwnedRows.{OwnedRowForms}
+use Rattle.typed_holders.specs.accepted_premises.owned_run_typing.inner.OwnedTyped.{OwnedTyped}
+use Rattle.typed_holders.proofs.accepted_premises.owned_run_typing.OwnedIsTyped.{owned_is_typed}
 
 pub owned_typed : (m : Module) → IsVerified m → OwnedTyped m
 owned_typed m v = owned_is_typed m (well_typed m v) (λ n f there e. v.accepted.types.owned _ (lowered n f there e))

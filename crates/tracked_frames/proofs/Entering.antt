@@ -9,13 +9,13 @@ use Rattle.sil_ast.specs.declared.module.Module.{Module}
 use Rattle.sil_ast.specs.declared.place.ValueId.{ValueId}
 use Rattle.sil_cfg.specs.declared.item.Item.TheVariants as item
 use Rattle.type_definitions.specs.Declarations.{Declarations}
-use Rattle.accepted_premises.specs.accepted_values.inner.Known.{IsAcceptedBody}
-use Rattle.accepted_premises.specs.held_entries.accepted_trails.run_trails.inner.RunTrails.{IsTurnedTrail}
-use Rattle.accepted_premises.specs.held_entries.holder_model.Calling.{value_count}
-use Rattle.accepted_premises.specs.held_entries.holder_model.Data.{Datum}
-use Rattle.accepted_premises.specs.held_entries.holder_model.Frames.{Entry, Gone, Held, Lent, entry_at, is_held, no_entries}
-use Rattle.accepted_premises.specs.held_entries.inner.Tracked.{IsWhile}
-use Rattle.accepted_premises.proofs.held_entries.accepted_trails.run_trails.RunPaths.{are_trails}
+use Rattle.typed_holders.specs.accepted_premises.accepted_values.inner.Known.{IsAcceptedBody}
+use Rattle.typed_holders.specs.accepted_premises.held_entries.accepted_trails.run_trails.inner.RunTrails.{IsTurnedTrail}
+use Rattle.typed_holders.specs.accepted_premises.held_entries.holder_model.Calling.{value_count}
+use Rattle.typed_holders.specs.accepted_premises.held_entries.holder_model.Data.{Datum}
+use Rattle.typed_holders.specs.accepted_premises.held_entries.holder_model.Frames.{Entry, Gone, Held, Lent, entry_at, is_held, no_entries}
+use Rattle.typed_holders.specs.accepted_premises.held_entries.inner.Tracked.{IsWhile}
+use Rattle.typed_holders.proofs.accepted_premises.held_entries.accepted_trails.run_trails.RunPaths.{are_trails}
 use Rattle.tracked_frames.proofs.HowValuesEnd.{accepted_in}
 use Rattle.tracked_frames.proofs.ResultsPut.{AreLeft}
 

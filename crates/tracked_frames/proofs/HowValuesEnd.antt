@@ -16,16 +16,16 @@ use Rattle.type_definitions.specs.Declarations.{Declarations, declarations_of}
 use Rattle.type_definitions.specs.declared.kind.Kind.{Kind}
 use Rattle.type_definitions.specs.declared.kind.Kind.TheVariants as kind
 use Rattle.value_tables.specs.Borrows.{is_borrow}
-use Rattle.accepted_premises.specs.held_entries.accepted_trails.inner.Accepted.{IsAcceptedIn}
-use Rattle.accepted_premises.specs.held_entries.accepted_trails.inner.Lives.{IsOwnedIn}
-use Rattle.accepted_premises.specs.held_entries.accepted_trails.inner.Passing.{is_use}
-use Rattle.accepted_premises.specs.held_entries.holder_model.Frames.{ends, has_any}
-use Rattle.accepted_premises.specs.held_entries.inner.Tracked.{IsOwnScope}
-use Rattle.accepted_premises.proofs.held_entries.accepted_trails.Unbroken.{are_accepted}
-use Rattle.accepted_premises.specs.accepted_values.inner.Bases.{IsLender}
-use Rattle.accepted_premises.specs.accepted_values.inner.Known.{IsAcceptedBody, kind_at}
-use Rattle.accepted_premises.specs.accepted_values.accepted_modules.inner.Checked.{IsVerified}
-use Rattle.accepted_premises.proofs.accepted_values.Based.{guaranteed_value, lenders_own_bases, owned_value}
+use Rattle.typed_holders.specs.accepted_premises.held_entries.accepted_trails.inner.Accepted.{IsAcceptedIn}
+use Rattle.typed_holders.specs.accepted_premises.held_entries.accepted_trails.inner.Lives.{IsOwnedIn}
+use Rattle.typed_holders.specs.accepted_premises.held_entries.accepted_trails.inner.Passing.{is_use}
+use Rattle.typed_holders.specs.accepted_premises.held_entries.holder_model.Frames.{ends, has_any}
+use Rattle.typed_holders.specs.accepted_premises.held_entries.inner.Tracked.{IsOwnScope}
+use Rattle.typed_holders.proofs.accepted_premises.held_entries.accepted_trails.Unbroken.{are_accepted}
+use Rattle.typed_holders.specs.accepted_premises.accepted_values.inner.Bases.{IsLender}
+use Rattle.typed_holders.specs.accepted_premises.accepted_values.inner.Known.{IsAcceptedBody, kind_at}
+use Rattle.typed_holders.specs.accepted_premises.accepted_values.accepted_modules.inner.Checked.{IsVerified}
+use Rattle.typed_holders.proofs.accepted_premises.accepted_values.Based.{guaranteed_value, lenders_own_bases, owned_value}
 use Rattle.tracked_frames.specs.inner.TrackedStates.{NeverEnds}
 
 has_blocks : (bs : List Block) → has_any bs ≡ true → 0 < length bs

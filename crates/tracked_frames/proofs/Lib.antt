@@ -6,3 +6,9 @@ pub mod NextItems
 pub mod Entering
 pub mod TrackedSteps
 pub mod Begun
+pub use Rattle.typed_holders.proofs as typed_holders
+pub use Rattle.typed_holders.proofs.typed_memory as typed_memory
+pub use Rattle.typed_holders.proofs.holder_steps as holder_steps
+pub use Rattle.typed_holders.proofs.accepted_premises as accepted_premises
+pub use Rattle.typed_holders.proofs.placed_values as placed_values
+pub use Rattle.typed_holders.proofs.scoped_addresses as scoped_addresses

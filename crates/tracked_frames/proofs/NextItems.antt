@@ -28,20 +28,20 @@ use Rattle.sil_cfg.specs.Items.{leaves_function}
 use Rattle.sil_cfg.specs.Returns.{is_return, returns_by, returns_in}
 use Rattle.sil_cfg.specs.declared.item.Item.{Item}
 use Rattle.sil_cfg.specs.declared.item.Item.TheVariants as item
-use Rattle.accepted_premises.specs.accepted_values.inner.Known.{IsAcceptedBody}
-use Rattle.accepted_premises.specs.accepted_values.run_typing.EndForms.{value_in}
-use Rattle.accepted_premises.proofs.accepted_values.Branches.{known_end}
-use Rattle.accepted_premises.proofs.accepted_values.run_typing_laws.Rows.Finding.{found_behind, mapped_from}
-use Rattle.accepted_premises.specs.held_entries.accepted_trails.run_trails.inner.RunTrails.{ComesAt, GoesOn, IsRunTrail, IsTurnedTrail}
-use Rattle.accepted_premises.specs.held_entries.holder_model.Builtins.{is_set}
-use Rattle.accepted_premises.specs.held_entries.holder_model.Edges.{branch_of, edge_for, edge_of, is_default, is_for}
-use Rattle.accepted_premises.specs.held_entries.holder_model.Frames.{Frame}
-use Rattle.accepted_premises.specs.held_entries.holder_model.ModuleFacts.{ModuleFacts}
-use Rattle.accepted_premises.specs.held_entries.holder_model.Standing.{stands_at}
-use Rattle.accepted_premises.specs.held_entries.holder_model.StepParts.{switched_shape}
-use Rattle.accepted_premises.specs.held_entries.holder_model.Steps.{shapes}
-use Rattle.accepted_premises.proofs.held_entries.accepted_trails.run_trails.RunPaths.{are_trails}
-use Rattle.accepted_premises.proofs.held_entries.accepted_trails.run_trails.WalkEdges.{are_next}
+use Rattle.typed_holders.specs.accepted_premises.accepted_values.inner.Known.{IsAcceptedBody}
+use Rattle.typed_holders.specs.accepted_premises.accepted_values.run_typing.EndForms.{value_in}
+use Rattle.typed_holders.proofs.accepted_premises.accepted_values.Branches.{known_end}
+use Rattle.typed_holders.proofs.accepted_premises.accepted_values.run_typing_laws.Rows.Finding.{found_behind, mapped_from}
+use Rattle.typed_holders.specs.accepted_premises.held_entries.accepted_trails.run_trails.inner.RunTrails.{ComesAt, GoesOn, IsRunTrail, IsTurnedTrail}
+use Rattle.typed_holders.specs.accepted_premises.held_entries.holder_model.Builtins.{is_set}
+use Rattle.typed_holders.specs.accepted_premises.held_entries.holder_model.Edges.{branch_of, edge_for, edge_of, is_default, is_for}
+use Rattle.typed_holders.specs.accepted_premises.held_entries.holder_model.Frames.{Frame}
+use Rattle.typed_holders.specs.accepted_premises.held_entries.holder_model.ModuleFacts.{ModuleFacts}
+use Rattle.typed_holders.specs.accepted_premises.held_entries.holder_model.Standing.{stands_at}
+use Rattle.typed_holders.specs.accepted_premises.held_entries.holder_model.StepParts.{switched_shape}
+use Rattle.typed_holders.specs.accepted_premises.held_entries.holder_model.Steps.{shapes}
+use Rattle.typed_holders.proofs.accepted_premises.held_entries.accepted_trails.run_trails.RunPaths.{are_trails}
+use Rattle.typed_holders.proofs.accepted_premises.held_entries.accepted_trails.run_trails.WalkEdges.{are_next}
 use Rattle.typed_holders.specs.holder_steps.inner.Ways.{Chooses, StandsAtEnd}
 use Rattle.tracked_frames.proofs.ConsumedValues.{owned_typed}
 use Rattle.tracked_frames.proofs.HowValuesEnd.{accepted_in}

@@ -24,31 +24,33 @@ use Rattle.sil_cfg.specs.declared.item.Item.{Item}
 use Rattle.type_definitions.specs.Declarations.{Declarations, declarations_of}
 use Rattle.type_definitions.specs.declared.kind.Kind.{Kind}
 use Rattle.type_definitions.specs.declared.kind.Kind.TheVariants as kind
-use Rattle.accepted_premises.proofs.EndsMayEnd.{ends_right}
-use Rattle.accepted_premises.specs.accepted_values.inner.Known.{IsAcceptedBody, kind_at}
-use Rattle.accepted_premises.specs.accepted_values.inner.Operands.{SuitsRole}
-use Rattle.accepted_premises.specs.accepted_values.run_typing.Forms.{Form, OfValue, form_of}
-use Rattle.accepted_premises.proofs.accepted_values.Suited.{suited}
-use Rattle.accepted_premises.proofs.accepted_values.lowering_laws.Lowerable.{contained}
-use Rattle.accepted_premises.proofs.accepted_values.run_typing_laws.Found.{each_at}
-use Rattle.accepted_premises.proofs.accepted_values.run_typing_laws.ListFacts.{get_next}
-use Rattle.accepted_premises.specs.held_entries.accepted_trails.inner.Defined.{IsDefinedOn, IsTakenFrom}
-use Rattle.accepted_premises.specs.held_entries.accepted_trails.inner.Lives.{IsOwnedIn}
-use Rattle.accepted_premises.specs.held_entries.accepted_trails.inner.Passing.{is_end, is_use}
-use Rattle.accepted_premises.specs.held_entries.accepted_trails.run_trails.inner.RunTrails.{IsTurnedTrail}
-use Rattle.accepted_premises.specs.held_entries.holder_model.Calling.{value_count}
-use Rattle.accepted_premises.specs.held_entries.holder_model.Data.{AddressOf, Datum, FunctionOf, ValueOf}
-use Rattle.accepted_premises.specs.held_entries.holder_model.Faults.{ConsumesLent, HolderFault, NamesDead, WrongShape}
-use Rattle.accepted_premises.specs.held_entries.holder_model.Frames.{Entry, Gone, Held, Lent, Operands, Plain, and_more, any_dead, datum_in, datum_or_fault, ends, entry_at, has_any, is_consumed, is_held}
-use Rattle.accepted_premises.specs.held_entries.holder_model.Frames.{made_entry, operand, operand_data, operands_of, plain_address, plain_entry, unless_dead, used_datum, with_ok, without_ended}
-use Rattle.accepted_premises.specs.held_entries.holder_model.Data.{references_in}
-use Rattle.accepted_premises.specs.held_entries.ownership_kinds.Facts.{facts_in}
-use Rattle.accepted_premises.specs.held_entries.inner.Entries.{AreEnded, CanEnd, End, MayEnd}
-use Rattle.accepted_premises.specs.held_entries.inner.Tracked.{AreTracked, AreTrackedLeft, HoldsWhile, IsOwnScope, LendsWhile}
-use Rattle.accepted_premises.proofs.held_entries.EntriesEnded.{end_where_they_may}
-use Rattle.accepted_premises.proofs.held_entries.TrackedOn.{may_end_where_tracked, there_where_used}
-use Rattle.accepted_premises.proofs.held_entries.accepted_trails.OperandsDefined.{operands_defined}
-use Rattle.accepted_premises.proofs.held_entries.accepted_trails.Tests.{either, first_of, or_right, same_value}
+use Rattle.typed_holders.proofs.accepted_premises.EndsMayEnd.{ends_right}
+use Rattle.typed_holders.specs.accepted_premises.accepted_values.inner.Known.{IsAcceptedBody, kind_at}
+use Rattle.typed_holders.specs.accepted_premises.accepted_values.inner.Operands.{SuitsRole}
+use Rattle.typed_holders.specs.accepted_premises.accepted_values.run_typing.Forms.{Form, OfValue, form_of}
+use Rattle.typed_holders.proofs.accepted_premises.accepted_values.Suited.{suited}
+use Rattle.typed_holders.proofs.accepted_premises.accepted_values.lowering_laws.Lowerable.{contained}
+use Rattle.typed_holders.proofs.accepted_premises.accepted_values.run_typing_laws.Found.{each_at}
+use Rattle.typed_holders.proofs.accepted_premises.accepted_values.run_typing_laws.ListFacts.{get_next}
+use Rattle.typed_holders.specs.accepted_premises.held_entries.accepted_trails.inner.Defined.{IsDefinedOn, IsTakenFrom}
+use Rattle.typed_holders.specs.accepted_premises.held_entries.accepted_trails.inner.Lives.{IsOwnedIn}
+use Rattle.typed_holders.specs.accepted_premises.held_entries.accepted_trails.inner.Passing.{is_end, is_use}
+use Rattle.typed_holders.specs.accepted_premises.held_entries.accepted_trails.run_trails.inner.RunTrails.{IsTurnedTrail}
+use Rattle.typed_holders.specs.accepted_premises.held_entries.holder_model.Calling.{value_count}
+use Rattle.typed_holders.specs.accepted_premises.held_entries.holder_model.Data.{AddressOf, Datum, FunctionOf, ValueOf}
+use Rattle.typed_holders.specs.accepted_premises.held_entries.holder_model.Faults.{ConsumesLent, HolderFault, NamesDead, WrongShape}
+use Rattle.typed_holders.specs.accepted_premises.held_entries.holder_model.Frames.{Entry, Gone, Held, Lent, Operands, Plain, and_more}
+use Rattle.typed_holders.specs.accepted_premises.held_entries.holder_model.Frames.{any_dead, datum_in, datum_or_fault, ends, entry_at, has_any, is_consumed, is_held}
+use Rattle.typed_holders.specs.accepted_premises.held_entries.holder_model.Frames.{made_entry, operand, operand_data, operands_of, plain_address}
+use Rattle.typed_holders.specs.accepted_premises.held_entries.holder_model.Frames.{plain_entry, unless_dead, used_datum, with_ok, without_ended}
+use Rattle.typed_holders.specs.accepted_premises.held_entries.holder_model.Data.{references_in}
+use Rattle.typed_holders.specs.accepted_premises.held_entries.ownership_kinds.Facts.{facts_in}
+use Rattle.typed_holders.specs.accepted_premises.held_entries.inner.Entries.{AreEnded, CanEnd, End, MayEnd}
+use Rattle.typed_holders.specs.accepted_premises.held_entries.inner.Tracked.{AreTracked, AreTrackedLeft, HoldsWhile, IsOwnScope, LendsWhile}
+use Rattle.typed_holders.proofs.accepted_premises.held_entries.EntriesEnded.{end_where_they_may}
+use Rattle.typed_holders.proofs.accepted_premises.held_entries.TrackedOn.{may_end_where_tracked, there_where_used}
+use Rattle.typed_holders.proofs.accepted_premises.held_entries.accepted_trails.OperandsDefined.{operands_defined}
+use Rattle.typed_holders.proofs.accepted_premises.held_entries.accepted_trails.Tests.{either, first_of, or_right, same_value}
 use Rattle.typed_holders.proofs.holder_steps.WhichFaults.{ErrsBy, err_is, errs_either, errs_more, errs_with}
 use Rattle.typed_holders.specs.typed_memory.inner.Worlds.{DatumIs, World}
 use Rattle.typed_holders.specs.inner.TypedStates.{EntriesAre, EntryIs}

@@ -16,27 +16,28 @@ use Rattle.type_definitions.specs.declared.kind.Kind.{Kind}
 use Rattle.type_definitions.specs.declared.kind.Kind.TheVariants as kind
 use Rattle.run_values.specs.Places.{Home, Inside, OnStack}
 use Rattle.run_values.specs.Values.{references_of}
-use Rattle.accepted_premises.specs.accepted_values.inner.Known.{IsAcceptedBody, kind_at}
-use Rattle.accepted_premises.specs.accepted_values.run_typing.CallForms.{IsOf}
-use Rattle.accepted_premises.proofs.accepted_values.Made.{distinct, items_of}
-use Rattle.accepted_premises.proofs.accepted_values.run_typing_laws.Found.{each_at}
-use Rattle.accepted_premises.proofs.accepted_values.run_typing_laws.ListFacts.{get_next}
-use Rattle.accepted_premises.specs.held_entries.accepted_trails.inner.Defined.{makes}
-use Rattle.accepted_premises.specs.held_entries.accepted_trails.inner.Passing.{is_begin, left_by}
-use Rattle.accepted_premises.specs.held_entries.accepted_trails.run_trails.inner.RunTrails.{IsTurnedTrail}
-use Rattle.accepted_premises.specs.held_entries.holder_model.Calling.{value_count}
-use Rattle.accepted_premises.specs.held_entries.holder_model.Data.{AddressOf, Datum, FunctionOf, ValueOf}
-use Rattle.accepted_premises.specs.held_entries.holder_model.Faults.{HolderFault, OverwritesHeld, WrongShape}
-use Rattle.accepted_premises.specs.held_entries.holder_model.Frames.{Entry, Gone, Held, Lent, Plain, entry_at, has_any, is_held, made_entry, plain_address, plain_entry, put_entry, results_put, with_ok}
-use Rattle.accepted_premises.specs.held_entries.ownership_kinds.Facts.{facts_in}
-use Rattle.accepted_premises.specs.held_entries.inner.Entries.{AreMade, Begin, HasEach, MayBegin}
-use Rattle.accepted_premises.specs.held_entries.inner.Tracked.{AreTracked, AreTrackedLeft}
-use Rattle.accepted_premises.proofs.held_entries.EntriesEnded.{entry_set_other, other_way}
-use Rattle.accepted_premises.proofs.held_entries.EntriesPut.{put_where_they_may}
-use Rattle.accepted_premises.proofs.held_entries.TrackedOn.{tracked_behind}
-use Rattle.accepted_premises.proofs.held_entries.accepted_trails.BasesOpen.{owned_begins}
-use Rattle.accepted_premises.proofs.held_entries.accepted_trails.LivesPassed.{lives_passed}
-use Rattle.accepted_premises.proofs.held_entries.accepted_trails.Tests.{either, first_of, or_first, or_second, same_value}
+use Rattle.typed_holders.specs.accepted_premises.accepted_values.inner.Known.{IsAcceptedBody, kind_at}
+use Rattle.typed_holders.specs.accepted_premises.accepted_values.run_typing.CallForms.{IsOf}
+use Rattle.typed_holders.proofs.accepted_premises.accepted_values.Made.{distinct, items_of}
+use Rattle.typed_holders.proofs.accepted_premises.accepted_values.run_typing_laws.Found.{each_at}
+use Rattle.typed_holders.proofs.accepted_premises.accepted_values.run_typing_laws.ListFacts.{get_next}
+use Rattle.typed_holders.specs.accepted_premises.held_entries.accepted_trails.inner.Defined.{makes}
+use Rattle.typed_holders.specs.accepted_premises.held_entries.accepted_trails.inner.Passing.{is_begin, left_by}
+use Rattle.typed_holders.specs.accepted_premises.held_entries.accepted_trails.run_trails.inner.RunTrails.{IsTurnedTrail}
+use Rattle.typed_holders.specs.accepted_premises.held_entries.holder_model.Calling.{value_count}
+use Rattle.typed_holders.specs.accepted_premises.held_entries.holder_model.Data.{AddressOf, Datum, FunctionOf, ValueOf}
+use Rattle.typed_holders.specs.accepted_premises.held_entries.holder_model.Faults.{HolderFault, OverwritesHeld, WrongShape}
+use Rattle.typed_holders.specs.accepted_premises.held_entries.holder_model.Frames.{Entry, Gone, Held, Lent, Plain, entry_at, has_any}
+use Rattle.typed_holders.specs.accepted_premises.held_entries.holder_model.Frames.{is_held, made_entry, plain_address, plain_entry, put_entry, results_put, with_ok}
+use Rattle.typed_holders.specs.accepted_premises.held_entries.ownership_kinds.Facts.{facts_in}
+use Rattle.typed_holders.specs.accepted_premises.held_entries.inner.Entries.{AreMade, Begin, HasEach, MayBegin}
+use Rattle.typed_holders.specs.accepted_premises.held_entries.inner.Tracked.{AreTracked, AreTrackedLeft}
+use Rattle.typed_holders.proofs.accepted_premises.held_entries.EntriesEnded.{entry_set_other, other_way}
+use Rattle.typed_holders.proofs.accepted_premises.held_entries.EntriesPut.{put_where_they_may}
+use Rattle.typed_holders.proofs.accepted_premises.held_entries.TrackedOn.{tracked_behind}
+use Rattle.typed_holders.proofs.accepted_premises.held_entries.accepted_trails.BasesOpen.{owned_begins}
+use Rattle.typed_holders.proofs.accepted_premises.held_entries.accepted_trails.LivesPassed.{lives_passed}
+use Rattle.typed_holders.proofs.accepted_premises.held_entries.accepted_trails.Tests.{either, first_of, or_first, or_second, same_value}
 use Rattle.typed_holders.proofs.holder_steps.WhichFaults.{ErrsBy, err_is, made_errs}
 use Rattle.tracked_frames.specs.inner.TrackedStates.{IsThere, OthersAreThere}
 use Rattle.tracked_frames.proofs.HowValuesEnd.{accepted_in, is_owned_in}

@@ -19,28 +19,28 @@ use Rattle.sil_cfg.specs.Items.{leaves_function}
 use Rattle.sil_cfg.specs.declared.item.Item.{Item}
 use Rattle.sil_cfg.specs.declared.item.Item.TheVariants as item
 use Rattle.type_definitions.specs.Declarations.{Declarations, declarations_of}
-use Rattle.accepted_premises.specs.accepted_values.inner.Known.{IsAcceptedBody}
-use Rattle.accepted_premises.specs.accepted_values.accepted_modules.inner.Checked.{IsVerified}
-use Rattle.accepted_premises.proofs.accepted_values.Facts.{run_facts}
-use Rattle.accepted_premises.proofs.accepted_values.run_typing_laws.ListFacts.{get_next}
-use Rattle.accepted_premises.specs.held_entries.accepted_trails.run_trails.inner.RunTrails.{ComesAt, IsTurnedTrail}
-use Rattle.accepted_premises.specs.held_entries.holder_model.Calling.{holds_something, value_count}
-use Rattle.accepted_premises.specs.held_entries.holder_model.Data.{Datum}
-use Rattle.accepted_premises.specs.held_entries.holder_model.Dropping.{field_references}
-use Rattle.accepted_premises.specs.held_entries.holder_model.Edges.{edge_of}
-use Rattle.accepted_premises.specs.held_entries.holder_model.Effects as effects
-use Rattle.accepted_premises.specs.held_entries.holder_model.Effects.{Change, unchanged}
-use Rattle.accepted_premises.specs.held_entries.holder_model.Faults.{HolderFault}
-use Rattle.accepted_premises.specs.held_entries.holder_model.Frames.{Entry, Frame, Gone, Operands, entry_at, has_any, is_held, no_entries, operands_of, results_put}
-use Rattle.accepted_premises.specs.held_entries.holder_model.HolderStates.{HolderNext, HolderState}
-use Rattle.accepted_premises.specs.held_entries.holder_model.ModuleFacts.{ModuleFacts, facts_of}
-use Rattle.accepted_premises.specs.held_entries.holder_model.Standing.{stands_at}
-use Rattle.accepted_premises.specs.held_entries.holder_model.StepParts.{new_frame}
-use Rattle.accepted_premises.specs.held_entries.holder_model.States.{Ends, Faulted, Goes, OutOfTurns, Returned, Runs, Task, Trapped, dropping}
-use Rattle.accepted_premises.specs.held_entries.holder_model.Steps as steps
-use Rattle.accepted_premises.specs.held_entries.ownership_kinds.Facts.{facts_in}
-use Rattle.accepted_premises.proofs.held_entries.TrackedOn.{none_held_at_return}
-use Rattle.accepted_premises.proofs.held_entries.accepted_trails.Tests.{first_of}
+use Rattle.typed_holders.specs.accepted_premises.accepted_values.inner.Known.{IsAcceptedBody}
+use Rattle.typed_holders.specs.accepted_premises.accepted_values.accepted_modules.inner.Checked.{IsVerified}
+use Rattle.typed_holders.proofs.accepted_premises.accepted_values.Facts.{run_facts}
+use Rattle.typed_holders.proofs.accepted_premises.accepted_values.run_typing_laws.ListFacts.{get_next}
+use Rattle.typed_holders.specs.accepted_premises.held_entries.accepted_trails.run_trails.inner.RunTrails.{ComesAt, IsTurnedTrail}
+use Rattle.typed_holders.specs.accepted_premises.held_entries.holder_model.Calling.{holds_something, value_count}
+use Rattle.typed_holders.specs.accepted_premises.held_entries.holder_model.Data.{Datum}
+use Rattle.typed_holders.specs.accepted_premises.held_entries.holder_model.Dropping.{field_references}
+use Rattle.typed_holders.specs.accepted_premises.held_entries.holder_model.Edges.{edge_of}
+use Rattle.typed_holders.specs.accepted_premises.held_entries.holder_model.Effects as effects
+use Rattle.typed_holders.specs.accepted_premises.held_entries.holder_model.Effects.{Change, unchanged}
+use Rattle.typed_holders.specs.accepted_premises.held_entries.holder_model.Faults.{HolderFault}
+use Rattle.typed_holders.specs.accepted_premises.held_entries.holder_model.Frames.{Entry, Frame, Gone, Operands, entry_at, has_any, is_held, no_entries, operands_of, results_put}
+use Rattle.typed_holders.specs.accepted_premises.held_entries.holder_model.HolderStates.{HolderNext, HolderState}
+use Rattle.typed_holders.specs.accepted_premises.held_entries.holder_model.ModuleFacts.{ModuleFacts, facts_of}
+use Rattle.typed_holders.specs.accepted_premises.held_entries.holder_model.Standing.{stands_at}
+use Rattle.typed_holders.specs.accepted_premises.held_entries.holder_model.StepParts.{new_frame}
+use Rattle.typed_holders.specs.accepted_premises.held_entries.holder_model.States.{Ends, Faulted, Goes, OutOfTurns, Returned, Runs, Task, Trapped, dropping}
+use Rattle.typed_holders.specs.accepted_premises.held_entries.holder_model.Steps as steps
+use Rattle.typed_holders.specs.accepted_premises.held_entries.ownership_kinds.Facts.{facts_in}
+use Rattle.typed_holders.proofs.accepted_premises.held_entries.TrackedOn.{none_held_at_return}
+use Rattle.typed_holders.proofs.accepted_premises.held_entries.accepted_trails.Tests.{first_of}
 use Rattle.typed_holders.specs.holder_steps.inner.Stacks.{Below}
 use Rattle.typed_holders.specs.holder_steps.inner.Ways.{Acts, DropsOne, Enters, FinishesOne, GoesBehind, Leaves, Performs, Reaches, StandsAtEnd, StepsBy, TakesEdge, left_with, lent_at, operands_in}
 use Rattle.typed_holders.proofs.holder_steps.StepsTold.{steps_told}

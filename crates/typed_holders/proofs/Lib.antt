@@ -16,3 +16,7 @@ pub mod Returns
 pub mod Drops
 pub mod TypedSteps
 pub use Rattle.holder_steps.proofs as holder_steps
+pub use Rattle.typed_memory.proofs as typed_memory
+pub use Rattle.scoped_addresses.proofs.accepted_premises as accepted_premises
+pub use Rattle.scoped_addresses.proofs.placed_values as placed_values
+pub use Rattle.scoped_addresses.proofs as scoped_addresses

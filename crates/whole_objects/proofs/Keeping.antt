@@ -82,12 +82,12 @@ module _ (P : Cell → Type 0) (m : Memory) (o : ObjectId) (x : Object) where
   cells_behind : (q : ObjectId) → (q ≡ o → Each P x.cells) → Each P (object_at m q).cells → Each P (object_at (with_object m o x) q).cells
   cells_behind q new old = ⊎_elim
       (λ (e : q.0 ≡ o.0). ⊎_elim
-        (λ (lt : o.0 < length m.objects).
-          subst (λ r. Each P (object_at (with_object m o x) r).cells) (sym (same_number q o e))
-          (subst (λ y. Each P y.cells) (sym (object_same m o x lt)) (new (same_number q o e))))
-        (λ (le : length m.objects ≤ o.0).
-          subst (λ y. Each P y.cells) (sym (no_cells (with_object m o x) q (omega (arith, e, le, length-set m.objects o.0 x)))) tt)
-        (cases_lt o.0 (length m.objects)))
+      (λ (lt : o.0 < length m.objects).
+      subst (λ r. Each P (object_at (with_object m o x) r).cells) (sym (same_number q o e))
+      (subst (λ y. Each P y.cells) (sym (object_same m o x lt)) (new (same_number q o e))))
+      (λ (le : length m.objects ≤ o.0).
+      subst (λ y. Each P y.cells) (sym (no_cells (with_object m o x) q (omega (arith, e, le, length-set m.objects o.0 x)))) tt)
+      (cases_lt o.0 (length m.objects)))
       (λ (not_so : q.0 ≡ o.0 → ⊥). subst (λ y. Each P y.cells) (sym (object_other m o q x not_so)) old)
       (cases_eq q.0 o.0)
 
@@ -103,7 +103,7 @@ module _ (m : Memory) (h : IsWholeMemory m) (o : ObjectId) (x : Object) where
       stay q whole = record {
         made = omega (arith, whole.made, length-set m.objects o.0 x);
         written = none_is Empty (object_at (with_object m o x) q).cells (cells_behind (IsNot Empty) m o x q
-          (λ e. written (subst (IsWhole m) e whole)) (all_not Empty (object_at m q).cells whole.written));
+            (λ e. written (subst (IsWhole m) e whole)) (all_not Empty (object_at m q).cells whole.written));
       }
 
       gone : (q : ObjectId) (n : ℕ) → IsGoneCell (cell_at (with_object m o x) (Inside q) n) → ⊥
@@ -194,12 +194,12 @@ module _ (P : Cell → Type 0) (m : Memory) (x : Object) where
   cells_with_new q new old = ⊎_elim
       (λ (lt : q.0 < length m.objects). subst (λ y. Each P y.cells) (sym (object_left m x q lt)) old)
       (λ (le : length m.objects ≤ q.0). ⊎_elim
-        (λ (e : q.0 ≡ length m.objects). subst (λ y. Each P y.cells) (sym (object_new m x q e)) new)
-        (λ (not_so : q.0 ≡ length m.objects → ⊥).
-          let long = length-append m.objects (x ∷ []) in
-          let past : length (with_new m x).objects ≤ q.0 = omega (arith, le, not_so, long) in
-          subst (λ y. Each P y.cells) (sym (no_cells (with_new m x) q past)) tt)
-        (cases_eq q.0 (length m.objects)))
+      (λ (e : q.0 ≡ length m.objects). subst (λ y. Each P y.cells) (sym (object_new m x q e)) new)
+      (λ (not_so : q.0 ≡ length m.objects → ⊥).
+      let long = length-append m.objects (x ∷ []) in
+      let past : length (with_new m x).objects ≤ q.0 = omega (arith, le, not_so, long) in
+      subst (λ y. Each P y.cells) (sym (no_cells (with_new m x) q past)) tt)
+      (cases_eq q.0 (length m.objects)))
       (cases_lt q.0 (length m.objects))
 
 new_whole : (m : Memory) → IsWholeMemory m → (class : Name) (fields : List Shape)
@@ -224,7 +224,8 @@ new_whole m h class fields = (record { there = gone; kept = kept }, stay)
     still c = each_of (IsWhole m) (IsWhole (with_new m (record { class = class; phase = Live; cells = empty_fields fields }))) stay (cell_references c)
 
     kept : (g : Home)
-        → Each (Named (with_new m (record { class = class; phase = Live; cells = empty_fields fields }))) (home_cells (with_new m (record { class = class; phase = Live; cells = empty_fields fields })) g)
+        → Each (Named (with_new m (record { class = class; phase = Live; cells = empty_fields fields })))
+        (home_cells (with_new m (record { class = class; phase = Live; cells = empty_fields fields })) g)
     kept OnStack = each_of (Named m) _ still m.stack (h.kept OnStack)
     kept (Inside q) = each_of (Named m) _ still (object_at (with_new m (record { class = class; phase = Live; cells = empty_fields fields })) q).cells
         (cells_with_new (Named m) m (record { class = class; phase = Live; cells = empty_fields fields }) q (each_replicate (Named m) _ Empty tt) (h.kept (Inside q)))
@@ -240,6 +241,6 @@ made_whole m h = (
 pub ended_whole : AreEndedWhole
 ended_whole m h = (
   λ phase o. changed_whole m h o (record (object_at m o) { phase = phase }) (all_not Gone (object_at m o).cells (h.there o))
-    (λ whole. all_not Empty (object_at m o).cells whole.written) (h.kept (Inside o)),
+      (λ whole. all_not Empty (object_at m o).cells whole.written) (h.kept (Inside o)),
   λ o. changed_whole m h o (ended (object_at m o)) tt (λ whole. tt) tt,
 )

@@ -1,1 +1,2 @@
 pub mod inner
+pub use Rattle.holder_model.specs as holder_model

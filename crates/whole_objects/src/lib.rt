@@ -3,4 +3,7 @@
 
 mod laws;
 
-pub use laws::{ended_are_whole, fields_are_full, filled_are_whole, made_are_whole, read_are_whole, taken_are_whole};
+pub use laws::{
+    ended_are_whole, fields_are_full, filled_are_whole, made_are_whole, read_are_whole,
+    taken_are_whole,
+};

@@ -22,7 +22,7 @@ use Rattle.accepted_memory.specs.memory_parts.declared.part.Part.TheVariants.{Co
 use Rattle.accepted_memory.specs.run_trails.inner.RunTrails.{GoesOn, IsRunTrail}
 use Rattle.accepted_memory.specs.run_trails.inner.Switched.{finds}
 use Rattle.accepted_memory.specs.inner.PartTrails.{IsPartOf, is_on}
-use Rattle.accepted_values.specs.inner.Known.{InAccepted}
+use Rattle.accepted_premises.specs.accepted_values.inner.Known.{InAccepted}
 use Rattle.item_operands.specs.Items.{item_defined}
 use Rattle.item_operands.specs.Parts.{inst_at, item_inst}
 use Rattle.ownership_chains.specs.Facts.{has}

@@ -15,7 +15,7 @@ use Rattle.accepted_memory.specs.memory_parts.declared.part.Part.TheVariants.{Co
 use Rattle.accepted_memory.specs.ownership_kinds.Facts.{facts_in}
 use Rattle.accepted_memory.specs.run_trails.inner.RunTrails.{IsRunTrail}
 use Rattle.accepted_memory.specs.inner.PartTrails.{IsPartOf, is_on}
-use Rattle.accepted_values.specs.inner.Known.{InAccepted}
+use Rattle.accepted_premises.specs.accepted_values.inner.Known.{InAccepted}
 use Rattle.value_parts.specs.inner.Paths.{IsPart, cells_before}
 use Rattle.item_operands.specs.Items.{item_taken}
 use Rattle.item_operands.specs.Parts.{item_inst}

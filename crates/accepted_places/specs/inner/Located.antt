@@ -12,8 +12,8 @@ use Rattle.accepted_memory.specs.memory_parts.Parts.{is_scope}
 use Rattle.accepted_memory.specs.memory_parts.declared.part.Part.TheVariants.{Allocation, InScope}
 use Rattle.accepted_memory.specs.run_trails.inner.RunTrails.{IsRunTrail}
 use Rattle.accepted_memory.specs.inner.PartTrails.{is_on}
-use Rattle.accepted_values.specs.inner.Known.{InAccepted}
-use Rattle.accepted_values.specs.run_typing.Forms.{OfPlace, form_of}
+use Rattle.accepted_premises.specs.accepted_values.inner.Known.{InAccepted}
+use Rattle.accepted_premises.specs.accepted_values.run_typing.Forms.{OfPlace, form_of}
 use Rattle.argument_conventions.specs.declared.row.AddressRow.{AddressRow}
 use Rattle.item_operands.specs.Items.{item_taken}
 use Rattle.item_operands.specs.Parts.{item_inst}

@@ -12,7 +12,7 @@ use Rattle.accepted_memory.specs.memory_parts.declared.part.Part.TheVariants.{Al
 use Rattle.accepted_memory.specs.accepted_trails.inner.Accepted.{IsAcceptedIn}
 use Rattle.accepted_memory.specs.run_trails.inner.RunTrails.{IsRunTrail}
 use Rattle.accepted_memory.specs.inner.PartTrails.{accesses_in, is_on}
-use Rattle.accepted_values.specs.inner.Known.{InAccepted}
+use Rattle.accepted_premises.specs.accepted_values.inner.Known.{InAccepted}
 use Rattle.item_operands.specs.Items.{item_defined}
 use Rattle.item_operands.specs.Parts.{item_inst}
 use Rattle.numbered_form.specs.Lists.{Each}

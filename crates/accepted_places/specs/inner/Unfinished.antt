@@ -10,7 +10,7 @@ use Rattle.accepted_memory.specs.memory_parts.declared.part.Part.TheVariants.{Bu
 use Rattle.accepted_memory.specs.ownership_kinds.Facts.{facts_in}
 use Rattle.accepted_memory.specs.run_trails.inner.RunTrails.{IsRunTrail}
 use Rattle.accepted_memory.specs.inner.PartTrails.{IsPartOf, is_on}
-use Rattle.accepted_values.specs.inner.Known.{InAccepted}
+use Rattle.accepted_premises.specs.accepted_values.inner.Known.{InAccepted}
 use Rattle.item_operands.specs.Items.{item_taken}
 use Rattle.item_operands.specs.Parts.{item_inst}
 use Rattle.item_operands.specs.declared.taken.Taken.{Taken}

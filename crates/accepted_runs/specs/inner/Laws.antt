@@ -3,14 +3,14 @@ use Rattle.std.specs.Prelude.{◌≡◌, ℕ, true, false, Some, slice_get}
 use Rattle.sil_ast.specs.declared.function.Function.{Function}
 use Rattle.sil_ast.specs.declared.module.Module.{Module}
 use Rattle.sil_ast.specs.declared.place.FuncId.{FuncId}
-use Rattle.accepted_values.specs.accepted_modules.inner.Checked.{IsVerified}
-use Rattle.held_entries.specs.holder_model.Faults.{HolderFault}
-use Rattle.held_entries.specs.holder_model.HolderStates.{HolderState}
-use Rattle.held_entries.specs.holder_model.ModuleFacts.{facts_of}
-use Rattle.held_entries.specs.holder_model.Outcomes.{EndsSo, Outcome, begins, may_start, run}
-use Rattle.held_entries.specs.holder_model.States.{Ends, Faulted, Goes}
-use Rattle.held_entries.specs.holder_model.Steps.{step}
-use Rattle.accepted_runs.specs.inner.RightStates.{IsRightState, is_excluded}
+use Rattle.held_loans.specs.followed_objects.accepted_values.accepted_modules.inner.Checked.{IsVerified}
+use Rattle.held_loans.specs.followed_objects.held_entries.holder_model.Faults.{HolderFault}
+use Rattle.held_loans.specs.followed_objects.held_entries.holder_model.HolderStates.{HolderState}
+use Rattle.held_loans.specs.followed_objects.held_entries.holder_model.ModuleFacts.{facts_of}
+use Rattle.held_loans.specs.followed_objects.held_entries.holder_model.Outcomes.{EndsSo, Outcome, begins, may_start, run}
+use Rattle.held_loans.specs.followed_objects.held_entries.holder_model.States.{Ends, Faulted, Goes}
+use Rattle.held_loans.specs.followed_objects.held_entries.holder_model.Steps.{step}
+use Rattle.accepted_runs.specs.inner.RightStates.{IsRightState}
 
 -- so it is of each run of an accepted module from an entry at which one may start
 abbrev pub OnRuns : (Module → FuncId → Function → ℕ → Type 0) → Type 0
@@ -25,12 +25,16 @@ abbrev pub AreStepsRight : Type 0
 AreStepsRight = (m : Module) (bound : ℕ) (s next : HolderState) → IsVerified m → IsRightState m s → step m (facts_of m) bound s ≡ Goes next
     → IsRightState m next
 
--- it ends in no fault that is excluded
+-- it ends in no fault
 abbrev pub NoRunFaults : Type 0
 NoRunFaults = OnRuns (λ m e f bound. (steps : ℕ) (s : HolderState) (x : HolderFault)
-    → run (step m (facts_of m) bound) steps (begins e f) ≡ Ends (Faulted x) s → is_excluded x ≡ false)
+    → run (step m (facts_of m) bound) steps (begins e f) ≡ Ends (Faulted x) s → ⊥)
 
--- and no outcome tells of one
+-- no outcome of a run of the module tells of a fault, from whichever entry, for every bound on turns
+abbrev pub NeverFaults : Module → Type 0
+NeverFaults m = (e : FuncId) (f : Function) (bound : ℕ) → slice_get m.functions e.0 ≡ Some f → may_start f ≡ true
+    → (outcome : Outcome HolderFault) (x : HolderFault) → EndsSo m e bound outcome → outcome.ending ≡ Faulted x → ⊥
+
+-- and so it is of each accepted module
 abbrev pub NoOutcomeFaults : Type 0
-NoOutcomeFaults = OnRuns (λ m e f bound. (outcome : Outcome HolderFault) (x : HolderFault) → EndsSo m e bound outcome → outcome.ending ≡ Faulted x
-    → is_excluded x ≡ false)
+NoOutcomeFaults = (m : Module) → IsVerified m → NeverFaults m

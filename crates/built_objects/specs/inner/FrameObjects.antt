@@ -1,13 +1,13 @@
 -- The objects that a frame names: whole ones, and those that it is still building, field by field as its trail says.
 use Rattle.std.specs.Prelude.{◌≡◌, ◌<◌, ℕ, List, [], ◌∷◌, Bool, true, false, not, length, map, sum, Some, slice_get}
-use Rattle.holder_model.specs.Data.{AddressOf, Datum, ValueOf, references_in}
-use Rattle.holder_model.specs.Frames.{Entry, Held, datum_in, entry_at}
-use Rattle.holder_model.specs.ModuleShapes.{ModuleShapes, field_shapes}
-use Rattle.holder_model.specs.memory_accesses.Rows.{is_part}
-use Rattle.holder_model.specs.memory_accesses.Sources.{source_at}
-use Rattle.holder_model.specs.memory_accesses.declared.location.Location.{Location}
-use Rattle.holder_model.specs.memory_accesses.declared.source.Source.{Source}
-use Rattle.holder_model.specs.memory_accesses.declared.source.Source.TheVariants as source
+use Rattle.whole_objects.specs.holder_model.Data.{AddressOf, Datum, ValueOf, references_in}
+use Rattle.whole_objects.specs.holder_model.Frames.{Entry, Held, datum_in, entry_at}
+use Rattle.whole_objects.specs.holder_model.ModuleShapes.{ModuleShapes, field_shapes}
+use Rattle.whole_objects.specs.holder_model.memory_accesses.Rows.{is_part}
+use Rattle.whole_objects.specs.holder_model.memory_accesses.Sources.{source_at}
+use Rattle.whole_objects.specs.holder_model.memory_accesses.declared.location.Location.{Location}
+use Rattle.whole_objects.specs.holder_model.memory_accesses.declared.source.Source.{Source}
+use Rattle.whole_objects.specs.holder_model.memory_accesses.declared.source.Source.TheVariants as source
 use Rattle.memory_cells.specs.inner.Cells.{IsCell, has_cell}
 use Rattle.numbered_form.specs.Lists.{Each}
 use Rattle.run_values.specs.Cells.{cell_count}

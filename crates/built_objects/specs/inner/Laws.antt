@@ -2,16 +2,16 @@
 use Rattle.std.specs.Prelude.{◌≡◌, ◌<◌, ◌≤◌, ◌⊎◌, ◌++◌, ℕ, List, [], ◌∷◌, Bool, true, false, length, Some}
 use Rattle.argument_conventions.specs.declared.row.Content.{Content}
 use Rattle.argument_conventions.specs.declared.row.Content.TheVariants.{Empty, Full}
-use Rattle.holder_model.specs.Data.{AddressOf, Datum, ValueOf, references_in}
-use Rattle.holder_model.specs.Frames.{Entry, Gone, entry_at, is_held}
-use Rattle.holder_model.specs.MemoryEffects.{asked_before, holds}
-use Rattle.holder_model.specs.ModuleShapes.{ModuleShapes, field_shapes}
-use Rattle.holder_model.specs.memory_accesses.Rows.{has_operation, is_part}
-use Rattle.holder_model.specs.memory_accesses.Sources.{source_at}
-use Rattle.holder_model.specs.memory_accesses.declared.access.Operation.{Operation}
-use Rattle.holder_model.specs.memory_accesses.declared.location.Location.{Location}
-use Rattle.holder_model.specs.memory_accesses.declared.source.Source.{Source}
-use Rattle.holder_model.specs.memory_accesses.declared.source.Source.TheVariants as source
+use Rattle.whole_objects.specs.holder_model.Data.{AddressOf, Datum, ValueOf, references_in}
+use Rattle.whole_objects.specs.holder_model.Frames.{Entry, Gone, entry_at, is_held}
+use Rattle.whole_objects.specs.holder_model.MemoryEffects.{asked_before, holds}
+use Rattle.whole_objects.specs.holder_model.ModuleShapes.{ModuleShapes, field_shapes}
+use Rattle.whole_objects.specs.holder_model.memory_accesses.Rows.{has_operation, is_part}
+use Rattle.whole_objects.specs.holder_model.memory_accesses.Sources.{source_at}
+use Rattle.whole_objects.specs.holder_model.memory_accesses.declared.access.Operation.{Operation}
+use Rattle.whole_objects.specs.holder_model.memory_accesses.declared.location.Location.{Location}
+use Rattle.whole_objects.specs.holder_model.memory_accesses.declared.source.Source.{Source}
+use Rattle.whole_objects.specs.holder_model.memory_accesses.declared.source.Source.TheVariants as source
 use Rattle.memory_cells.specs.inner.Cells.{IsInside}
 use Rattle.numbered_form.specs.Lists.{Each}
 use Rattle.numbered_form.specs.Names.{Name}
@@ -128,7 +128,7 @@ AreFieldsOf = (shapes : ModuleShapes) (sources : List Source) (said : Progress) 
     → (p : Place) → Names entries v (AddressOf p)
     → (o : ObjectId) × (p.home ≡ Inside o) × WhoseField sources said memory entries of o
     × ((object : ValueId) → builds sources object of ≡ true → IsNewField sources object k → said.unwritten object k ≡ Some true → said.as_made object v ≡ true
-        → Holds entries object o)
+    → Holds entries object o)
 
 -- ---- a new object
 
@@ -158,14 +158,16 @@ AreObjectsBegun = (shapes : ModuleShapes) (sources : List Source) (said now : Pr
 -- ---- other results
 
 -- what a result may be
-pub record MayBegin (shapes : ModuleShapes) (sources : List Source) (said : Progress) (memory : Memory) (entries : List Entry) (v : ValueId) (x : Datum) : Type 0 where
+pub record MayBegin (shapes : ModuleShapes) (sources : List Source) (said : Progress) (memory : Memory) (entries : List Entry)
+    (v : ValueId) (x : Datum) : Type 0 where
   pub named : Each (MayName shapes sources said memory entries v) (references_in x)
   pub same : (object : ValueId) → (v ≡ object → ⊥) → IsAbout sources object v → (o : ObjectId) → Holds entries object o → references_in x ≡ o ∷ []
   pub placed : (l : Location) (of : ValueId) (k : ℕ) → IsFieldAddress sources v l of k → (p : Place) → x ≡ AddressOf p
       → (o : ObjectId) × IsInField shapes o (object_at memory o) l k p
 
 -- the entry is as it was, or of such a result
-pub data Begins (shapes : ModuleShapes) (sources : List Source) (said now : Progress) (memory : Memory) (entries behind : List Entry) (v : ValueId) : Type 0 where
+pub data Begins (shapes : ModuleShapes) (sources : List Source) (said now : Progress) (memory : Memory) (entries behind : List Entry)
+    (v : ValueId) : Type 0 where
   stays : entry_at behind v ≡ entry_at entries v → ((w : ValueId) → now.as_made w v ≡ true → said.as_made w v ≡ true)
       → Begins shapes sources said now memory entries behind v
   begins : ((x : Datum) → Names behind v x → MayBegin shapes sources said memory entries v x) → Begins shapes sources said now memory entries behind v

@@ -15,7 +15,7 @@ use Rattle.copy_pairing.specs.declared.surveys.Survey.{Survey}
 use Rattle.copy_pairing.specs.declared.notes.Age.{Age}
 use Rattle.copy_pairing.specs.declared.notes.Age.TheVariants.{Current, Moved, Lent}
 use Rattle.copy_pairing.specs.declared.notes.Notes.{Notes}
-use Rattle.copy_pairing.specs.inner.Answers.{AreAnswers, AreSpared}
+use Rattle.borrowable_copies.specs.inner.Answers.{AreAnswers, AreSpared}
 
 -- the survey is the function's
 pub record IsSurveyOf (types : Declarations) (f : Function) (s : Survey) : Type 0 where

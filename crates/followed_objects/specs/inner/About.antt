@@ -1,11 +1,11 @@
 -- Values that are about a new object: what makes one takes another, and the object is as it was when it was made.
 use Rattle.std.specs.Prelude.{◌≡◌, ◌⊎◌, List, ◌∷◌, true, Contains}
-use Rattle.accepted_memory.specs.accepted_trails.inner.Bases.{IsAsMade}
-use Rattle.accepted_memory.specs.accepted_trails.inner.Defined.{makes}
-use Rattle.accepted_memory.specs.memory_accesses.Sources.{sources_of}
-use Rattle.accepted_memory.specs.run_trails.inner.RunTrails.{IsRunTrail}
-use Rattle.accepted_values.specs.inner.Known.{InAccepted}
-use Rattle.built_objects.specs.inner.Building.{IsAbout}
+use Rattle.held_places.specs.accepted_places.accepted_memory.accepted_trails.inner.Bases.{IsAsMade}
+use Rattle.held_places.specs.accepted_places.accepted_memory.accepted_trails.inner.Defined.{makes}
+use Rattle.held_places.specs.accepted_places.accepted_memory.memory_accesses.Sources.{sources_of}
+use Rattle.held_places.specs.accepted_places.accepted_memory.run_trails.inner.RunTrails.{IsRunTrail}
+use Rattle.held_places.specs.accepted_places.accepted_values.inner.Known.{InAccepted}
+use Rattle.held_objects.specs.built_objects.inner.Building.{IsAbout}
 use Rattle.item_operands.specs.Items.{item_taken}
 use Rattle.item_operands.specs.declared.taken.Taken.{Taken}
 use Rattle.sil_ast.specs.declared.function.Function.{Function}

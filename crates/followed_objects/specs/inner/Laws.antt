@@ -1,24 +1,24 @@
 -- How items go on with the new objects of an accepted function.
 use Rattle.std.specs.Prelude.{◌≡◌, ◌⊎◌, ℕ, List, [], ◌∷◌, Bool, true, false, Contains, Some, unwrap_or}
 use Rattle.std.specs.List.{list_any}
-use Rattle.accepted_memory.specs.accepted_trails.inner.Defined.{IsDefinedOn, makes}
-use Rattle.accepted_memory.specs.accepted_trails.inner.Passing.{is_end}
-use Rattle.accepted_memory.specs.holder_model.Frames.{Entry}
-use Rattle.accepted_memory.specs.memory_accesses.Locations.{location_of}
-use Rattle.accepted_memory.specs.memory_accesses.Operations.{operations_of}
-use Rattle.accepted_memory.specs.memory_accesses.Sources.{sources_of}
-use Rattle.accepted_memory.specs.memory_accesses.declared.access.Operated.{Operated}
-use Rattle.accepted_memory.specs.memory_accesses.declared.location.Location.{Location}
-use Rattle.accepted_memory.specs.memory_parts.Building.{builds, fills}
-use Rattle.accepted_memory.specs.ownership_kinds.Facts.{facts_in}
-use Rattle.accepted_memory.specs.run_trails.inner.RunTrails.{IsRunTrail}
-use Rattle.accepted_memory.specs.run_trails.inner.Since.{is_none_since}
-use Rattle.accepted_memory.specs.run_trails.inner.Switched.{finds}
-use Rattle.accepted_places.specs.inner.Cells.{mark_at}
-use Rattle.accepted_values.specs.inner.Known.{InAccepted}
-use Rattle.built_objects.specs.inner.Building.{IsFieldAddress, IsNewField}
-use Rattle.built_objects.specs.inner.Laws.{IsMadeNow, IsWrittenNow}
-use Rattle.held_entries.specs.inner.Entries.{AreEnded}
+use Rattle.held_places.specs.accepted_places.accepted_memory.accepted_trails.inner.Defined.{IsDefinedOn, makes}
+use Rattle.held_places.specs.accepted_places.accepted_memory.accepted_trails.inner.Passing.{is_end}
+use Rattle.held_places.specs.accepted_places.accepted_memory.holder_model.Frames.{Entry}
+use Rattle.held_places.specs.accepted_places.accepted_memory.memory_accesses.Locations.{location_of}
+use Rattle.held_places.specs.accepted_places.accepted_memory.memory_accesses.Operations.{operations_of}
+use Rattle.held_places.specs.accepted_places.accepted_memory.memory_accesses.Sources.{sources_of}
+use Rattle.held_places.specs.accepted_places.accepted_memory.memory_accesses.declared.access.Operated.{Operated}
+use Rattle.held_places.specs.accepted_places.accepted_memory.memory_accesses.declared.location.Location.{Location}
+use Rattle.held_places.specs.accepted_places.accepted_memory.memory_parts.Building.{builds, fills}
+use Rattle.held_places.specs.accepted_places.accepted_memory.ownership_kinds.Facts.{facts_in}
+use Rattle.held_places.specs.accepted_places.accepted_memory.run_trails.inner.RunTrails.{IsRunTrail}
+use Rattle.held_places.specs.accepted_places.accepted_memory.run_trails.inner.Since.{is_none_since}
+use Rattle.held_places.specs.accepted_places.accepted_memory.run_trails.inner.Switched.{finds}
+use Rattle.held_places.specs.accepted_places.inner.Cells.{mark_at}
+use Rattle.held_places.specs.accepted_places.accepted_values.inner.Known.{InAccepted}
+use Rattle.held_objects.specs.built_objects.inner.Building.{IsFieldAddress, IsNewField}
+use Rattle.held_objects.specs.built_objects.inner.Laws.{IsMadeNow, IsWrittenNow}
+use Rattle.held_places.specs.accepted_places.held_entries.inner.Entries.{AreEnded}
 use Rattle.held_objects.specs.inner.Items.{LosesEntries}
 use Rattle.item_operands.specs.Items.{item_defined, item_taken}
 use Rattle.item_operands.specs.Parts.{inst_at, item_inst}

@@ -1,13 +1,13 @@
 -- What the trails of a function say of its new objects.
 use Rattle.std.specs.Prelude.{ℕ, List, Bool, false, cond, nat_lt, None}
-use Rattle.accepted_memory.specs.accepted_trails.inner.Defined.{makes}
-use Rattle.accepted_memory.specs.memory_accesses.Sources.{source_at, sources_of}
-use Rattle.accepted_memory.specs.memory_accesses.declared.source.Source.{Source}
-use Rattle.accepted_memory.specs.memory_accesses.declared.source.Source.TheVariants as source
-use Rattle.accepted_memory.specs.memory_parts.declared.part.Part.TheVariants.{Building}
-use Rattle.accepted_memory.specs.run_trails.inner.Since.{is_none_since}
-use Rattle.accepted_memory.specs.inner.PartTrails.{is_on}
-use Rattle.built_objects.specs.inner.Building.{IsUnfinished, Progress}
+use Rattle.held_places.specs.accepted_places.accepted_memory.accepted_trails.inner.Defined.{makes}
+use Rattle.held_places.specs.accepted_places.accepted_memory.memory_accesses.Sources.{source_at, sources_of}
+use Rattle.held_places.specs.accepted_places.accepted_memory.memory_accesses.declared.source.Source.{Source}
+use Rattle.held_places.specs.accepted_places.accepted_memory.memory_accesses.declared.source.Source.TheVariants as source
+use Rattle.held_places.specs.accepted_places.accepted_memory.memory_parts.declared.part.Part.TheVariants.{Building}
+use Rattle.held_places.specs.accepted_places.accepted_memory.run_trails.inner.Since.{is_none_since}
+use Rattle.held_places.specs.accepted_places.accepted_memory.inner.PartTrails.{is_on}
+use Rattle.held_objects.specs.built_objects.inner.Building.{IsUnfinished, Progress}
 use Rattle.sil_ast.specs.declared.function.Function.{Function}
 use Rattle.sil_ast.specs.declared.module.Module.{Module}
 use Rattle.sil_ast.specs.declared.place.ValueId.{ValueId}

@@ -11,16 +11,16 @@ use Rattle.sil_ast.specs.declared.place.ValueId.{ValueId}
 use Rattle.type_definitions.specs.Declarations.{Declarations}
 use Rattle.run_values.specs.Memory.{Memory, is_dead}
 use Rattle.run_values.specs.Shapes.{Shape}
-use Rattle.holder_counts.specs.holder_model.Data.{Datum}
-use Rattle.holder_counts.specs.holder_model.Edges.{carried_along}
-use Rattle.holder_counts.specs.holder_model.Effects as effects
-use Rattle.holder_counts.specs.holder_model.Effects.{Change}
-use Rattle.holder_counts.specs.holder_model.Frames.{Entry, Frame, Operands, operands_of}
-use Rattle.holder_counts.specs.holder_model.Holders.{one_object}
-use Rattle.holder_counts.specs.holder_model.MemoryEffects.{effect}
-use Rattle.holder_counts.specs.holder_model.ModuleShapes.{ModuleShapes}
-use Rattle.holder_counts.specs.holder_model.States.{Task}
-use Rattle.holder_counts.specs.inner.Naming.{HoldsNone, IsAlive, LoadsStrongly, in_data}
+use Rattle.followed_objects.specs.holder_counts.holder_model.Data.{Datum}
+use Rattle.followed_objects.specs.holder_counts.holder_model.Edges.{carried_along}
+use Rattle.followed_objects.specs.holder_counts.holder_model.Effects as effects
+use Rattle.followed_objects.specs.holder_counts.holder_model.Effects.{Change}
+use Rattle.followed_objects.specs.holder_counts.holder_model.Frames.{Entry, Frame, Operands, operands_of}
+use Rattle.followed_objects.specs.holder_counts.holder_model.Holders.{one_object}
+use Rattle.followed_objects.specs.holder_counts.holder_model.MemoryEffects.{effect}
+use Rattle.followed_objects.specs.holder_counts.holder_model.ModuleShapes.{ModuleShapes}
+use Rattle.followed_objects.specs.holder_counts.holder_model.States.{Task}
+use Rattle.followed_objects.specs.holder_counts.inner.Naming.{HoldsNone, IsAlive, LoadsStrongly, in_data}
 use Rattle.guarded_entries.specs.inner.GuardedStates.{HaveDeadNoHolders}
 use Rattle.guarded_entries.specs.inner.Stepping.{KeepsPhases}
 

@@ -16,11 +16,11 @@ use Rattle.sil_cfg.specs.declared.item.Item.TheVariants as item
 use Rattle.type_definitions.specs.Declarations.{declarations_of}
 use Rattle.run_values.specs.Memory.{Memory}
 use Rattle.run_values.specs.Values.{Value}
-use Rattle.held_entries.specs.accepted_trails.ownership_kinds.Facts.{facts_in}
-use Rattle.accepted_values.specs.inner.Known.{IsAcceptedBody, kind_at}
-use Rattle.holder_counts.specs.holder_model.Data.{Datum, ValueOf, references_in}
-use Rattle.holder_counts.specs.holder_model.Edges.{carried_along}
-use Rattle.holder_counts.specs.holder_model.Frames.{Entry, Lent, Operands, made_entry, operands_of}
+use Rattle.followed_objects.specs.scoped_addresses.held_entries.accepted_trails.ownership_kinds.Facts.{facts_in}
+use Rattle.followed_objects.specs.scoped_addresses.accepted_values.inner.Known.{IsAcceptedBody, kind_at}
+use Rattle.followed_objects.specs.holder_counts.holder_model.Data.{Datum, ValueOf, references_in}
+use Rattle.followed_objects.specs.holder_counts.holder_model.Edges.{carried_along}
+use Rattle.followed_objects.specs.holder_counts.holder_model.Frames.{Entry, Lent, Operands, made_entry, operands_of}
 use Rattle.guarded_entries.specs.inner.Guards.{AreLentGuarded, AreOfKinds, IsCurrent, IsNamed, Lending}
 use Rattle.guarded_entries.specs.inner.Kept.{IsNewlyGuarded}
 

@@ -1,6 +1,6 @@
 -- What an accepted function's trails say of guards: operands are current where entries go along with the trail, what open scopes borrow doesn't end,
 -- and neither an open scope nor an argument begins anew.
-use Rattle.std.specs.Prelude.{◌≡◌, ℕ, List, ◌∷◌, true, false, Contains, Ok, Some}
+use Rattle.std.specs.Prelude.{◌≡◌, ℕ, List, ◌∷◌, true, false, Ok}
 use Rattle.item_operands.specs.Items.{item_taken}
 use Rattle.item_operands.specs.declared.taken.Taken.{Taken}
 use Rattle.numbered_form.specs.Lists.{Each}
@@ -10,18 +10,17 @@ use Rattle.sil_ast.specs.declared.place.ValueId.{ValueId}
 use Rattle.sil_cfg.specs.declared.item.Item.{Item}
 use Rattle.sil_cfg.specs.declared.item.Item.TheVariants as item
 use Rattle.type_definitions.specs.Declarations.{Declarations, declarations_of}
-use Rattle.type_definitions.specs.declared.kind.Kind.TheVariants as kind
 use Rattle.run_values.specs.Memory.{Memory}
 use Rattle.value_tables.specs.Borrows.{is_borrow}
-use Rattle.held_entries.specs.accepted_trails.inner.Bases.{IsBaseOf}
-use Rattle.held_entries.specs.accepted_trails.inner.Defined.{IsDefinedOn, makes}
-use Rattle.held_entries.specs.accepted_trails.inner.Lives.{BorrowsFrom, IsOwnedIn, is_open}
-use Rattle.held_entries.specs.accepted_trails.ownership_kinds.Facts.{facts_in}
-use Rattle.held_entries.specs.accepted_trails.run_trails.inner.RunTrails.{IsTurnedTrail}
-use Rattle.held_entries.specs.inner.Tracked.{AreTracked, IsOwnScope}
-use Rattle.accepted_values.specs.inner.Known.{IsAcceptedBody, kind_at}
-use Rattle.holder_counts.specs.holder_model.Data.{Datum}
-use Rattle.holder_counts.specs.holder_model.Frames.{Entry, Lent, entry_at, without_ended}
+use Rattle.followed_objects.specs.scoped_addresses.held_entries.accepted_trails.inner.Defined.{IsDefinedOn, makes}
+use Rattle.followed_objects.specs.scoped_addresses.held_entries.accepted_trails.inner.Lives.{BorrowsFrom, IsOwnedIn}
+use Rattle.followed_objects.specs.scoped_addresses.held_entries.accepted_trails.ownership_kinds.Facts.{facts_in}
+use Rattle.followed_objects.specs.scoped_addresses.held_entries.accepted_trails.run_trails.inner.RunTrails.{IsTurnedTrail}
+use Rattle.followed_objects.specs.scoped_addresses.held_entries.inner.Tracked.{AreTracked, IsOwnScope}
+use Rattle.followed_objects.specs.scoped_addresses.accepted_values.inner.Known.{IsAcceptedBody}
+use Rattle.followed_objects.specs.holder_counts.holder_model.Data.{Datum}
+use Rattle.followed_objects.specs.holder_counts.holder_model.Frames.{Entry, Lent, entry_at, without_ended}
+use Rattle.followed_objects.specs.scoped_addresses.inner.Addresses.{TakesAddressesInScopes}
 use Rattle.guarded_entries.specs.inner.Guards.{IsArgument, IsCurrent, IsThere, Lending}
 
 -- a value that is neither Owned nor a scope is there once the trail has made it
@@ -32,11 +31,6 @@ OthersAreThere d f t entries = (v : ValueId) → (IsOwnedIn d f v → ⊥) → (
 pub record GoAlong (d : Declarations) (f : Function) (t : List Item) (entries : List Entry) : Type 0 where
   pub tracked : AreTracked d f t entries
   pub others : OthersAreThere d f t entries
-
--- scopes among the bases of an address are open where the next item takes the address
-abbrev pub TakesAddressesInScopes : Declarations → Function → List Item → Item → Type 0
-TakesAddressesInScopes d f t i = (x : Taken) (s : ValueId) → Contains (item_taken f i) x → kind_at d f x.value ≡ kind.Plain → IsBaseOf d f s x.value
-    → is_borrow f s ≡ true → is_open d f s t ≡ Some true
 
 -- each base of what the next item takes is there, and hasn't begun anew since
 abbrev pub AreOperandsCurrent : Type 0

@@ -5,13 +5,13 @@ use Rattle.sil_ast.specs.declared.function.Function.{Function}
 use Rattle.sil_ast.specs.declared.inst.Inst.{Inst}
 use Rattle.sil_ast.specs.declared.module.Module.{Module}
 use Rattle.type_definitions.specs.Declarations.{Declarations, declarations_of}
-use Rattle.accepted_values.specs.run_typing.Forms.{Form}
-use Rattle.owned_run_typing.specs.inner.OwnedRows.{OwnedRowForms}
-use Rattle.typed_memory.specs.inner.Worlds.{DatumIs, World}
-use Rattle.typed_holders.specs.inner.TypedStates.{EntriesAre}
-use Rattle.tracked_frames.specs.inner.TrackedStates.{GoesAlong}
-use Rattle.holder_counts.specs.holder_model.Data.{Datum}
-use Rattle.holder_counts.specs.holder_model.Frames.{Entry, Frame}
+use Rattle.followed_objects.specs.scoped_addresses.accepted_values.run_typing.Forms.{Form}
+use Rattle.followed_objects.specs.scoped_addresses.owned_run_typing.inner.OwnedRows.{OwnedRowForms}
+use Rattle.followed_objects.specs.tracked_frames.typed_memory.inner.Worlds.{DatumIs, World}
+use Rattle.followed_objects.specs.tracked_frames.typed_holders.inner.TypedStates.{EntriesAre}
+use Rattle.followed_objects.specs.tracked_frames.inner.TrackedStates.{GoesAlong}
+use Rattle.followed_objects.specs.holder_counts.holder_model.Data.{Datum}
+use Rattle.followed_objects.specs.holder_counts.holder_model.Frames.{Entry, Frame}
 use Rattle.guarded_entries.specs.inner.Following.{GoAlong}
 use Rattle.guarded_entries.specs.inner.Guards.{AreOfKinds}
 use Rattle.guarded_entries.specs.inner.Rows.{HandsValues}

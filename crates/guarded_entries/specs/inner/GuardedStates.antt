@@ -11,13 +11,13 @@ use Rattle.type_definitions.specs.Declarations.{declarations_of}
 use Rattle.run_values.specs.declared.phase.Phase.{Phase}
 use Rattle.run_values.specs.declared.phase.Phase.TheVariants.{Live, Deiniting, Dead}
 use Rattle.run_values.specs.Memory.{Memory, is_dead, phase_of}
-use Rattle.holder_counts.specs.holder_model.Data.{Datum, references_in}
-use Rattle.holder_counts.specs.holder_model.Frames.{Frame, Lent, entry_at}
-use Rattle.holder_counts.specs.holder_model.Holders.{in_memory, one_object}
-use Rattle.holder_counts.specs.holder_model.HolderStates.{HolderState}
-use Rattle.holder_counts.specs.holder_model.States.{Drops, Finishes, Runs, Task}
-use Rattle.holder_counts.specs.holder_steps.inner.Stacks.{Below, Going}
-use Rattle.holder_counts.specs.inner.Moving.{in_tasks}
+use Rattle.followed_objects.specs.holder_counts.holder_model.Data.{Datum, references_in}
+use Rattle.followed_objects.specs.holder_counts.holder_model.Frames.{Frame, Lent, entry_at}
+use Rattle.followed_objects.specs.holder_counts.holder_model.Holders.{in_memory, one_object}
+use Rattle.followed_objects.specs.holder_counts.holder_model.HolderStates.{HolderState}
+use Rattle.followed_objects.specs.holder_counts.holder_model.States.{Drops, Finishes, Runs, Task}
+use Rattle.followed_objects.specs.holder_counts.holder_steps.inner.Stacks.{Below, Going}
+use Rattle.followed_objects.specs.holder_counts.inner.Moving.{in_tasks}
 use Rattle.guarded_entries.specs.inner.Guards.{AreLentGuarded, AreOfKinds, Guard, IsArgument, IsNamed, Lending}
 
 abbrev pub is_deiniting_phase : Phase → Bool

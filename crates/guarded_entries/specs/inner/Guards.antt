@@ -12,14 +12,14 @@ use Rattle.run_values.specs.Cells.{Keeps}
 use Rattle.run_values.specs.Memory.{Memory}
 use Rattle.run_values.specs.Values.{Value, references_of}
 use Rattle.value_tables.specs.Borrows.{is_borrow}
-use Rattle.held_entries.specs.holder_model.Data.{Datum, references_in}
-use Rattle.held_entries.specs.holder_model.Frames.{Entry, Gone, Held, Lent, entry_at, made_entry}
-use Rattle.held_entries.specs.holder_model.Holders.{of_references, one_object}
-use Rattle.held_entries.specs.accepted_trails.inner.Bases.{IsBaseOf}
-use Rattle.held_entries.specs.accepted_trails.inner.Defined.{makes}
-use Rattle.held_entries.specs.accepted_trails.inner.Lives.{BorrowsFrom}
-use Rattle.held_entries.specs.accepted_trails.run_trails.inner.Since.{is_none_since}
-use Rattle.accepted_values.specs.inner.Known.{kind_at}
+use Rattle.followed_objects.specs.scoped_addresses.held_entries.holder_model.Data.{Datum, references_in}
+use Rattle.followed_objects.specs.scoped_addresses.held_entries.holder_model.Frames.{Entry, Gone, Held, Lent, entry_at, made_entry}
+use Rattle.followed_objects.specs.scoped_addresses.held_entries.holder_model.Holders.{of_references, one_object}
+use Rattle.followed_objects.specs.scoped_addresses.held_entries.accepted_trails.inner.Bases.{IsBaseOf}
+use Rattle.followed_objects.specs.scoped_addresses.held_entries.accepted_trails.inner.Defined.{makes}
+use Rattle.followed_objects.specs.scoped_addresses.held_entries.accepted_trails.inner.Lives.{BorrowsFrom}
+use Rattle.followed_objects.specs.scoped_addresses.held_entries.accepted_trails.run_trails.inner.Since.{is_none_since}
+use Rattle.followed_objects.specs.scoped_addresses.accepted_values.inner.Known.{kind_at}
 
 -- the object stands among the references
 abbrev pub IsNamed : ObjectId → List ObjectId → Type 0

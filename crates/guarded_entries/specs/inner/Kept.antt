@@ -13,19 +13,19 @@ use Rattle.type_definitions.specs.Declarations.{Declarations, declarations_of}
 use Rattle.run_values.specs.Memory.{Memory, is_dead}
 use Rattle.run_values.specs.Values.{Value, references_of}
 use Rattle.value_tables.specs.Borrows.{is_borrow}
-use Rattle.held_entries.specs.accepted_trails.inner.Bases.{IsBaseOf}
-use Rattle.held_entries.specs.accepted_trails.inner.Defined.{makes}
-use Rattle.held_entries.specs.accepted_trails.inner.Lives.{BorrowsFrom}
-use Rattle.held_entries.specs.accepted_trails.ownership_kinds.Facts.{facts_in}
-use Rattle.accepted_values.specs.inner.Known.{kind_at}
-use Rattle.holder_counts.specs.holder_model.Data.{Datum, references_in}
-use Rattle.holder_counts.specs.holder_model.Faults.{NamesDead}
-use Rattle.holder_counts.specs.holder_model.Frames.{Entry, Frame, Held, Lent, entry_at, made_entry, operands_of, results_put, without_ended}
-use Rattle.holder_counts.specs.holder_model.Holders.{in_memory, one_object}
-use Rattle.holder_counts.specs.holder_model.HolderStates.{HolderState}
-use Rattle.holder_counts.specs.holder_model.States.{Runs, Task}
-use Rattle.holder_counts.specs.inner.Moving.{in_tasks}
-use Rattle.holder_counts.specs.inner.Taking.{in_entries}
+use Rattle.followed_objects.specs.scoped_addresses.held_entries.accepted_trails.inner.Bases.{IsBaseOf}
+use Rattle.followed_objects.specs.scoped_addresses.held_entries.accepted_trails.inner.Defined.{makes}
+use Rattle.followed_objects.specs.scoped_addresses.held_entries.accepted_trails.inner.Lives.{BorrowsFrom}
+use Rattle.followed_objects.specs.scoped_addresses.held_entries.accepted_trails.ownership_kinds.Facts.{facts_in}
+use Rattle.followed_objects.specs.scoped_addresses.accepted_values.inner.Known.{kind_at}
+use Rattle.followed_objects.specs.holder_counts.holder_model.Data.{Datum, references_in}
+use Rattle.followed_objects.specs.holder_counts.holder_model.Faults.{NamesDead}
+use Rattle.followed_objects.specs.holder_counts.holder_model.Frames.{Entry, Frame, Held, Lent, entry_at, made_entry, operands_of, results_put, without_ended}
+use Rattle.followed_objects.specs.holder_counts.holder_model.Holders.{in_memory, one_object}
+use Rattle.followed_objects.specs.holder_counts.holder_model.HolderStates.{HolderState}
+use Rattle.followed_objects.specs.holder_counts.holder_model.States.{Runs, Task}
+use Rattle.followed_objects.specs.holder_counts.inner.Moving.{in_tasks}
+use Rattle.followed_objects.specs.holder_counts.inner.Taking.{in_entries}
 use Rattle.guarded_entries.specs.inner.Guards.{AreLentGuarded, AreOfKinds, Guard, IsArgument, IsCurrent, IsNamed, IsThere, KeepsAt, Lending}
 use Rattle.guarded_entries.specs.inner.GuardedStates.{BelowIsGuarded, IsGuardedIn, IsGuardedState, KeepsBelow, Loans, finishes_of}
 
@@ -96,7 +96,7 @@ abbrev pub AreGuardedLeft : Type 0
 AreGuardedLeft = (d : Declarations) (f : Function) (lends : Lending) (m : Memory) (entries left : List Entry) (t : List Item) (ts : List Taken)
     → AreOfKinds d f entries → AreLentGuarded d f lends m entries t → without_ended (facts_in d f) ts entries ≡ Ok left
     → ((s b : ValueId) (x : Datum) → is_borrow f s ≡ true → entry_at entries s ≡ Lent x → IsThere (entry_at left s) → BorrowsFrom d f s b
-        → IsThere (entry_at entries b) → IsThere (entry_at left b))
+    → IsThere (entry_at entries b) → IsThere (entry_at left b))
     → AreOfKinds d f left × AreLentGuarded d f lends m left t
 
 module _ (d : Declarations) (f : Function) (lends lends' : Lending) (m m' : Memory) (left : List Entry) (o : ObjectId) where

@@ -18,15 +18,15 @@ use Rattle.run_values.specs.Places.{Place, value_at}
 use Rattle.run_values.specs.Shapes.{Shape}
 use Rattle.run_values.specs.Values.{Value, references_of}
 use Rattle.value_tables.specs.Borrows.{is_borrow}
-use Rattle.held_entries.specs.accepted_trails.ownership_kinds.Facts.{facts_in}
-use Rattle.accepted_values.specs.inner.Known.{IsAcceptedBody, kind_at}
-use Rattle.holder_counts.specs.holder_model.declared.row_effect.RowEffect.TheVariants as row
-use Rattle.holder_counts.specs.holder_model.Data.{AddressOf, Datum, ValueOf, references_in}
-use Rattle.holder_counts.specs.holder_model.Effects as effects
-use Rattle.holder_counts.specs.holder_model.Effects.{Change, effect_of}
-use Rattle.holder_counts.specs.holder_model.Frames.{Entry, Lent, Operands, made_entry, operands_of}
-use Rattle.holder_counts.specs.holder_model.MemoryEffects.{effect}
-use Rattle.holder_counts.specs.holder_model.ModuleShapes.{ModuleShapes}
+use Rattle.followed_objects.specs.scoped_addresses.held_entries.accepted_trails.ownership_kinds.Facts.{facts_in}
+use Rattle.followed_objects.specs.scoped_addresses.accepted_values.inner.Known.{IsAcceptedBody, kind_at}
+use Rattle.followed_objects.specs.holder_counts.holder_model.declared.row_effect.RowEffect.TheVariants as row
+use Rattle.followed_objects.specs.holder_counts.holder_model.Data.{AddressOf, Datum, ValueOf, references_in}
+use Rattle.followed_objects.specs.holder_counts.holder_model.Effects as effects
+use Rattle.followed_objects.specs.holder_counts.holder_model.Effects.{Change, effect_of}
+use Rattle.followed_objects.specs.holder_counts.holder_model.Frames.{Entry, Lent, Operands, made_entry, operands_of}
+use Rattle.followed_objects.specs.holder_counts.holder_model.MemoryEffects.{effect}
+use Rattle.followed_objects.specs.holder_counts.holder_model.ModuleShapes.{ModuleShapes}
 use Rattle.guarded_entries.specs.inner.Guards.{AreLentGuarded, AreOfKinds, IsCurrent, IsNamed, KeepsAt, Lending}
 use Rattle.guarded_entries.specs.inner.Kept.{IsNewlyGuarded}
 
@@ -43,7 +43,7 @@ LendsLoaded f lends memory later i xs = (p : Place) (v : ValueId) (n : ℕ) (x :
 abbrev pub AreRowsGuarded : Type 0
 AreRowsGuarded = (m : Module) (n : ℕ) (f : Function) → IsAcceptedBody m n f → (p : PointId) (i : Inst) → inst_at f p ≡ Some i
     → (shapes : ModuleShapes) (values : List Shape) (lends lends' : Lending) (memory : Memory) (entries : List Entry) (t : List Item) (ops : Operands)
-        (c : Change)
+    (c : Change)
     → operands_of (facts_in (declarations_of m) f) memory entries (item_taken f (item.Inst p)) ≡ Ok ops
     → effect (declarations_of m) shapes values memory i ops.given ≡ effects.Makes c
     → AreOfKinds (declarations_of m) f entries → AreLentGuarded (declarations_of m) f lends memory ops.left t

@@ -15,20 +15,21 @@ use Rattle.run_values.specs.Memory.{Memory, is_dead, is_live, object_at, phase_o
 use Rattle.run_values.specs.Places.{Place}
 use Rattle.run_values.specs.Values.{Value}
 use Rattle.value_tables.specs.Borrows.{is_borrow}
-use Rattle.held_entries.specs.accepted_trails.inner.Bases.{IsBaseOf}
-use Rattle.held_entries.specs.accepted_trails.inner.Defined.{makes}
-use Rattle.held_entries.specs.accepted_trails.inner.Lives.{BorrowsFrom}
-use Rattle.held_entries.specs.accepted_trails.ownership_kinds.Facts.{facts_in}
-use Rattle.accepted_values.specs.inner.Known.{kind_at}
-use Rattle.holder_counts.specs.holder_model.Calling.{value_count}
-use Rattle.holder_counts.specs.holder_model.Data.{Datum, references_in}
-use Rattle.holder_counts.specs.holder_model.Dropping.{ended, field_references, in_phase}
-use Rattle.holder_counts.specs.holder_model.Frames.{Entry, Frame, Lent, LentPlace, Operands, entry_at, made_entry, no_entries, operands_of, results_put}
-use Rattle.holder_counts.specs.holder_model.Holders.{in_memory, one_object}
-use Rattle.holder_counts.specs.holder_model.StepParts.{new_frame}
-use Rattle.holder_counts.specs.holder_model.States.{Drops, Finishes, Runs, Task, dropping}
-use Rattle.holder_counts.specs.holder_model.Effects.{Change, SameSlots}
-use Rattle.holder_counts.specs.inner.Naming.{HoldsNone, in_datum}
+use Rattle.followed_objects.specs.scoped_addresses.held_entries.accepted_trails.inner.Bases.{IsBaseOf}
+use Rattle.followed_objects.specs.scoped_addresses.held_entries.accepted_trails.inner.Defined.{makes}
+use Rattle.followed_objects.specs.scoped_addresses.held_entries.accepted_trails.inner.Lives.{BorrowsFrom}
+use Rattle.followed_objects.specs.scoped_addresses.held_entries.accepted_trails.ownership_kinds.Facts.{facts_in}
+use Rattle.followed_objects.specs.scoped_addresses.accepted_values.inner.Known.{kind_at}
+use Rattle.followed_objects.specs.holder_counts.holder_model.Calling.{value_count}
+use Rattle.followed_objects.specs.holder_counts.holder_model.Data.{Datum, references_in}
+use Rattle.followed_objects.specs.holder_counts.holder_model.Dropping.{ended, field_references, in_phase}
+use Rattle.followed_objects.specs.holder_counts.holder_model.Frames.{Entry, Frame, Lent, LentPlace, Operands}
+use Rattle.followed_objects.specs.holder_counts.holder_model.Frames.{entry_at, made_entry, no_entries, operands_of, results_put}
+use Rattle.followed_objects.specs.holder_counts.holder_model.Holders.{in_memory, one_object}
+use Rattle.followed_objects.specs.holder_counts.holder_model.StepParts.{new_frame}
+use Rattle.followed_objects.specs.holder_counts.holder_model.States.{Drops, Finishes, Runs, Task, dropping}
+use Rattle.followed_objects.specs.holder_counts.holder_model.Effects.{Change, SameSlots}
+use Rattle.followed_objects.specs.holder_counts.inner.Naming.{HoldsNone, in_datum}
 use Rattle.guarded_entries.specs.inner.Guards.{IsArgument, IsNamed, IsThere, KeepsAt}
 use Rattle.guarded_entries.specs.inner.GuardedStates.{IsGuardedIn, IsGuardedRun, Loans, holders_in, is_deiniting_phase}
 use Rattle.guarded_entries.specs.inner.Kept.{ArePutRight}
@@ -143,7 +144,7 @@ module _ (m : Module) (loans : Loans) where
       (entries : List Entry) → IsGuardedRun m loans memory (Finishes (h ∷ gs) o ∷ rest) → slice_get m.functions g.0 ≡ Some callee
       → results_put (facts_in (declarations_of m) callee) (item_defined callee item.Entry) args (no_entries (value_count callee)) ≡ Ok entries
       → ((p : ObjectId) → is_dead memory p ≡ true → HoldsNone (one_object p)
-          (record { results = args; dropped = []; retained = []; memory = memory; slots = SameSlots }))
+      (record { results = args; dropped = []; retained = []; memory = memory; slots = SameSlots }))
       → AreArgumentsGuarded callee args (λ p. p ≡ o)
       → IsGuardedRun m loans memory (Runs (new_frame g entries) ∷ Finishes gs o ∷ rest)
 

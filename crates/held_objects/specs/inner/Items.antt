@@ -3,16 +3,16 @@ use Rattle.std.specs.Prelude.{◌≡◌, ◌⊎◌, ℕ, List, [], ◌∷◌, tr
 use Rattle.built_objects.specs.inner.Building.{IsUnfinished, Progress}
 use Rattle.built_objects.specs.inner.FrameObjects.{Names}
 use Rattle.built_objects.specs.inner.Laws.{Begins, HoldsNew, IsMadeNow, IsOutside, IsWrittenNow, WritesField, with_object_of}
-use Rattle.holder_model.specs.Calling.{handed_over}
-use Rattle.holder_model.specs.Data.{Datum, references_in}
-use Rattle.holder_model.specs.Frames.{Entry, Frame, Gone, LentPlace, entry_at}
-use Rattle.holder_model.specs.ModuleShapes.{field_shapes, shapes_of}
-use Rattle.holder_model.specs.Outcomes.{begins}
-use Rattle.holder_model.specs.StepParts.{new_frame}
-use Rattle.holder_model.specs.States.{Finishes, Runs, Task, dropping}
-use Rattle.holder_model.specs.memory_accesses.Sources.{source_at, sources_of}
-use Rattle.holder_model.specs.memory_accesses.declared.source.Source.{Source}
-use Rattle.holder_model.specs.memory_accesses.declared.source.Source.TheVariants as source
+use Rattle.holder_steps.specs.holder_model.Calling.{handed_over}
+use Rattle.holder_steps.specs.holder_model.Data.{Datum, references_in}
+use Rattle.holder_steps.specs.holder_model.Frames.{Entry, Frame, Gone, LentPlace, entry_at}
+use Rattle.holder_steps.specs.holder_model.ModuleShapes.{field_shapes, shapes_of}
+use Rattle.holder_steps.specs.holder_model.Outcomes.{begins}
+use Rattle.holder_steps.specs.holder_model.StepParts.{new_frame}
+use Rattle.holder_steps.specs.holder_model.States.{Finishes, Runs, Task, dropping}
+use Rattle.holder_steps.specs.holder_model.memory_accesses.Sources.{source_at, sources_of}
+use Rattle.holder_steps.specs.holder_model.memory_accesses.declared.source.Source.{Source}
+use Rattle.holder_steps.specs.holder_model.memory_accesses.declared.source.Source.TheVariants as source
 use Rattle.memory_cells.specs.inner.Cells.{IsInside}
 use Rattle.numbered_form.specs.Lists.{Each}
 use Rattle.numbered_form.specs.Names.{Name}
@@ -28,7 +28,7 @@ use Rattle.sil_ast.specs.declared.place.ValueId.{ValueId}
 use Rattle.sil_cfg.specs.declared.item.Item.{Item}
 use Rattle.sil_cfg.specs.declared.item.Item.TheVariants as item
 use Rattle.type_definitions.specs.Declarations.{declarations_of}
-use Rattle.whole_objects.specs.inner.Whole.{IsWholeMemory, NameWhole}
+use Rattle.built_objects.specs.whole_objects.inner.Whole.{IsWholeMemory, NameWhole}
 use Rattle.held_objects.specs.inner.ObjectStates.{AreObjectsRight, BelowBuild, FrameBuilds, TasksBuild}
 use Rattle.held_objects.specs.inner.Laws.{StaysBelow}
 
@@ -81,7 +81,7 @@ module _ (m : Module) (said : Function → List Item → Progress) where
   abbrev pub AreFieldWritesRight : Type 0
   AreFieldWritesRight = (memory : Memory) (rest : List (Task Frame)) (frame : Frame) (f : Function) (i : Item) (left : List Entry) (p : Place) (x : Value)
       (slots : List Place) (dropped : List ObjectId) → Stands memory rest frame f → IsFieldWrite memory frame f i left p x
-          → NameWhole (filled memory p x) dropped
+      → NameWhole (filled memory p x) dropped
       → IsWholeMemory (filled memory p x) × TasksBuild m said (filled memory p x) (dropping dropped (Runs (frame_behind frame i left slots) ∷ rest))
 
   -- an object is made
@@ -110,7 +110,8 @@ module _ (m : Module) (said : Function → List Item → Progress) where
   IsOnStack memory l = (l.place.home ≡ OnStack) × IsInside memory l.place
 
   abbrev pub AreCallsRight : Type 0
-  AreCallsRight = (memory : Memory) (rest : List (Task Frame)) (frame : Frame) (f : Function) (left : List Entry) (lent : List LentPlace) (g : FuncId) (callee : Function)
+  AreCallsRight = (memory : Memory) (rest : List (Task Frame)) (frame : Frame) (f : Function) (left : List Entry)
+      (lent : List LentPlace) (g : FuncId) (callee : Function)
       (entries : List Entry) → Stands memory rest frame f → LosesEntries (sources_in f) (said f frame.trail) frame.entries left → Each (IsOnStack memory) lent
       → slice_get m.functions g.0 ≡ Some callee → AreEntered memory callee entries
       → IsWholeMemory (handed_over memory lent)

@@ -1,17 +1,17 @@
 -- Laws of the objects of states.
 use Rattle.std.specs.Prelude.{◌≡◌, ◌<◌, ◌≤◌, ◌⊎◌, ℕ, List, length}
 use Rattle.built_objects.specs.inner.Building.{Progress}
-use Rattle.holder_model.specs.Frames.{Frame}
-use Rattle.holder_model.specs.HolderStates.{HolderState}
-use Rattle.holder_model.specs.ModuleFacts.{ModuleFacts}
-use Rattle.holder_model.specs.States.{Goes, Task}
+use Rattle.holder_steps.specs.holder_model.Frames.{Frame}
+use Rattle.holder_steps.specs.holder_model.HolderStates.{HolderState}
+use Rattle.holder_steps.specs.holder_model.ModuleFacts.{ModuleFacts}
+use Rattle.holder_steps.specs.holder_model.States.{Goes, Task}
 use Rattle.holder_steps.specs.inner.Ways.{DropsOne, FinishesOne}
 use Rattle.run_values.specs.Memory.{Memory, object_at}
 use Rattle.sil_ast.specs.declared.function.Function.{Function}
 use Rattle.sil_ast.specs.declared.module.Module.{Module}
 use Rattle.sil_ast.specs.declared.place.ObjectId.{ObjectId}
 use Rattle.sil_cfg.specs.declared.item.Item.{Item}
-use Rattle.whole_objects.specs.inner.Whole.{IsWhole, StayWhole}
+use Rattle.built_objects.specs.whole_objects.inner.Whole.{IsWhole, StayWhole}
 use Rattle.held_objects.specs.inner.ObjectStates.{AreObjectsRight, BelowBuild, BuildsNone, TasksBuild}
 
 module _ (m : Module) (said : Function → List Item → Progress) where

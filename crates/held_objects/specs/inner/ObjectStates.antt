@@ -2,11 +2,11 @@
 use Rattle.std.specs.Prelude.{◌≡◌, List, [], ◌∷◌, Some, slice_get}
 use Rattle.built_objects.specs.inner.Building.{IsUnfinished, Progress}
 use Rattle.built_objects.specs.inner.FrameObjects.{Holds, HoldsObjects}
-use Rattle.holder_model.specs.Frames.{Frame}
-use Rattle.holder_model.specs.HolderStates.{HolderState}
-use Rattle.holder_model.specs.ModuleShapes.{shapes_of}
-use Rattle.holder_model.specs.States.{Drops, Finishes, Runs, Task}
-use Rattle.holder_model.specs.memory_accesses.Sources.{sources_of}
+use Rattle.holder_steps.specs.holder_model.Frames.{Frame}
+use Rattle.holder_steps.specs.holder_model.HolderStates.{HolderState}
+use Rattle.holder_steps.specs.holder_model.ModuleShapes.{shapes_of}
+use Rattle.holder_steps.specs.holder_model.States.{Drops, Finishes, Runs, Task}
+use Rattle.holder_steps.specs.holder_model.memory_accesses.Sources.{sources_of}
 use Rattle.holder_steps.specs.inner.Stacks.{Below, Going}
 use Rattle.run_values.specs.Memory.{Memory}
 use Rattle.sil_ast.specs.declared.function.Function.{Function}
@@ -16,7 +16,7 @@ use Rattle.sil_ast.specs.declared.place.ObjectId.{ObjectId}
 use Rattle.sil_ast.specs.declared.place.ValueId.{ValueId}
 use Rattle.sil_cfg.specs.declared.item.Item.{Item}
 use Rattle.type_definitions.specs.Declarations.{declarations_of}
-use Rattle.whole_objects.specs.inner.Whole.{IsWhole, IsWholeMemory, NameWhole}
+use Rattle.built_objects.specs.whole_objects.inner.Whole.{IsWhole, IsWholeMemory, NameWhole}
 
 -- what the trail of a frame says of its new objects is told by its function
 module _ (m : Module) (said : Function → List Item → Progress) where

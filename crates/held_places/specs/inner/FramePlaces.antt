@@ -1,24 +1,24 @@
 -- The places of a frame: what its roots name, what is in their cells, and which of them it has lent.
 use Rattle.std.specs.Prelude.{◌≡◌, ◌+◌, ◌==◌, ◌&&◌, ℕ, List, [], ◌∷◌, Bool, true, false, not, Some, slice_get}
 use Rattle.std.specs.List.{list_any}
-use Rattle.accepted_memory.specs.accepted_trails.inner.Bases.{IsAsMade}
-use Rattle.accepted_memory.specs.memory_accesses.Locations.{location_of}
-use Rattle.accepted_memory.specs.memory_accesses.Rows.{is_part}
-use Rattle.accepted_memory.specs.memory_accesses.Sources.{source_at, sources_of}
-use Rattle.accepted_memory.specs.memory_accesses.declared.location.Location.{Location}
-use Rattle.accepted_memory.specs.memory_accesses.declared.source.Source.TheVariants as source
-use Rattle.accepted_places.specs.inner.Stacks.{slots_on}
+use Rattle.tracked_frames.specs.placed_values.accepted_memory.accepted_trails.inner.Bases.{IsAsMade}
+use Rattle.tracked_frames.specs.placed_values.accepted_memory.memory_accesses.Locations.{location_of}
+use Rattle.tracked_frames.specs.placed_values.accepted_memory.memory_accesses.Rows.{is_part}
+use Rattle.tracked_frames.specs.placed_values.accepted_memory.memory_accesses.Sources.{source_at, sources_of}
+use Rattle.tracked_frames.specs.placed_values.accepted_memory.memory_accesses.declared.location.Location.{Location}
+use Rattle.tracked_frames.specs.placed_values.accepted_memory.memory_accesses.declared.source.Source.{Source}
+use Rattle.tracked_frames.specs.placed_values.accepted_memory.memory_accesses.declared.source.Source.TheVariants as source
+use Rattle.tracked_frames.specs.placed_values.accepted_places.inner.Stacks.{slots_on}
 use Rattle.argument_conventions.specs.declared.row.AddressRow.{AddressRow}
-use Rattle.accepted_memory.specs.holder_model.Data.{AddressOf}
-use Rattle.accepted_memory.specs.holder_model.Frames.{Entry, Frame, LentPlace, datum_in, entry_at}
-use Rattle.accepted_memory.specs.holder_model.States.{Drops, Finishes, Runs, Task}
+use Rattle.tracked_frames.specs.placed_values.accepted_memory.holder_model.Data.{AddressOf}
+use Rattle.tracked_frames.specs.placed_values.accepted_memory.holder_model.Frames.{Entry, Frame, LentPlace, datum_in, entry_at}
+use Rattle.tracked_frames.specs.placed_values.accepted_memory.holder_model.States.{Drops, Finishes, Runs, Task}
 use Rattle.memory_cells.specs.inner.Cells.{AreApart, IsCell, IsInside, cell_at, has_cell}
 use Rattle.run_values.specs.Memory.{Memory}
 use Rattle.run_values.specs.Places.{OnStack, Place}
 use Rattle.sil_ast.specs.declared.function.Function.{Function}
 use Rattle.sil_ast.specs.declared.module.Module.{Module}
 use Rattle.sil_ast.specs.declared.place.ValueId.{ValueId}
-use Rattle.sil_cfg.specs.declared.item.Item.{Item}
 use Rattle.type_definitions.specs.Declarations.{Declarations, declarations_of}
 use Rattle.value_parts.specs.inner.Paths.{IsPart, cells_before}
 use Rattle.held_places.specs.inner.Roots.{IsThere, is_full_on, is_shared}
@@ -40,6 +40,11 @@ pub record IsPartAt (whole : Place) (path : List ℕ) (p : Place) : Type 0 where
   pub shape : IsPart whole.shape path p.shape
   pub first : p.first ≡ whole.first + cells_before whole.shape path
   pub part : p.is_part ≡ true
+
+-- addresses of fields, and of what lies in fields, name no place on the stack
+abbrev pub AreFieldsInside : List Source → List Entry → Type 0
+AreFieldsInside sources entries = (v : ValueId) (l : Location) → location_of sources v ≡ Some l → (of : ValueId) (k : ℕ) (trivial : Bool)
+    → source_at sources l.root ≡ source.Field of k trivial → (p : Place) → Names entries v p → p.home ≡ OnStack → ⊥
 
 -- the slots of a frame are named by these values, one by one, and none is a part
 abbrev pub AreSlotsOf : List Entry → List ValueId → List Place → Type 0
@@ -88,6 +93,7 @@ module _ (m : Module) (memory : Memory) where
     pub parts : (v : ValueId) (l : Location) → location_of (sources_of (declarations_of m) f) v ≡ Some l → is_part l ≡ true
         → IsAsMade f frame.trail l.root v
         → (whole p : Place) → Names frame.entries l.root whole → Names frame.entries v p → IsPartAt whole l.path p
+    pub fields : AreFieldsInside (sources_of (declarations_of m) f) frame.entries
     -- the place of an argument is a whole one
     pub handed : (v : ValueId) (row : AddressRow) (trivial : Bool) → source_at (sources_of (declarations_of m) f) v ≡ source.Argument row trivial
         → (p : Place) → Names frame.entries v p → p.is_part ≡ false

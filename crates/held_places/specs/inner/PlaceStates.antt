@@ -1,14 +1,16 @@
 -- States of a run by holders whose places are as the trails of their frames say.
 use Rattle.std.specs.Prelude.{◌≡◌, List, [], ◌∷◌, Some, false, map, slice_get}
-use Rattle.accepted_memory.specs.memory_accesses.Operations.{operations_of}
-use Rattle.accepted_memory.specs.memory_accesses.declared.access.Operated.{Operated}
-use Rattle.accepted_memory.specs.memory_accesses.declared.access.Operation.TheVariants.{Handed}
-use Rattle.accepted_memory.specs.holder_model.Calling.{places_given}
-use Rattle.accepted_memory.specs.holder_model.Frames.{Entry, Frame, LentPlace}
-use Rattle.accepted_memory.specs.holder_model.HolderStates.{HolderState}
-use Rattle.accepted_memory.specs.holder_model.Standing.{stands_at}
-use Rattle.accepted_memory.specs.holder_model.States.{Task}
-use Rattle.holder_steps.specs.inner.Stacks.{Below, Going}
+use Rattle.tracked_frames.specs.placed_values.accepted_memory.memory_accesses.Operations.{operations_of}
+use Rattle.tracked_frames.specs.placed_values.accepted_memory.memory_accesses.declared.access.Operated.{Operated}
+use Rattle.tracked_frames.specs.placed_values.accepted_memory.memory_accesses.declared.access.Operation.TheVariants.{Handed}
+use Rattle.tracked_frames.specs.placed_values.accepted_memory.holder_model.Calling.{places_given}
+use Rattle.tracked_frames.specs.placed_values.accepted_memory.holder_model.Effects.{effect_of}
+use Rattle.tracked_frames.specs.placed_values.accepted_memory.holder_model.Frames.{Entry, Frame, LentPlace}
+use Rattle.tracked_frames.specs.placed_values.accepted_memory.holder_model.HolderStates.{HolderState}
+use Rattle.tracked_frames.specs.placed_values.accepted_memory.holder_model.Standing.{stands_at}
+use Rattle.tracked_frames.specs.placed_values.accepted_memory.holder_model.States.{Task}
+use Rattle.tracked_frames.specs.placed_values.accepted_memory.holder_model.declared.row_effect.RowEffect.TheVariants.{CallsFunction}
+use Rattle.tracked_frames.specs.holder_steps.inner.Stacks.{Below, Going}
 use Rattle.item_operands.specs.Parts.{inst_at}
 use Rattle.run_values.specs.Memory.{Memory}
 use Rattle.sil_ast.specs.declared.function.Function.{Function}
@@ -44,6 +46,7 @@ module _ (m : Module) (memory : Memory) where
     pub holds : HoldsPlaces m memory f frame rest
     pub call : Inst
     pub stands : inst_at f (stands_at f frame.trail) ≡ Some call
+    pub calls : effect_of call.op ≡ CallsFunction
     pub lent : AreLentBy frame.entries (operations_of call) frame.lent
     -- and these are the places that the callee was given
     pub body : Function

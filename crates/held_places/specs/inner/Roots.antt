@@ -1,12 +1,12 @@
 -- The roots of a frame on the stack: its slots that are allocated, and the arguments that were handed over by their addresses.
 use Rattle.std.specs.Prelude.{◌≡◌, List, Bool, true, false, Option, Some, None}
-use Rattle.accepted_memory.specs.inner.PartTrails.{is_on}
-use Rattle.accepted_memory.specs.memory_accesses.Sources.{source_at, sources_of}
-use Rattle.accepted_memory.specs.memory_accesses.declared.source.Source.{Source}
-use Rattle.accepted_memory.specs.memory_accesses.declared.source.Source.TheVariants as source
-use Rattle.accepted_memory.specs.memory_parts.declared.part.Part.{Part}
-use Rattle.accepted_places.specs.inner.Cells.{part_at}
-use Rattle.accepted_places.specs.inner.Stacks.{slots_on}
+use Rattle.tracked_frames.specs.placed_values.accepted_memory.inner.PartTrails.{is_on}
+use Rattle.tracked_frames.specs.placed_values.accepted_memory.memory_accesses.Sources.{source_at, sources_of}
+use Rattle.tracked_frames.specs.placed_values.accepted_memory.memory_accesses.declared.source.Source.{Source}
+use Rattle.tracked_frames.specs.placed_values.accepted_memory.memory_accesses.declared.source.Source.TheVariants as source
+use Rattle.tracked_frames.specs.placed_values.accepted_memory.memory_parts.declared.part.Part.{Part}
+use Rattle.tracked_frames.specs.placed_values.accepted_places.inner.Cells.{part_at}
+use Rattle.tracked_frames.specs.placed_values.accepted_places.inner.Stacks.{slots_on}
 use Rattle.argument_conventions.specs.declared.row.AddressRow.{AddressRow}
 use Rattle.ownership_chains.specs.Facts.{has}
 use Rattle.sil_ast.specs.declared.function.Function.{Function}

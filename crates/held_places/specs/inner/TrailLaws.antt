@@ -1,14 +1,17 @@
 -- The laws of trails by which a run's places are right: those of slots and of cells, and that no root that is there is made anew.
 use Rattle.std.specs.Prelude.{◌≡◌, List, ◌∷◌, false}
-use Rattle.accepted_memory.specs.accepted_trails.inner.Accepted.{IsAcceptedIn}
-use Rattle.accepted_memory.specs.run_trails.inner.RunTrails.{GoesOn, IsRunTrail}
-use Rattle.placed_values.specs.inner.Arguments.{AreArgumentsTold, AreArgumentsWhole, AreBegunTold, AreResultsTold, AreRootsTrivial, AreToldArguments, AreTrivialFull}
-use Rattle.accepted_places.specs.inner.Cells.{AreCellsKept, AreDeallocatedEmpty, AreGivenSo, AreNewEmpty, AreOperationsRight, AreOthersFull, AreReturnedSo, AreRootsFollowed}
-use Rattle.accepted_places.specs.inner.Loans.{AreApartByCells}
-use Rattle.accepted_places.specs.inner.Located.{AreInAllocated, AreOperandsLocated}
-use Rattle.accepted_places.specs.inner.Operations.{AreApart, AreRowsRight}
-use Rattle.accepted_places.specs.inner.Stacks.{AreNoneLeft, AreSlots, AreSlotsAllocated, AreSlotsClosed, AreSlotsKept, AreSlotsOpened}
-use Rattle.accepted_values.specs.inner.Known.{InAccepted}
+use Rattle.tracked_frames.specs.placed_values.accepted_memory.accepted_trails.inner.Accepted.{IsAcceptedIn}
+use Rattle.tracked_frames.specs.placed_values.accepted_memory.run_trails.inner.RunTrails.{GoesOn, IsRunTrail}
+use Rattle.tracked_frames.specs.placed_values.inner.Arguments.{AreArgumentsTold, AreArgumentsWhole, AreBegunTold}
+use Rattle.tracked_frames.specs.placed_values.inner.Arguments.{AreResultsTold, AreRootsTrivial, AreToldArguments, AreTrivialFull}
+use Rattle.tracked_frames.specs.placed_values.accepted_places.inner.Cells.{AreCellsKept, AreDeallocatedEmpty, AreGivenSo, AreNewEmpty}
+use Rattle.tracked_frames.specs.placed_values.accepted_places.inner.Cells.{AreOperationsRight, AreOthersFull, AreReturnedSo, AreRootsFollowed}
+use Rattle.tracked_frames.specs.placed_values.accepted_places.inner.Loans.{AreApartByCells}
+use Rattle.tracked_frames.specs.placed_values.accepted_places.inner.Located.{AreInAllocated, AreOperandsLocated}
+use Rattle.tracked_frames.specs.placed_values.accepted_places.inner.Operations.{AreApart, AreRowsRight}
+use Rattle.tracked_frames.specs.placed_values.accepted_places.inner.Stacks.{AreNoneLeft, AreSlots, AreSlotsAllocated}
+use Rattle.tracked_frames.specs.placed_values.accepted_places.inner.Stacks.{AreSlotsClosed, AreSlotsKept, AreSlotsOpened}
+use Rattle.tracked_frames.specs.placed_values.accepted_values.inner.Known.{InAccepted}
 use Rattle.item_operands.specs.Items.{item_defined}
 use Rattle.ownership_chains.specs.Facts.{has}
 use Rattle.sil_ast.specs.declared.place.ValueId.{ValueId}

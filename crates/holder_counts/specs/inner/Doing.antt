@@ -13,15 +13,15 @@ use Rattle.run_values.specs.Places.{Inside, OnStack, Place, emptied, filled, mem
 use Rattle.run_values.specs.Shapes.{Shape, storage_in}
 use Rattle.run_values.specs.Values as value
 use Rattle.run_values.specs.Values.{Value, grouped, members_of, object_of, references_of}
-use Rattle.holder_model.specs.memory_accesses.declared.access.Operation.{Operation}
-use Rattle.holder_model.specs.declared.row_effect.RowEffect.TheVariants as row
-use Rattle.holder_model.specs.Builtins.{builtin_value}
-use Rattle.holder_model.specs.Data.{AddressOf, Datum, FunctionOf, ValueOf, references_in, values_of}
-use Rattle.holder_model.specs.Effects as effects
-use Rattle.holder_model.specs.Effects.{Change, ClosesSlot, OpensSlot, effect_of, member_of, new_slot, result_shape, unchanged}
-use Rattle.holder_model.specs.Faults.{HolderFault}
-use Rattle.holder_model.specs.MemoryEffects.{after, all_live, copies_with, effect, operation_done, references_at}
-use Rattle.holder_model.specs.ModuleShapes.{ModuleShapes, field_shapes}
+use Rattle.holder_steps.specs.holder_model.memory_accesses.declared.access.Operation.{Operation}
+use Rattle.holder_steps.specs.holder_model.declared.row_effect.RowEffect.TheVariants as row
+use Rattle.holder_steps.specs.holder_model.Builtins.{builtin_value}
+use Rattle.holder_steps.specs.holder_model.Data.{AddressOf, Datum, FunctionOf, ValueOf, references_in, values_of}
+use Rattle.holder_steps.specs.holder_model.Effects as effects
+use Rattle.holder_steps.specs.holder_model.Effects.{Change, ClosesSlot, OpensSlot, effect_of, member_of, new_slot, result_shape, unchanged}
+use Rattle.holder_steps.specs.holder_model.Faults.{HolderFault}
+use Rattle.holder_steps.specs.holder_model.MemoryEffects.{after, all_live, copies_with, effect, operation_done, references_at}
+use Rattle.holder_steps.specs.holder_model.ModuleShapes.{ModuleShapes, field_shapes}
 use Rattle.holder_counts.specs.inner.Keeping.{with_new_object, with_new_slot}
 
 -- results, and nothing else
@@ -45,13 +45,17 @@ module _ (d : Declarations) (shapes : ModuleShapes) (values : List Shape) (m : M
     drops : (x : Datum) → effect_of i.op ≡ row.DropsOperand → xs ≡ x ∷ [] → Leaves (record (unchanged m) { dropped = references_in x })
     loads : (o : Operation) (p : Place) (x : Value) → effect_of i.op ≡ row.LoadsValue → operation_done d shapes values m i ≡ Some o → xs ≡ AddressOf p ∷ []
         → value_at m p ≡ Some x
-        → Leaves (record (unchanged (after d shapes values m i o p)) { results = ValueOf x ∷ []; retained = cond (copies_with i.qualifier) (references_of x) [] })
+        → Leaves (record (unchanged (after d shapes values m i o p)) {
+          results = ValueOf x ∷ [];
+          retained = cond (copies_with i.qualifier) (references_of x) [];
+        })
     names : (o : Operation) (p : Place) (x : Value) → effect_of i.op ≡ row.LoadsName → operation_done d shapes values m i ≡ Some o → xs ≡ AddressOf p ∷ []
         → value_at m p ≡ Some x → all_live m (references_of x) ≡ true
         → Leaves (record (unchanged (after d shapes values m i o p)) { results = ValueOf x ∷ []; retained = references_of x })
     names_none : (o : Operation) (p : Place) → effect_of i.op ≡ row.LoadsName → operation_done d shapes values m i ≡ Some o → xs ≡ AddressOf p ∷ []
         → Leaves (giving (after d shapes values m i o p) (ValueOf (value.Case 0) ∷ []))
-    stores : (o : Operation) (x : Value) (p : Place) → effect_of i.op ≡ row.StoresValue → operation_done d shapes values m i ≡ Some o → xs ≡ ValueOf x ∷ AddressOf p ∷ []
+    stores : (o : Operation) (x : Value) (p : Place) → effect_of i.op ≡ row.StoresValue → operation_done d shapes values m i ≡ Some o
+        → xs ≡ ValueOf x ∷ AddressOf p ∷ []
         → Leaves (record (unchanged (filled m p x)) { dropped = references_at m p })
     destroys : (o : Operation) (p : Place) → effect_of i.op ≡ row.DestroysPlace → operation_done d shapes values m i ≡ Some o → xs ≡ AddressOf p ∷ []
         → Leaves (record (unchanged (after d shapes values m i o p)) { dropped = references_at m p })
@@ -61,7 +65,8 @@ module _ (d : Declarations) (shapes : ModuleShapes) (values : List Shape) (m : M
         → Leaves (giving m (ValueOf y ∷ []))
     members : (x : Value) (ys : List Value) → effect_of i.op ≡ row.GivesMembers → xs ≡ ValueOf x ∷ [] → members_of x ≡ Some ys
         → Leaves (giving m (map ValueOf ys))
-    part : (k : ℕ) (p q : Place) → effect_of i.op ≡ row.AddressesMember → xs ≡ AddressOf p ∷ [] → member_place p k ≡ Some q → Leaves (giving m (AddressOf q ∷ []))
+    part : (k : ℕ) (p q : Place) → effect_of i.op ≡ row.AddressesMember → xs ≡ AddressOf p ∷ [] → member_place p k ≡ Some q
+        → Leaves (giving m (AddressOf q ∷ []))
     field : (x : Value) (o : ObjectId) (q : Place) → effect_of i.op ≡ row.AddressesField → xs ≡ ValueOf x ∷ [] → object_of x ≡ Some o → q.home ≡ Inside o
         → Leaves (giving m (AddressOf q ∷ []))
 

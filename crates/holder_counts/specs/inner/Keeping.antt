@@ -13,9 +13,9 @@ use Rattle.run_values.specs.Memory.{Memory, Object, is_dead, is_dead_phase, obje
 use Rattle.run_values.specs.Places.{Home, Inside, OnStack, Place, cells_at, empty_fields, empty_slot, emptied, filled, home_cells, removed, with_cells}
 use Rattle.run_values.specs.Shapes.{Shape}
 use Rattle.run_values.specs.Values.{Value, references_of}
-use Rattle.holder_model.specs.Dropping.{ended, field_references, in_phase}
-use Rattle.holder_model.specs.Holders.{in_cells, in_memory, of_references}
-use Rattle.holder_model.specs.MemoryEffects.{references_at}
+use Rattle.holder_steps.specs.holder_model.Dropping.{ended, field_references, in_phase}
+use Rattle.holder_steps.specs.holder_model.Holders.{in_cells, in_memory, of_references}
+use Rattle.holder_steps.specs.holder_model.MemoryEffects.{references_at}
 
 -- ---- values as cells
 

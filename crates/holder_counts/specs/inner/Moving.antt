@@ -11,15 +11,15 @@ use Rattle.item_operands.specs.Items.{item_defined, item_taken}
 use Rattle.numbered_form.specs.Lists.{Each}
 use Rattle.run_values.specs.Memory.{is_dead, is_live}
 use Rattle.run_values.specs.Places.{Place}
-use Rattle.holder_model.specs.Calling.{value_count}
-use Rattle.holder_model.specs.Data.{Datum}
-use Rattle.holder_model.specs.Effects.{Change}
-use Rattle.holder_model.specs.Frames.{Entry, Frame, Operands, no_entries, operands_of, results_put}
-use Rattle.holder_model.specs.Holders.{in_memory, of_references}
-use Rattle.holder_model.specs.HolderStates.{HolderState, in_state, in_task}
-use Rattle.holder_model.specs.ModuleFacts.{ModuleFacts, facts_told}
-use Rattle.holder_model.specs.StepParts.{new_frame}
-use Rattle.holder_model.specs.States.{Drops, Runs, Task, dropping}
+use Rattle.holder_steps.specs.holder_model.Calling.{value_count}
+use Rattle.holder_steps.specs.holder_model.Data.{Datum}
+use Rattle.holder_steps.specs.holder_model.Effects.{Change}
+use Rattle.holder_steps.specs.holder_model.Frames.{Entry, Frame, Operands, no_entries, operands_of, results_put}
+use Rattle.holder_steps.specs.holder_model.Holders.{in_memory, of_references}
+use Rattle.holder_steps.specs.holder_model.HolderStates.{HolderState, in_state, in_task}
+use Rattle.holder_steps.specs.holder_model.ModuleFacts.{ModuleFacts, facts_told}
+use Rattle.holder_steps.specs.holder_model.StepParts.{new_frame}
+use Rattle.holder_steps.specs.holder_model.States.{Drops, Runs, Task, dropping}
 use Rattle.holder_steps.specs.inner.Ways.{deinitialising, finished, left_with, moved, operands_in, turned, with_tasks}
 use Rattle.holder_counts.specs.inner.Taking.{IsBelow, in_entries, references_begun, references_ended}
 
@@ -41,9 +41,9 @@ module _ (m : Module) (told : ModuleFacts) (bound : ℕ) where
       → results_put (facts_told told frame.function) (item_defined f i) c.results frame.entries ≡ Ok entries
       → Each (IsBelow (length frame.entries)) (item_defined f i)
       → in_state weight (moved m told bound s rest frame i c slots entries)
-        ≡ (in_entries weight frame.entries + in_tasks weight rest)
-          + (of_references weight (references_begun (facts_told told frame.function) (item_defined f i) c.results) + of_references weight c.dropped)
-          + in_memory weight storage.Strong c.memory
+      ≡ (in_entries weight frame.entries + in_tasks weight rest)
+      + (of_references weight (references_begun (facts_told told frame.function) (item_defined f i) c.results) + of_references weight c.dropped)
+      + in_memory weight storage.Strong c.memory
 
   -- what an item brings, drops and leaves in memory is what it took, what it made anew, and what was in memory
   pub record IsBalanced (weight : ObjectId → ℕ) (s : HolderState) (frame : Frame) (f : Function) (i : Item) (c : Change) (made : List ObjectId) : Type 0 where
@@ -62,18 +62,19 @@ module _ (m : Module) (told : ModuleFacts) (bound : ℕ) where
       → Each (IsBelow (length ops.left)) (item_defined f i)
       → IsBalanced weight s frame f i c made
       → in_state weight (moved m told bound s rest (left_with m told bound frame ops) i c slots entries)
-        ≡ in_state weight s + (of_references weight c.retained + of_references weight made)
+      ≡ in_state weight s + (of_references weight c.retained + of_references weight made)
 
   -- ---- calls
 
   -- a function that is entered holds what its arguments bring
   abbrev pub AreEntriesCounted : Type 0
-  AreEntriesCounted = (weight : ObjectId → ℕ) (s : HolderState) (rest : List (Task Frame)) (g : FuncId) (callee : Function) (args : List Datum) (entries : List Entry)
+  AreEntriesCounted = (weight : ObjectId → ℕ) (s : HolderState) (rest : List (Task Frame)) (g : FuncId) (callee : Function) (args : List Datum)
+      (entries : List Entry)
       → results_put (facts_told told g) (item_defined callee item.Entry) args (no_entries (value_count callee)) ≡ Ok entries
       → Each (IsBelow (value_count callee)) (item_defined callee item.Entry)
       → in_state weight (record (turned s) { tasks = Runs (new_frame g entries) ∷ rest })
-        ≡ of_references weight (references_begun (facts_told told g) (item_defined callee item.Entry) args) + in_tasks weight rest
-          + in_memory weight storage.Strong s.memory
+      ≡ of_references weight (references_begun (facts_told told g) (item_defined callee item.Entry) args) + in_tasks weight rest
+      + in_memory weight storage.Strong s.memory
 
   -- ---- drops and finishes
 

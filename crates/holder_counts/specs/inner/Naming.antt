@@ -9,12 +9,12 @@ use Rattle.type_definitions.specs.Declarations.{Declarations}
 use Rattle.run_values.specs.Memory.{Memory, is_dead}
 use Rattle.run_values.specs.Places.{Place, cells_at}
 use Rattle.run_values.specs.Shapes.{Shape}
-use Rattle.holder_model.specs.declared.row_effect.RowEffect.TheVariants as row
-use Rattle.holder_model.specs.Data.{AddressOf, Datum, references_in}
-use Rattle.holder_model.specs.Effects.{Change, effect_of}
-use Rattle.holder_model.specs.Frames.{any_dead}
-use Rattle.holder_model.specs.Holders.{in_memory, of_references}
-use Rattle.holder_model.specs.ModuleShapes.{ModuleShapes}
+use Rattle.holder_steps.specs.holder_model.declared.row_effect.RowEffect.TheVariants as row
+use Rattle.holder_steps.specs.holder_model.Data.{AddressOf, Datum, references_in}
+use Rattle.holder_steps.specs.holder_model.Effects.{Change, effect_of}
+use Rattle.holder_steps.specs.holder_model.Frames.{any_dead}
+use Rattle.holder_steps.specs.holder_model.Holders.{in_memory, of_references}
+use Rattle.holder_steps.specs.holder_model.ModuleShapes.{ModuleShapes}
 use Rattle.holder_counts.specs.inner.Doing.{Leaves}
 use Rattle.holder_counts.specs.inner.Keeping.{IsWithin, KeepsStrongly}
 

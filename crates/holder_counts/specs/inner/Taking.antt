@@ -9,10 +9,10 @@ use Rattle.sil_ast.specs.declared.place.ObjectId.{ObjectId}
 use Rattle.sil_ast.specs.declared.place.ValueId.{ValueId}
 use Rattle.type_definitions.specs.declared.kind.Kind.{Kind}
 use Rattle.type_definitions.specs.declared.kind.Kind.TheVariants as kind
-use Rattle.holder_model.specs.Data.{Datum, references_in}
-use Rattle.holder_model.specs.Frames.{Entry, ends, entry_at, held_references, results_put, without_ended}
-use Rattle.holder_model.specs.HolderStates.{in_entry}
-use Rattle.holder_model.specs.Holders.{of_references}
+use Rattle.holder_steps.specs.holder_model.Data.{Datum, references_in}
+use Rattle.holder_steps.specs.holder_model.Frames.{Entry, ends, entry_at, held_references, results_put, without_ended}
+use Rattle.holder_steps.specs.holder_model.HolderStates.{in_entry}
+use Rattle.holder_steps.specs.holder_model.Holders.{of_references}
 
 -- what a value of this kind holds
 abbrev pub owned_references : Kind → Datum → List ObjectId
@@ -43,7 +43,8 @@ IsBelow count v = v.0 < count
 
 -- operands that end take away what they held
 abbrev pub AreEndsCounted : Type 0
-AreEndsCounted = (weight : ObjectId → ℕ) (facts : ValueId → Option Facts) (ts : List Taken) (entries left : List Entry) → without_ended facts ts entries ≡ Ok left
+AreEndsCounted = (weight : ObjectId → ℕ) (facts : ValueId → Option Facts) (ts : List Taken) (entries left : List Entry)
+    → without_ended facts ts entries ≡ Ok left
     → in_entries weight left + of_references weight (references_ended facts entries ts) ≡ in_entries weight entries
 
 -- results bring what they hold

@@ -1,17 +1,17 @@
 -- Arguments of the entry that are addresses: what the signature tells of them, and that one of a trivial type stays full.
 use Rattle.std.specs.Prelude.{◌≡◌, ℕ, List, Bool, true, false, Some, slice_get}
-use Rattle.accepted_memory.specs.memory_accesses.Locations.{location_of}
-use Rattle.accepted_memory.specs.memory_accesses.Rows.{is_part}
-use Rattle.accepted_memory.specs.memory_accesses.Sources.{argument_source, result_source, source_at, sources_of}
-use Rattle.accepted_memory.specs.memory_accesses.declared.location.Location.{Location}
-use Rattle.accepted_memory.specs.memory_accesses.declared.source.Source.{Source}
-use Rattle.accepted_memory.specs.memory_accesses.declared.source.Source.TheVariants as source
-use Rattle.accepted_memory.specs.memory_parts.Parts.{whole_cell}
-use Rattle.accepted_memory.specs.memory_parts.declared.part.Part.TheVariants.{Contents}
-use Rattle.accepted_memory.specs.run_trails.inner.RunTrails.{GoesOn, IsRunTrail}
-use Rattle.accepted_memory.specs.inner.PartTrails.{is_on}
-use Rattle.accepted_values.specs.accepted_modules.sil_types.Typing.Shapes.{is_trivial_object, target}
-use Rattle.accepted_values.specs.inner.Known.{InAccepted, type_in}
+use Rattle.accepted_places.specs.accepted_memory.memory_accesses.Locations.{location_of}
+use Rattle.accepted_places.specs.accepted_memory.memory_accesses.Rows.{is_part}
+use Rattle.accepted_places.specs.accepted_memory.memory_accesses.Sources.{argument_source, result_source, source_at, sources_of}
+use Rattle.accepted_places.specs.accepted_memory.memory_accesses.declared.location.Location.{Location}
+use Rattle.accepted_places.specs.accepted_memory.memory_accesses.declared.source.Source.{Source}
+use Rattle.accepted_places.specs.accepted_memory.memory_accesses.declared.source.Source.TheVariants as source
+use Rattle.accepted_places.specs.accepted_memory.memory_parts.Parts.{whole_cell}
+use Rattle.accepted_places.specs.accepted_memory.memory_parts.declared.part.Part.TheVariants.{Contents}
+use Rattle.accepted_places.specs.accepted_memory.run_trails.inner.RunTrails.{GoesOn, IsRunTrail}
+use Rattle.accepted_places.specs.accepted_memory.inner.PartTrails.{is_on}
+use Rattle.accepted_places.specs.accepted_values.accepted_modules.sil_types.Typing.Shapes.{is_trivial_object, target}
+use Rattle.accepted_places.specs.accepted_values.inner.Known.{InAccepted, type_in}
 use Rattle.argument_conventions.specs.Arguments.{Told, arguments_of}
 use Rattle.argument_conventions.specs.Rows.{address_row}
 use Rattle.argument_conventions.specs.declared.row.AddressRow.{AddressRow}
@@ -44,7 +44,8 @@ AreArgumentsTold = InAccepted (λ d f. (v : ValueId) (row : AddressRow) (trivial
 
 -- and back: what the signature tells of an argument of the entry is its source
 abbrev pub AreToldArguments : Type 0
-AreToldArguments = InAccepted (λ d f. (k : ℕ) (v : ValueId) (a : Told) → slice_get (item_defined f item.Entry) k ≡ Some v → slice_get (arguments_of f.signature) k ≡ Some a
+AreToldArguments = InAccepted (λ d f. (k : ℕ) (v : ValueId) (a : Told) → slice_get (item_defined f item.Entry) k ≡ Some v
+    → slice_get (arguments_of f.signature) k ≡ Some a
     → source_at (sources_of d f) v ≡ argument_source d a)
 
 -- no argument of the entry is a part of another one

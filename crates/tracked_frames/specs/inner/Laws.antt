@@ -3,14 +3,15 @@ use Rattle.std.specs.Prelude.{◌≡◌, ℕ, Bool, true, false, Some, slice_get
 use Rattle.sil_ast.specs.declared.function.Function.{Function}
 use Rattle.sil_ast.specs.declared.module.Module.{Module}
 use Rattle.sil_ast.specs.declared.place.FuncId.{FuncId}
-use Rattle.accepted_premises.specs.held_entries.holder_model.Faults.{ConsumesLent, EmptyPlace, FullPlace, HolderFault, LeavesHeld, LeavesPlace, LeavesSlot, NamesDead, NoEntry}
-use Rattle.accepted_premises.specs.held_entries.holder_model.Faults.{NotLastSlot, OverwritesHeld, PlaceNotAsAsked, WrongShape}
-use Rattle.accepted_premises.specs.held_entries.holder_model.HolderStates.{HolderState}
-use Rattle.accepted_premises.specs.held_entries.holder_model.ModuleFacts.{facts_of}
-use Rattle.accepted_premises.specs.held_entries.holder_model.Outcomes.{begins, may_start}
-use Rattle.accepted_premises.specs.held_entries.holder_model.States.{Ends, Faulted, Goes}
-use Rattle.accepted_premises.specs.held_entries.holder_model.Steps.{step}
-use Rattle.accepted_premises.specs.accepted_values.accepted_modules.inner.Checked.{IsVerified}
+use Rattle.typed_holders.specs.accepted_premises.held_entries.holder_model.Faults.{ConsumesLent, EmptyPlace, FullPlace, HolderFault}
+use Rattle.typed_holders.specs.accepted_premises.held_entries.holder_model.Faults.{LeavesHeld, LeavesPlace, LeavesSlot, NamesDead, NoEntry}
+use Rattle.typed_holders.specs.accepted_premises.held_entries.holder_model.Faults.{NotLastSlot, OverwritesHeld, PlaceNotAsAsked, WrongShape}
+use Rattle.typed_holders.specs.accepted_premises.held_entries.holder_model.HolderStates.{HolderState}
+use Rattle.typed_holders.specs.accepted_premises.held_entries.holder_model.ModuleFacts.{facts_of}
+use Rattle.typed_holders.specs.accepted_premises.held_entries.holder_model.Outcomes.{begins, may_start}
+use Rattle.typed_holders.specs.accepted_premises.held_entries.holder_model.States.{Ends, Faulted, Goes}
+use Rattle.typed_holders.specs.accepted_premises.held_entries.holder_model.Steps.{step}
+use Rattle.typed_holders.specs.accepted_premises.accepted_values.accepted_modules.inner.Checked.{IsVerified}
 use Rattle.typed_holders.specs.inner.TypedStates.{IsTypedState}
 use Rattle.tracked_frames.specs.inner.TrackedStates.{IsTrackedState}
 

@@ -6,13 +6,13 @@ use Rattle.sil_ast.specs.declared.place.ValueId.{ValueId}
 use Rattle.sil_cfg.specs.declared.item.Item.{Item}
 use Rattle.sil_cfg.specs.declared.item.Item.TheVariants as item
 use Rattle.type_definitions.specs.Declarations.{Declarations, declarations_of}
-use Rattle.accepted_premises.specs.held_entries.accepted_trails.inner.Defined.{IsDefinedOn}
-use Rattle.accepted_premises.specs.held_entries.accepted_trails.inner.Lives.{IsOwnedIn}
-use Rattle.accepted_premises.specs.held_entries.holder_model.Frames.{Entry, Frame, Gone, Held, Lent, Plain, entry_at}
-use Rattle.accepted_premises.specs.held_entries.holder_model.HolderStates.{HolderState}
-use Rattle.accepted_premises.specs.held_entries.holder_model.Standing.{stands_at}
-use Rattle.accepted_premises.specs.held_entries.holder_model.States.{Task}
-use Rattle.accepted_premises.specs.held_entries.inner.Tracked.{AreTracked, AreTrackedLeft, IsOwnScope}
+use Rattle.typed_holders.specs.accepted_premises.held_entries.accepted_trails.inner.Defined.{IsDefinedOn}
+use Rattle.typed_holders.specs.accepted_premises.held_entries.accepted_trails.inner.Lives.{IsOwnedIn}
+use Rattle.typed_holders.specs.accepted_premises.held_entries.holder_model.Frames.{Entry, Frame, Gone, Held, Lent, Plain, entry_at}
+use Rattle.typed_holders.specs.accepted_premises.held_entries.holder_model.HolderStates.{HolderState}
+use Rattle.typed_holders.specs.accepted_premises.held_entries.holder_model.Standing.{stands_at}
+use Rattle.typed_holders.specs.accepted_premises.held_entries.holder_model.States.{Task}
+use Rattle.typed_holders.specs.accepted_premises.held_entries.inner.Tracked.{AreTracked, AreTrackedLeft, IsOwnScope}
 use Rattle.typed_holders.specs.holder_steps.inner.Stacks.{Going}
 
 -- the entry isn't gone

@@ -42,7 +42,7 @@ AreTakenWhole = (m : Memory) → IsWholeMemory m → (p : Place) → IsInside m 
 abbrev pub AreMadeWhole : Type 0
 AreMadeWhole = (m : Memory) → IsWholeMemory m
     → ((class : Name) (fields : List Shape)
-      → KeepsWhole m (record m { objects = m.objects ++ record { class = class; phase = Live; cells = empty_fields fields } ∷ [] }))
+    → KeepsWhole m (record m { objects = m.objects ++ record { class = class; phase = Live; cells = empty_fields fields } ∷ [] }))
     × ((s : Shape) → KeepsWhole m (record m { stack = m.stack ++ empty_slot s }))
 
 -- where an object changes its phase or dies

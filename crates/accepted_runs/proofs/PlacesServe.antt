@@ -1,0 +1,64 @@
+-- What objects ask of the places of a state: an operand that is no address of a field is on the stack, and a frame that waits stands at a call.
+use Rattle.std.proofs.Common.{◌≡◌, ⊎_elim, ℕ, List, ◌∷◌, Contains, Some, refl, sym, ap, ◌∙◌, subst, slice_get}
+use Rattle.std.proofs.lemmas.Option.{same_Some}
+use Rattle.held_loans.specs.followed_objects.accepted_values.accepted_modules.inner.Checked.{IsVerified}
+use Rattle.held_loans.specs.followed_objects.accepted_values.inner.Known.{IsAcceptedBody}
+use Rattle.held_loans.specs.followed_objects.inner.BuiltStates.{AreOthersOnStack, DoPlacesServe, WaitsAtCall}
+use Rattle.held_loans.proofs.followed_objects.held_entries.accepted_trails.run_trails.WalkEdges.{are_next}
+use Rattle.held_loans.specs.followed_objects.held_entries.accepted_trails.memory_accesses.Sources.{source_at, sources_of}
+use Rattle.held_loans.specs.followed_objects.held_entries.accepted_trails.memory_accesses.declared.source.Source.TheVariants as source
+use Rattle.held_loans.specs.followed_objects.held_entries.holder_model.Effects.{effect_of}
+use Rattle.held_loans.specs.followed_objects.held_entries.holder_model.Frames.{Frame}
+use Rattle.held_loans.specs.followed_objects.held_entries.holder_model.HolderStates.{HolderState}
+use Rattle.held_loans.specs.followed_objects.held_entries.holder_model.Standing.{stands_at}
+use Rattle.held_loans.specs.followed_objects.held_entries.holder_model.States.{Runs, Task}
+use Rattle.held_loans.specs.followed_objects.held_entries.holder_model.declared.row_effect.RowEffect.TheVariants as row
+use Rattle.held_loans.specs.held_places.inner.FramePlaces.{Names}
+use Rattle.held_loans.specs.held_places.inner.PlaceStates.{AreSlotsRight, TasksPlaced, WaitsPlaced}
+use Rattle.held_loans.proofs.held_places.Locating.{IsInObject, IsOperandAt, operand_at}
+use Rattle.held_loans.proofs.held_places.PlainAddresses.{named_address}
+use Rattle.held_loans.proofs.held_places.Reading.{operand_within}
+use Rattle.held_loans.proofs.held_places.RowsFind.{body, frame_typed, holds}
+use Rattle.held_loans.proofs.held_places.TrailsSo.{trail_laws}
+use Rattle.item_operands.specs.Parts.{inst_at}
+use Rattle.sil_ast.specs.declared.function.Function.{Function}
+use Rattle.sil_ast.specs.declared.inst.Inst.{Inst}
+use Rattle.sil_ast.specs.declared.module.Module.{Module}
+use Rattle.sil_cfg.specs.declared.item.Item.TheVariants as item
+use Rattle.type_definitions.specs.Declarations.{declarations_of}
+use Rattle.held_loans.specs.followed_objects.typed_holders.inner.TypedStates.{FrameIs, IsTypedState}
+
+module _ (m : Module) (s : HolderState) (verified : IsVerified m) (is_typed : IsTypedState m s) (placed : AreSlotsRight m s) where
+  others_on_stack : AreOthersOnStack m s
+  others_on_stack frame rest f i is there here y among l at other p names =
+      ⊎_elim
+      (λ rooted. (operand_within m s.memory f frame rest (holds trail_laws m s verified is_typed placed frame rest f i is there here) y.value operand.location operand.is
+      rooted operand.made p names).home)
+      (λ (field : IsInObject trail_laws m frame.function.0 f own operand.location.root). absurd (other field.of field.place field.trivial
+      (subst (λ x. source_at (sources_of (declarations_of m) f) x.root ≡ source.Field field.of field.place field.trivial)
+      (same_Some operand.location l (sym operand.is ∙ at)) field.source)))
+      operand.root
+    where
+      typed : FrameIs m is_typed.world f frame
+      typed = frame_typed trail_laws m s verified is_typed placed frame rest f i is there here
+
+      own : IsAcceptedBody m frame.function.0 f
+      own = body trail_laws m s verified is_typed placed frame rest f i is there here
+
+      operand : IsOperandAt trail_laws m frame.function.0 f own frame.trail y.value
+      operand =
+          operand_at trail_laws m frame.function.0 f own frame.trail (item.Inst (stands_at f frame.trail))
+          (are_next f frame.trail (item.Inst (stands_at f frame.trail)) typed.goes (refl, i, here), typed.trail) y among
+          (named_address m is_typed.world frame.function.0 f own frame.entries typed.entries y.value p names)
+
+  waits_at_call : WaitsAtCall m s
+  waits_at_call callee frame rest f i is there here =
+      let same : waits.f ≡ f = same_Some waits.f f (sym waits.is ∙ there) in
+      let call : waits.call ≡ i = same_Some waits.call i (sym (subst (λ g. inst_at g (stands_at g frame.trail) ≡ Some waits.call) same waits.stands) ∙ here) in
+      ap (λ x. effect_of x.op) (sym call) ∙ waits.calls
+    where
+      waits : WaitsPlaced m s.memory callee frame rest
+      waits = (subst (TasksPlaced m s.memory) is placed).1.0
+
+  pub places_serve : DoPlacesServe m s
+  places_serve = record { others = others_on_stack; waits = waits_at_call }

@@ -1,0 +1,10 @@
+pub mod ItemNumbers
+pub mod LawfulBehind
+pub mod KeptOnFunction
+pub mod WatchedMarks
+pub mod FreeAt
+pub mod EndedItems
+pub mod BorrowedCopies
+pub mod CopyFacts
+pub mod Answering
+pub mod FoundTogether

@@ -1,0 +1,4 @@
+pub mod Asked
+pub mod Watched
+pub mod Answers
+pub mod Together

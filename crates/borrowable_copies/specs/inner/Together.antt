@@ -1,0 +1,42 @@
+-- The table of all copies of a function: where each begins and ends, and where a base of what it copies ends.
+use Rattle.std.specs.Prelude.{◌≡◌, ◌↔◌, ℕ, ◌<◌, List, [], ◌∷◌, ◌++◌, Bool, false, cond, map, is_some, slice_index_or, Option, Some, None}
+use Rattle.sil_ast.specs.declared.function.Function.{Function}
+use Rattle.sil_ast.specs.declared.place.ValueId.{ValueId}
+use Rattle.sil_rules.specs.declared.rule.Rule.TheVariants.{ConsumedWhileBorrowed}
+use Rattle.path_checks.specs.declared.entry.Entry.{Entry}
+use Rattle.path_checks.specs.inner.Shared.{entry_if, shared_from}
+use Rattle.path_patterns.specs.Marks.{needs_off}
+use Rattle.path_patterns.specs.declared.mark.Mark as pattern
+use Rattle.ownership_chains.specs.Facts.{has, known_or}
+use Rattle.ownership_chains.specs.declared.facts.Facts.{Facts}
+use Rattle.ownership_marks.specs.Known.{Known, facts_of}
+use Rattle.ownership_marks.specs.declared.mark.Mark.{Mark}
+use Rattle.ownership_marks.specs.declared.mark.MarkSort.TheVariants.{End}
+use Rattle.copy_removal.specs.Removable.{is_sort}
+use Rattle.borrowable_copies.specs.inner.Asked.{AreFreeAt}
+use Rattle.borrowable_copies.specs.inner.Watched.{turned_by}
+
+-- what the copy that makes the value with this number copies, if one does
+abbrev pub operand_in : List (Option ValueId) → ℕ → Option ValueId
+operand_in copied c = slice_index_or copied c None
+
+-- where a value ends that is a base of the operand, a copy of it isn't held
+abbrev pub off_if : Known → ValueId → Option ValueId → Option pattern.Mark
+off_if k ended None = None
+off_if k ended (Some w) = cond (has (facts_of k w).bases ended.0) (Some (needs_off ConsumedWhileBorrowed)) None
+
+-- the turn of the mark's own value, if a copy makes it
+abbrev pub turn_of : List (Option ValueId) → Mark → List Entry
+turn_of copied m = cond (is_some (operand_in copied m.subject.0)) (entry_if m.subject.0 (turned_by m.sort)) []
+
+module _ (k : Known) (copied : List (Option ValueId)) where
+  abbrev pub off_of : Mark → List Entry
+  off_of m = cond (is_sort End m.sort) (shared_from 0 (map (off_if k m.subject) copied)) []
+
+  abbrev pub entries_of : Mark → List Entry
+  entries_of m = off_of m ++ turn_of copied m
+
+-- of each copy, among the first 1,024 values, it is told whether on no walk it is held where a base of what it copies ends
+abbrev pub AreFound : (ValueId → Option Facts) → Function → List (Option ValueId) → List Bool → Type 0
+AreFound facts f copied held = (c w : ValueId) → c.0 < 1024 → operand_in copied c.0 ≡ Some w
+    → (slice_index_or held c.0 false ≡ false) ↔ AreFreeAt facts f End (known_or facts w).bases (c ∷ [])

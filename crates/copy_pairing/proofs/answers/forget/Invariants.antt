@@ -1,5 +1,0 @@
-use Rattle.copy_pairing.proofs.Answering.{AreSparedBefore}
-use Rattle.copy_pairing.proofs.answers.forget.Given as goal
-
-abbrev pub invariant-loop-copy : goal.invariant-loop-copy
-invariant-loop-copy l = AreSparedBefore l.value l.copy l.initial.answers l.answers

@@ -1,6 +1,0 @@
-use Rattle.std.proofs.Common.{◌≡◌, ◌++◌, map, take}
-use Rattle.copy_pairing.specs.inner.Watched.{off_entry}
-use Rattle.copy_pairing.proofs.watched.add_off.Given as goal
-
-abbrev pub invariant-loop-value : goal.invariant-loop-value
-invariant-loop-value l = l.entries.items ≡ l.initial.entries.items ++ map off_entry (take l.value-index l.held)
