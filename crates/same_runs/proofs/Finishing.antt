@@ -43,7 +43,11 @@ use Rattle.stored_runs.proofs.StayingSteps.{dropping_for}
 use Rattle.stored_runs.proofs.TaskSteps as tasks
 use Rattle.stored_runs.proofs.TypedSteps.{LowFinish, finish_top}
 use Rattle.same_runs.specs.inner.Followed.{StepsToo}
-use Rattle.same_runs.specs.inner.Owed.{FinishesWhole}
+
+-- what finishes isn't dead, and each of its fields is written
+pub record FinishesWhole (s : HolderState) (o : ObjectId) : Type 0 where
+  pub alive : is_dead s.memory o ≡ false
+  pub written : (n : ℕ) → slice_get (object_at s.memory o).cells n ≡ Some Empty → ⊥
 
 -- ---- cells
 

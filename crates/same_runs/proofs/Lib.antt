@@ -11,3 +11,4 @@ pub mod DeinitBodies
 pub mod DeinitsCalled
 pub mod CountedTurns
 pub mod Come
+pub mod RightFinishes

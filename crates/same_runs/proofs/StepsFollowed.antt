@@ -45,10 +45,12 @@ use Rattle.stored_runs.proofs.TypedSteps.{typed_calls_step, typed_deinits_step, 
 use Rattle.same_runs.specs.inner.Followed.{EndsToo, Follows, GoesToo, StepsToo, low_next_of}
 use Rattle.same_runs.specs.inner.Laws.{AreStepsFollowed}
 use Rattle.same_runs.specs.inner.Owed.{AtInst, IsComeTo, IsOwed, LeavesSo, effect_there}
+use Rattle.accepted_runs.specs.inner.RightStates.{IsRightState}
 use Rattle.owned_counts.proofs.CountedInsts.{insts_counted}
 use Rattle.owned_counts.proofs.CountedReturns.{left_counted}
 use Rattle.owned_counts.proofs.TypedPlaces.{object_stored}
-use Rattle.same_runs.proofs.Come.{comes_called}
+use Rattle.same_runs.proofs.Come.{come_faults, comes_called, comes_right}
+use Rattle.same_runs.proofs.RightFinishes.{finishes_whole}
 use Rattle.same_runs.proofs.CountedEnds.{CountedNext}
 use Rattle.same_runs.proofs.CountedTurns.{deinit_counted, end_counted}
 use Rattle.same_runs.proofs.DeinitsCalled.{AreCalled, AreCalledBelow}
@@ -58,6 +60,9 @@ use Rattle.same_runs.proofs.RowsFollowed.{row_followed}
 module _ (owed : IsOwed) (m : Module) (bound : ℕ) (s : HolderState) (verified : IsVerified m) (comes : IsComeTo m bound s) (l : LowState) (h : IsTypedFor m s l) where
   abbrev told : ModuleFacts
   told = facts_of m
+
+  right : IsRightState m s
+  right = comes_right m bound s verified comes
 
   -- ---- one step of the lowered run
 
@@ -90,7 +95,7 @@ module _ (owed : IsOwed) (m : Module) (bound : ℕ) (s : HolderState) (verified 
 
   module _ (next : HolderNext) (is_next : holder_run.step m (facts_of m) bound s ≡ next) where
     none : IsNoFault next
-    none x last e = owed.no_fault m bound s verified comes last x (is_next ∙ e)
+    none x last e = come_faults m bound s verified comes last x (is_next ∙ e)
 
     counted_by : CountedNext l.numbers next → (s' : HolderState) → next ≡ Goes s' → AreCounts s' l.numbers
     counted_by c s' e = subst (CountedNext l.numbers) e c
@@ -102,9 +107,9 @@ module _ (owed : IsOwed) (m : Module) (bound : ℕ) (s : HolderState) (verified 
           → Performs m told bound s x.rest (left_with m told bound x.frame x.ops) x.f (item.Inst (stands_at x.f x.frame.trail)) (effect_there m bound s x) next
           → Follows m bound s l next
       call_followed call way =
-          steps_along next (λ s' e. owed.calls_counted m bound s verified comes s' l.numbers x call (is_next ∙ e) h.related.counts)
+          steps_along next (λ s' e. owed.calls_counted m bound s verified right s' l.numbers x call (is_next ∙ e) h.related.counts)
           (typed_calls_step m bound s l x.frame x.rest x.f x.i x.ops next h x.is x.there x.here (op_of x.i.op call) x.found
-          (owed.handed m bound s verified comes x) way none)
+          (owed.handed m bound s verified right x) way none)
 
       performs_followed : (effect_of x.i.op ≡ row.CallsFunction → ⊥) → (e : effects.Effect HolderFault) → effect_there m bound s x ≡ e → (n : HolderNext) → n ≡ next
           → Performs m told bound s x.rest (left_with m told bound x.frame x.ops) x.f (item.Inst (stands_at x.f x.frame.trail)) e n → Follows m bound s l n
@@ -114,7 +119,7 @@ module _ (owed : IsOwed) (m : Module) (bound : ℕ) (s : HolderState) (verified 
               → GoesBehind m told bound s x.rest (left_with m told bound x.frame x.ops) x.f (item.Inst (stands_at x.f x.frame.trail)) c n → Follows m bound s l n
           behind _ same (GoesBehind.goes slots entries slots_left put) =
               let leaves : LeavesSo m bound s x c slots entries = record { makes = is; slots_left = slots_left; put = put } in
-              row_followed m bound s l x h.related c slots entries (owed.rows m bound s verified comes l x h other c slots entries leaves)
+              row_followed m bound s l x h.related c slots entries (owed.rows m bound s verified right l x h other c slots entries leaves)
               (insts_counted m bound s x.rest x.frame x.f x.i x.ops c slots entries l.numbers (record {
                 verified = verified;
                 typed = h.typed;
@@ -133,7 +138,7 @@ module _ (owed : IsOwed) (m : Module) (bound : ℕ) (s : HolderState) (verified 
           absurd (other (ap effect_of (calls_alone (declarations_of m) (shapes_of m) (shapes_in (shapes_of m) x.frame.function) s.memory x.i x.ops.given g args is)))
       performs_followed other _ is _ same (Performs.no_turn g args callee numbers there bare num turn) =
           absurd (other (ap effect_of (calls_alone (declarations_of m) (shapes_of m) (shapes_in (shapes_of m) x.frame.function) s.memory x.i x.ops.given g args is)))
-      performs_followed other _ is _ same (Performs.traps t) = owed.traps m bound s verified comes l x h other t is
+      performs_followed other _ is _ same (Performs.traps t) = owed.traps m bound s verified right l x h other t is
       performs_followed other _ is _ same (Performs.no_callee g args there) = absurd (none WrongShape s (sym same))
       performs_followed other _ is _ same (Performs.no_numbers g args callee there bare num) = absurd (none WrongShape s (sym same))
       performs_followed other _ is _ same (Performs.wrong_place g args callee there bodied before) = absurd (none PlaceNotAsAsked s (sym same))
@@ -217,7 +222,7 @@ module _ (owed : IsOwed) (m : Module) (bound : ℕ) (s : HolderState) (verified 
         at : (is_dead s.memory o ≡ true) ⊎ (is_dead s.memory o ≡ false) → is_dead s.memory o ≡ false
         at (inr alive) = alive
         at (inl dead) =
-            let n = owed.unheld m bound s verified comes o dead in
+            let n : strong_holders s o ≡ 0 = right.guarded.dead o dead in
             let k = drops_counted m told bound (one_object o) s o os rest is in
             let one = one_itself o in absurd (omega (arith, n, k, one))
 
@@ -228,8 +233,8 @@ module _ (owed : IsOwed) (m : Module) (bound : ℕ) (s : HolderState) (verified 
         subst (Follows m bound s l) same (steps_too n (dropping_followed m bound s l h.related o os rest is (dropped_alive o os rest is) n way))
     ways_followed n same (StepsBy.finishes o rest _ is way) =
         subst (Follows m bound s l) same
-        (steps_too n (finishing_followed m bound s l h.related o rest is (owed.finishes m bound s verified comes o rest is)
-        (object_stored m h.typed.world s.memory h.typed.memory l.numbers h.related.counts.size o (subst (TasksAre m h.typed.world) is h.typed.tasks).0.0) (λ zero lrest. owed.outlive m bound s verified comes l o rest lrest h is zero) n way))
+        (steps_too n (finishing_followed m bound s l h.related o rest is (finishes_whole m s right o rest is)
+        (object_stored m h.typed.world s.memory h.typed.memory l.numbers h.related.counts.size o (subst (TasksAre m h.typed.world) is h.typed.tasks).0.0) (λ zero lrest. owed.outlive m bound s verified right l o rest lrest h is zero) n way))
     ways_followed n same (StepsBy.calls_deinit g gs o rest f _ is there way) =
         let moves = subst (Enters m told bound (record s { tasks = Finishes gs o ∷ rest }) (Finishes gs o ∷ rest) g f (ValueOf (value.Object o) ∷ [])) same way in
         let first = (subst (TasksAre m h.typed.world) is h.typed.tasks).0.1.0 in

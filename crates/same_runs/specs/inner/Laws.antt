@@ -5,6 +5,7 @@ use Rattle.sil_ast.specs.declared.module.Module.{Module}
 use Rattle.sil_ast.specs.declared.place.FuncId.{FuncId}
 use Rattle.type_definitions.specs.Declarations.{declarations_of}
 use Rattle.accepted_values.specs.accepted_modules.inner.Checked.{IsVerified}
+use Rattle.lowered_run.specs.holder_model.HolderStates.{HolderState}
 use Rattle.lowered_run.specs.holder_model.ModuleFacts.{facts_of}
 use Rattle.lowered_run.specs.holder_model.Outcomes.{begins, may_start}
 use Rattle.lowered_run.specs.holder_model.Steps as holder_run
@@ -14,11 +15,12 @@ use Rattle.lowering_laws.specs.lowering_model.LoweredModules.{lowered_body}
 use Rattle.stored_runs.specs.inner.Runs.{LoweredRunsAreSame}
 use Rattle.stored_runs.specs.inner.TypedSteps.{IsTypedFor}
 use Rattle.same_runs.specs.inner.Followed.{Follows}
-use Rattle.same_runs.specs.inner.Owed.{IsOwed, OnStates}
+use Rattle.same_runs.specs.inner.Owed.{IsComeTo, IsOwed}
 
--- each step is followed
+-- each step of a run that starts at an entry is followed
 abbrev pub AreStepsFollowed : Type 0
-AreStepsFollowed = IsOwed → OnStates (λ m bound s. (l : LowState) → IsTypedFor m s l → Follows m bound s l (holder_run.step m (facts_of m) bound s))
+AreStepsFollowed = IsOwed → (m : Module) (bound : ℕ) (s : HolderState) → IsVerified m → IsComeTo m bound s → (l : LowState) → IsTypedFor m s l
+    → Follows m bound s l (holder_run.step m (facts_of m) bound s)
 
 -- both runs begin so
 abbrev pub BeginTypedFor : Type 0

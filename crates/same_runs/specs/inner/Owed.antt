@@ -9,10 +9,10 @@ use Rattle.sil_ast.specs.declared.place.ObjectId.{ObjectId}
 use Rattle.sil_cfg.specs.declared.item.Item.TheVariants as item
 use Rattle.item_operands.specs.Items.{item_defined, item_taken}
 use Rattle.item_operands.specs.Parts.{inst_at}
-use Rattle.run_values.specs.Cells.{Empty}
-use Rattle.run_values.specs.Memory.{is_dead, object_at, with_object}
+use Rattle.run_values.specs.Memory.{object_at, with_object}
 use Rattle.run_values.specs.Places.{Place}
 use Rattle.accepted_values.specs.accepted_modules.inner.Checked.{IsVerified}
+use Rattle.accepted_runs.specs.inner.RightStates.{IsRightState}
 use Rattle.lowered_run.specs.holder_model.Calling.{are_as_before}
 use Rattle.lowered_run.specs.holder_model.Data.{Datum}
 use Rattle.lowered_run.specs.holder_model.Dropping.{ended}
@@ -82,49 +82,31 @@ pub record IsComeTo (m : Module) (bound : ℕ) (s : HolderState) : Type 0 where
   pub steps : ℕ
   pub comes : run (holder_run.step m (facts_of m) bound) steps (begins e f) ≡ Goes s
 
--- so it is of each state that a run of an accepted module comes to
-abbrev pub OnStates : (Module → ℕ → HolderState → Type 0) → Type 0
-OnStates P = (m : Module) (bound : ℕ) (s : HolderState) → IsVerified m → IsComeTo m bound s → P m bound s
-
--- ---- what holds of the run by holders
-
--- no step ends in a fault
-abbrev pub StepsNeverFault : Type 0
-StepsNeverFault = OnStates (λ m bound s. (last : HolderState) (x : HolderFault) → holder_run.step m (facts_of m) bound s ≡ Ends (Faulted x) last → ⊥)
-
--- what is dead isn't held
-abbrev pub AreDeadUnheld : Type 0
-AreDeadUnheld = OnStates (λ m bound s. (o : ObjectId) → is_dead s.memory o ≡ true → strong_holders s o ≡ 0)
-
--- what finishes isn't dead, and each of its fields is written
-pub record FinishesWhole (s : HolderState) (o : ObjectId) : Type 0 where
-  pub alive : is_dead s.memory o ≡ false
-  pub written : (n : ℕ) → slice_get (object_at s.memory o).cells n ≡ Some Empty → ⊥
-
-abbrev pub AreFinishesWhole : Type 0
-AreFinishesWhole = OnStates (λ m bound s. (o : ObjectId) (rest : List (Task Frame)) → s.tasks ≡ Finishes [] o ∷ rest → FinishesWhole s o)
+-- so it is of each right state of a run of an accepted module
+abbrev pub OnRightStates : (Module → ℕ → HolderState → Type 0) → Type 0
+OnRightStates P = (m : Module) (bound : ℕ) (s : HolderState) → IsVerified m → IsRightState m s → P m bound s
 
 -- ---- what rows owe
 
 -- where an instruction that is no call goes on, the lowered run goes along
 abbrev pub RowsGoAlong : Type 0
-RowsGoAlong = OnStates (λ m bound s. (l : LowState) (x : AtInst m s) → IsTypedFor m s l → IsNoCall m bound s x
+RowsGoAlong = OnRightStates (λ m bound s. (l : LowState) (x : AtInst m s) → IsTypedFor m s l → IsNoCall m bound s x
     → (c : Change) (slots : List Place) (entries : List Entry) → LeavesSo m bound s x c slots entries
     → GoesAlong m bound l (behind_it m bound s x c slots entries) (stored_there m bound s x c l.numbers))
 
 -- where it traps, the lowered run does so
 abbrev pub RowsTrapAlong : Type 0
-RowsTrapAlong = OnStates (λ m bound s. (l : LowState) (x : AtInst m s) → IsTypedFor m s l → IsNoCall m bound s x
+RowsTrapAlong = OnRightStates (λ m bound s. (l : LowState) (x : AtInst m s) → IsTypedFor m s l → IsNoCall m bound s x
     → (t : Trap) → effect_there m bound s x ≡ effects.Traps t → EndsToo m bound l (outcome_at (Trapped t) s))
 
 -- a part that a call hands over is full, where places hold what is asked
 abbrev pub ArePartsHandedFull : Type 0
-ArePartsHandedFull = OnStates (λ m bound s. (x : AtInst m s) (g : FuncId) (args : List Datum)
+ArePartsHandedFull = OnRightStates (λ m bound s. (x : AtInst m s) (g : FuncId) (args : List Datum)
     → effect_there m bound s x ≡ effects.Calls g args → are_as_before s.memory (lent_in x.f x.frame args) ≡ true → Each (IsFullPart s.memory) args)
 
 -- an object that dies has no part that a frame was given
 abbrev pub PartsOutlive : Type 0
-PartsOutlive = OnStates (λ m bound s. (l : LowState) (o : ObjectId) (rest : List (Task Frame)) (lrest : List (Task LowFrame)) → IsTypedFor m s l
+PartsOutlive = OnRightStates (λ m bound s. (l : LowState) (o : ObjectId) (rest : List (Task Frame)) (lrest : List (Task LowFrame)) → IsTypedFor m s l
     → s.tasks ≡ Finishes [] o ∷ rest → strong_holders (record s { tasks = rest }) o ≡ 0 → AreTasksFor m rest lrest → Each (HasFullParts m l.memory) lrest
     → Each (HasFullParts m (with_object l.memory o (ended (object_at l.memory o)))) lrest)
 
@@ -132,15 +114,12 @@ PartsOutlive = OnStates (λ m bound s. (l : LowState) (o : ObjectId) (rest : Lis
 
 -- behind a call
 abbrev pub AreCallsCounted : Type 0
-AreCallsCounted = OnStates (λ m bound s. (next : HolderState) (stored : List Numbers) (x : AtInst m s) → effect_of x.i.op ≡ row.CallsFunction
+AreCallsCounted = OnRightStates (λ m bound s. (next : HolderState) (stored : List Numbers) (x : AtInst m s) → effect_of x.i.op ≡ row.CallsFunction
     → holder_run.step m (facts_of m) bound s ≡ Goes next → AreCounts s stored → AreCounts next stored)
 
 -- ---- all of it
 
 pub record IsOwed : Type 0 where
-  pub no_fault : StepsNeverFault
-  pub unheld : AreDeadUnheld
-  pub finishes : AreFinishesWhole
   pub rows : RowsGoAlong
   pub traps : RowsTrapAlong
   pub handed : ArePartsHandedFull
