@@ -1,5 +1,5 @@
 -- Both runs begin in states that go along.
-use Rattle.std.proofs.Common.{◌≡◌, ◌∷◌, [], arith, refl, sym, ap, ◌∙◌, true, Some, None}
+use Rattle.std.proofs.Common.{◌≡◌, [], arith, refl, sym, ap, ◌∙◌, true, Some, None}
 use Rattle.std.specs.Prelude.{slice_get}
 use Rattle.std.proofs.lemmas.List.{length-replicate}
 use Rattle.std.proofs.lemmas.Bool.{and_parts}
@@ -9,16 +9,14 @@ use Rattle.sil_ast.specs.declared.function.Function.{Function}
 use Rattle.sil_ast.specs.declared.module.Module.{Module}
 use Rattle.sil_ast.specs.declared.place.FuncId.{FuncId}
 use Rattle.sil_ast.specs.declared.place.ObjectId.{ObjectId}
-use Rattle.sil_cfg.specs.declared.item.Item.TheVariants as item
 use Rattle.type_definitions.specs.Declarations.{Declarations, declarations_of}
-use Rattle.run_values.specs.Places.{value_at}
 use Rattle.accepted_values.specs.accepted_modules.inner.Checked.{IsVerified}
 use Rattle.accepted_values.specs.inner.Known.{IsAcceptedBody}
 use Rattle.lowered_run.specs.holder_model.Calling.{value_count}
 use Rattle.lowered_run.specs.holder_model.Frames.{Frame, Gone, datum_in, has_any, no_entries}
 use Rattle.lowered_run.specs.holder_model.HolderStates.{in_entry, strong_holders}
 use Rattle.lowered_run.specs.holder_model.Holders.{one_object}
-use Rattle.lowered_run.specs.holder_model.Outcomes.{Numbers, begins, may_start}
+use Rattle.lowered_run.specs.holder_model.Outcomes.{begins, may_start}
 use Rattle.lowered_run.specs.holder_model.StepParts as parts
 use Rattle.lowered_run.specs.LowFrames.{LowFrame, no_values}
 use Rattle.lowered_run.specs.LowOutcomes.{low_begins}

@@ -1,9 +1,8 @@
 -- Counts behind an edge: what the block's arguments hold is what was handed over.
-use Rattle.std.proofs.Common.{◌≡◌, ◌⊎◌, inl, inr, ℕ, zero, suc, ◌+◌, List, [], ◌∷◌, ◌++◌, map, length, drop, arith, refl, sym, ap, ◌∙◌, subst, Bool, true, false, cond, Option, Some, None, Ok}
-use Rattle.std.specs.Prelude.{◌==◌, is_none, not, option_and_then, option_map, slice_get}
+use Rattle.std.proofs.Common.{◌≡◌, ◌⊎◌, inl, inr, ℕ, zero, suc, ◌+◌, List, [], ◌∷◌, ◌++◌, map, length, drop, arith, refl, sym, ap, ◌∙◌, subst, Bool, true, false, cond, Option, Some, Ok}
+use Rattle.std.specs.Prelude.{◌==◌, is_none, option_and_then, option_map, slice_get}
 use Rattle.std.specs.List.{AllZip}
-use Rattle.std.proofs.lemmas.Bool.{and_parts}
-use Rattle.std.proofs.lemmas.Option.{none-some, same_Some}
+use Rattle.std.proofs.lemmas.Option.{same_Some}
 use Rattle.instruction_table.specs.Forms.{ending_of, roles_of}
 use Rattle.instruction_table.specs.declared.entries.Ending.TheVariants as ending
 use Rattle.instruction_table.specs.declared.entries.Role.TheVariants as role
@@ -24,7 +23,7 @@ use Rattle.sil_ast.specs.Blocks.{args_of}
 use Rattle.run_values.specs.Values.{Case, Full, Value}
 use Rattle.sil_cfg.specs.declared.item.Item.TheVariants as item
 use Rattle.item_operands.specs.Items.{arg_value, item_defined, item_taken, taken_along_in, taken_in}
-use Rattle.item_operands.specs.Parts.{args_behind, edge_at, edge_in, inst_at, item_operands, operands_in, terminator_of}
+use Rattle.item_operands.specs.Parts.{args_behind, edge_at, item_operands, operands_in}
 use Rattle.item_operands.specs.Roles.{by_row, consumed, conventions_in, roles_for, taken_along, taken_as, taken_by, taken_each}
 use Rattle.item_operands.specs.declared.taken.Taken.{Taken}
 use Rattle.ownership_chains.specs.declared.facts.Facts.{Facts}
@@ -36,13 +35,11 @@ use Rattle.accepted_values.specs.accepted_modules.ownership_kinds.Facts.{facts_i
 use Rattle.accepted_values.specs.inner.Handed.{Becomes, TakenBy, Takes, TakesOver}
 use Rattle.accepted_values.specs.inner.Known.{IsAcceptedBody, kind_at}
 use Rattle.accepted_values.specs.inner.Operands.{MayEnd}
-use Rattle.accepted_values.specs.run_typing.EndForms.{EndForms}
-use Rattle.accepted_values.specs.owned_run_typing.inner.OwnedEnds.{OwnedEndForms}
 use Rattle.accepted_values.proofs.Branches.{taken_over}
 use Rattle.accepted_values.proofs.Facts.{run_facts}
 use Rattle.accepted_values.proofs.Made.{items_of}
 use Rattle.accepted_values.proofs.Switches.{switched}
-use Rattle.lowered_run.specs.holder_model.Data.{Datum, ValueOf, as_value}
+use Rattle.lowered_run.specs.holder_model.Data.{Datum, ValueOf}
 use Rattle.lowered_run.specs.holder_model.Edges.{carried_along, carried_by, edge_of, first_value_of, payload_data, switched_data}
 use Rattle.lowered_run.specs.holder_model.Frames.{Entry, Frame, Operands, operands_of, results_put}
 use Rattle.lowered_run.specs.holder_model.HolderStates.{HolderState}

@@ -1,9 +1,8 @@
 -- Counts behind a terminator: an edge is taken, or the frame returns.
-use Rattle.std.proofs.Common.{◌≡◌, ◌⊎◌, inl, inr, ℕ, ◌+◌, List, [], ◌∷◌, ◌++◌, map, length, arith, refl, sym, ap, ◌∙◌, subst, Bool, true, false, Option, Some, None, Ok}
+use Rattle.std.proofs.Common.{◌≡◌, inl, inr, ℕ, List, [], ◌∷◌, ◌++◌, map, length, refl, sym, ap, ◌∙◌, subst, false, Option, Some, None, Ok}
 use Rattle.std.specs.Prelude.{not, option_and_then, slice_get}
 use Rattle.std.proofs.lemmas.Bool.{and_parts}
-use Rattle.std.proofs.lemmas.List.{length-map}
-use Rattle.std.proofs.lemmas.Option.{none-some, same_Some, slice_get_within}
+use Rattle.std.proofs.lemmas.Option.{none-some, slice_get_within}
 use Rattle.instruction_table.specs.Forms.{ending_of, roles_of}
 use Rattle.instruction_table.specs.declared.entries.Ending.TheVariants as ending
 use Rattle.instruction_table.specs.declared.entries.Role.TheVariants as role
@@ -16,14 +15,13 @@ use Rattle.sil_ast.specs.declared.inst.Inst.{Inst}
 use Rattle.sil_ast.specs.declared.module.Module.{Module}
 use Rattle.sil_ast.specs.declared.operands.Operand.{Operand}
 use Rattle.sil_ast.specs.declared.place.EdgeId.{EdgeId}
-use Rattle.sil_ast.specs.declared.place.FuncId.{FuncId}
 use Rattle.sil_ast.specs.declared.place.ObjectId.{ObjectId}
 use Rattle.sil_ast.specs.declared.place.PointId.{PointId}
 use Rattle.sil_ast.specs.declared.place.ValueId.{ValueId}
 use Rattle.sil_cfg.specs.Items.{leaves_function}
 use Rattle.sil_cfg.specs.declared.item.Item.TheVariants as item
 use Rattle.item_operands.specs.Items.{item_defined, item_taken, taken_along_in, taken_in}
-use Rattle.item_operands.specs.Parts.{edge_at, edge_in, inst_at, terminator_of}
+use Rattle.item_operands.specs.Parts.{edge_at, edge_in}
 use Rattle.item_operands.specs.Roles.{by_row, consumed, conventions_in, roles_for, taken_along, taken_as, taken_by, taken_each}
 use Rattle.item_operands.specs.declared.taken.Taken.{Taken}
 use Rattle.ownership_chains.specs.declared.facts.Facts.{Facts}
@@ -32,10 +30,9 @@ use Rattle.accepted_values.specs.accepted_modules.inner.Checked.{IsVerified}
 use Rattle.accepted_values.specs.accepted_modules.ownership_kinds.Facts.{facts_in}
 use Rattle.accepted_values.specs.inner.Known.{IsAcceptedBody}
 use Rattle.accepted_values.specs.owned_run_typing.inner.OwnedEnds.{OwnedEndForms}
-use Rattle.accepted_values.specs.run_typing.EndForms.{EndForms, operand_forms}
+use Rattle.accepted_values.specs.run_typing.EndForms.{EndForms}
 use Rattle.accepted_values.specs.run_typing.Forms.{OfValue, form_of}
 use Rattle.accepted_values.specs.run_typing.RowForms.{IsEnum}
-use Rattle.accepted_values.proofs.Facts.{run_facts}
 use Rattle.accepted_values.proofs.Made.{items_of}
 use Rattle.accepted_trails.specs.run_trails.inner.RunTrails.{ComesAt}
 use Rattle.run_values.specs.Shapes.{Shape, case_shapes}

@@ -1,5 +1,5 @@
 -- Counts behind an item that makes no references, drops none and leaves memory as it is.
-use Rattle.std.proofs.Common.{◌≡◌, ℕ, ◌+◌, List, [], ◌∷◌, length, arith, refl, sym, ap, ◌∙◌, subst, Bool, true, false, Ok}
+use Rattle.std.proofs.Common.{◌≡◌, ℕ, ◌+◌, List, [], ◌∷◌, length, arith, refl, sym, false, Ok}
 use Rattle.std.specs.List.{list_any}
 use Rattle.std.proofs.lemmas.Bool.{false≢true}
 use Rattle.numbered_form.specs.Lists.{Each}
@@ -12,14 +12,13 @@ use Rattle.run_values.specs.Places.{Place}
 use Rattle.lowered_run.specs.holder_model.Data.{Datum}
 use Rattle.lowered_run.specs.holder_model.Effects.{Change, unchanged}
 use Rattle.lowered_run.specs.holder_model.Frames.{Entry, Frame, Gone, Held, Lent, Operands, Plain, is_held, results_put}
-use Rattle.lowered_run.specs.holder_model.HolderStates.{HolderState, in_entry, in_state, in_task}
+use Rattle.lowered_run.specs.holder_model.HolderStates.{HolderState, in_entry, in_state}
 use Rattle.lowered_run.specs.holder_model.Holders.{of_references, one_object}
 use Rattle.lowered_run.specs.holder_model.ModuleFacts.{facts_of, facts_told}
 use Rattle.lowered_run.specs.holder_model.Outcomes.{Numbers}
 use Rattle.lowered_run.specs.holder_model.States.{Runs, Task}
-use Rattle.holder_counts.specs.inner.Moving.{in_tasks}
 use Rattle.holder_counts.specs.inner.Taking.{IsBelow, in_entries, references_begun, references_ended}
-use Rattle.holder_counts.proofs.Moves.{first_task, items_counted, moves_counted}
+use Rattle.holder_counts.proofs.Moves.{items_counted}
 use Rattle.holder_counts.proofs.Sums.{total_cons}
 use Rattle.holder_steps.specs.inner.Ways.{left_with, moved, operands_in}
 use Rattle.stored_counts.specs.inner.Numbers.{AreCounts}

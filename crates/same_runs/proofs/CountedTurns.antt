@@ -1,5 +1,5 @@
 -- Counts behind terminators and calls of deinitialisers of typed states, and at the end of the run.
-use Rattle.std.proofs.Common.{◌≡◌, ◌⊎◌, inl, inr, ℕ, ◌+◌, List, [], ◌∷◌, map, length, arith, refl, sym, ap, ◌∙◌, subst, true, false, Option, Some, None, Ok}
+use Rattle.std.proofs.Common.{◌≡◌, ℕ, List, [], ◌∷◌, map, arith, refl, sym, ap, ◌∙◌, subst, true, false, Some, None, Ok}
 use Rattle.std.specs.Prelude.{slice_get}
 use Rattle.std.specs.List.{AllZip}
 use Rattle.std.proofs.lemmas.Option.{none-some, same_Some}
@@ -15,14 +15,10 @@ use Rattle.sil_ast.specs.declared.inst.Inst.{Inst}
 use Rattle.sil_ast.specs.declared.module.Module.{Module}
 use Rattle.sil_ast.specs.declared.place.FuncId.{FuncId}
 use Rattle.sil_ast.specs.declared.place.ObjectId.{ObjectId}
-use Rattle.sil_ast.specs.declared.place.PointId.{PointId}
-use Rattle.sil_ast.specs.declared.place.ValueId.{ValueId}
 use Rattle.sil_cfg.specs.declared.item.Item.TheVariants as item
-use Rattle.item_operands.specs.Items.{arg_value, item_defined, item_taken}
+use Rattle.item_operands.specs.Items.{arg_value, item_defined}
 use Rattle.item_operands.specs.Parts.{inst_at}
-use Rattle.ownership_chains.specs.Facts.{known_or}
-use Rattle.ownership_chains.specs.declared.facts.Facts.{Facts}
-use Rattle.type_definitions.specs.Declarations.{Declarations, declarations_of}
+use Rattle.type_definitions.specs.Declarations.{declarations_of}
 use Rattle.type_definitions.specs.Lookups.{deinit_of}
 use Rattle.type_definitions.specs.Mentions.{given_type}
 use Rattle.type_definitions.specs.declared.kind.Kind.{Kind}
@@ -40,37 +36,34 @@ use Rattle.run_values.specs.Shapes.{Shape, shape_of}
 use Rattle.run_values.specs.Trivial.{is_trivial}
 use Rattle.run_values.specs.Values as value
 use Rattle.run_values.specs.Values.{Value}
-use Rattle.lowered_run.specs.holder_model.Calling.{holds_something, value_count}
+use Rattle.lowered_run.specs.holder_model.Calling.{holds_something}
 use Rattle.lowered_run.specs.holder_model.Data.{AddressOf, Datum, FunctionOf, ValueOf}
 use Rattle.lowered_run.specs.holder_model.Effects.{only, unchanged}
-use Rattle.lowered_run.specs.holder_model.Frames.{Entry, Frame, Operands, has_any, results_put}
+use Rattle.lowered_run.specs.holder_model.Frames.{Frame, Operands, has_any}
 use Rattle.lowered_run.specs.holder_model.HolderStates.{HolderNext, HolderState, in_state}
 use Rattle.lowered_run.specs.holder_model.Holders.{of_references, one_object}
 use Rattle.lowered_run.specs.holder_model.ModuleFacts.{facts_of, facts_told}
 use Rattle.lowered_run.specs.holder_model.Outcomes.{Numbers}
 use Rattle.lowered_run.specs.holder_model.Standing.{stands_at}
 use Rattle.lowered_run.specs.holder_model.StepParts.{new_frame}
-use Rattle.lowered_run.specs.holder_model.States.{Ends, Finishes, Goes, Runs, Task}
+use Rattle.lowered_run.specs.holder_model.States.{Finishes, Runs, Task}
 use Rattle.holder_counts.specs.inner.Moving.{in_tasks}
-use Rattle.holder_counts.specs.inner.Naming.{in_data, in_datum}
-use Rattle.holder_counts.specs.inner.Taking.{IsBelow, in_entries, references_begun}
+use Rattle.holder_counts.specs.inner.Naming.{in_datum}
+use Rattle.holder_counts.specs.inner.Taking.{references_begun}
 use Rattle.holder_counts.proofs.Moves.{entries_counted, first_task}
-use Rattle.holder_counts.proofs.Sums.{total_cons}
 use Rattle.holder_steps.specs.inner.Ways.{Acts, Enters, GoesBehind, Leaves, Reaches, StandsAtEnd, left_with, operands_in, turned}
 use Rattle.stored_counts.specs.inner.Numbers.{AreCounts}
 use Rattle.stored_counts.proofs.Turns.{kept_stored, tasks_stored}
-use Rattle.owned_counts.proofs.BroughtOwned.{HoldsNothing, MayHold, brings_all, brings_none}
+use Rattle.owned_counts.proofs.BroughtOwned.{HoldsNothing, brings_none}
 use Rattle.owned_counts.proofs.TakenOwned.{IsValue}
 use Rattle.owned_counts.specs.inner.CountedReturns.{ReturnsFrom}
 use Rattle.owned_counts.proofs.CountedReturns.{returns_counted}
 use Rattle.typed_holders.specs.inner.TypedStates.{IsTypedState}
 use Rattle.typed_holders.proofs.Data.{IsBare, bare_where, read_value}
 use Rattle.typed_holders.proofs.GoesOn.{Running, accepted_body}
-use Rattle.typed_holders.proofs.Stacks.{BelowTyped}
 use Rattle.typed_holders.specs.typed_memory.inner.Worlds.{DatumIs}
-use Rattle.typed_holders.proofs.Performs.{defines_results}
 use Rattle.typed_holders.proofs.Returns.{returned}
-use Rattle.same_runs.proofs.CountedEnds.{CountedNext, branch_counted, chosen_counted, turned_counted}
+use Rattle.same_runs.proofs.CountedEnds.{CountedNext, branch_counted, chosen_counted}
 use Rattle.same_runs.proofs.CountedReturns.{returned_total}
 use Rattle.same_runs.proofs.DeinitBodies.{HasDeinit, deinit_body}
 use Rattle.same_runs.proofs.DeinitsCalled.{AreCalledBelow, IsDeinitCalled}

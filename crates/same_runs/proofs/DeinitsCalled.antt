@@ -1,7 +1,6 @@
 -- What runs over the deinitialisation of an object is a deinitialiser, in each state of a run by holders.
 use Rattle.std.proofs.Common.{◌≡◌, ℕ, List, [], ◌∷◌, refl, sym, ap, ◌∙◌, subst, Some}
 use Rattle.std.specs.Prelude.{slice_get}
-use Rattle.std.proofs.lemmas.Option.{same_Some}
 use Rattle.sil_ast.specs.declared.function.Function.{Function}
 use Rattle.sil_ast.specs.declared.inst.Inst.{Inst}
 use Rattle.sil_ast.specs.declared.module.Module.{Module}
@@ -21,7 +20,6 @@ use Rattle.lowered_run.specs.holder_model.Faults.{HolderFault}
 use Rattle.lowered_run.specs.holder_model.Frames.{Frame}
 use Rattle.lowered_run.specs.holder_model.HolderStates.{HolderNext, HolderState}
 use Rattle.lowered_run.specs.holder_model.ModuleFacts.{ModuleFacts, facts_of}
-use Rattle.lowered_run.specs.holder_model.ModuleShapes.{shapes_in, shapes_of}
 use Rattle.lowered_run.specs.holder_model.Standing.{stands_at}
 use Rattle.lowered_run.specs.holder_model.States.{Ends, Goes, Runs, Task, dropping}
 use Rattle.lowered_run.specs.holder_model.Steps as steps

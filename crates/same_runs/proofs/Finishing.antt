@@ -1,5 +1,5 @@
 -- A drop and a finish in both runs.
-use Rattle.std.proofs.Common.{◌≡◌, ◌⊎◌, inl, inr, ℕ, zero, suc, ◌+◌, List, [], ◌∷◌, refl, sym, ap, ap₂, ◌∙◌, subst, true, false, Some}
+use Rattle.std.proofs.Common.{◌≡◌, ◌⊎◌, inl, inr, ℕ, suc, ◌+◌, List, [], ◌∷◌, refl, sym, ap, ap₂, ◌∙◌, subst, true, false, Some}
 use Rattle.std.specs.Prelude.{drop, is_some, slice_get, take}
 use Rattle.std.specs.List.{flat_map}
 use Rattle.numbered_form.specs.Lists.{Each}
@@ -9,7 +9,7 @@ use Rattle.sil_ast.specs.declared.place.ObjectId.{ObjectId}
 use Rattle.run_values.specs.declared.phase.Phase.TheVariants.{Deiniting}
 use Rattle.run_values.specs.Cells.{Cell, Empty, cell_count, in_cells}
 use Rattle.run_values.specs.Memory.{Memory, is_dead, object_at, with_object}
-use Rattle.run_values.specs.Places.{Home, Inside, OnStack, Place, home_cells}
+use Rattle.run_values.specs.Places.{Home, Inside, OnStack, home_cells}
 use Rattle.lowered_run.specs.holder_model.declared.trap.Trap.TheVariants as trap
 use Rattle.lowered_run.specs.holder_model.Dropping.{ended, field_references, in_phase}
 use Rattle.lowered_run.specs.holder_model.Frames.{Frame}

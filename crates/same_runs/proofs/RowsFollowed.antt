@@ -1,5 +1,5 @@
 -- An instruction that is no call, in both runs: the lowered run moves, or less is left of the block.
-use Rattle.std.proofs.Common.{◌≡◌, ℕ, zero, suc, ◌-◌, ◌<◌, List, [], ◌∷◌, length, arith, refl, sym, ap, ◌∙◌, subst, Option, Some, None}
+use Rattle.std.proofs.Common.{◌≡◌, ℕ, suc, ◌-◌, ◌<◌, List, [], ◌∷◌, length, arith, refl, sym, ap, ◌∙◌, subst, Option, Some, None}
 use Rattle.std.specs.Prelude.{slice_get}
 use Rattle.std.proofs.lemmas.Option.{none-some, slice_get_within}
 use Rattle.sil_ast.specs.declared.function.Block.{Block}
@@ -15,7 +15,7 @@ use Rattle.lowered_run.specs.holder_model.Effects.{Change}
 use Rattle.lowered_run.specs.holder_model.Frames.{Entry, Frame}
 use Rattle.lowered_run.specs.holder_model.HolderStates.{HolderState}
 use Rattle.lowered_run.specs.holder_model.Standing.{point_behind, stands_at}
-use Rattle.lowered_run.specs.holder_model.States.{Drops, Goes, Runs, Task, dropping}
+use Rattle.lowered_run.specs.holder_model.States.{Drops, Runs, Task, dropping}
 use Rattle.lowered_run.specs.LowFrames.{LowFrame}
 use Rattle.lowered_run.specs.LowStepParts.{LowState}
 use Rattle.stored_counts.specs.inner.Numbers.{AreCounts}

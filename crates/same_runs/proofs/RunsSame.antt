@@ -1,6 +1,6 @@
 -- Where one of both runs ends, the other does so too: forth along the run by holders, and back by how many steps of the lowered run are left, and then by
 -- what is left of the block.
-use Rattle.std.proofs.Common.{◌≡◌, ℕ, zero, suc, ◌≤◌, ◌<◌, arith, refl, sym, ap, ◌∙◌, subst, true, Option, Some, None}
+use Rattle.std.proofs.Common.{◌≡◌, ℕ, zero, suc, ◌≤◌, ◌<◌, arith, refl, sym, ap, ◌∙◌, subst, true, Some}
 use Rattle.std.specs.Prelude.{option_and_then, slice_get}
 use Rattle.std.proofs.lemmas.Option.{none-some, same_Some}
 use Rattle.sil_ast.specs.declared.function.Function.{Function}
@@ -22,12 +22,12 @@ use Rattle.lowered_run.specs.LowSteps as steps
 use Rattle.lowering_laws.specs.lowering_model.LoweredModules.{lowered, lowered_body}
 use Rattle.typed_holders.proofs.TypedSteps.{steps_typed}
 use Rattle.stored_runs.specs.inner.PlaceRows.{LowGoes}
-use Rattle.stored_runs.specs.inner.Runs.{AreRunsSame, IsOutcomeFor}
+use Rattle.stored_runs.specs.inner.Runs.{IsOutcomeFor}
 use Rattle.stored_runs.specs.inner.States.{IsStateFor}
 use Rattle.stored_runs.specs.inner.TypedSteps.{IsTypedFor}
 use Rattle.stored_runs.proofs.Awaited.{steps_awaited}
 use Rattle.stored_runs.proofs.StayingSteps.{function_there}
-use Rattle.same_runs.specs.inner.Followed.{EndsToo, Follows, GoesToo, left_of, low_next_of}
+use Rattle.same_runs.specs.inner.Followed.{EndsToo, Follows, GoesToo, left_of}
 use Rattle.same_runs.specs.inner.Laws.{AreRunsSameWhereOwed}
 use Rattle.same_runs.specs.inner.Owed.{IsComeTo, IsOwed}
 use Rattle.same_runs.proofs.Begun.{begin_typed_for, lowers}
@@ -262,9 +262,11 @@ module _ (owed : IsOwed) (m : Module) (e : FuncId) (f : Function) (bound : ℕ) 
   runs_forth : (o : Outcome HolderFault) → EndsSo m e bound o → (low : Outcome LowFault) × LowEndsSo (lowered m) e bound low × IsOutcomeFor o low
   runs_forth o so =
       let end = ends_of (run (step m bound) so.0 (begins e f)) o (sym (from_entry so.0) ∙ so.1) in
-      let d = forth m bound owed verified so.0 (begins e f) (low_begins e lf) comes (begin_typed_for m e f verified there may) end.0 end.1 end.2 in
-      (low_outcome_at d.ending d.last, (d.ran.count, low_from_entry d.ran.count ∙ ap low_outcome_after d.ran.is),
-      subst (λ x. IsOutcomeFor x (low_outcome_at d.ending d.last)) end.3 d.for)
+      let d = forth m bound owed verified so.0 (begins e f) (low_begins e lf) comes (begin_typed_for m e f verified there may) end.0 end.1 end.2 in (
+        low_outcome_at d.ending d.last,
+        (d.ran.count, low_from_entry d.ran.count ∙ ap low_outcome_after d.ran.is),
+        subst (λ x. IsOutcomeFor x (low_outcome_at d.ending d.last)) end.3 d.for,
+      )
 
   runs_back : (low : Outcome LowFault) → LowEndsSo (lowered m) e bound low → (o : Outcome HolderFault) × EndsSo m e bound o × IsOutcomeFor o low
   runs_back low so =

@@ -1,12 +1,11 @@
 -- Each step of the run by holders is followed by the lowered run, where rows and counts are as they are owed.
-use Rattle.std.proofs.Common.{◌≡◌, ◌⊎◌, inl, inr, ℕ, List, [], ◌∷◌, arith, refl, sym, ap, ◌∙◌, subst, Bool, true, false, Option, Some, None}
+use Rattle.std.proofs.Common.{◌≡◌, ◌⊎◌, inl, inr, ℕ, List, [], ◌∷◌, arith, refl, sym, ap, ◌∙◌, subst, true, false, Option, Some, None}
 use Rattle.std.specs.Prelude.{slice_get}
 use Rattle.std.proofs.lemmas.Bool.{cases_Bool}
 use Rattle.std.proofs.lemmas.Option.{none-some, same_Some}
 use Rattle.sil_ast.specs.declared.function.Function.{Function}
 use Rattle.sil_ast.specs.declared.inst.Inst.{Inst}
 use Rattle.sil_ast.specs.declared.module.Module.{Module}
-use Rattle.sil_ast.specs.declared.place.FuncId.{FuncId}
 use Rattle.sil_ast.specs.declared.place.ObjectId.{ObjectId}
 use Rattle.sil_cfg.specs.declared.item.Item.TheVariants as item
 use Rattle.item_operands.specs.Parts.{inst_at}
@@ -16,14 +15,14 @@ use Rattle.run_values.specs.Values as value
 use Rattle.lowered_run.specs.holder_model.Data.{ValueOf}
 use Rattle.lowered_run.specs.holder_model.Effects as effects
 use Rattle.lowered_run.specs.holder_model.Effects.{Change, effect_of}
-use Rattle.lowered_run.specs.holder_model.Faults.{HolderFault, NoEntry, PlaceNotAsAsked, WrongShape}
+use Rattle.lowered_run.specs.holder_model.Faults.{HolderFault, PlaceNotAsAsked, WrongShape}
 use Rattle.lowered_run.specs.holder_model.Frames.{Frame, has_any}
 use Rattle.lowered_run.specs.holder_model.HolderStates.{HolderNext, HolderState, strong_holders}
 use Rattle.lowered_run.specs.holder_model.Holders.{one_object}
 use Rattle.lowered_run.specs.holder_model.ModuleFacts.{ModuleFacts, facts_of}
 use Rattle.lowered_run.specs.holder_model.ModuleShapes.{shapes_in, shapes_of}
 use Rattle.lowered_run.specs.holder_model.Standing.{stands_at}
-use Rattle.lowered_run.specs.holder_model.States.{Drops, Ends, Faulted, Finishes, Goes, Runs, Task}
+use Rattle.lowered_run.specs.holder_model.States.{Drops, Ends, Finishes, Goes, Runs, Task}
 use Rattle.lowered_run.specs.holder_model.Steps as holder_run
 use Rattle.lowered_run.specs.holder_model.declared.row_effect.RowEffect.TheVariants as row
 use Rattle.lowered_run.specs.LowStepParts.{LowNext, LowState}
@@ -42,7 +41,7 @@ use Rattle.stored_runs.specs.inner.Runs.{IsNextFor}
 use Rattle.stored_runs.specs.inner.TypedSteps.{IsTypedFor}
 use Rattle.stored_runs.proofs.CallsAlone.{calls_alone, calls_or, op_of}
 use Rattle.stored_runs.proofs.TypedSteps.{typed_calls_step, typed_deinits_step, typed_ends_step}
-use Rattle.same_runs.specs.inner.Followed.{EndsToo, Follows, GoesToo, StepsToo, low_next_of}
+use Rattle.same_runs.specs.inner.Followed.{Follows, GoesToo, StepsToo, low_next_of}
 use Rattle.same_runs.specs.inner.Laws.{AreStepsFollowed}
 use Rattle.same_runs.specs.inner.Owed.{AtInst, IsComeTo, IsOwed, LeavesSo, effect_there}
 use Rattle.accepted_runs.specs.inner.RightStates.{IsRightState}

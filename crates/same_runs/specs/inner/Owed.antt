@@ -1,5 +1,5 @@
 -- What is owed so that the lowered run follows the run by holders: what holds of each state of the run, what rows do, and what is counted.
-use Rattle.std.specs.Prelude.{◌≡◌, ℕ, List, [], ◌∷◌, true, false, Some, None, Ok, length, slice_get}
+use Rattle.std.specs.Prelude.{◌≡◌, ℕ, List, [], ◌∷◌, true, Some, Ok, slice_get}
 use Rattle.numbered_form.specs.Lists.{Each}
 use Rattle.sil_ast.specs.declared.function.Function.{Function}
 use Rattle.sil_ast.specs.declared.inst.Inst.{Inst}
@@ -24,7 +24,7 @@ use Rattle.lowered_run.specs.holder_model.HolderStates.{HolderState, strong_hold
 use Rattle.lowered_run.specs.holder_model.ModuleFacts.{facts_of, facts_told}
 use Rattle.lowered_run.specs.holder_model.Outcomes.{Numbers, begins, may_start, outcome_at, run}
 use Rattle.lowered_run.specs.holder_model.Standing.{stands_at}
-use Rattle.lowered_run.specs.holder_model.States.{Ends, Faulted, Finishes, Goes, Runs, Task, Trapped}
+use Rattle.lowered_run.specs.holder_model.States.{Finishes, Goes, Runs, Task, Trapped}
 use Rattle.lowered_run.specs.holder_model.StepParts.{slots_behind}
 use Rattle.lowered_run.specs.holder_model.Steps as holder_run
 use Rattle.lowered_run.specs.holder_model.declared.row_effect.RowEffect.TheVariants as row
