@@ -32,3 +32,5 @@ pub mod FrameSteps
 pub mod RowSteps
 pub mod FullKept
 pub mod StandsThere
+pub mod RowsBehind
+pub mod LoadSteps
