@@ -34,3 +34,4 @@ pub mod FullKept
 pub mod StandsThere
 pub mod RowsBehind
 pub mod LoadSteps
+pub mod SparesApart

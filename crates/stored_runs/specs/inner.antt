@@ -19,3 +19,4 @@ pub mod TypedEnds
 pub mod TypedCalls
 pub mod FrameSteps
 pub mod PlaceRows
+pub mod Spares

@@ -1,4 +1,5 @@
-use Rattle.stored_runs.proofs.LoadSteps.{loaded}
+use Rattle.stored_runs.proofs.SparesApart.{accepted_spares_apart}
+use Rattle.stored_runs.proofs.LoadSteps.{load_along}
 use Rattle.stored_runs.proofs.FullKept.{filling_keeps}
 use Rattle.stored_runs.proofs.RowsBehind.{puts_in}
 use Rattle.stored_runs.proofs.MemoriesFor.{place_read}
