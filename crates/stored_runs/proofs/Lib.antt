@@ -35,3 +35,5 @@ pub mod StandsThere
 pub mod RowsBehind
 pub mod LoadSteps
 pub mod SparesApart
+pub mod StrongCells
+pub mod StoreSteps

@@ -33,7 +33,7 @@ use Rattle.lowered_run.specs.LowFrames.{LowFrame, put_all, read_all}
 use Rattle.lowered_run.specs.LowStepParts.{LowState, taken_value}
 use Rattle.lowering_laws.specs.ownership_origins.Renamings.{renames}
 use Rattle.stored_runs.specs.inner.Frames.{AreGivenPartsFull, AreValuesFor, HasFullParts, IsDatumFor, IsFrameAt}
-use Rattle.stored_runs.specs.inner.Lowering.{IsOwnName}
+use Rattle.stored_runs.specs.inner.Lowering.{IsOwnName, IsTakenOld}
 use Rattle.stored_runs.specs.inner.Memories.{IsMemoryFor}
 use Rattle.stored_runs.specs.inner.Names.{IsCurrent, IsOld, lowered_number}
 use Rattle.stored_runs.specs.inner.PlaceRows.{StandsAt, operand_value}
@@ -111,6 +111,13 @@ module _ (m : Module) (s : HolderState) (l : LowState) (frame : Frame) (rest : L
 
   pub operands_under : AreRead IsUnder (map operand_value i.operands) ops.given reads.ys
   operands_under = subst (λ vs. AreRead IsUnder vs ops.given reads.ys) x.takes (by_values (item_taken f (item.Inst p)) ops.given reads.ys reads.like taken_so.given)
+
+  values_old : (ts : List Taken) → Each (IsTakenOld f) ts → Each (IsOld f) (map taken_value ts)
+  values_old [] h = tt
+  values_old (t ∷ ts) h = (h.0, values_old ts h.1)
+
+  pub operands_old : Each (IsOld f) (map operand_value i.operands)
+  operands_old = subst (Each (IsOld f)) x.takes (values_old (item_taken f (item.Inst p)) (x.lowers.taken (item.Inst p) x.is_item))
 
   -- the place under the number of an address
   pub record PlaceUnder (v : ValueId) (y : Place) : Type 0 where

@@ -1,3 +1,5 @@
+use Rattle.stored_runs.proofs.StoreSteps.{store_assigned}
+use Rattle.stored_runs.proofs.StrongCells.{value_holds}
 use Rattle.stored_runs.proofs.SparesApart.{accepted_spares_apart}
 use Rattle.stored_runs.proofs.LoadSteps.{load_along}
 use Rattle.stored_runs.proofs.FullKept.{filling_keeps}
