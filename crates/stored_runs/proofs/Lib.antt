@@ -37,3 +37,5 @@ pub mod LoadSteps
 pub mod SparesApart
 pub mod StrongCells
 pub mod StoreSteps
+pub mod SpareValues
+pub mod DestroySteps

@@ -1,4 +1,5 @@
 -- `store`: the lowered run stores, and `[assign]` loads what the place held before, and releases it behind the store.
+use Rattle.stored_runs.proofs.SpareValues.{parts_still, shown_still, spare_under, stays_under, with_spare}
 use Rattle.stored_runs.specs.inner.Names.{IsOld}
 use Rattle.stored_runs.proofs.SparesApart.{defined_there}
 use Rattle.stored_runs.specs.inner.Spares.{AreSparesApart}
@@ -26,13 +27,13 @@ use Rattle.item_operands.specs.Items.{item_defined}
 use Rattle.item_operands.specs.Roles.{conventions_in, roles_for, taken_by, taken_each}
 use Rattle.type_definitions.specs.Declarations.{Declarations, declarations_of}
 use Rattle.run_values.specs.Memory.{Memory, is_dead}
-use Rattle.run_values.specs.Places.{Place, cells_at, emptied, is_there_at, value_at, Home, Inside, OnStack, with_home_cells}
+use Rattle.run_values.specs.Places.{Place, cells_at, emptied, is_there_at, value_at, Home, Inside, OnStack, with_home_cells, filled}
 use Rattle.run_values.specs.Values.{Value, references_of}
 use Rattle.lowered_run.specs.holder_model.Data.{AddressOf, Datum, ValueOf}
 use Rattle.lowered_run.specs.holder_model.Effects.{Change, Makes, effect_of, unchanged, with_some}
 use Rattle.lowered_run.specs.holder_model.Frames.{Entry, Frame, Operands, results_put}
 use Rattle.lowered_run.specs.holder_model.HolderStates.{HolderState}
-use Rattle.lowered_run.specs.holder_model.MemoryEffects.{copies_with, takes}
+use Rattle.lowered_run.specs.holder_model.MemoryEffects.{copies_with, takes, references_at}
 use Rattle.lowered_run.specs.holder_model.ModuleFacts.{facts_of}
 use Rattle.lowered_run.specs.holder_model.ModuleShapes.{ModuleShapes, shapes_in, shapes_of}
 use Rattle.lowered_run.specs.holder_model.Outcomes.{Numbers}
@@ -40,7 +41,7 @@ use Rattle.lowered_run.specs.holder_model.Standing.{stands_at}
 use Rattle.lowered_run.specs.holder_model.States.{Runs, Task}
 use Rattle.lowered_run.specs.holder_model.declared.row_effect.RowEffect.TheVariants as row
 use Rattle.lowered_run.specs.holder_model.memory_accesses.declared.access.Operation.{Operation}
-use Rattle.lowered_run.specs.LowEffects.{low_effect, operation_done, stored_behind, stored_by}
+use Rattle.lowered_run.specs.LowEffects.{low_effect, operation_done, stored_behind, stored_by, accessed, both_stored, is_first_write, stored_at, value_stored}
 use Rattle.lowered_run.specs.LowFrames as low_frames
 use Rattle.lowered_run.specs.LowStepParts.{LowState, numbers_for, taken_value}
 use Rattle.lowered_run.specs.Stored.{each_changed, one_more, unnamed}
@@ -54,24 +55,18 @@ use Rattle.holder_steps.specs.inner.Ways as holder
 use Rattle.stored_runs.specs.inner.Lowering.{IsOwnName}
 use Rattle.stored_runs.specs.inner.Memories.{IsMemoryFor, MayBeTaken}
 use Rattle.stored_runs.specs.inner.PlaceRows.{GoesAlong, LowGoes, StandsAt, operand_value, stored_for}
-use Rattle.stored_runs.proofs.MemoriesFor.{place_read, place_taken, place_there}
+use Rattle.stored_runs.proofs.MemoriesFor.{place_read, place_taken, place_there, place_filled, place_for}
 use Rattle.stored_runs.proofs.NamedSteps.{retain_effect, retain_stored, retain_takes, release_effect, release_stored, release_takes}
-use Rattle.stored_runs.proofs.RowSteps.{numbers_in_both, as_many_objects, numbers_stay}
+use Rattle.stored_runs.proofs.RowSteps.{numbers_in_both, as_many_objects, numbers_stay, parts_kept}
 use Rattle.stored_runs.proofs.RowsBehind.{PutsIn, accessed_so, begin, begins, behind_all, end, from, low_shapes, low_told, lowered_to, made, num, one_step, puts_in, same_numbers, stands, waits}
 use Rattle.stored_runs.proofs.SameRows.{none_dead}
-use Rattle.stored_runs.proofs.StandsThere.{PlaceUnder, facts, given_parts, one_place, whole, operands_old}
+use Rattle.stored_runs.proofs.StandsThere.{PlaceUnder, facts, given_parts, one_place, whole, operands_old, ValueUnder, value_and_place_under}
 use Rattle.stored_runs.proofs.ValuesFor.{read_so, value_set, value_other}
 use Rattle.run_values.specs.Cells.{Cell, in_cells}
-use Rattle.run_values.specs.Places.{filled}
 use Rattle.run_values.specs.Shapes.{Shape, storage_in}
-use Rattle.lowered_run.specs.LowEffects.{accessed, both_stored, is_first_write, stored_at, value_stored}
-use Rattle.lowered_run.specs.holder_model.MemoryEffects.{references_at}
 use Rattle.stored_runs.proofs.FullKept.{filling_keeps}
 use Rattle.stored_runs.proofs.LoadSteps.{load_effect, read_below, there_below}
-use Rattle.stored_runs.proofs.MemoriesFor.{place_filled, place_for}
 use Rattle.stored_runs.proofs.StrongCells.{none_named, none_unnamed, strong_low}
-use Rattle.stored_runs.proofs.RowSteps.{parts_kept}
-use Rattle.stored_runs.proofs.StandsThere.{ValueUnder, value_and_place_under}
 
 -- the operands of a store
 pub store_takes : (i : Inst) (a b : Operand) → i.operands ≡ a ∷ b ∷ []
@@ -235,31 +230,14 @@ module _ (m : Module) (bound : ℕ) (s : HolderState) (l : LowState) (frame : Fr
     -- `[assign]`: what the place held is loaded before, and released behind it
     module _ (spares : AreSparesApart d f) (z : Value) (held : value_at s.memory y ≡ Some z) (its : references_of z ≡ references_at s.memory y)
         (all : made m bound s l frame rest f i ops x ≡ load b spare ∷ plain_store i ∷ release d (loaded_from b spare) ∷ []) where
-      defined : list_any (is_value spare) (defined_by d f) ≡ true
-      defined =
-          let at = (lowered_to m bound s l frame rest f i ops x).among 0 (load b spare) (ap (λ is. slice_get is 0) all) in
-          defined_there d f (stands_at f frame.trail).block.0 (first + 0) at.0 (load b spare) spare at.1 at.2 (ap (λ c. c || false) (eq-eqb spare.0 spare.0 refl))
-
-      other_number : (v : ValueId) → IsOld f v → ((number v).0 == (number spare).0) ≡ false
-      other_number v old_v = spares.apart spare v (lowered_to m bound s l frame rest f i ops x).beyond defined old_v
+      is_first : slice_get (made m bound s l frame rest f i ops x) 0 ≡ Some (load b spare)
+      is_first = ap (λ is. slice_get is 0) all
 
       abbrev values_1 : List (Option Datum)
-      values_1 = set x.low.values (number spare).0 (Some (ValueOf z))
+      values_1 = with_spare m bound s l frame rest f i ops x spares b is_first z
 
-      stays_under : (v : ValueId) → IsOld f v → low_frames.value_at values_1 (number v) ≡ low_frames.value_at x.low.values (number v)
-      stays_under v old_v = value_other x.low.values (number spare) (number v) (ValueOf z) (other_number v old_v)
-
-      spare_under : low_frames.value_at values_1 (number spare) ≡ Some (ValueOf z)
-      spare_under =
-          value_set x.low.values (number spare) (ValueOf z)
-          (subst (λ n. (number spare).0 < n) (sym x.frames.size) (spares.few spare (lowered_to m bound s l frame rest f i ops x).beyond defined))
-
-      shown_1 : AreValuesFor d f (item.Inst (stands_at f frame.trail) ∷ frame.trail) entries values_1
-      shown_1 v dat is ok = subst (IsShownAs f v dat) (sym (stays_under v ok.0)) (shown v dat is ok)
-
-      parts_1 : AreGivenPartsFull d f values_1 (filled l.memory q w)
-      parts_1 v p arg at is_part =
-          filling_keeps l.memory q w p (given_parts m s l frame rest f i ops x v p arg (sym (stays_under v (x.lowers.given v arg).0) ∙ at) is_part)
+      under_still : (v : ValueId) → IsOld f v → low_frames.value_at values_1 (number v) ≡ low_frames.value_at x.low.values (number v)
+      under_still = stays_under m bound s l frame rest f i ops x spares b is_first z
 
       both_old : Each (IsOld f) (a.value ∷ b.value ∷ [])
       both_old = subst (λ os. Each (IsOld f) (map operand_value os)) both (operands_old m s l frame rest f i ops x)
@@ -310,14 +288,16 @@ module _ (m : Module) (bound : ℕ) (s : HolderState) (l : LowState) (frame : Fr
           (stands m bound s l frame rest f i ops x 1 (suc first) store (ap (λ is. slice_get is 1) all ∙ ap Some plain_is) (omega arith))
           (store_takes i a b both)
           (read_so values_1 (number a.value ∷ number b.value ∷ []) (ValueOf w ∷ AddressOf q ∷ [])
-          (stays_under a.value both_old.0 ∙ under.0.under, (stays_under b.value both_old.1.0 ∙ under.1.under, tt)))
+          (under_still a.value both_old.0 ∙ under.0.under, (under_still b.value both_old.1.0 ∙ under.1.under, tt)))
           store_effect refl (ap (λ rs. put_all (map number rs) [] values_1) none) refl
           (one_step m bound s l frame rest f i ops x (suc (suc first)) values_1 x.low.slots (filled l.memory q w) numbers_2 (l.retains + 0 + 0) (release d (loaded_from b spare))
           (spare ∷ []) (ValueOf z ∷ []) (record (unchanged (filled l.memory q w)) { dropped = references_of z }) x.low.slots values_1 last
           (stands m bound s l frame rest f i ops x 2 (suc (suc first)) (release d (loaded_from b spare)) (ap (λ is. slice_get is 2) all) (omega arith))
           (release_takes d (loaded_from b spare))
-          (read_so values_1 (number spare ∷ []) (ValueOf z ∷ []) (spare_under, tt))
+          (read_so values_1 (number spare ∷ []) (ValueOf z ∷ []) (spare_under m bound s l frame rest f i ops x spares b is_first z, tt))
           (release_effect d (loaded_from b spare) number told shapes (filled l.memory q w) (ValueOf z)) refl refl refl
           (subst (λ st. LowGoes m bound last st) at_end LowGoes.there)))))
-          (length-set x.low.values (number spare).0 (Some (ValueOf z))) shown_1 memory_after parts_1 below
+          (length-set x.low.values (number spare).0 (Some (ValueOf z)))
+          (shown_still m bound s l frame rest f i ops x spares b is_first z (item.Inst (stands_at f frame.trail) ∷ frame.trail) entries shown) memory_after
+          (parts_still m bound s l frame rest f i ops x spares b is_first z (filled l.memory q w) (filling_keeps l.memory q w)) below
           (ap (numbers_for (filled l.memory q w)) (release_stored d (loaded_from b spare) number told shapes (filled l.memory q w) (ValueOf z) numbers_2 ∙ numbers_2_same) ∙ numbers_told)
