@@ -39,3 +39,4 @@ pub mod StrongCells
 pub mod StoreSteps
 pub mod SpareValues
 pub mod DestroySteps
+pub mod StaysAlong
