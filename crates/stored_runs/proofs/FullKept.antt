@@ -120,3 +120,15 @@ growing_keeps low cells = full_again low (record low { stack = low.stack ++ cell
 
 pub same_keeps : (low : Memory) → KeepsFull low low
 same_keeps low p h = h
+
+grown : (xs more : List Object) (k n : ℕ) → IsFullIn (unwrap_or (slice_get xs k) no_object).cells n → IsFullIn (unwrap_or (slice_get (xs ++ more) k) no_object).cells n
+grown [] more k n h = absurd (none_full h)
+grown (x ∷ xs) more zero n h = h
+grown (x ∷ xs) more (suc k) n h = grown xs more k n h
+
+pub making_keeps : (low : Memory) (more : List Object) → KeepsFull low (record low { objects = low.objects ++ more })
+making_keeps low more = full_again low (record low { objects = low.objects ++ more }) by
+  where
+    by : (home : Home) (n : ℕ) → IsFullCell (cell_at low home n) → IsFullCell (cell_at (record low { objects = low.objects ++ more }) home n)
+    by OnStack n k = k
+    by (Inside o) n k = grown low.objects more o.0 n k

@@ -40,3 +40,4 @@ pub mod StoreSteps
 pub mod SpareValues
 pub mod DestroySteps
 pub mod StaysAlong
+pub mod PlainAlong

@@ -70,7 +70,7 @@ module _ (m : Module) (s : HolderState) (l : LowState) (frame : Frame) (rest : L
   abbrev pub facts : ValueId → Option Facts
   facts v = facts_told (facts_of m) frame.function v
 
-  taken_so : AreTakenSo facts s.memory frame.entries (item_taken f (item.Inst p)) ops
+  pub taken_so : AreTakenSo facts s.memory frame.entries (item_taken f (item.Inst p)) ops
   taken_so = operands_given facts s.memory frame.entries (item_taken f (item.Inst p)) ops x.found
 
   pub reads : AreReadSo d f x.lowers.named x.low.values (item_taken f (item.Inst p)) ops.given

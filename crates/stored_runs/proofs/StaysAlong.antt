@@ -73,8 +73,14 @@ use Rattle.stored_runs.specs.inner.EffectsFor.{IsChangeFor}
 use Rattle.stored_runs.proofs.Reading.{takes_there}
 use Rattle.stored_runs.proofs.StayingSteps.{slots_for}
 
+-- it is so where its row says that it stays
+pub stays_alone : (m : Module) (bound : ℕ) (s : HolderState) (l : LowState) (frame : Frame) (rest : List (Task Frame)) (f : Function) (i : Inst) (ops : Operands)
+    (x : StandsAt m s l frame rest f i ops) → lowering_of i.op ≡ lowering.Stays → made m bound s l frame rest f i ops x ≡ i ∷ []
+stays_alone m bound s l frame rest f i ops x stays =
+    ap (λ c. becomes_by (declarations_of m) (value_with (lowered_to m bound s l frame rest f i ops x).spare) c i) stays
+
 module _ (m : Module) (bound : ℕ) (s : HolderState) (l : LowState) (frame : Frame) (rest : List (Task Frame)) (f : Function) (i : Inst) (ops : Operands)
-    (x : StandsAt m s l frame rest f i ops) (stays : lowering_of i.op ≡ lowering.Stays) (keeps : renames i.op ≡ false) where
+    (x : StandsAt m s l frame rest f i ops) (alone : made m bound s l frame rest f i ops x ≡ i ∷ []) (keeps : renames i.op ≡ false) where
   abbrev d : Declarations
   d = declarations_of m
 
@@ -102,9 +108,6 @@ module _ (m : Module) (bound : ℕ) (s : HolderState) (l : LowState) (frame : Fr
           → result_shape_of d told shapes low low_inst (map number rs) ≡ result_shape_of d (shapes_of m) (shapes_in (shapes_of m) frame.function) memory i rs
       by [] h = refl
       by (r ∷ rs) h = ap (λ g. shape_at (shapes_in told g) (number r)) x.frames.function ∙ x.lowers.shapes r h.0.0
-
-  alone : made m bound s l frame rest f i ops x ≡ i ∷ []
-  alone = ap (λ c. becomes_by d (value_with (lowered_to m bound s l frame rest f i ops x).spare) c i) stays
 
   abbrev first : ℕ
   first = begin m bound s l frame rest f i ops x
