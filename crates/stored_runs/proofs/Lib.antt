@@ -41,3 +41,4 @@ pub mod SpareValues
 pub mod DestroySteps
 pub mod StaysAlong
 pub mod PlainAlong
+pub mod NamesAlong

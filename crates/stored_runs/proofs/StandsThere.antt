@@ -32,13 +32,13 @@ use Rattle.lowered_run.specs.LowFrames as low_frames
 use Rattle.lowered_run.specs.LowFrames.{LowFrame, put_all, read_all}
 use Rattle.lowered_run.specs.LowStepParts.{LowState, taken_value}
 use Rattle.lowering_laws.specs.ownership_origins.Renamings.{renames}
-use Rattle.stored_runs.specs.inner.Frames.{AreGivenPartsFull, AreValuesFor, HasFullParts, IsDatumFor, IsFrameAt}
+use Rattle.stored_runs.specs.inner.Frames.{IsNoAddress, AreGivenPartsFull, AreValuesFor, HasFullParts, IsDatumFor, IsFrameAt}
 use Rattle.stored_runs.specs.inner.Lowering.{IsOwnName, IsTakenOld}
 use Rattle.stored_runs.specs.inner.Memories.{IsMemoryFor}
 use Rattle.stored_runs.specs.inner.Names.{IsCurrent, IsOld, lowered_number}
 use Rattle.stored_runs.specs.inner.PlaceRows.{StandsAt, operand_value}
 use Rattle.stored_runs.proofs.GoesAlong.{PutsSo, puts_none, puts_own}
-use Rattle.stored_runs.proofs.Reading.{AreReadAs, AreReadSo, Like, behind_nothing, defines_there, like_exact, taken_read}
+use Rattle.stored_runs.proofs.Reading.{AreReadAs, AreReadSo, Like, behind_nothing, defines_there, like_exact, taken_exact, taken_read}
 use Rattle.stored_runs.proofs.SameRows.{none_dead}
 use Rattle.stored_runs.proofs.ValuesFor.{AreTakenSo, IsGivenAlive, operands_given}
 
@@ -196,6 +196,38 @@ module _ (m : Module) (s : HolderState) (l : LowState) (frame : Frame) (rest : L
       subst (λ xs. AreRead IsUnder (a.value ∷ b.value ∷ []) xs reads.ys) given (subst (λ os. AreRead IsUnder (map operand_value os) ops.given reads.ys) both operands_under) in
       let r = both_read IsUnder a.value b.value (ValueOf u) (AddressOf y) reads.ys h in
       (value_under a.value u r.0.0 r.0.1, place_under b.value y r.1.0 r.1.1)
+
+  -- what is read for it
+
+  same_data : (v : ValueId) (y z : Datum) → low_frames.value_at x.low.values (number v) ≡ Some z → low_frames.value_at x.low.values (number v) ≡ Some y → z ≡ y
+  same_data v y z e h = same_Some z y (sym e ∙ h)
+
+  all_read : (v : ValueId) (y : Datum) (zs : List Datum) (z : Datum) → AreRead IsUnder (v ∷ []) (y ∷ []) zs → low_frames.value_at x.low.values (number v) ≡ Some z → zs ≡ z ∷ []
+  all_read v y [] z h e = absurd h
+  all_read v y (a ∷ []) z h e = ap (λ b. b ∷ []) (same_data v z a h.0.0 e)
+  all_read v y (a ∷ b ∷ zs) z h e = absurd h.1
+
+  pub place_read_low : (o : Operand) (y : Place) (one : i.operands ≡ o ∷ []) (given : ops.given ≡ AddressOf y ∷ []) → reads.ys ≡ AddressOf (one_place o y one given).place ∷ []
+  place_read_low o y one given =
+      all_read o.value (AddressOf y) reads.ys (AddressOf (one_place o y one given).place)
+      (subst (λ xs. AreRead IsUnder (o.value ∷ []) xs reads.ys) given (subst (λ os. AreRead IsUnder (map operand_value os) ops.given reads.ys) one operands_under))
+      (one_place o y one given).under
+
+  both_all_read : (v w : ValueId) (y u : Datum) (zs : List Datum) (z b : Datum) → AreRead IsUnder (v ∷ w ∷ []) (y ∷ u ∷ []) zs
+      → low_frames.value_at x.low.values (number v) ≡ Some z → low_frames.value_at x.low.values (number w) ≡ Some b → zs ≡ z ∷ b ∷ []
+  both_all_read v w y u [] z b h e g = absurd h
+  both_all_read v w y u (a ∷ zs) z b h e g = ap (λ c. c ∷ zs) (same_data v z a h.0.0 e) ∙ ap (λ cs. z ∷ cs) (all_read w u zs b h.1 g)
+
+  pub both_read_low : (a b : Operand) (u : Value) (y : Place) (both : i.operands ≡ a ∷ b ∷ []) (given : ops.given ≡ ValueOf u ∷ AddressOf y ∷ [])
+      → reads.ys ≡ ValueOf u ∷ AddressOf (value_and_place_under a b u y both given).1.place ∷ []
+  both_read_low a b u y both given =
+      both_all_read a.value b.value (ValueOf u) (AddressOf y) reads.ys (ValueOf u) (AddressOf (value_and_place_under a b u y both given).1.place)
+      (subst (λ xs. AreRead IsUnder (a.value ∷ b.value ∷ []) xs reads.ys) given (subst (λ os. AreRead IsUnder (map operand_value os) ops.given reads.ys) both operands_under))
+      (value_and_place_under a b u y both given).0.under (value_and_place_under a b u y both given).1.under
+
+  -- the same is read where no address is
+  pub exact_read : Each IsNoAddress ops.given → reads.ys ≡ ops.given
+  exact_read none = taken_exact d f x.lowers.named x.low.values (item_taken f (item.Inst p)) ops.given reads.ys reads.like none
 
   -- ---- results
 
