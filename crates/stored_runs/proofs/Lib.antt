@@ -42,3 +42,4 @@ pub mod DestroySteps
 pub mod StaysAlong
 pub mod PlainAlong
 pub mod NamesAlong
+pub mod PartedAlong
