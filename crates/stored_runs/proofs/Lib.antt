@@ -43,3 +43,4 @@ pub mod StaysAlong
 pub mod PlainAlong
 pub mod NamesAlong
 pub mod PartedAlong
+pub mod NamedAlong

@@ -170,7 +170,7 @@ module _ (m : Module) (bound : ℕ) (s : HolderState) (l : LowState) (frame : Fr
     pub shown : AreValuesFor (declarations_of m) f (item.Inst (stands_at f frame.trail) ∷ frame.trail) entries values
     pub parts : AreGivenPartsFull (declarations_of m) f values l.memory
 
-  shown_left : AreValuesFor (declarations_of m) f frame.trail ops.left x.low.values
+  pub shown_left : AreValuesFor (declarations_of m) f frame.trail ops.left x.low.values
   shown_left = (left_frames m s l frame rest f i ops x).values
 
   pub puts_in : (rs : List ValueId) (ys : List Datum) (entries : List Entry) → i.results ≡ rs → renames i.op ≡ false

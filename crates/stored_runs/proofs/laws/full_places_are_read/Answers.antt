@@ -1,3 +1,4 @@
+use Rattle.stored_runs.proofs.NamedAlong.{copying_along}
 use Rattle.stored_runs.proofs.PartedAlong.{parted_along}
 use Rattle.stored_runs.proofs.NamesAlong.{stored_along}
 use Rattle.stored_runs.proofs.PlainAlong.{plain_along}
