@@ -135,7 +135,7 @@ module _ (m : Module) (bound : ℕ) (s : HolderState) (l : LowState) (frame : Fr
 
   -- parts that frames were given stay full in another memory
   abbrev pub PartsStay : Memory → Type 0
-  PartsStay memory = ((values : List (Option Datum)) → AreGivenPartsFull d f values l.memory → AreGivenPartsFull d f values memory) × Each (HasFullParts m memory) x.lrest
+  PartsStay memory = AreGivenPartsFull d f x.low.values memory × Each (HasFullParts m memory) x.lrest
 
   -- the effect of a row on the operands that are read
   by_row : (r : RowEffect) (ys : List Datum) (e : Effect LowFault) → effect_of i.op ≡ r → read_low ≡ ys
@@ -330,7 +330,7 @@ module _ (m : Module) (bound : ℕ) (s : HolderState) (l : LowState) (frame : Fr
           stays_along m bound s l frame rest f i ops x alone keeps c n.low n.so (low_loads z (Makes n.low) row_is held n.low_is) n.alive frame.slots
           (ap (λ a. parts.slots_behind a frame.slots) n.same_slots) entries put
           (names_so row.LoadsName row_is (λ told' shapes' memory j p e. ap (λ c. low_effects.place_taken d told' shapes' memory j c (Some p) l.numbers) e))
-          (subst (λ memory. (values : List (Option Datum)) → AreGivenPartsFull d f values l.memory → AreGivenPartsFull d f values memory) (sym n.memory_is) stay.0)
+          (subst (λ memory. AreGivenPartsFull d f x.low.values memory) (sym n.memory_is) stay.0)
           (subst (λ memory. Each (HasFullParts m memory) x.lrest) (sym n.memory_is) stay.1)
 
     -- ---- `dealloc_stack`
@@ -368,7 +368,7 @@ module _ (m : Module) (bound : ℕ) (s : HolderState) (l : LowState) (frame : Fr
         (record { results = refl; dropped = sym empty; retained = refl; slots = refl; memory = memory_filled })
         (by_row row.StoresValue (ValueOf w ∷ AddressOf r ∷ []) (Makes (unchanged (filled l.memory r w))) row_is (both_read_low m s l frame rest f i ops x a b w y both given ∙ same_data) low_does)
         refl frame.slots refl entries put names
-        (λ values h v p arg at part. filling_keeps l.memory r w p (h v p arg at part)) (parts_kept m l.memory (filled l.memory r w) (filling_keeps l.memory r w) x.lrest x.full.1)
+        (λ v p arg at part. filling_keeps l.memory r w p (given_parts m s l frame rest f i ops x v p arg at part)) (parts_kept m l.memory (filled l.memory r w) (filling_keeps l.memory r w) x.lrest x.full.1)
       where
         same_data : ValueOf w ∷ AddressOf (value_and_place_under m s l frame rest f i ops x a b w y both given).1.place ∷ [] ≡ ValueOf w ∷ AddressOf r ∷ []
         same_data = refl

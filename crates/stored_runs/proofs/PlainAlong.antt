@@ -280,7 +280,7 @@ module _ (m : Module) (bound : ℕ) (s : HolderState) (l : LowState) (frame : Fr
       stays_along m bound s l frame rest f i ops x alone keeps c low.0 low.2 (alike ∙ low.1) alive slots slots_left entries put
       (stored_plain d told shapes l.memory inst (effect_of i.op) read_low l.numbers plain
       ∙ sym (stored_plain d (shapes_of m) (shapes_in (shapes_of m) frame.function) s.memory i (effect_of i.op) ops.given l.numbers plain))
-      (λ values h v p given at part. kept p (h v p given at part)) (parts_kept m l.memory low.0.memory kept x.lrest x.full.1)
+      (λ v p given at part. kept p (given_parts m s l frame rest f i ops x v p given at part)) (parts_kept m l.memory low.0.memory kept x.lrest x.full.1)
     where
       unless : (o : Option ObjectId) (e : Effect LowFault) → KeepsIn l.memory e → KeepsIn l.memory (low_effects.dead_or d told shapes l.memory inst e o)
       unless None e h = h

@@ -168,6 +168,8 @@ module _ (m : Module) (bound : ℕ) (s : HolderState) (l : LowState) (frame : Fr
     pub put : put_all (map num rs) ys x.low.values ≡ Some values
     pub size : length values ≡ length x.low.values
     pub shown : AreValuesFor (declarations_of m) f (item.Inst (stands_at f frame.trail) ∷ frame.trail) entries values
+    -- arguments stay what they were
+    pub parts_in : (memory : Memory) → AreGivenPartsFull (declarations_of m) f x.low.values memory → AreGivenPartsFull (declarations_of m) f values memory
     pub parts : AreGivenPartsFull (declarations_of m) f values l.memory
 
   pub shown_left : AreValuesFor (declarations_of m) f frame.trail ops.left x.low.values
@@ -180,11 +182,8 @@ module _ (m : Module) (bound : ℕ) (s : HolderState) (l : LowState) (frame : Fr
     put = putting.is;
     size = putting.size;
     shown = behind_current (declarations_of m) f x.lowers.named frame.trail it rs defined owns entries putting.values' putting.shown;
-    parts = λ v q given at part.
-        given_parts m s l frame rest f i ops x v q given
-        (sym (put_other (map num rs) ys x.low.values putting.values' (num v) putting.is
-        (other_numbers m bound s l x.totals x.memory x.size from rest f x.lowers x.there x.low x.lrest (left_frames m s l frame rest f i ops x) x.rest_for x.full
-        it (λ h. absurd (cc)) (subst (Each (IsOwnName f)) (sym defined) owns) v given rs owns (subst (Each (λ r. makes f r it ≡ true)) defined (each_among (λ (r : ValueId). r) (λ r. makes f r it ≡ true) (item_defined f it) (λ r h. h))))) ∙ at) part;
+    parts = keep l.memory (given_parts m s l frame rest f i ops x);
+    parts_in = keep;
   }
     where
       it : Item
@@ -204,3 +203,11 @@ module _ (m : Module) (bound : ℕ) (s : HolderState) (l : LowState) (frame : Fr
           (each_weaker (IsOwnName f) (λ r. (num r).0 < length x.low.values)
           (λ r o. subst (λ n. (num r).0 < n) (sym x.frames.size) (x.lowers.named.few r o.0)) rs owns)
           (subst (λ vs. results_put (facts m s l frame rest f i ops x) vs ys ops.left ≡ Ok entries) defined put) shown_left
+
+      keep : (memory : Memory) → AreGivenPartsFull (declarations_of m) f x.low.values memory → AreGivenPartsFull (declarations_of m) f putting.values' memory
+      keep memory h v q given at part =
+          h v q given
+          (sym (put_other (map num rs) ys x.low.values putting.values' (num v) putting.is
+          (other_numbers m bound s l x.totals x.memory x.size from rest f x.lowers x.there x.low x.lrest (left_frames m s l frame rest f i ops x) x.rest_for x.full
+          it (λ h. absurd (cc)) (subst (Each (IsOwnName f)) (sym defined) owns) v given rs owns
+          (subst (Each (λ r. makes f r it ≡ true)) defined (each_among (λ (r : ValueId). r) (λ r. makes f r it ≡ true) (item_defined f it) (λ r h. h))))) ∙ at) part

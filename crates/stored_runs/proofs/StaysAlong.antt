@@ -117,7 +117,7 @@ module _ (m : Module) (bound : ℕ) (s : HolderState) (l : LowState) (frame : Fr
       (put : results_put (facts m s l frame rest f i ops x) (item_defined f (item.Inst (stands_at f frame.trail))) c.results ops.left ≡ Ok entries)
       (names : stored_behind d told shapes l.memory low_inst low_data l.numbers
         ≡ stored_behind d (shapes_of m) (shapes_in (shapes_of m) frame.function) s.memory i ops.given l.numbers)
-      (parts_keep : (values : List (Option Datum)) → AreGivenPartsFull d f values l.memory → AreGivenPartsFull d f values c'.memory)
+      (parts_keep : AreGivenPartsFull d f x.low.values c'.memory)
       (below : Each (HasFullParts m c'.memory) x.lrest) where
     puts : PutsIn m bound s l frame rest f i ops x i.results c.results entries
     puts = puts_in m bound s l frame rest f i ops x i.results c.results entries refl keeps put
@@ -148,7 +148,7 @@ module _ (m : Module) (bound : ℕ) (s : HolderState) (l : LowState) (frame : Fr
         (ap (λ rs. put_all (map number i.results) rs x.low.values) so.results ∙ puts.put)
         (ap (find (is_dead l.memory)) so.retained ∙ none_dead s.memory l.memory x.memory c.retained alive)
         (subst (λ st. LowGoes m bound last st) at_end LowGoes.there)))
-        puts.size puts.shown so.memory (parts_keep puts.values puts.parts) below
+        puts.size puts.shown so.memory (puts.parts_in c'.memory parts_keep) below
         (ap (λ ns. numbers_for c'.memory (each_changed one_more c'.retained ns)) names
         ∙ ap (λ os. numbers_for c'.memory (each_changed one_more os (stored_behind d (shapes_of m) (shapes_in (shapes_of m) frame.function) s.memory i ops.given l.numbers))) so.retained
         ∙ numbers_in_both c.memory c'.memory so.memory
