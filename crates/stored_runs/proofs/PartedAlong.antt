@@ -1,4 +1,9 @@
 -- A struct or tuple is taken apart: the lowered run extracts its members one by one.
+use Rattle.std.specs.Prelude.{option_and_then, ◌++◌, find, is_some, slice_get, ◌==◌}
+use Rattle.sil_ast.specs.declared.member.Member.{Member}
+use Rattle.lowered_run.specs.holder_model.memory_accesses.Sources.{member_place}
+use Rattle.lowered_run.specs.holder_model.Effects.{gives_value, Change, Makes, effect_of, unchanged, with_some}
+use Rattle.lowering_laws.specs.lowering_model.Extracts.{element_extracts, extracts_elements, extracts_fields, field_extracts, members_of_struct}
 use Rattle.stored_runs.specs.inner.Names.{IsOld}
 use Rattle.stored_runs.proofs.SparesApart.{defined_there}
 use Rattle.stored_runs.specs.inner.Spares.{AreSparesApart}
@@ -7,7 +12,6 @@ use Rattle.std.proofs.lemmas.Bool.{cases_Bool}
 use Rattle.stored_runs.specs.inner.Frames.{AreValuesFor, HasFullParts, AreGivenPartsFull, IsShownAs}
 use Rattle.lowered_run.specs.LowFrames.{put_all}
 use Rattle.std.proofs.Common.{◌≡◌, ◌<◌, ℕ, zero, suc, ◌+◌, List, [], ◌∷◌, map, length, arith, refl, sym, ap, ◌∙◌, subst, Bool, true, false, cond, Option, Some, None, Ok, ap₂, flat_map, option_to_list, set, not, ◌⊎◌, inl, inr, ◌||◌, eq-eqb, length-set}
-use Rattle.std.specs.Prelude.{find, is_some, slice_get, ◌==◌}
 use Rattle.std.specs.List.{list_any}
 use Rattle.std.proofs.lemmas.Option.{same_Some}
 use Rattle.instruction_table.specs.Forms.{roles_of}
@@ -29,7 +33,6 @@ use Rattle.run_values.specs.Memory.{Memory, is_dead}
 use Rattle.run_values.specs.Places.{Place, cells_at, emptied, is_there_at, value_at, Home, Inside, OnStack, with_home_cells, filled}
 use Rattle.run_values.specs.Values.{Value, references_of, members_of}
 use Rattle.lowered_run.specs.holder_model.Data.{AddressOf, Datum, ValueOf}
-use Rattle.lowered_run.specs.holder_model.Effects.{Change, Makes, effect_of, unchanged, with_some}
 use Rattle.lowered_run.specs.holder_model.Frames.{Entry, Frame, Operands, results_put}
 use Rattle.lowered_run.specs.holder_model.HolderStates.{HolderState}
 use Rattle.lowered_run.specs.holder_model.MemoryEffects.{copies_with, takes, references_at}
@@ -166,3 +169,68 @@ module _ (m : Module) (bound : ℕ) (s : HolderState) (l : LowState) (frame : Fr
         (ap₂ (λ n retains. at_state n puts.values l.numbers retains) (lowered_to m bound s l frame rest f i ops x).next (omega arith)) LowGoes.there)))
         puts.size puts.shown x.memory puts.parts x.full.1
         (sym (same_numbers m bound s l frame rest f i ops x) ∙ numbers_in_both s.memory l.memory x.memory l.numbers ∙ ap (numbers_for s.memory) (sym stored_row))
+
+  -- ---- what extracts give
+
+  abbrev member_at : ℕ → Option Value
+  member_at k = option_and_then (λ ys. slice_get ys k) (members_of w)
+
+  -- the members of a struct, by their names
+  fields_extract : (ms : List Member) (rs : List ValueId) (ys : List Value) (k : ℕ) → length rs ≡ length ms → length ys ≡ length ms
+      → ((a : ℕ) (named : Member) → slice_get ms a ≡ Some named → member_place d (Some named) ≡ Some (k + a))
+      → ((a : ℕ) (y : Value) → slice_get ys a ≡ Some y → member_at (k + a) ≡ Some y) → AllExtract (field_extracts o ms rs ++ []) rs ys
+  fields_extract [] [] [] k e g places members = tt
+  fields_extract [] [] (y ∷ ys) k e g places members = absurd (omega arith)
+  fields_extract [] (r ∷ rs) ys k e g places members = absurd (omega arith)
+  fields_extract (named ∷ ms) [] ys k e g places members = absurd (omega arith)
+  fields_extract (named ∷ ms) (r ∷ rs) [] k e g places members = absurd (omega arith)
+  fields_extract (named ∷ ms) (r ∷ rs) (y ∷ ys) k e g places members = (
+    record {
+      takes_it = refl;
+      gives_it = refl;
+      eff = ap (λ n. with_some (gives_value l.memory) (option_and_then (λ n. member_at n) n)) (places 0 named refl)
+          ∙ ap (with_some (gives_value l.memory)) (members 0 y refl);
+      same = λ ns. refl;
+    },
+    fields_extract ms rs ys (k + 1) (omega arith) (omega arith)
+        (λ a other is. places (suc a) other is ∙ ap Some (omega arith))
+        (λ a z is. ap member_at (omega arith) ∙ members (suc a) z is),
+  )
+
+  -- the elements of a tuple, by their numbers
+  elements_extract : (rs : List ValueId) (ys : List Value) (k : ℕ) → length ys ≡ length rs → ((a : ℕ) (y : Value) → slice_get ys a ≡ Some y → member_at (k + a) ≡ Some y)
+      → AllExtract (element_extracts o k rs ++ []) rs ys
+  elements_extract [] [] k e members = tt
+  elements_extract [] (y ∷ ys) k e members = absurd (omega arith)
+  elements_extract (r ∷ rs) [] k e members = absurd (omega arith)
+  elements_extract (r ∷ rs) (y ∷ ys) k e members = (
+    record {
+      takes_it = refl;
+      gives_it = refl;
+      eff = ap (with_some (gives_value l.memory)) (ap member_at (omega arith) ∙ members 0 y refl);
+      same = λ ns. refl;
+    },
+    elements_extract rs ys (k + 1) (omega arith) (λ a z is. ap member_at (omega arith) ∙ members (suc a) z is),
+  )
+
+  abbrev spare_of : ValueId
+  spare_of = value_with (lowered_to m bound s l frame rest f i ops x).spare
+
+  member_there : (ys : List Value) → members_of w ≡ Some ys → (a : ℕ) (y : Value) → slice_get ys a ≡ Some y → member_at (0 + a) ≡ Some y
+  member_there ys e a y is = ap (λ n. member_at n) (omega arith) ∙ ap (option_and_then (λ zs. slice_get zs a)) e ∙ is
+
+  pub struct_extracts : (ys : List Value) → members_of w ≡ Some ys → lowering_of i.op ≡ lowering.ExtractsFields
+      → length i.results ≡ length (flat_map (members_of_struct d) (option_to_list o.ty)) → length ys ≡ length (flat_map (members_of_struct d) (option_to_list o.ty))
+      → ((a : ℕ) (named : Member) → slice_get (flat_map (members_of_struct d) (option_to_list o.ty)) a ≡ Some named → member_place d (Some named) ≡ Some a)
+      → AllExtract (made m bound s l frame rest f i ops x) i.results ys
+  struct_extracts ys e extracts long size places =
+      subst (λ js. AllExtract js i.results ys)
+      (sym (ap (λ z. becomes_by d spare_of z i) extracts ∙ ap (flat_map (extracts_fields d i.results)) one))
+      (fields_extract (flat_map (members_of_struct d) (option_to_list o.ty)) i.results ys 0 long size (λ a named is. places a named is ∙ ap Some (omega arith)) (member_there ys e))
+
+  pub tuple_extracts : (ys : List Value) → members_of w ≡ Some ys → lowering_of i.op ≡ lowering.ExtractsElements → length ys ≡ length i.results
+      → AllExtract (made m bound s l frame rest f i ops x) i.results ys
+  tuple_extracts ys e extracts size =
+      subst (λ js. AllExtract js i.results ys)
+      (sym (ap (λ z. becomes_by d spare_of z i) extracts ∙ ap (flat_map (extracts_elements i.results)) one))
+      (elements_extract i.results ys 0 size (member_there ys e))

@@ -1,5 +1,5 @@
 use Rattle.stored_runs.proofs.NamedAlong.{copying_along}
-use Rattle.stored_runs.proofs.PartedAlong.{parted_along}
+use Rattle.stored_runs.proofs.PartedAlong.{tuple_extracts}
 use Rattle.stored_runs.proofs.NamesAlong.{stored_along}
 use Rattle.stored_runs.proofs.PlainAlong.{plain_along}
 use Rattle.stored_runs.proofs.StaysAlong.{stays_along}
