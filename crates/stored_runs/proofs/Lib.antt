@@ -44,3 +44,4 @@ pub mod PlainAlong
 pub mod NamesAlong
 pub mod PartedAlong
 pub mod NamedAlong
+pub mod TrapsAlong

@@ -1,4 +1,5 @@
 -- Rows at places that are lowered to themselves: loads and stores of names, storage that is destroyed, slots that go, and addresses of members.
+use Rattle.stored_runs.specs.inner.RowsRight.{is_place_row}
 use Rattle.sil_ast.specs.declared.decl.Storage.TheVariants as storage
 use Rattle.lowered_run.specs.holder_model.declared.trap.Trap.TheVariants as trap
 use Rattle.lowered_run.specs.holder_model.MemoryEffects.{two, value_and_place, copies_with, takes, references_at, all_live, loaded_name, named_again}
@@ -6,7 +7,7 @@ use Rattle.lowered_run.specs.Stored.{named, unnamed, each_changed, one_more}
 use Rattle.accepted_trails.specs.inner.Defined.{makes}
 use Rattle.sil_ast.specs.declared.decl.Storage.{Storage}
 use Rattle.run_values.specs.declared.phase.Phase.{Phase}
-use Rattle.stored_runs.proofs.PlainAlong.{is_place_row, plain_along}
+use Rattle.stored_runs.proofs.PlainAlong.{plain_along}
 use Rattle.std.proofs.Common.{◌≡◌, ℕ, List, [], ◌∷◌, ◌++◌, length, map, refl, sym, ap, ◌∙◌, subst, Bool, true, false, cond, Option, Some, None, ◌<◌, zero, suc, ◌+◌, arith, Ok, ap₂, flat_map, option_to_list, set, not, ◌⊎◌, inl, inr, ◌||◌, eq-eqb, length-set, ◌&&◌}
 use Rattle.std.specs.Prelude.{◌||◌, not, find, is_some, option_and_then, slice_get, ◌==◌}
 use Rattle.std.specs.List.{flat_map, list_any}
@@ -240,16 +241,16 @@ module _ (m : Module) (bound : ℕ) (s : HolderState) (l : LowState) (frame : Fr
           (names_so row.DestroysPlace row_is (λ told' shapes' memory j p e. ap (λ c. low_effects.place_taken d told' shapes' memory j c (Some p) l.numbers) e)) stay.0 stay.1
 
       -- loads of names
-      abbrev held_after : Memory
+      abbrev pub held_after : Memory
       held_after = after s.memory y
 
-      abbrev low_after : Memory
+      abbrev pub low_after : Memory
       low_after = after l.memory q
 
       made_same : (a c : Change) → ◌≡◌ {A = Effect HolderFault} (Makes a) (Makes c) → a ≡ c
       made_same a c e = cc
 
-      live_same : (os : List ObjectId) → all_live l.memory os ≡ all_live s.memory os
+      pub live_same : (os : List ObjectId) → all_live l.memory os ≡ all_live s.memory os
       live_same [] = refl
       live_same (a ∷ os) = ap₂ (λ b c. b && c) (live_for s.memory l.memory x.memory a) (live_same os)
 
@@ -310,7 +311,7 @@ module _ (m : Module) (bound : ℕ) (s : HolderState) (l : LowState) (frame : Fr
           by true live g = again_so (Some storage.Unowned) z c (Traps trap.Unowned) live refl g
           by false dead g = absurd (cc)
 
-      low_loads : (z : Value) (e : Effect LowFault) → effect_of i.op ≡ row.LoadsName → value_at s.memory y ≡ Some z → loaded_name (storage_in y.shape) l.memory low_after z ≡ e
+      pub low_loads : (z : Value) (e : Effect LowFault) → effect_of i.op ≡ row.LoadsName → value_at s.memory y ≡ Some z → loaded_name (storage_in y.shape) l.memory low_after z ≡ e
           → low_effect d told shapes l.memory inst read_low ≡ e
       low_loads z e row_is held h =
           by_row row.LoadsName (AddressOf q ∷ []) e row_is reads_it

@@ -1,4 +1,5 @@
 -- Rows that do nothing at places, and are lowered to themselves: full places stay full, and no storage begins or ceases to name an object.
+use Rattle.stored_runs.specs.inner.RowsRight.{is_place_row}
 use Rattle.std.proofs.Common.{◌≡◌, ℕ, List, [], ◌∷◌, ◌++◌, length, map, refl, sym, ap, ◌∙◌, subst, Bool, true, false, cond, Option, Some, None, ◌<◌, zero, suc, ◌+◌, arith, Ok, ap₂, flat_map, option_to_list, set, not, ◌⊎◌, inl, inr, ◌||◌, eq-eqb, length-set}
 use Rattle.std.specs.Prelude.{◌||◌, not, find, is_some, option_and_then, slice_get, ◌==◌}
 use Rattle.std.specs.List.{flat_map, list_any}
@@ -89,32 +90,6 @@ use Rattle.stored_runs.proofs.Reading.{takes_there}
 use Rattle.stored_runs.proofs.StayingSteps.{slots_for, operated_alive, operated_none}
 use Rattle.lowered_run.specs.holder_model.MemoryEffects as holder_effects
 use Rattle.stored_runs.proofs.StaysAlong.{low_data, low_inst, shape_same, stays_along}
-
--- the row does something at a place
-abbrev pub is_place_row : RowEffect → Bool
-is_place_row row.NoEffect = false
-is_place_row row.GivesLiteral = false
-is_place_row row.GivesFunction = false
-is_place_row row.Computes = false
-is_place_row row.TrapsWhereSet = false
-is_place_row row.MakesObject = false
-is_place_row row.MakesSlot = false
-is_place_row row.RemovesSlot = true
-is_place_row row.GivesOperand = false
-is_place_row row.CopiesOperand = false
-is_place_row row.RetainsOperand = false
-is_place_row row.DropsOperand = false
-is_place_row row.LoadsValue = true
-is_place_row row.StoresValue = true
-is_place_row row.DestroysPlace = true
-is_place_row row.LoadsName = true
-is_place_row row.Groups = false
-is_place_row row.ChoosesCase = false
-is_place_row row.GivesMember = false
-is_place_row row.GivesMembers = false
-is_place_row row.AddressesMember = false
-is_place_row row.AddressesField = false
-is_place_row row.CallsFunction = false
 
 -- ---- full places stay full
 
@@ -252,7 +227,7 @@ module _ (m : Module) (bound : ℕ) (s : HolderState) (l : LowState) (frame : Fr
   read_low = low_data m bound s l frame rest f i ops x alone keeps
 
   -- what the row does beside memory, by the operands of the run by holders
-  low_does : IsEffectFor (holder_effects.effect d (shapes_of m) (shapes_in (shapes_of m) frame.function) s.memory i ops.given) (low_effect d told shapes l.memory inst ops.given)
+  pub low_does : IsEffectFor (holder_effects.effect d (shapes_of m) (shapes_in (shapes_of m) frame.function) s.memory i ops.given) (low_effect d told shapes l.memory inst ops.given)
   low_does =
       subst (IsEffectFor (holder_effects.effect d (shapes_of m) (shapes_in (shapes_of m) frame.function) s.memory i ops.given))
       (sym (ap (low_effects.dead_or d told shapes l.memory inst (effect_by d told shapes l.memory inst (low_effects.at_places d told shapes l.memory inst) (effect_of i.op) ops.given))

@@ -20,3 +20,4 @@ pub mod TypedCalls
 pub mod FrameSteps
 pub mod PlaceRows
 pub mod Spares
+pub mod RowsRight
