@@ -45,3 +45,4 @@ pub mod NamesAlong
 pub mod PartedAlong
 pub mod NamedAlong
 pub mod TrapsAlong
+pub mod RowsAlong

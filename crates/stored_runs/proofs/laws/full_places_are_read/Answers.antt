@@ -1,3 +1,4 @@
+use Rattle.stored_runs.proofs.RowsAlong.{are_rows_along}
 use Rattle.stored_runs.proofs.TrapsAlong.{name_traps}
 use Rattle.stored_runs.proofs.NamedAlong.{copying_along}
 use Rattle.stored_runs.proofs.PartedAlong.{tuple_extracts}
