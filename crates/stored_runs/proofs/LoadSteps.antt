@@ -1,7 +1,7 @@
 -- `load` and `load_borrow`: the lowered run loads, and retains what it loaded where the row makes its references anew.
 use Rattle.lowered_run.specs.LowFrames.{put_all}
-use Rattle.std.proofs.Common.{◌≡◌, ◌<◌, ℕ, zero, suc, ◌+◌, List, [], ◌∷◌, map, length, arith, refl, sym, ap, ◌∙◌, subst, Bool, true, false, cond, Option, Some, None, Ok, ap₂, flat_map, option_to_list, set}
-use Rattle.std.specs.Prelude.{find, is_some, slice_get}
+use Rattle.std.proofs.Common.{◌≡◌, ◌<◌, ℕ, suc, ◌+◌, List, [], ◌∷◌, map, length, arith, refl, sym, ap, ◌∙◌, subst, Bool, true, false, cond, Option, Some, Ok, ap₂, flat_map, option_to_list, set}
+use Rattle.std.specs.Prelude.{is_some, slice_get}
 use Rattle.std.specs.List.{list_any}
 use Rattle.std.proofs.lemmas.Option.{same_Some}
 use Rattle.instruction_table.specs.Forms.{roles_of}
@@ -18,7 +18,7 @@ use Rattle.sil_ast.specs.declared.place.ValueId.{ValueId}
 use Rattle.sil_cfg.specs.declared.item.Item.TheVariants as item
 use Rattle.item_operands.specs.Items.{item_defined}
 use Rattle.item_operands.specs.Roles.{conventions_in, roles_for, taken_by, taken_each}
-use Rattle.type_definitions.specs.Declarations.{Declarations, declarations_of}
+use Rattle.type_definitions.specs.Declarations.{declarations_of}
 use Rattle.run_values.specs.Memory.{Memory, is_dead}
 use Rattle.run_values.specs.Places.{Place, cells_at, emptied, is_there_at, value_at}
 use Rattle.run_values.specs.Values.{Value, references_of}
@@ -31,7 +31,7 @@ use Rattle.lowered_run.specs.holder_model.ModuleFacts.{facts_of}
 use Rattle.lowered_run.specs.holder_model.ModuleShapes.{shapes_in, shapes_of}
 use Rattle.lowered_run.specs.holder_model.Outcomes.{Numbers}
 use Rattle.lowered_run.specs.holder_model.Standing.{stands_at}
-use Rattle.lowered_run.specs.holder_model.States.{Runs, Task}
+use Rattle.lowered_run.specs.holder_model.States.{Task}
 use Rattle.lowered_run.specs.holder_model.declared.row_effect.RowEffect.TheVariants as row
 use Rattle.lowered_run.specs.holder_model.memory_accesses.declared.access.Operation.{Operation}
 use Rattle.lowered_run.specs.LowEffects.{low_effect, stored_behind, stored_by}
@@ -40,7 +40,7 @@ use Rattle.lowered_run.specs.LowStepParts.{LowState, numbers_for, taken_value}
 use Rattle.lowered_run.specs.Stored.{each_changed, one_more}
 use Rattle.lowering_laws.specs.ownership_origins.Renamings.{renames}
 use Rattle.lowering_laws.specs.lowering_model.LoweredBlocks.{value_with}
-use Rattle.lowering_laws.specs.lowering_model.LoweredInsts.{becomes_by, loads_by, lowering_of, operand_at, plain_load, retains_loaded}
+use Rattle.lowering_laws.specs.lowering_model.LoweredInsts.{becomes_by, loads_by, lowering_of, plain_load, retains_loaded}
 use Rattle.lowering_laws.specs.lowering_model.NewInsts.{loaded_from, retain}
 use Rattle.lowering_laws.specs.lowering_model.Numbers.{renumbered_inst}
 use Rattle.lowering_laws.specs.lowering_model.declared.lowering.Lowering.TheVariants as lowering
@@ -53,7 +53,7 @@ use Rattle.stored_runs.proofs.NamedSteps.{retain_effect, retain_stored, retain_t
 use Rattle.stored_runs.proofs.RowSteps.{numbers_in_both}
 use Rattle.stored_runs.proofs.RowsBehind.{PutsIn, accessed_so, begin, begins, behind_all, end, from, low_shapes, low_told, lowered_to, made, num, one_step, puts_in, same_numbers, stands, waits}
 use Rattle.stored_runs.proofs.SameRows.{none_dead}
-use Rattle.stored_runs.proofs.StandsThere.{PlaceUnder, facts, one_place, whole}
+use Rattle.stored_runs.proofs.StandsThere.{PlaceUnder, facts, one_place}
 use Rattle.stored_runs.proofs.ValuesFor.{read_so, value_set}
 
 -- the operand of a load

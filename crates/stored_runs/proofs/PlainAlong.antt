@@ -1,95 +1,55 @@
 -- Rows that do nothing at places, and are lowered to themselves: full places stay full, and no storage begins or ceases to name an object.
 use Rattle.stored_runs.specs.inner.RowsRight.{is_place_row}
-use Rattle.std.proofs.Common.{◌≡◌, ℕ, List, [], ◌∷◌, ◌++◌, length, map, refl, sym, ap, ◌∙◌, subst, Bool, true, false, cond, Option, Some, None, ◌<◌, zero, suc, ◌+◌, arith, Ok, ap₂, flat_map, option_to_list, set, not, ◌⊎◌, inl, inr, ◌||◌, eq-eqb, length-set}
-use Rattle.std.specs.Prelude.{◌||◌, not, find, is_some, option_and_then, slice_get, ◌==◌}
-use Rattle.std.specs.List.{flat_map, list_any}
-use Rattle.std.proofs.lemmas.Bool.{true≢false, cases_Bool}
-use Rattle.std.proofs.lemmas.Option.{none-some, same_Some}
-use Rattle.std.specs.Option.{option_to_list}
-use Rattle.std.proofs.lemmas.Slice.Zip.{AllZip-long}
-use Rattle.instruction_table.specs.Forms.{detail_of, roles_of}
-use Rattle.instruction_table.specs.declared.entries.Detail.{Detail}
-use Rattle.instruction_table.specs.declared.entries.Detail.TheVariants as detail
+use Rattle.std.proofs.Common.{◌≡◌, ℕ, List, [], ◌∷◌, map, refl, sym, ap, ◌∙◌, subst, Bool, true, false, cond, Option, Some, None, Ok}
+use Rattle.std.specs.Prelude.{option_and_then}
+use Rattle.std.specs.List.{list_any}
 use Rattle.sil_ast.specs.declared.inst.Inst.{Inst}
 use Rattle.sil_ast.specs.declared.member.Member.{Member}
 use Rattle.sil_ast.specs.declared.place.ObjectId.{ObjectId}
 use Rattle.sil_ast.specs.declared.place.ValueId.{ValueId}
-use Rattle.numbered_form.specs.Names.{Name}
 use Rattle.type_definitions.specs.Declarations.{Declarations, declarations_of}
-use Rattle.run_values.specs.declared.phase.Phase.TheVariants.{Live}
 use Rattle.run_values.specs.Memory.{Memory, is_dead}
 use Rattle.run_values.specs.Places.{OnStack, Place, empty_fields, empty_slot, emptied, filled, is_there_at, removed, value_at, cells_at, Home, Inside, with_home_cells}
 use Rattle.run_values.specs.Places as places
-use Rattle.run_values.specs.Shapes.{Shape, class_in, storage_in}
+use Rattle.run_values.specs.Shapes.{Shape, class_in}
 use Rattle.run_values.specs.Values as value
 use Rattle.run_values.specs.Values.{Value, grouped, integer_of, members_of, object_of, references_of}
 use Rattle.lowered_run.specs.holder_model.Builtins.{builtin_value, is_set}
-use Rattle.lowered_run.specs.holder_model.Data.{AddressOf, Datum, FunctionOf, ValueOf, all_of, as_function, as_place, as_value, home_references, values_of}
+use Rattle.lowered_run.specs.holder_model.Data.{AddressOf, Datum, FunctionOf, ValueOf, all_of, as_function, as_place, as_value, values_of}
 use Rattle.lowered_run.specs.holder_model.Effects as effects
 use Rattle.lowered_run.specs.holder_model.Effects.{Change, Effect, Makes, OpensSlot, effect_by, gives, gives_value, only, part_number, part_number_by, unchanged, with_some, effect_of, result_shape, result_shape_of, Calls, Faults, Traps, Unfit, chooses, copies, drops, retains, gives_member, gives_members, names_member, names_field, names_field_of, field_of_object, makes_object, traps_where}
-use Rattle.lowered_run.specs.holder_model.Faults.{HolderFault}
-use Rattle.lowered_run.specs.holder_model.ModuleShapes.{ModuleShapes, case_place, field_shapes, fields_in, is_class, shapes_in, shapes_of, shape_at}
+use Rattle.lowered_run.specs.holder_model.ModuleShapes.{ModuleShapes, case_place, shapes_in, shapes_of}
 use Rattle.lowered_run.specs.holder_model.declared.row_effect.RowEffect.{RowEffect}
 use Rattle.lowered_run.specs.holder_model.declared.row_effect.RowEffect.TheVariants as row
 use Rattle.lowered_run.specs.declared.low_fault.LowFault.{LowFault}
-use Rattle.lowered_run.specs.declared.low_fault.LowFault.TheVariants as fault
 use Rattle.lowered_run.specs.LowEffects as low_effects
-use Rattle.lowering_laws.specs.lowering_model.Numbers.{renumbered_inst, is_value}
-use Rattle.stored_runs.specs.inner.EffectsFor.{IsEffectFor, IsChangeFor}
-use Rattle.stored_runs.specs.inner.Memories.{IsMemoryFor, IsObjectFor, IsCellFor, MayBeTaken}
-use Rattle.stored_runs.proofs.MemoriesFor.{dead_for, object_added, place_there, slot_added, place_read, place_taken, place_filled, place_for}
-use Rattle.stored_runs.proofs.SpareValues.{parts_still, shown_still, spare_under, stays_under, with_spare}
-use Rattle.stored_runs.specs.inner.Names.{IsOld}
-use Rattle.stored_runs.proofs.SparesApart.{defined_there}
-use Rattle.stored_runs.specs.inner.Spares.{AreSparesApart}
-use Rattle.lowering_laws.specs.inner.Laws.{defined_by}
-use Rattle.stored_runs.specs.inner.Frames.{AreValuesFor, HasFullParts, AreGivenPartsFull, IsShownAs}
-use Rattle.lowered_run.specs.LowFrames.{put_all, read_all}
-use Rattle.instruction_table.specs.declared.op.Op.TheVariants as op
-use Rattle.numbered_form.specs.Lists.{Each}
+use Rattle.lowering_laws.specs.lowering_model.Numbers.{renumbered_inst}
+use Rattle.stored_runs.specs.inner.EffectsFor.{IsEffectFor}
 use Rattle.sil_ast.specs.declared.function.Function.{Function}
-use Rattle.sil_ast.specs.declared.inst.Qualifier.{Qualifier}
-use Rattle.sil_ast.specs.declared.inst.Qualifier.TheVariants as word
 use Rattle.sil_ast.specs.declared.module.Module.{Module}
-use Rattle.sil_ast.specs.declared.operands.Operand.{Operand}
 use Rattle.sil_cfg.specs.declared.item.Item.TheVariants as item
 use Rattle.item_operands.specs.Items.{item_defined, item_taken}
-use Rattle.item_operands.specs.Roles.{conventions_in, roles_for, taken_by, taken_each}
 use Rattle.lowered_run.specs.holder_model.Frames.{Entry, Frame, Operands, results_put}
 use Rattle.lowered_run.specs.holder_model.HolderStates.{HolderState}
 use Rattle.lowered_run.specs.holder_model.MemoryEffects.{copies_with, takes, references_at}
 use Rattle.lowered_run.specs.holder_model.ModuleFacts.{facts_of}
 use Rattle.lowered_run.specs.holder_model.Outcomes.{Numbers}
 use Rattle.lowered_run.specs.holder_model.Standing.{stands_at}
-use Rattle.lowered_run.specs.holder_model.States.{Runs, Task}
-use Rattle.lowered_run.specs.holder_model.memory_accesses.declared.access.Operation.{Operation}
+use Rattle.lowered_run.specs.holder_model.States.{Task}
 use Rattle.lowered_run.specs.LowEffects.{low_effect, operation_done, stored_behind, stored_by, accessed, both_stored, is_first_write, stored_at, value_stored}
-use Rattle.lowered_run.specs.LowFrames as low_frames
-use Rattle.lowered_run.specs.LowStepParts.{LowState, numbers_for, taken_value, slots_behind}
-use Rattle.lowered_run.specs.Stored.{each_changed, one_more, unnamed}
+use Rattle.lowered_run.specs.LowStepParts.{LowState}
 use Rattle.lowering_laws.specs.ownership_origins.Renamings.{renames}
-use Rattle.lowering_laws.specs.lowering_model.LoweredBlocks.{value_with}
-use Rattle.lowering_laws.specs.lowering_model.LoweredInsts.{becomes_by, loads_by, lowering_of, operand_at, plain_load, plain_store, retains_loaded, stores_by, assigns}
-use Rattle.lowering_laws.specs.lowering_model.NewInsts.{loaded_from, retain, load, release}
-use Rattle.lowering_laws.specs.lowering_model.declared.lowering.Lowering.TheVariants as lowering
 use Rattle.holder_steps.specs.inner.Ways as holder
-use Rattle.stored_runs.specs.inner.Lowering.{IsOwnName}
-use Rattle.stored_runs.specs.inner.PlaceRows.{GoesAlong, LowGoes, StandsAt, operand_value, stored_for}
-use Rattle.stored_runs.proofs.NamedSteps.{retain_effect, retain_stored, retain_takes, release_effect, release_stored, release_takes}
-use Rattle.stored_runs.proofs.RowSteps.{KeepsFull, as_many_objects, numbers_in_both, numbers_stay, parts_kept}
-use Rattle.stored_runs.proofs.RowsBehind.{PutsIn, accessed_so, begin, begins, behind_all, end, from, low_shapes, low_told, lowered_to, made, num, one_step, puts_in, same_numbers, stands, waits}
-use Rattle.stored_runs.proofs.SameRows.{none_dead, row_for}
-use Rattle.stored_runs.proofs.StandsThere.{PlaceUnder, ValueUnder, facts, given_parts, one_place, operands_old, reads, taken_so, value_and_place_under, whole}
-use Rattle.stored_runs.proofs.ValuesFor.{read_so, value_set, value_other}
-use Rattle.run_values.specs.Cells.{Cell, in_cells}
-use Rattle.stored_runs.proofs.FullKept.{filling_keeps, growing_keeps, making_keeps, same_keeps}
-use Rattle.stored_runs.proofs.LoadSteps.{load_effect, read_below, there_below}
-use Rattle.stored_runs.proofs.StrongCells.{none_named, none_unnamed, strong_low}
+use Rattle.stored_runs.specs.inner.PlaceRows.{GoesAlong, StandsAt, stored_for}
+use Rattle.stored_runs.proofs.RowSteps.{KeepsFull, parts_kept}
+use Rattle.stored_runs.proofs.RowsBehind.{from, low_shapes, low_told, made, num}
+use Rattle.stored_runs.proofs.SameRows.{row_for}
+use Rattle.stored_runs.proofs.StandsThere.{facts, given_parts, taken_so}
+use Rattle.stored_runs.proofs.FullKept.{growing_keeps, making_keeps, same_keeps}
 use Rattle.lowered_run.specs.holder_model.StepParts as parts
-use Rattle.stored_runs.proofs.Reading.{takes_there}
-use Rattle.stored_runs.proofs.StayingSteps.{slots_for, operated_alive, operated_none}
+use Rattle.stored_runs.proofs.StayingSteps.{operated_alive, operated_none}
 use Rattle.lowered_run.specs.holder_model.MemoryEffects as holder_effects
-use Rattle.stored_runs.proofs.StaysAlong.{low_data, low_inst, shape_same, stays_along}
+use Rattle.stored_runs.proofs.StaysAlong.{low_data, shape_same, stays_along}
 
 -- ---- full places stay full
 

@@ -1,5 +1,5 @@
 -- Steps of the instructions that stand in the place of the one at which both runs stand, and what is behind them.
-use Rattle.std.proofs.Common.{◌≡◌, ℕ, zero, suc, ◌+◌, ◌<◌, List, [], ◌∷◌, map, length, arith, refl, sym, ap, ◌∙◌, subst, Bool, true, false, cond, Option, Some, None, Ok}
+use Rattle.std.proofs.Common.{◌≡◌, ℕ, suc, ◌+◌, ◌<◌, List, [], ◌∷◌, map, length, sym, ap, ◌∙◌, subst, Bool, true, false, cond, Option, Some, None, Ok}
 use Rattle.std.specs.Prelude.{find, is_some, not, ◌||◌, ◌++◌, slice_get}
 use Rattle.numbered_form.specs.Lists.{Each}
 use Rattle.sil_ast.specs.declared.function.Function.{Function}
@@ -25,14 +25,13 @@ use Rattle.lowered_run.specs.holder_model.ModuleFacts.{facts_of}
 use Rattle.lowered_run.specs.holder_model.ModuleShapes.{ModuleShapes, shapes_in, shapes_of}
 use Rattle.lowered_run.specs.holder_model.Outcomes.{Numbers}
 use Rattle.lowered_run.specs.holder_model.Standing.{point_behind, stands_at}
-use Rattle.lowered_run.specs.holder_model.States.{Goes, Task}
+use Rattle.lowered_run.specs.holder_model.States.{Task}
 use Rattle.lowered_run.specs.declared.low_fault.LowFault.{LowFault}
 use Rattle.lowered_run.specs.declared.low_fault.LowFault.TheVariants as fault
 use Rattle.lowered_run.specs.LowEffects as low_effects
 use Rattle.lowered_run.specs.LowEffects.{low_effect, stored_behind}
 use Rattle.lowered_run.specs.LowFrames.{put_all, read_all}
 use Rattle.lowered_run.specs.LowStepParts.{LowState, numbers_for, slots_behind, taken_value}
-use Rattle.lowered_run.specs.LowSteps as steps
 use Rattle.lowered_run.specs.Stored.{each_changed, one_more}
 use Rattle.lowering_laws.specs.ownership_origins.Renamings.{renames}
 use Rattle.lowering_laws.specs.lowering_model.LoweredBlocks.{value_with}

@@ -1,9 +1,8 @@
 -- What both runs have where they stand at an instruction: its operands under their lowered numbers, and what its results are put under.
-use Rattle.std.proofs.Common.{◌≡◌, ◌⊎◌, inl, inr, ⊎_elim, ℕ, suc, List, [], ◌∷◌, ◌++◌, map, length, refl, sym, ap, ◌∙◌, subst, Bool, true, false, not, ◌&&◌, ◌||◌, Option, Some, None, Ok}
-use Rattle.std.specs.Prelude.{◌==◌, find, is_some, slice_get}
-use Rattle.std.specs.List.{AllZip, list_any}
-use Rattle.std.proofs.lemmas.Bool.{cases_Bool, eqb-true}
-use Rattle.std.proofs.lemmas.Option.{none-some, same_Some}
+use Rattle.std.proofs.Common.{◌≡◌, inl, inr, List, [], ◌∷◌, map, refl, sym, ap, ◌∙◌, subst, true, false, Option, Some, None}
+use Rattle.std.specs.Prelude.{find, is_some, slice_get}
+use Rattle.std.specs.List.{AllZip}
+use Rattle.std.proofs.lemmas.Option.{same_Some}
 use Rattle.numbered_form.specs.Lists.{Each}
 use Rattle.sil_ast.specs.declared.function.Function.{Function}
 use Rattle.sil_ast.specs.declared.inst.Inst.{Inst}
@@ -17,28 +16,25 @@ use Rattle.item_operands.specs.Items.{item_defined, item_taken}
 use Rattle.item_operands.specs.declared.taken.Taken.{Taken}
 use Rattle.ownership_chains.specs.declared.facts.Facts.{Facts}
 use Rattle.type_definitions.specs.Declarations.{Declarations, declarations_of}
-use Rattle.run_values.specs.Memory.{Memory, is_dead}
+use Rattle.run_values.specs.Memory.{is_dead}
 use Rattle.run_values.specs.Places.{Place, value_at}
 use Rattle.run_values.specs.Values.{Value, references_of}
 use Rattle.accepted_trails.specs.inner.Defined.{makes}
-use Rattle.lowered_run.specs.holder_model.Calling.{as_argument}
 use Rattle.lowered_run.specs.holder_model.Data.{AddressOf, Datum, FunctionOf, ValueOf, as_place, home_references, references_in}
-use Rattle.lowered_run.specs.holder_model.Frames.{Entry, Frame, Operands, any_dead, results_put}
+use Rattle.lowered_run.specs.holder_model.Frames.{Frame, Operands, any_dead}
 use Rattle.lowered_run.specs.holder_model.HolderStates.{HolderState}
 use Rattle.lowered_run.specs.holder_model.ModuleFacts.{facts_of, facts_told}
 use Rattle.lowered_run.specs.holder_model.Standing.{stands_at}
-use Rattle.lowered_run.specs.holder_model.States.{Runs, Task}
+use Rattle.lowered_run.specs.holder_model.States.{Task}
 use Rattle.lowered_run.specs.LowFrames as low_frames
 use Rattle.lowered_run.specs.LowFrames.{LowFrame, put_all, read_all}
 use Rattle.lowered_run.specs.LowStepParts.{LowState, taken_value}
 use Rattle.lowering_laws.specs.ownership_origins.Renamings.{renames}
-use Rattle.stored_runs.specs.inner.Frames.{IsNoAddress, AreGivenPartsFull, AreValuesFor, HasFullParts, IsDatumFor, IsFrameAt}
+use Rattle.stored_runs.specs.inner.Frames.{IsNoAddress, AreGivenPartsFull, IsDatumFor, IsFrameAt}
 use Rattle.stored_runs.specs.inner.Lowering.{IsOwnName, IsTakenOld}
-use Rattle.stored_runs.specs.inner.Memories.{IsMemoryFor}
-use Rattle.stored_runs.specs.inner.Names.{IsCurrent, IsOld, lowered_number}
+use Rattle.stored_runs.specs.inner.Names.{IsOld, lowered_number}
 use Rattle.stored_runs.specs.inner.PlaceRows.{StandsAt, operand_value}
-use Rattle.stored_runs.proofs.GoesAlong.{PutsSo, puts_none, puts_own}
-use Rattle.stored_runs.proofs.Reading.{AreReadAs, AreReadSo, Like, behind_nothing, defines_there, like_exact, taken_exact, taken_read}
+use Rattle.stored_runs.proofs.Reading.{AreReadAs, AreReadSo, defines_there, like_exact, taken_exact, taken_read}
 use Rattle.stored_runs.proofs.SameRows.{none_dead}
 use Rattle.stored_runs.proofs.ValuesFor.{AreTakenSo, IsGivenAlive, operands_given}
 

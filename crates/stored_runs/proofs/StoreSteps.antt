@@ -1,22 +1,18 @@
 -- `store`: the lowered run stores, and `[assign]` loads what the place held before, and releases it behind the store.
 use Rattle.stored_runs.proofs.SpareValues.{parts_still, shown_still, spare_under, stays_under, with_spare}
 use Rattle.stored_runs.specs.inner.Names.{IsOld}
-use Rattle.stored_runs.proofs.SparesApart.{defined_there}
 use Rattle.stored_runs.specs.inner.Spares.{AreSparesApart}
-use Rattle.lowering_laws.specs.inner.Laws.{defined_by}
 use Rattle.std.proofs.lemmas.Bool.{cases_Bool}
-use Rattle.stored_runs.specs.inner.Frames.{AreValuesFor, HasFullParts, AreGivenPartsFull, IsShownAs}
+use Rattle.stored_runs.specs.inner.Frames.{AreValuesFor, HasFullParts}
 use Rattle.lowered_run.specs.LowFrames.{put_all}
-use Rattle.std.proofs.Common.{◌≡◌, ◌<◌, ℕ, zero, suc, ◌+◌, List, [], ◌∷◌, map, length, arith, refl, sym, ap, ◌∙◌, subst, Bool, true, false, cond, Option, Some, None, Ok, ap₂, flat_map, option_to_list, set, not, ◌⊎◌, inl, inr, ◌||◌, eq-eqb, length-set}
-use Rattle.std.specs.Prelude.{find, is_some, slice_get, ◌==◌}
-use Rattle.std.specs.List.{list_any}
+use Rattle.std.proofs.Common.{◌≡◌, ℕ, suc, ◌+◌, List, [], ◌∷◌, map, length, arith, refl, sym, ap, ◌∙◌, subst, Bool, true, false, cond, Option, Some, None, Ok, ap₂, not, ◌⊎◌, inl, inr, ◌||◌, length-set}
+use Rattle.std.specs.Prelude.{is_some, slice_get}
 use Rattle.std.proofs.lemmas.Option.{same_Some}
 use Rattle.instruction_table.specs.Forms.{roles_of}
 use Rattle.instruction_table.specs.declared.op.Op.TheVariants as op
 use Rattle.numbered_form.specs.Lists.{Each}
 use Rattle.sil_ast.specs.declared.function.Function.{Function}
 use Rattle.sil_ast.specs.declared.inst.Inst.{Inst}
-use Rattle.sil_ast.specs.declared.inst.Qualifier.{Qualifier}
 use Rattle.sil_ast.specs.declared.inst.Qualifier.TheVariants as word
 use Rattle.sil_ast.specs.declared.module.Module.{Module}
 use Rattle.sil_ast.specs.declared.operands.Operand.{Operand}
@@ -26,42 +22,38 @@ use Rattle.sil_cfg.specs.declared.item.Item.TheVariants as item
 use Rattle.item_operands.specs.Items.{item_defined}
 use Rattle.item_operands.specs.Roles.{conventions_in, roles_for, taken_by, taken_each}
 use Rattle.type_definitions.specs.Declarations.{Declarations, declarations_of}
-use Rattle.run_values.specs.Memory.{Memory, is_dead}
-use Rattle.run_values.specs.Places.{Place, cells_at, emptied, is_there_at, value_at, Home, Inside, OnStack, with_home_cells, filled}
+use Rattle.run_values.specs.Memory.{Memory}
+use Rattle.run_values.specs.Places.{Place, cells_at, is_there_at, value_at, Home, Inside, OnStack, with_home_cells, filled}
 use Rattle.run_values.specs.Values.{Value, references_of}
 use Rattle.lowered_run.specs.holder_model.Data.{AddressOf, Datum, ValueOf}
-use Rattle.lowered_run.specs.holder_model.Effects.{Change, Makes, effect_of, unchanged, with_some}
+use Rattle.lowered_run.specs.holder_model.Effects.{Change, Makes, effect_of, unchanged}
 use Rattle.lowered_run.specs.holder_model.Frames.{Entry, Frame, Operands, results_put}
 use Rattle.lowered_run.specs.holder_model.HolderStates.{HolderState}
-use Rattle.lowered_run.specs.holder_model.MemoryEffects.{copies_with, takes, references_at}
+use Rattle.lowered_run.specs.holder_model.MemoryEffects.{references_at}
 use Rattle.lowered_run.specs.holder_model.ModuleFacts.{facts_of}
 use Rattle.lowered_run.specs.holder_model.ModuleShapes.{ModuleShapes, shapes_in, shapes_of}
 use Rattle.lowered_run.specs.holder_model.Outcomes.{Numbers}
 use Rattle.lowered_run.specs.holder_model.Standing.{stands_at}
-use Rattle.lowered_run.specs.holder_model.States.{Runs, Task}
-use Rattle.lowered_run.specs.holder_model.declared.row_effect.RowEffect.TheVariants as row
+use Rattle.lowered_run.specs.holder_model.States.{Task}
 use Rattle.lowered_run.specs.holder_model.memory_accesses.declared.access.Operation.{Operation}
-use Rattle.lowered_run.specs.LowEffects.{low_effect, operation_done, stored_behind, stored_by, accessed, both_stored, is_first_write, stored_at, value_stored}
+use Rattle.lowered_run.specs.LowEffects.{low_effect, operation_done, stored_behind, stored_by, accessed, both_stored, is_first_write, value_stored}
 use Rattle.lowered_run.specs.LowFrames as low_frames
 use Rattle.lowered_run.specs.LowStepParts.{LowState, numbers_for, taken_value}
-use Rattle.lowered_run.specs.Stored.{each_changed, one_more, unnamed}
+use Rattle.lowered_run.specs.Stored.{unnamed}
 use Rattle.lowering_laws.specs.ownership_origins.Renamings.{renames}
 use Rattle.lowering_laws.specs.lowering_model.LoweredBlocks.{value_with}
-use Rattle.lowering_laws.specs.lowering_model.LoweredInsts.{becomes_by, loads_by, lowering_of, operand_at, plain_load, plain_store, retains_loaded, stores_by, assigns}
-use Rattle.lowering_laws.specs.lowering_model.NewInsts.{loaded_from, retain, load, release}
-use Rattle.lowering_laws.specs.lowering_model.Numbers.{renumbered_inst, is_value}
-use Rattle.lowering_laws.specs.lowering_model.declared.lowering.Lowering.TheVariants as lowering
+use Rattle.lowering_laws.specs.lowering_model.LoweredInsts.{becomes_by, lowering_of, plain_store, stores_by}
+use Rattle.lowering_laws.specs.lowering_model.NewInsts.{loaded_from, load, release}
+use Rattle.lowering_laws.specs.lowering_model.Numbers.{renumbered_inst}
 use Rattle.holder_steps.specs.inner.Ways as holder
-use Rattle.stored_runs.specs.inner.Lowering.{IsOwnName}
 use Rattle.stored_runs.specs.inner.Memories.{IsMemoryFor, MayBeTaken}
 use Rattle.stored_runs.specs.inner.PlaceRows.{GoesAlong, LowGoes, StandsAt, operand_value, stored_for}
-use Rattle.stored_runs.proofs.MemoriesFor.{place_read, place_taken, place_there, place_filled, place_for}
-use Rattle.stored_runs.proofs.NamedSteps.{retain_effect, retain_stored, retain_takes, release_effect, release_stored, release_takes}
+use Rattle.stored_runs.proofs.MemoriesFor.{place_filled, place_for}
+use Rattle.stored_runs.proofs.NamedSteps.{release_effect, release_stored, release_takes}
 use Rattle.stored_runs.proofs.RowSteps.{numbers_in_both, as_many_objects, numbers_stay, parts_kept}
 use Rattle.stored_runs.proofs.RowsBehind.{PutsIn, accessed_so, begin, begins, behind_all, end, from, low_shapes, low_told, lowered_to, made, num, one_step, puts_in, same_numbers, stands, waits}
-use Rattle.stored_runs.proofs.SameRows.{none_dead}
-use Rattle.stored_runs.proofs.StandsThere.{PlaceUnder, facts, given_parts, one_place, whole, operands_old, ValueUnder, value_and_place_under}
-use Rattle.stored_runs.proofs.ValuesFor.{read_so, value_set, value_other}
+use Rattle.stored_runs.proofs.StandsThere.{PlaceUnder, facts, given_parts, operands_old, ValueUnder, value_and_place_under}
+use Rattle.stored_runs.proofs.ValuesFor.{read_so}
 use Rattle.run_values.specs.Cells.{Cell, in_cells}
 use Rattle.run_values.specs.Shapes.{Shape, storage_in}
 use Rattle.stored_runs.proofs.FullKept.{filling_keeps}

@@ -1,5 +1,5 @@
 -- Cells that are no weak or unowned storage: they name no objects that are counted so, and the value that they keep has the references that they hold.
-use Rattle.std.proofs.Common.{◌≡◌, ℕ, zero, suc, ◌+◌, List, [], ◌∷◌, ◌++◌, length, take, drop, map, arith, refl, sym, ap, ap₂, ◌∙◌, subst, Bool, true, false, Option, Some, None}
+use Rattle.std.proofs.Common.{◌≡◌, ℕ, zero, suc, ◌+◌, List, [], ◌∷◌, ◌++◌, length, take, drop, map, arith, refl, sym, ap, ap₂, ◌∙◌, Option, Some, None}
 use Rattle.std.specs.Prelude.{option_map, sum}
 use Rattle.std.specs.List.{AllByRecursion, flat_map}
 use Rattle.std.proofs.lemmas.List.{append-nil}
@@ -8,7 +8,7 @@ use Rattle.std.proofs.lemmas.Option.{none-some, same_Some}
 use Rattle.numbered_form.specs.Lists.{Each}
 use Rattle.sil_ast.specs.declared.decl.Storage.TheVariants as storage
 use Rattle.sil_ast.specs.declared.place.ObjectId.{ObjectId}
-use Rattle.run_values.specs.Cells.{Cell, Empty, InCells, Keeps, cell_count, cells_layer, in_cells, kept, kept_each, kept_first, width_of}
+use Rattle.run_values.specs.Cells.{Cell, cell_count, cells_layer, in_cells, kept, kept_each, kept_first, width_of}
 use Rattle.run_values.specs.Leaves.{with_more}
 use Rattle.run_values.specs.Shapes.{Shape, Shapes, NoMember, Member, Integer, Reference, Struct, Tuple, Enum, Stored, Unknown, each_by_layers, listed}
 use Rattle.run_values.specs.Values.{Value, grouped, references_of}

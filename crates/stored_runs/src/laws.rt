@@ -9,6 +9,8 @@ ghost use Rattle.stored_runs.specs.inner.FrameSteps.{CallsStep, EndsStep};
 ghost use Rattle.stored_runs.specs.inner.LoweredSo.{AreLoweredSo};
 ghost use Rattle.stored_runs.specs.inner.Memories.{AreFullRead};
 ghost use Rattle.stored_runs.specs.inner.Returned.{AreReturned};
+ghost use Rattle.stored_runs.specs.inner.RowsRight.{AreRowsAlong, AreTrapsAlong};
+ghost use Rattle.stored_runs.specs.inner.Spares.{AreAcceptedSparesApart};
 ghost use Rattle.stored_runs.specs.inner.TypedCalls.{AreCallsRight};
 ghost use Rattle.stored_runs.specs.inner.TypedEnds.{AreEndsPlain};
 
@@ -44,4 +46,11 @@ pub fn calls_and_ends_go_along()
 pub fn typed_frames_serve()
     ensures ends { AreEndsPlain }
     ensures calls { AreCallsRight }
+{}
+
+/// Where an instruction finds what its row needs, the lowered run goes along with it, in as many steps as it has instructions for the row. Spare values, which lowering makes for what a place held, have numbers of their own.
+pub fn rows_go_along()
+    ensures rows { AreRowsAlong }
+    ensures traps { AreTrapsAlong }
+    ensures spares { AreAcceptedSparesApart }
 {}

@@ -1,4 +1,8 @@
 -- What each row of the run by holders found where it made a change, so that the lowered run does the same: of operands, of places and of values.
+use Rattle.lowered_run.specs.holder_model.declared.trap.Trap.{Trap}
+use Rattle.lowered_run.specs.holder_model.Effects.{Traps, Change, ClosesSlot, Effect, Makes, effect_of, unchanged}
+use Rattle.lowered_run.specs.holder_model.States.{Ends, Trapped, Task}
+use Rattle.stored_runs.specs.inner.FrameSteps.{StepsAlong}
 use Rattle.std.specs.Prelude.{◌≡◌, ◌⊎◌, ℕ, List, [], ◌∷◌, ◌==◌, Bool, false, true, cond, is_some, length, map, Some, None, Ok, slice_get, Option}
 use Rattle.std.specs.List.{flat_map, list_any}
 use Rattle.std.specs.Option.{option_to_list}
@@ -13,7 +17,7 @@ use Rattle.sil_ast.specs.declared.operands.Operand.{Operand}
 use Rattle.sil_ast.specs.declared.place.ValueId.{ValueId}
 use Rattle.sil_cfg.specs.declared.item.Item.TheVariants as item
 use Rattle.item_operands.specs.Items.{item_defined}
-use Rattle.type_definitions.specs.Declarations.{Declarations, declarations_of}
+use Rattle.type_definitions.specs.Declarations.{declarations_of}
 use Rattle.run_values.specs.Cells.{in_cells}
 use Rattle.run_values.specs.Memory.{Memory, is_dead}
 use Rattle.run_values.specs.Places.{Place, cells_at, emptied, filled, is_there_at, removed, value_at}
@@ -21,7 +25,6 @@ use Rattle.run_values.specs.Shapes.{storage_in}
 use Rattle.run_values.specs.Values.{Value, members_of, references_of}
 use Rattle.accepted_trails.specs.inner.Defined.{makes}
 use Rattle.lowered_run.specs.holder_model.Data.{AddressOf, ValueOf}
-use Rattle.lowered_run.specs.holder_model.Effects.{Change, ClosesSlot, Effect, Makes, effect_of, unchanged}
 use Rattle.lowered_run.specs.holder_model.Faults.{HolderFault}
 use Rattle.lowered_run.specs.holder_model.Frames.{Entry, Frame, Operands, results_put}
 use Rattle.lowered_run.specs.holder_model.HolderStates.{HolderState}
@@ -31,7 +34,6 @@ use Rattle.lowered_run.specs.holder_model.ModuleFacts.{facts_of, facts_told}
 use Rattle.lowered_run.specs.holder_model.ModuleShapes.{shapes_in, shapes_of}
 use Rattle.lowered_run.specs.holder_model.Standing.{stands_at}
 use Rattle.lowered_run.specs.holder_model.StepParts as parts
-use Rattle.lowered_run.specs.holder_model.States.{Task}
 use Rattle.lowered_run.specs.holder_model.declared.row_effect.RowEffect.{RowEffect}
 use Rattle.lowered_run.specs.holder_model.declared.row_effect.RowEffect.TheVariants as row
 use Rattle.lowered_run.specs.holder_model.memory_accesses.Operations.{access_kind_of, operation_by}
@@ -190,3 +192,18 @@ AreRowsAlong = (m : Module) (bound : ℕ) (s : HolderState) (l : LowState) (fram
     → results_put (facts_told (facts_of m) frame.function) (item_defined f (item.Inst (stands_at f frame.trail))) c.results ops.left ≡ Ok entries
     → GoesAlong m bound l (holder.moved m (facts_of m) bound s rest (record frame { entries = ops.left }) (item.Inst (stands_at f frame.trail)) c slots entries)
       (stored_for m s frame i ops.given c l.numbers)
+
+-- the same of a row that traps
+pub data TrapRight (m : Module) (s : HolderState) (frame : Frame) (i : Inst) (ops : Operands) : Trap → Type 0 where
+  plain : (t : Trap)
+      → holder_effects.effect (declarations_of m) (shapes_of m) (shapes_in (shapes_of m) frame.function) s.memory i ops.given ≡ Traps t
+      → lowering_of i.op ≡ lowering.Stays → renames i.op ≡ false → is_place_row (effect_of i.op) ≡ false → Each IsNoAddress ops.given → TrapRight m s frame i ops t
+  name : (t : Trap) (o : Operand) (y : Place) (done : Operation) (z : Value) → effect_of i.op ≡ row.LoadsName → lowering_of i.op ≡ lowering.Stays → renames i.op ≡ false
+      → i.operands ≡ o ∷ [] → ops.given ≡ AddressOf y ∷ [] → is_there_at s.memory y ≡ true → operation_by (access_kind_of i.op) i.qualifier ≡ Some done
+      → value_at s.memory y ≡ Some z
+      → ◌≡◌ {A = Effect HolderFault} (loaded_name (storage_in y.shape) s.memory (cond (takes done) (emptied s.memory y) s.memory) z) (Traps t)
+      → TrapRight m s frame i ops t
+
+abbrev pub AreTrapsAlong : Type 0
+AreTrapsAlong = (m : Module) (bound : ℕ) (s : HolderState) (l : LowState) (frame : Frame) (rest : List (Task Frame)) (f : Function) (i : Inst) (ops : Operands) (t : Trap)
+    → StandsAt m s l frame rest f i ops → TrapRight m s frame i ops t → StepsAlong m bound l (Ends (Trapped t) s)

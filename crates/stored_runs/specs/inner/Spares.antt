@@ -1,7 +1,6 @@
 -- Spare values of lowered code: what a place held, until it is released.
-use Rattle.std.specs.Prelude.{◌≡◌, ◌<◌, ◌≤◌, ◌==◌, false, true, length}
+use Rattle.std.specs.Prelude.{◌≡◌, ◌<◌, ◌==◌, false, true}
 use Rattle.std.specs.List.{list_any}
-use Rattle.numbered_form.specs.Numbering.{values_of}
 use Rattle.sil_ast.specs.declared.function.Function.{Function}
 use Rattle.sil_ast.specs.declared.module.Module.{Module}
 use Rattle.sil_ast.specs.declared.place.FuncId.{FuncId}
