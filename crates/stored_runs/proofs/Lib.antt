@@ -46,3 +46,6 @@ pub mod PartedAlong
 pub mod NamedAlong
 pub mod TrapsAlong
 pub mod RowsAlong
+pub mod CallsAlone
+pub mod Awaited
+pub mod TypedSteps

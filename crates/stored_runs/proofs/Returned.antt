@@ -47,7 +47,7 @@ use Rattle.stored_runs.proofs.StayingSteps.{function_there, low_frame}
 
 -- ---- tasks
 
-low_finish : (m : Module) (deinits : List FuncId) (o : ObjectId) (x : Task LowFrame) → IsTaskFor m (Finishes deinits o) x → x ≡ Finishes deinits o
+pub low_finish : (m : Module) (deinits : List FuncId) (o : ObjectId) (x : Task LowFrame) → IsTaskFor m (Finishes deinits o) x → x ≡ Finishes deinits o
 low_finish m _ _ _ (IsTaskFor.finishes deinits o) = refl
 
 module _ (m : Module) (bound : ℕ) (s : HolderState) (l : LowState) (x : Datum)

@@ -21,3 +21,5 @@ pub mod FrameSteps
 pub mod PlaceRows
 pub mod Spares
 pub mod RowsRight
+pub mod Awaited
+pub mod TypedSteps

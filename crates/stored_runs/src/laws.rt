@@ -1,5 +1,6 @@
 //! Laws of lowered runs beside runs by holders, on calls that do nothing. The lemmas behind them are in `proofs/`.
 
+ghost use Rattle.stored_runs.specs.inner.Awaited.{AreStepsAwaited, BeginAwaited};
 ghost use Rattle.stored_runs.specs.inner.CallsAlong.{AreCallsAlong};
 ghost use Rattle.stored_runs.specs.inner.Current.{AreAcceptedCurrent, AreAllCurrent, AreNamesTaken};
 ghost use Rattle.stored_runs.specs.inner.EdgesTaken.{AreEdgesTaken};
@@ -13,6 +14,11 @@ ghost use Rattle.stored_runs.specs.inner.RowsRight.{AreRowsAlong, AreTrapsAlong}
 ghost use Rattle.stored_runs.specs.inner.Spares.{AreAcceptedSparesApart};
 ghost use Rattle.stored_runs.specs.inner.TypedCalls.{AreCallsRight};
 ghost use Rattle.stored_runs.specs.inner.TypedEnds.{AreEndsPlain};
+ghost use Rattle.stored_runs.specs.inner.TypedSteps.{
+  TypedCallsStep,
+  TypedDeinitsStep,
+  TypedEndsStep,
+};
 
 /// What a full place holds is read in the lowered run too.
 pub fn full_places_are_read()
@@ -46,6 +52,15 @@ pub fn calls_and_ends_go_along()
 pub fn typed_frames_serve()
     ensures ends { AreEndsPlain }
     ensures calls { AreCallsRight }
+    ensures end_steps { TypedEndsStep }
+    ensures call_steps { TypedCallsStep }
+    ensures deinit_steps { TypedDeinitsStep }
+{}
+
+/// Frames that wait for a callee stand at calls, in each state that a run comes to.
+pub fn calls_are_awaited()
+    ensures begin { BeginAwaited }
+    ensures steps { AreStepsAwaited }
 {}
 
 /// Where an instruction finds what its row needs, the lowered run goes along with it, in as many steps as it has instructions for the row. Spare values, which lowering makes for what a place held, have numbers of their own.
