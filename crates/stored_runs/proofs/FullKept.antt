@@ -45,7 +45,7 @@ shape_kept (Enum name cases) hs x = (IsKept.kept _ x, tt)
 shape_kept (Stored storage inner) hs x = (IsKept.kept _ x, tt)
 shape_kept Unknown hs x = (IsKept.kept _ x, tt)
 
-cells_kept : (s : Shape) → AllKept s
+pub cells_kept : (s : Shape) → AllKept s
 cells_kept = by_parts AllKept shape_kept
 
 -- ---- full cells stay full

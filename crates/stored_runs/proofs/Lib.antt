@@ -49,3 +49,4 @@ pub mod RowsAlong
 pub mod CallsAlone
 pub mod Awaited
 pub mod TypedSteps
+pub mod TypedPlaces

@@ -23,3 +23,5 @@ pub mod Spares
 pub mod RowsRight
 pub mod Awaited
 pub mod TypedSteps
+pub mod TypedPlaces
+pub mod TypedRows

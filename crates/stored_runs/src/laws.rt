@@ -14,6 +14,7 @@ ghost use Rattle.stored_runs.specs.inner.RowsRight.{AreRowsAlong, AreTrapsAlong}
 ghost use Rattle.stored_runs.specs.inner.Spares.{AreAcceptedSparesApart};
 ghost use Rattle.stored_runs.specs.inner.TypedCalls.{AreCallsRight};
 ghost use Rattle.stored_runs.specs.inner.TypedEnds.{AreEndsPlain};
+ghost use Rattle.stored_runs.specs.inner.TypedPlaces.{ArePlainPlaces, AreStoragePlaces, AreTrivialPlaces};
 ghost use Rattle.stored_runs.specs.inner.TypedSteps.{
   TypedCallsStep,
   TypedDeinitsStep,
@@ -68,4 +69,11 @@ pub fn rows_go_along()
     ensures rows { AreRowsAlong }
     ensures traps { AreTrapsAlong }
     ensures spares { AreAcceptedSparesApart }
+{}
+
+/// In typed memory a place with no storage in its shape has what rows ask of it; storage and trivial places hold no references.
+pub fn typed_places_serve()
+    ensures plain { ArePlainPlaces }
+    ensures storage { AreStoragePlaces }
+    ensures trivial { AreTrivialPlaces }
 {}
