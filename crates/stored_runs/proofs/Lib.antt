@@ -50,3 +50,4 @@ pub mod CallsAlone
 pub mod Awaited
 pub mod TypedSteps
 pub mod TypedPlaces
+pub mod TypedRows
