@@ -1,5 +1,5 @@
 -- Rows at places of typed states find what they need, but for what places, parts and words in brackets tell.
-use Rattle.std.specs.Prelude.{◌≡◌, ◌⊎◌, [], ◌∷◌, Some, false, true, is_some}
+use Rattle.std.specs.Prelude.{◌≡◌, ◌⊎◌, [], ◌∷◌, Some, None, false, true, is_some, List}
 use Rattle.instruction_table.specs.declared.op.Op.TheVariants as op
 use Rattle.sil_ast.specs.declared.function.Function.{Function}
 use Rattle.sil_ast.specs.declared.inst.Inst.{Inst}
@@ -26,7 +26,6 @@ use Rattle.typed_holders.specs.inner.TypedStates.{FrameIs}
 use Rattle.typed_holders.specs.typed_memory.inner.Worlds.{IsWorldOf, MemoryIs, World}
 use Rattle.stored_runs.specs.inner.PlaceRows.{StandsAt}
 use Rattle.stored_runs.specs.inner.RowsRight.{ArePartsFull, RowRight, held_effect, is_place_row, operation_done}
-use Rattle.std.specs.Prelude.{List}
 
 pub record PlacesTold (m : Module) (s : HolderState) (l : LowState) (frame : Frame) (f : Function) (i : Inst) (ops : Operands) : Type 0 where
   -- storage that is emptied, and a slot that goes, have no cell of a part that a frame was given
@@ -40,6 +39,9 @@ pub record PlacesTold (m : Module) (s : HolderState) (l : LowState) (frame : Fra
   pub words : i.op ≡ op.Store
       → (i.qualifier ≡ word.Init) ⊎ (i.qualifier ≡ word.Assign)
       ⊎ ((i.qualifier ≡ word.Trivial) × ((w : Value) (y : Place) → ops.given ≡ ValueOf w ∷ AddressOf y ∷ [] → is_trivial y.shape ≡ true))
+  -- a `store` is at a place that is no storage, and what stores there is a `store`
+  pub store_bare : (w : Value) (y : Place) → ops.given ≡ ValueOf w ∷ AddressOf y ∷ [] → i.op ≡ op.Store → storage_in y.shape ≡ None
+  pub bare_store : (w : Value) (y : Place) → ops.given ≡ ValueOf w ∷ AddressOf y ∷ [] → effect_of i.op ≡ row.StoresValue → storage_in y.shape ≡ None → i.op ≡ op.Store
   -- the written type of what is destroyed
   pub at_storage : (y : Place) → ops.given ≡ AddressOf y ∷ [] → effect_of i.op ≡ row.DestroysPlace → is_at_storage i ≡ is_some (storage_in y.shape)
 

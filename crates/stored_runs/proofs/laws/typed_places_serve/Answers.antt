@@ -1,4 +1,4 @@
-use Rattle.stored_runs.proofs.TypedRows.{stores_so}
+use Rattle.stored_runs.proofs.TypedRows.{are_typed_place_rows}
 use Rattle.stored_runs.proofs.TypedPlaces.{are_plain_places, are_storage_places, are_trivial_places}
 use Rattle.stored_runs.proofs.laws.typed_places_serve.Goals as goal
 
