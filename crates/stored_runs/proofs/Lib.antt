@@ -50,4 +50,5 @@ pub mod CallsAlone
 pub mod Awaited
 pub mod TypedSteps
 pub mod TypedPlaces
+pub mod PlacesFound
 pub mod TypedRows

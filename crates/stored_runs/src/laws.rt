@@ -14,7 +14,10 @@ ghost use Rattle.stored_runs.specs.inner.RowsRight.{AreRowsAlong, AreTrapsAlong}
 ghost use Rattle.stored_runs.specs.inner.Spares.{AreAcceptedSparesApart};
 ghost use Rattle.stored_runs.specs.inner.TypedCalls.{AreCallsRight};
 ghost use Rattle.stored_runs.specs.inner.TypedEnds.{AreEndsPlain};
-ghost use Rattle.stored_runs.specs.inner.TypedPlaces.{ArePlainPlaces, AreStoragePlaces, AreTrivialPlaces};
+ghost use Rattle.stored_runs.specs.inner.TypedPlaces.{
+  ArePlainPlaces, AreStoragePlaces, AreTrivialPlaces,
+};
+ghost use Rattle.stored_runs.specs.inner.TypedRows.{AreTypedPlaceRows};
 ghost use Rattle.stored_runs.specs.inner.TypedSteps.{
   TypedCallsStep,
   TypedDeinitsStep,
@@ -71,9 +74,10 @@ pub fn rows_go_along()
     ensures spares { AreAcceptedSparesApart }
 {}
 
-/// In typed memory a place with no storage in its shape has what rows ask of it; storage and trivial places hold no references.
+/// In typed memory a place with no storage in its shape has what rows ask of it; storage and trivial places hold no references. So rows at places of typed states find what they need, but for what parts, slots and words in brackets tell.
 pub fn typed_places_serve()
     ensures plain { ArePlainPlaces }
     ensures storage { AreStoragePlaces }
     ensures trivial { AreTrivialPlaces }
+    ensures rows { AreTypedPlaceRows }
 {}
