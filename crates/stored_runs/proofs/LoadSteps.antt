@@ -77,7 +77,7 @@ module _ (m : Module) (bound : ℕ) (s : HolderState) (l : LowState) (frame : Fr
     -- a plain load of it
     pub load_effect : (j : Inst) (w : Value) → j.op ≡ op.Load → j.qualifier ≡ word.Plain → is_there_at s.memory y ≡ true → value_at s.memory y ≡ Some w
         → low_effect (declarations_of m) (low_told m bound s l frame rest f i ops x) (low_shapes m bound s l frame rest f i ops x) l.memory j (AddressOf q ∷ [])
-          ≡ Makes (record (unchanged l.memory) { results = ValueOf w ∷ [] })
+        ≡ Makes (record (unchanged l.memory) { results = ValueOf w ∷ [] })
     load_effect j w is plain there full =
         subst (λ (k : Inst). low_effect (declarations_of m) (low_told m bound s l frame rest f i ops x) (low_shapes m bound s l frame rest f i ops x) l.memory k (AddressOf q ∷ [])
         ≡ Makes (record (unchanged l.memory) { results = ValueOf w ∷ [] })) (ap₂ (λ o c. record j { op = o; qualifier = c }) (sym is) (sym plain))

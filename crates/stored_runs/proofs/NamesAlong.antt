@@ -107,7 +107,7 @@ module _ (m : Module) (bound : ℕ) (s : HolderState) (l : LowState) (frame : Fr
   -- the effect of a row on the operands that are read
   by_row : (r : RowEffect) (ys : List Datum) (e : Effect LowFault) → effect_of i.op ≡ r → read_low ≡ ys
       → low_effects.unless_dead d told shapes l.memory inst (low_effects.operated_on d told shapes l.memory inst r ys)
-        (effect_by d told shapes l.memory inst (low_effects.at_places d told shapes l.memory inst) r ys) ≡ e
+      (effect_by d told shapes l.memory inst (low_effects.at_places d told shapes l.memory inst) r ys) ≡ e
       → low_effect d told shapes l.memory inst read_low ≡ e
   by_row r ys e row_is read h =
       ap (low_effect d told shapes l.memory inst) read

@@ -1,51 +1,25 @@
 -- What rows at places found where they made a change: the place, that it is there, and what it holds.
-use Rattle.sil_ast.specs.declared.place.PointId.{PointId}
-use Rattle.sil_ast.specs.declared.inst.Qualifier.{Qualifier}
-use Rattle.sil_cfg.specs.declared.item.Item.TheVariants as item
-use Rattle.item_operands.specs.Items.{item_taken}
-use Rattle.lowered_run.specs.LowEffects.{is_first_write}
-use Rattle.lowered_run.specs.holder_model.ModuleFacts.{facts_of, facts_told}
-use Rattle.lowered_run.specs.holder_model.Standing.{stands_at}
-use Rattle.lowered_run.specs.holder_model.memory_accesses.Operations.{access_kind_of, operation_by}
-use Rattle.accepted_values.specs.inner.Known.{IsAcceptedBody}
-use Rattle.accepted_values.specs.owned_run_typing.inner.OwnedTyped.{OwnedFunction, OwnedInst}
-use Rattle.accepted_values.specs.owned_run_typing.inner.OwnedRows.{OwnedRowForms}
-use Rattle.accepted_values.specs.owned_run_typing.inner.OwnedRows as owned
-use Rattle.accepted_values.specs.run_typing.RowForms.{IsStoreOf, RowForms}
-use Rattle.accepted_values.specs.run_typing.RowForms as lowered
-use Rattle.accepted_values.specs.run_typing.EndForms.{value_in}
-use Rattle.accepted_values.specs.run_typing.StorageForms.{IsNamed}
-use Rattle.typed_holders.specs.inner.TypedStates.{FrameIs}
-use Rattle.typed_holders.proofs.Entries.{FitEach, fit_data, operands_fit}
-use Rattle.typed_holders.proofs.GoesOn.{typed_module}
-use Rattle.stored_runs.specs.inner.Frames.{HasFullParts}
-use Rattle.stored_runs.specs.inner.PlaceRows.{StandsAt}
-use Rattle.stored_runs.specs.inner.RowsRight.{ArePartsFull, AtPlace, Holds, RowRight, Stores, StoresStrong, held_effect, is_place_row, operation_done}
-use Rattle.std.proofs.Common.{◌≡◌, ◌⊎◌, inl, inr, ℕ, List, [], ◌∷◌, ◌++◌, map, length, refl, sym, ap, ap₂, ◌∙◌, subst, Bool, true, false, cond, ◌&&◌, ◌||◌, Option, Some, None}
-use Rattle.std.specs.Prelude.{is_some, not, option_and_then}
+use Rattle.stored_runs.specs.inner.RowsRight.{held_effect, operation_done}
+use Rattle.std.proofs.Common.{◌≡◌, ◌⊎◌, inl, inr, List, [], ◌∷◌, map, refl, sym, ap, ap₂, ◌∙◌, Bool, true, false, cond, Option, Some, None}
+use Rattle.std.specs.Prelude.{is_some, option_and_then}
 use Rattle.std.specs.List.{list_all}
-use Rattle.std.proofs.lemmas.Bool.{and_parts, cases_Bool, false≢true, or_cases, true≢false}
+use Rattle.std.proofs.lemmas.Bool.{and_parts, false≢true}
 use Rattle.std.proofs.lemmas.Option.{none-some, same_Some}
 use Rattle.argument_conventions.specs.declared.row.Content.{Content}
 use Rattle.argument_conventions.specs.declared.row.Content.TheVariants as content
 use Rattle.instruction_table.specs.declared.op.Op.{Op}
 use Rattle.instruction_table.specs.declared.op.Op.TheVariants as op
-use Rattle.numbered_form.specs.Lists.{Each}
-use Rattle.sil_ast.specs.declared.decl.Storage.{Storage}
 use Rattle.sil_ast.specs.declared.function.Function.{Function}
 use Rattle.sil_ast.specs.declared.inst.Inst.{Inst}
-use Rattle.sil_ast.specs.declared.inst.Qualifier.TheVariants as word
 use Rattle.sil_ast.specs.declared.module.Module.{Module}
 use Rattle.sil_ast.specs.declared.operands.Operand.{Operand}
 use Rattle.sil_ast.specs.declared.place.ValueId.{ValueId}
 use Rattle.type_definitions.specs.Declarations.{Declarations, declarations_of}
 use Rattle.run_values.specs.Cells.{Cell, Empty, Gone, Keeps}
-use Rattle.run_values.specs.Memory.{Memory}
-use Rattle.run_values.specs.Places.{Place, cells_at, emptied, filled, is_empty_at, is_empty_cell, is_there_at, removed, value_at}
-use Rattle.run_values.specs.Shapes.{Shape, Stored, storage_in}
-use Rattle.run_values.specs.Trivial.{is_trivial}
+use Rattle.run_values.specs.Places.{Place, emptied, filled, is_empty_cell, is_there_at, removed, value_at}
+use Rattle.run_values.specs.Shapes.{Shape, storage_in}
 use Rattle.run_values.specs.Values.{Value, references_of}
-use Rattle.lowered_run.specs.holder_model.Data.{AddressOf, Datum, ValueOf, as_place, as_value}
+use Rattle.lowered_run.specs.holder_model.Data.{AddressOf, Datum, ValueOf, as_place}
 use Rattle.lowered_run.specs.holder_model.Effects.{Change, ClosesSlot, Effect, Faults, Makes, effect_by, effect_of, only, unchanged, with_some}
 use Rattle.lowered_run.specs.holder_model.Faults.{HolderFault, NotLastSlot}
 use Rattle.lowered_run.specs.holder_model.Frames.{Frame, Operands}
@@ -53,22 +27,17 @@ use Rattle.lowered_run.specs.holder_model.HolderStates.{HolderState}
 use Rattle.lowered_run.specs.holder_model.MemoryEffects as memory_effects
 use Rattle.lowered_run.specs.holder_model.MemoryEffects.{asked_before, copies_with, fault_of, holds, loaded_name, references_at, takes, two, value_and_place, where_held}
 use Rattle.lowered_run.specs.holder_model.ModuleShapes.{ModuleShapes, shapes_in, shapes_of}
-use Rattle.lowered_run.specs.holder_model.States.{Task}
 use Rattle.lowered_run.specs.holder_model.declared.row_effect.RowEffect.{RowEffect}
 use Rattle.lowered_run.specs.holder_model.declared.row_effect.RowEffect.TheVariants as row
 use Rattle.lowered_run.specs.holder_model.memory_accesses.declared.access.Operation.{Operation}
-use Rattle.lowered_run.specs.holder_model.memory_accesses.declared.access.Operation.TheVariants as operation
 use Rattle.lowered_run.specs.LowStepParts.{LowState}
 use Rattle.lowering_laws.specs.lowering_model.LoweredInsts.{lowering_of}
 use Rattle.lowering_laws.specs.lowering_model.declared.lowering.Lowering.TheVariants as lowering
 use Rattle.lowering_laws.specs.ownership_origins.Renamings.{renames}
-use Rattle.accepted_values.specs.run_typing.Forms.{Form, OfPlace, OfValue, form_of, forms_of, has_no_storage}
-use Rattle.typed_holders.specs.typed_memory.inner.Worlds.{DatumIs, IsWorldOf, MemoryIs, PlaceIs, Suits, World}
+use Rattle.accepted_values.specs.run_typing.Forms.{Form, OfPlace, OfValue}
+use Rattle.typed_holders.specs.typed_memory.inner.Worlds.{PlaceIs, Suits, World}
 use Rattle.typed_holders.proofs.Data.{DataAre, read_place, read_value}
-use Rattle.stored_runs.specs.inner.TypedPlaces.{IsPlainPlace}
-use Rattle.stored_runs.specs.inner.TypedRows.{AreTypedPlaceRows, PlacesTold}
 use Rattle.stored_runs.proofs.StrongCells.{held}
-use Rattle.stored_runs.proofs.TypedPlaces.{are_plain_places, are_storage_places, are_trivial_places}
 
 -- ---- rows and their operations
 
@@ -208,9 +177,9 @@ module _ (m : Module) (s : HolderState) (l : LowState) (frame : Frame) (f : Func
     module _ (y : Place) (given : ops.given ≡ AddressOf y ∷ []) (done : Operation) (is_done : operation_done m s l frame f i ops ≡ Some done) where
       pub loads_so : effect_of i.op ≡ row.LoadsValue → HeldSo y (asked_before y.is_part done)
           (with_some (λ x. Makes (record (unchanged (cond (takes done) (emptied s.memory y) s.memory)) {
-        results = ValueOf x ∷ [];
-        retained = cond (copies_with i.qualifier) (references_of x) [];
-      })) (value_at s.memory y))
+            results = ValueOf x ∷ [];
+            retained = cond (copies_with i.qualifier) (references_of x) [];
+          })) (value_at s.memory y))
       loads_so e =
           held_so y (asked_before y.is_part done) _
           (sym (ap (λ xs. memory_effects.at_place d told values s.memory i (memory_effects.loads_by d told values s.memory i) xs) given

@@ -207,8 +207,8 @@ module _ (m : Module) (bound : ℕ) (s : HolderState) (l : LowState) (frame : Fr
       → (slots : List Place) → parts.slots_behind c.slots frame.slots ≡ Ok slots → (entries : List Entry)
       → results_put (facts m s l frame rest f i ops x) (item_defined f (item.Inst (stands_at f frame.trail))) c.results ops.left ≡ Ok entries
       → GoesAlong m bound l
-        (holder.moved m (facts_of m) bound s rest (from m bound s l frame rest f i ops x) (item.Inst (stands_at f frame.trail)) c slots entries)
-        (stored_for m s frame i ops.given c l.numbers)
+      (holder.moved m (facts_of m) bound s rest (from m bound s l frame rest f i ops x) (item.Inst (stands_at f frame.trail)) c slots entries)
+      (stored_for m s frame i ops.given c l.numbers)
   plain_along alike c is alive slots slots_left entries put =
       let low = subst (λ e. IsEffectFor e (low_effect d told shapes l.memory inst ops.given)) is low_does in
       let kept : KeepsFull l.memory low.0.memory = in_made low.0 (alike ∙ low.1) in

@@ -113,8 +113,8 @@ module _ (m : Module) (bound : ℕ) (l : LowState) (frame : Frame) (f : Function
         → read_all values (map taken_value (taken_by j)) ≡ Ok xs → low_effect d low_told low_shapes memory j xs ≡ Makes c → slots_behind c.slots slots ≡ Ok slots'
         → put_all j.results c.results values ≡ Some values' → find (is_dead memory) c.retained ≡ None
         → steps.low_step (lowered m) low_told bound (mid n values slots memory numbers retains)
-          ≡ Goes (waits c.dropped (suc n) values' slots' c.memory
-          (numbers_for c.memory (each_changed one_more c.retained (stored_behind d low_told low_shapes memory j xs numbers))) (retains + length c.retained))
+        ≡ Goes (waits c.dropped (suc n) values' slots' c.memory
+        (numbers_for c.memory (each_changed one_more c.retained (stored_behind d low_told low_shapes memory j xs numbers))) (retains + length c.retained))
     mid_step j xs c slots' values' here read eff slots_are put alive =
         let now : LowState = mid n values slots memory numbers retains in
         let at : LowFrame = low_at n values slots in
@@ -151,7 +151,7 @@ module _ (m : Module) (bound : ℕ) (l : LowState) (frame : Frame) (f : Function
         → length values ≡ length low.values → AreValuesFor d f (item.Inst p ∷ frame.trail) entries values → IsMemoryFor c.memory memory
         → AreGivenPartsFull d f values memory → Each (HasFullParts m memory) lrest
         → IsAlong m (holder.moved m (facts_of m) bound s rest frame (item.Inst p) c slots entries)
-          (waits c.dropped (lowered_point d f (point_behind p)).index values slots memory numbers (l.retains + length c.retained))
+        (waits c.dropped (lowered_point d f (point_behind p)).index values slots memory numbers (l.retains + length c.retained))
     behind_it c slots entries values memory numbers size shown for parts below = record {
       tasks = dropping_for m c.dropped (Runs (after slots entries) ∷ rest) (Runs (low_after slots values) ∷ lrest)
           (IsTaskFor.runs (after slots entries) (low_after slots values) (frame_for slots entries values size shown), rest_for);

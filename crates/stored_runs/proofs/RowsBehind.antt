@@ -131,8 +131,8 @@ module _ (m : Module) (bound : ℕ) (s : HolderState) (l : LowState) (frame : Fr
       → low_effect (declarations_of m) low_told low_shapes memory (renumbered_inst num j) ys ≡ Makes c → slots_behind c.slots slots ≡ Ok slots'
       → put_all (map num j.results) c.results values ≡ Some values' → find (is_dead memory) c.retained ≡ None
       → LowGoes m bound last (waits c.dropped (suc n) values' slots' c.memory
-        (numbers_for c.memory (each_changed one_more c.retained (stored_behind (declarations_of m) low_told low_shapes memory (renumbered_inst num j) ys numbers)))
-        (retains + length c.retained))
+      (numbers_for c.memory (each_changed one_more c.retained (stored_behind (declarations_of m) low_told low_shapes memory (renumbered_inst num j) ys numbers)))
+      (retains + length c.retained))
       → LowGoes m bound last (waits [] n values slots memory numbers retains)
   one_step n values slots memory numbers retains j vs ys c slots' values' last here takes read eff slots_are put alive on =
       LowGoes.more (waits [] n values slots memory numbers retains) _

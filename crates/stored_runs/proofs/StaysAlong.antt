@@ -88,7 +88,7 @@ module _ (m : Module) (bound : ℕ) (s : HolderState) (l : LowState) (frame : Fr
       (alive : list_any (is_dead s.memory) c.retained ≡ false) (slots : List Place) (slots_left : parts.slots_behind c.slots frame.slots ≡ Ok slots) (entries : List Entry)
       (put : results_put (facts m s l frame rest f i ops x) (item_defined f (item.Inst (stands_at f frame.trail))) c.results ops.left ≡ Ok entries)
       (names : stored_behind d told shapes l.memory low_inst low_data l.numbers
-        ≡ stored_behind d (shapes_of m) (shapes_in (shapes_of m) frame.function) s.memory i ops.given l.numbers)
+      ≡ stored_behind d (shapes_of m) (shapes_in (shapes_of m) frame.function) s.memory i ops.given l.numbers)
       (parts_keep : AreGivenPartsFull d f x.low.values c'.memory)
       (below : Each (HasFullParts m c'.memory) x.lrest) where
     puts : PutsIn m bound s l frame rest f i ops x i.results c.results entries

@@ -1,5 +1,5 @@
 -- Places of typed memory: cells of shapes with no storage in them, of storage, and of trivial shapes.
-use Rattle.std.proofs.Common.{◌≡◌, ◌⊎◌, inl, inr, ℕ, List, [], ◌∷◌, ◌++◌, length, refl, sym, ap, ap₂, ◌∙◌, subst, Bool, true, false, ◌&&◌, Option, Some, None, cond}
+use Rattle.std.proofs.Common.{◌≡◌, inl, inr, List, [], ◌∷◌, ◌++◌, length, refl, sym, ap, ap₂, ◌∙◌, subst, Bool, true, false, Some, None, cond}
 use Rattle.std.specs.Prelude.{unwrap_or}
 use Rattle.std.specs.List.{AllByRecursion, AllZip, list_all}
 use Rattle.std.proofs.lemmas.Bool.{and_parts, and_from, false≢true}
@@ -10,19 +10,19 @@ use Rattle.sil_ast.specs.declared.decl.Storage.{Storage}
 use Rattle.sil_ast.specs.declared.decl.Storage.TheVariants as storage
 use Rattle.sil_ast.specs.declared.module.Module.{Module}
 use Rattle.sil_ast.specs.declared.place.ObjectId.{ObjectId}
-use Rattle.run_values.specs.Cells.{Cell, Empty, Gone, Keeps, cell_count, in_cells}
+use Rattle.run_values.specs.Cells.{Cell, cell_count, in_cells}
 use Rattle.run_values.specs.Memory.{Memory}
 use Rattle.run_values.specs.Places.{Place, cells_at, is_there, is_there_at, value_at}
 use Rattle.run_values.specs.Shapes.{Shape, Shapes, NoMember, Member, Integer, Reference, Struct, Tuple, Enum, Stored, Unknown, each_by_layers, listed, storage_in}
 use Rattle.run_values.specs.Trivial.{is_trivial, itself, trivial_layer}
-use Rattle.run_values.specs.Values.{Value, references_of}
+use Rattle.run_values.specs.Values.{Value}
 use Rattle.value_parts.specs.inner.Storages.{no_storage_layer}
 use Rattle.value_parts.proofs.Inductions.{InParts, by_parts}
 use Rattle.lowered_run.specs.holder_model.Holders.{kept_references, same_storage}
 use Rattle.lowered_run.specs.holder_model.MemoryEffects.{references_at}
 use Rattle.accepted_values.specs.run_typing.Forms.{has_no_storage}
 use Rattle.accepted_values.specs.run_typing.StorageForms.{IsNamed}
-use Rattle.typed_holders.specs.typed_memory.inner.Worlds.{CellIs, MemoryIs, PlaceIs, Suits, World, cell_shapes, each_cell_shapes, names}
+use Rattle.typed_holders.specs.typed_memory.inner.Worlds.{CellIs, MemoryIs, PlaceIs, World, cell_shapes, each_cell_shapes, names}
 use Rattle.typed_memory.proofs.CellShapes.{shape_count}
 use Rattle.typed_memory.proofs.CellsTyped.{cells_typed, nothing_is_none}
 use Rattle.typed_memory.proofs.Homes.{PlaceCells, place_cells}

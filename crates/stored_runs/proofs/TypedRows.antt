@@ -20,15 +20,12 @@ use Rattle.typed_holders.proofs.Entries.{FitEach, fit_data, operands_fit}
 use Rattle.typed_holders.proofs.GoesOn.{typed_module}
 use Rattle.stored_runs.specs.inner.Frames.{HasFullParts}
 use Rattle.stored_runs.specs.inner.PlaceRows.{StandsAt}
-use Rattle.stored_runs.specs.inner.RowsRight.{ArePartsFull, AtPlace, Holds, RowRight, Stores, StoresStrong, held_effect, is_place_row, operation_done}
-use Rattle.std.proofs.Common.{◌≡◌, ◌⊎◌, inl, inr, ℕ, List, [], ◌∷◌, ◌++◌, map, length, refl, sym, ap, ap₂, ◌∙◌, subst, Bool, true, false, cond, ◌&&◌, ◌||◌, Option, Some, None}
-use Rattle.std.specs.Prelude.{is_some, not, option_and_then}
-use Rattle.std.specs.List.{list_all}
-use Rattle.std.proofs.lemmas.Bool.{and_parts, cases_Bool, false≢true, or_cases, true≢false}
-use Rattle.std.proofs.lemmas.Option.{none-some, same_Some}
-use Rattle.argument_conventions.specs.declared.row.Content.{Content}
+use Rattle.stored_runs.specs.inner.RowsRight.{ArePartsFull, RowRight, StoresStrong, held_effect, is_place_row, operation_done}
+use Rattle.std.proofs.Common.{◌≡◌, ◌⊎◌, inl, inr, List, [], ◌∷◌, map, refl, sym, ap, ap₂, ◌∙◌, subst, Bool, true, false, cond, Some, None}
+use Rattle.std.specs.Prelude.{is_some}
+use Rattle.std.proofs.lemmas.Bool.{false≢true, or_cases, true≢false}
+use Rattle.std.proofs.lemmas.Option.{none-some}
 use Rattle.argument_conventions.specs.declared.row.Content.TheVariants as content
-use Rattle.instruction_table.specs.declared.op.Op.{Op}
 use Rattle.instruction_table.specs.declared.op.Op.TheVariants as op
 use Rattle.numbered_form.specs.Lists.{Each}
 use Rattle.sil_ast.specs.declared.decl.Storage.{Storage}
@@ -38,21 +35,17 @@ use Rattle.sil_ast.specs.declared.inst.Qualifier.TheVariants as word
 use Rattle.sil_ast.specs.declared.module.Module.{Module}
 use Rattle.sil_ast.specs.declared.operands.Operand.{Operand}
 use Rattle.sil_ast.specs.declared.place.ValueId.{ValueId}
-use Rattle.type_definitions.specs.Declarations.{Declarations, declarations_of}
-use Rattle.run_values.specs.Cells.{Cell, Empty, Gone, Keeps}
-use Rattle.run_values.specs.Memory.{Memory}
-use Rattle.run_values.specs.Places.{Place, cells_at, emptied, filled, is_empty_at, is_empty_cell, is_there_at, removed, value_at}
+use Rattle.type_definitions.specs.Declarations.{declarations_of}
+use Rattle.run_values.specs.Places.{Place, cells_at, emptied, filled, is_empty_at, is_there_at, value_at}
 use Rattle.run_values.specs.Shapes.{Shape, Stored, storage_in}
 use Rattle.run_values.specs.Trivial.{is_trivial}
-use Rattle.run_values.specs.Values.{Value, references_of}
-use Rattle.lowered_run.specs.holder_model.Data.{AddressOf, Datum, ValueOf, as_place, as_value}
-use Rattle.lowered_run.specs.holder_model.Effects.{Change, ClosesSlot, Effect, Faults, Makes, effect_by, effect_of, only, unchanged, with_some}
-use Rattle.lowered_run.specs.holder_model.Faults.{HolderFault, NotLastSlot}
+use Rattle.run_values.specs.Values.{Value}
+use Rattle.lowered_run.specs.holder_model.Data.{AddressOf, ValueOf}
+use Rattle.lowered_run.specs.holder_model.Effects.{Change, Effect, Makes, effect_of, unchanged}
+use Rattle.lowered_run.specs.holder_model.Faults.{HolderFault}
 use Rattle.lowered_run.specs.holder_model.Frames.{Frame, Operands}
 use Rattle.lowered_run.specs.holder_model.HolderStates.{HolderState}
-use Rattle.lowered_run.specs.holder_model.MemoryEffects as memory_effects
-use Rattle.lowered_run.specs.holder_model.MemoryEffects.{asked_before, copies_with, fault_of, holds, loaded_name, references_at, takes, two, value_and_place, where_held}
-use Rattle.lowered_run.specs.holder_model.ModuleShapes.{ModuleShapes, shapes_in, shapes_of}
+use Rattle.lowered_run.specs.holder_model.MemoryEffects.{asked_before, holds, references_at, takes}
 use Rattle.lowered_run.specs.holder_model.States.{Task}
 use Rattle.lowered_run.specs.holder_model.declared.row_effect.RowEffect.{RowEffect}
 use Rattle.lowered_run.specs.holder_model.declared.row_effect.RowEffect.TheVariants as row
@@ -62,12 +55,11 @@ use Rattle.lowered_run.specs.LowStepParts.{LowState}
 use Rattle.lowering_laws.specs.lowering_model.LoweredInsts.{lowering_of}
 use Rattle.lowering_laws.specs.lowering_model.declared.lowering.Lowering.TheVariants as lowering
 use Rattle.lowering_laws.specs.ownership_origins.Renamings.{renames}
-use Rattle.accepted_values.specs.run_typing.Forms.{Form, OfPlace, OfValue, form_of, forms_of, has_no_storage}
-use Rattle.typed_holders.specs.typed_memory.inner.Worlds.{DatumIs, IsWorldOf, MemoryIs, PlaceIs, Suits, World}
-use Rattle.typed_holders.proofs.Data.{DataAre, read_place, read_value}
+use Rattle.accepted_values.specs.run_typing.Forms.{Form, OfPlace, OfValue, form_of, has_no_storage}
+use Rattle.typed_holders.specs.typed_memory.inner.Worlds.{IsWorldOf, MemoryIs, PlaceIs, Suits, World}
+use Rattle.typed_holders.proofs.Data.{DataAre}
 use Rattle.stored_runs.specs.inner.TypedPlaces.{IsPlainPlace}
 use Rattle.stored_runs.specs.inner.TypedRows.{AreTypedPlaceRows, PlacesTold}
-use Rattle.stored_runs.proofs.StrongCells.{held}
 use Rattle.stored_runs.proofs.TypedPlaces.{are_plain_places, are_storage_places, are_trivial_places}
 use Rattle.stored_runs.proofs.PlacesFound.{HeldSo, ValueAndPlace, destroys_op, destroys_so, empty_held, full_of, loads_op, loads_so, names_op, names_so, no_result, one_of, one_place_of, one_result, removes_op, removes_so, some_made, stores_op, stores_so, two_of, value_and_place_of}
 
@@ -292,7 +284,7 @@ module _ (m : Module) (s : HolderState) (l : LowState) (w : World) (frame : Fram
   by_owned _ _ (owned.also_lowered xs ys row) ins outs = by_lowered xs ys row ins outs
   by_owned _ _ (owned.gives u e bare) ins outs = other e refl
   by_owned _ _ (owned.copies u e bare) ins outs = other e refl
-  by_owned _ _ (owned.loads u done e is_done reads_it bare) ins outs = loads_right u done e is_done bare ins outs
+  by_owned _ _ (owned.loads u done e is_done what bare) ins outs = loads_right u done e is_done bare ins outs
   by_owned _ _ (owned.stores u done e is_done write bare) ins outs = stores_right u e bare ins outs
   by_owned _ _ (owned.destroys u e is_done bare) ins outs = destroys_right u e is_done bare ins outs
   by_owned _ _ (owned.members u us e group) ins outs = other e refl

@@ -15,7 +15,9 @@ ghost use Rattle.stored_runs.specs.inner.Spares.{AreAcceptedSparesApart};
 ghost use Rattle.stored_runs.specs.inner.TypedCalls.{AreCallsRight};
 ghost use Rattle.stored_runs.specs.inner.TypedEnds.{AreEndsPlain};
 ghost use Rattle.stored_runs.specs.inner.TypedPlaces.{
-  ArePlainPlaces, AreStoragePlaces, AreTrivialPlaces,
+  ArePlainPlaces,
+  AreStoragePlaces,
+  AreTrivialPlaces,
 };
 ghost use Rattle.stored_runs.specs.inner.TypedRows.{AreTypedPlaceRows};
 ghost use Rattle.stored_runs.specs.inner.TypedSteps.{

@@ -191,7 +191,7 @@ AreRowsAlong = (m : Module) (bound : ℕ) (s : HolderState) (l : LowState) (fram
     → RowRight m s l frame f i ops c → list_any (is_dead s.memory) c.retained ≡ false → parts.slots_behind c.slots frame.slots ≡ Ok slots
     → results_put (facts_told (facts_of m) frame.function) (item_defined f (item.Inst (stands_at f frame.trail))) c.results ops.left ≡ Ok entries
     → GoesAlong m bound l (holder.moved m (facts_of m) bound s rest (record frame { entries = ops.left }) (item.Inst (stands_at f frame.trail)) c slots entries)
-      (stored_for m s frame i ops.given c l.numbers)
+    (stored_for m s frame i ops.given c l.numbers)
 
 -- the same of a row that traps
 pub data TrapRight (m : Module) (s : HolderState) (frame : Frame) (i : Inst) (ops : Operands) : Trap → Type 0 where
