@@ -1,12 +1,12 @@
 -- Full places stay full where a place is filled, and where memory grows.
-use Rattle.std.proofs.Common.{◌≡◌, ◌⊎◌, inl, inr, ℕ, zero, suc, List, [], ◌∷◌, ◌++◌, take, drop, refl, sym, ap, ◌∙◌, subst, true, Option, Some, None}
+use Rattle.std.proofs.Common.{◌≡◌, ◌⊎◌, inl, inr, ℕ, zero, suc, List, [], ◌∷◌, ◌++◌, refl, sym, ap, subst, true, Option, Some, None}
 use Rattle.std.specs.Prelude.{is_some, slice_get, unwrap_or}
 use Rattle.std.specs.List.{AllByRecursion}
 use Rattle.std.proofs.lemmas.Option.{none-some}
 use Rattle.numbered_form.specs.Lists.{Each}
 use Rattle.sil_ast.specs.declared.decl.Storage.{Storage}
 use Rattle.sil_ast.specs.declared.place.ObjectId.{ObjectId}
-use Rattle.run_values.specs.Cells.{Cell, InCells, Keeps, cells_each, cells_layer, in_cells}
+use Rattle.run_values.specs.Cells.{Cell, Keeps, cells_each, cells_layer, in_cells}
 use Rattle.run_values.specs.Memory.{Memory, Object, no_object, object_at, put_cells, with_object}
 use Rattle.run_values.specs.Places.{Home, Inside, OnStack, Place, filled, home_cells, value_at, with_home_cells}
 use Rattle.run_values.specs.Shapes.{Shape, Shapes, NoMember, Member, Integer, Reference, Struct, Tuple, Enum, Stored, Unknown, each_by_layers, listed}
@@ -45,7 +45,7 @@ shape_kept (Enum name cases) hs x = (IsKept.kept _ x, tt)
 shape_kept (Stored storage inner) hs x = (IsKept.kept _ x, tt)
 shape_kept Unknown hs x = (IsKept.kept _ x, tt)
 
-cells_kept : (s : Shape) → AllKept s
+pub cells_kept : (s : Shape) → AllKept s
 cells_kept = by_parts AllKept shape_kept
 
 -- ---- full cells stay full
@@ -120,3 +120,15 @@ growing_keeps low cells = full_again low (record low { stack = low.stack ++ cell
 
 pub same_keeps : (low : Memory) → KeepsFull low low
 same_keeps low p h = h
+
+grown : (xs more : List Object) (k n : ℕ) → IsFullIn (unwrap_or (slice_get xs k) no_object).cells n → IsFullIn (unwrap_or (slice_get (xs ++ more) k) no_object).cells n
+grown [] more k n h = absurd (none_full h)
+grown (x ∷ xs) more zero n h = h
+grown (x ∷ xs) more (suc k) n h = grown xs more k n h
+
+pub making_keeps : (low : Memory) (more : List Object) → KeepsFull low (record low { objects = low.objects ++ more })
+making_keeps low more = full_again low (record low { objects = low.objects ++ more }) by
+  where
+    by : (home : Home) (n : ℕ) → IsFullCell (cell_at low home n) → IsFullCell (cell_at (record low { objects = low.objects ++ more }) home n)
+    by OnStack n k = k
+    by (Inside o) n k = grown low.objects more o.0 n k

@@ -76,7 +76,7 @@ module _ (m : Module) (bound : ℕ) (s : HolderState) (l : LowState) (totals : A
 
   -- arguments have other numbers than what a later item makes
   module _ (i : Item) (later : i ≡ item.Entry → ⊥) (own : Each (IsOwnName f) (item_defined f i)) where
-    other_numbers : (v : ValueId) → makes f v item.Entry ≡ true → (rs : List ValueId) → Each (IsOwnName f) rs → Each (λ r. makes f r i ≡ true) rs
+    pub other_numbers : (v : ValueId) → makes f v item.Entry ≡ true → (rs : List ValueId) → Each (IsOwnName f) rs → Each (λ r. makes f r i ≡ true) rs
         → Each (λ r. ((number v).0 == r.0) ≡ false) (map number rs)
     other_numbers v given [] owns made = tt
     other_numbers v given (r ∷ rs) owns made = (at (cases_Bool ((number v).0 == (number r).0)), other_numbers v given rs owns.1 made.1)
@@ -91,7 +91,7 @@ module _ (m : Module) (bound : ℕ) (s : HolderState) (l : LowState) (totals : A
             let is : r ≡ v = sym (sym own_v.1 ∙ lowers.named.apart v r own_v.0 owns.0.0 e ∙ owns.0.1) in
             absurd (later (lowers.given_once v i given (subst (λ u. makes f u i ≡ true) is made.0)))
 
-    all_made : Each (λ r. makes f r i ≡ true) (item_defined f i)
+    pub all_made : Each (λ r. makes f r i ≡ true) (item_defined f i)
     all_made = each_among (λ (r : ValueId). r) (λ r. makes f r i ≡ true) (item_defined f i) (λ r h. h)
 
     pub puts_own : (li : Item) → item_defined lf li ≡ map number (item_defined f i) → (xs : List Datum) (entries : List Entry)

@@ -1,5 +1,5 @@
 -- What stands at the points of a lowered function.
-use Rattle.std.proofs.Common.{◌≡◌, ℕ, zero, suc, ◌+◌, List, [], ◌∷◌, ◌++◌, map, length, take, arith, refl, sym, ap, ◌∙◌, Bool, true, false, Option, Some, None}
+use Rattle.std.proofs.Common.{◌≡◌, ℕ, zero, suc, ◌+◌, ◌≤◌, List, [], ◌∷◌, ◌++◌, map, length, take, arith, refl, sym, ap, ◌∙◌, Bool, true, false, Option, Some, None}
 use Rattle.std.specs.Prelude.{slice_get}
 use Rattle.std.specs.List.{flat_map}
 use Rattle.std.proofs.lemmas.List.{length-append}
@@ -128,6 +128,7 @@ module _ (d : Declarations) (renamings : List Definition) where
   -- what becomes of an instruction stands behind what became of those before it
   pub record BecomesAt (s : ℕ) (is : List Inst) (k : ℕ) (i : Inst) : Type 0 where
     pub spare : ℕ
+    pub beyond : s ≤ spare
     pub rest : List Inst
     pub is_there : insts_become d renamings s is ≡ insts_become d renamings s (take k is) ++ (becomes d (value_with spare) i ++ rest)
 
@@ -135,6 +136,7 @@ module _ (d : Declarations) (renamings : List Definition) where
   becomes_at s [] k i e = absurd (none-some i e)
   becomes_at s (j ∷ is) zero i e = record {
     spare = s;
+    beyond = omega arith;
     rest = insts_become d renamings (s + 1) is;
     is_there = ap (λ x. becomes d (value_with s) x ++ insts_become d renamings (s + 1) is) (same_Some j i e);
   }
@@ -142,16 +144,17 @@ module _ (d : Declarations) (renamings : List Definition) where
       let at = becomes_at (s + 1) is k i e in
       record {
         spare = at.spare;
+        beyond = (let h = at.beyond in omega arith);
         rest = at.rest;
         is_there = ap (λ l. becomes d (value_with s) j ++ l) at.is_there
             ∙ joined_again (becomes d (value_with s) j) (insts_become d renamings (s + 1) (take k is)) (becomes d (value_with at.spare) i ++ at.rest);
       }
 
   block_at : (s : ℕ) (bs : List Block) (k : ℕ) (b : Block) → slice_get bs k ≡ Some b
-      → (spare : ℕ) × (slice_get (blocks_become d renamings s bs) k ≡ Some (block_becomes d renamings spare b))
+      → (spare : ℕ) × (slice_get (blocks_become d renamings s bs) k ≡ Some (block_becomes d renamings spare b)) × (s ≤ spare)
   block_at s [] k b e = absurd (none-some b e)
-  block_at s (c ∷ bs) zero b e = (s, ap (λ x. Some (block_becomes d renamings s x)) (same_Some c b e))
-  block_at s (c ∷ bs) (suc k) b e = block_at (s + length c.insts) bs k b e
+  block_at s (c ∷ bs) zero b e = (s, ap (λ x. Some (block_becomes d renamings s x)) (same_Some c b e), omega arith)
+  block_at s (c ∷ bs) (suc k) b e = let at = block_at (s + length c.insts) bs k b e in (at.0, at.1, (let h = at.2 in omega arith))
 
 -- ---- the points of a function
 
@@ -181,15 +184,20 @@ module _ (d : Declarations) (f : Function) where
 
   pub low_block : (k : ℕ) (b : Block) → slice_get f.blocks k ≡ Some b
       → (spare : ℕ) × (slice_get low.blocks k ≡ Some (renumbered_block (lowered_number d f) (block_becomes d (renamings_of f) spare b)))
+      × (slice_get (lowered_blocks d f) k ≡ Some (block_becomes d (renamings_of f) spare b)) × (length (values_of f.blocks) ≤ spare)
   low_block k b e =
       let at = block_at d (renamings_of f) (length (values_of f.blocks)) f.blocks k b e in
-      (at.0, mapped_at (renumbered_block (lowered_number d f)) (lowered_blocks d f) k (block_becomes d (renamings_of f) at.0 b) at.1)
+      (at.0, mapped_at (renumbered_block (lowered_number d f)) (lowered_blocks d f) k (block_becomes d (renamings_of f) at.0 b) at.1, at.1, at.2)
 
   -- an instruction is lowered to these, at the lowered point of where it stands, with some spare value
   pub record IsLoweredTo (p : PointId) (i : Inst) : Type 0 where
     pub spare : ℕ
     pub each : (j : ℕ) (x : Inst) → slice_get (becomes d (value_with spare) i) j ≡ Some x → inst_at low (point_further p j) ≡ Some (renumbered_inst (lowered_number d f) x)
     pub next : (lowered_point d f (point_behind p)).index ≡ (lowered_point d f p).index + length (becomes d (value_with spare) i)
+    -- the spare value is none of the function's, and these stand among the lowered blocks
+    pub beyond : length (values_of f.blocks) ≤ spare
+    pub among : (j : ℕ) (x : Inst) → slice_get (becomes d (value_with spare) i) j ≡ Some x
+        → (b : Block) × (slice_get (lowered_blocks d f) p.block.0 ≡ Some b) × (slice_get b.insts ((lowered_point d f p).index + j) ≡ Some x)
 
   pub lowered_inst : (p : PointId) (i : Inst) → inst_at f p ≡ Some i → IsLoweredTo p i
   lowered_inst p i e =
@@ -200,15 +208,19 @@ module _ (d : Declarations) (f : Function) where
       let front : List Inst = insts_become d (renamings_of f) there.0 (take p.index b.0.insts) in
       let size : length front ≡ (lowered_point d f p).index =
       insts_as_long d (renamings_of f) (take p.index b.0.insts) there.0 0 ∙ ap (lowered_length d f) (sym before) in
+      let stands : (j : ℕ) (x : Inst) → slice_get (becomes d (value_with at.spare) i) j ≡ Some x
+      → slice_get (insts_become d (renamings_of f) there.0 b.0.insts) ((lowered_point d f p).index + j) ≡ Some x = λ j x is.
+      ap (λ l. slice_get l ((lowered_point d f p).index + j)) at.is_there
+      ∙ ap (λ n. slice_get (front ++ (becomes d (value_with at.spare) i ++ at.rest)) (n + j)) (sym size)
+      ∙ behind_first front (becomes d (value_with at.spare) i ++ at.rest) j
+      ∙ within_first (becomes d (value_with at.spare) i) at.rest j x is in
       record {
         spare = at.spare;
         each = λ j x is.
             ap (λ o. inst_in o ((lowered_point d f p).index + j)) there.1
-            ∙ mapped_at (renumbered_inst (lowered_number d f)) (insts_become d (renamings_of f) there.0 b.0.insts) ((lowered_point d f p).index + j) x
-            (ap (λ l. slice_get l ((lowered_point d f p).index + j)) at.is_there
-            ∙ ap (λ n. slice_get (front ++ (becomes d (value_with at.spare) i ++ at.rest)) (n + j)) (sym size)
-            ∙ behind_first front (becomes d (value_with at.spare) i ++ at.rest) j
-            ∙ within_first (becomes d (value_with at.spare) i) at.rest j x is);
+            ∙ mapped_at (renumbered_inst (lowered_number d f)) (insts_become d (renamings_of f) there.0 b.0.insts) ((lowered_point d f p).index + j) x (stands j x is);
+        beyond = (let h = there.3 in let k = at.beyond in omega arith);
+        among = λ j x is. (block_becomes d (renamings_of f) there.0 b.0, there.2, stands j x is);
         next = ap (λ o. lowered_length d f (take (suc p.index) (insts_of o))) b.1
             ∙ ap (lowered_length d f) (one_more_taken b.0.insts p.index i b.2)
             ∙ last_as_long (take p.index b.0.insts) 0 at.spare ∙ ap (λ l. lowered_length d f l + length (becomes d (value_with at.spare) i)) (sym before);

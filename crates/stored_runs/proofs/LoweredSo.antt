@@ -65,7 +65,7 @@ module _ (m : Module) (g : FuncId) (f : Function) (a : IsAcceptedBody m g.0 f) w
   rings : HasNoRings m
   rings = kinds_have_no_rings m a.verified.numbered (λ n h there body. has_kinds m n h (record { verified = a.verified; body = record { there = there; body = body } }))
 
-  lowerable : IsLowerable (length m.functions) d f
+  pub lowerable : IsLowerable (length m.functions) d f
   lowerable = functions_are_lowerable m g.0 f a.verified.numbered a.verified.accepted.types.typed rings a.body.there
 
   all_named : AreNamed d f

@@ -1,7 +1,6 @@
 -- The instructions that stand in the place of one: the frame goes from point to point, and in the end stands behind it.
-use Rattle.std.proofs.Common.{◌≡◌, ℕ, zero, suc, ◌+◌, List, [], ◌∷◌, map, length, arith, refl, sym, ap, ◌∙◌, subst, Bool, true, false, cond, Option, Some, None, Ok, eq-eqb}
+use Rattle.std.proofs.Common.{◌≡◌, ℕ, suc, ◌+◌, List, [], ◌∷◌, map, length, refl, sym, ap, ◌∙◌, subst, true, cond, Option, Some, None, Ok, eq-eqb}
 use Rattle.std.specs.Prelude.{◌==◌, ◌++◌, find, is_some, slice_get}
-use Rattle.std.specs.List.{AllZip}
 use Rattle.std.proofs.lemmas.Option.{same_Some}
 use Rattle.std.proofs.lemmas.Slice.Zip.{AllZip-long}
 use Rattle.numbered_form.specs.Lists.{Each}
@@ -11,29 +10,25 @@ use Rattle.sil_ast.specs.declared.module.Module.{Module}
 use Rattle.sil_ast.specs.declared.place.FuncId.{FuncId}
 use Rattle.sil_ast.specs.declared.place.ObjectId.{ObjectId}
 use Rattle.sil_ast.specs.declared.place.PointId.{PointId}
-use Rattle.sil_ast.specs.declared.place.ValueId.{ValueId}
 use Rattle.sil_cfg.specs.declared.item.Item.TheVariants as item
-use Rattle.item_operands.specs.Items.{item_defined, item_taken}
 use Rattle.item_operands.specs.Parts.{inst_at}
 use Rattle.item_operands.specs.Roles.{taken_by}
-use Rattle.ownership_chains.specs.declared.facts.Facts.{Facts}
 use Rattle.type_definitions.specs.Declarations.{Declarations, declarations_of}
 use Rattle.run_values.specs.Memory.{Memory, is_dead}
 use Rattle.run_values.specs.Places.{Place, value_at}
 use Rattle.run_values.specs.Shapes.{Shape}
 use Rattle.lowered_run.specs.holder_model.Data.{Datum}
-use Rattle.lowered_run.specs.holder_model.Effects.{Change, Makes, SlotChange}
+use Rattle.lowered_run.specs.holder_model.Effects.{Change, Makes}
 use Rattle.lowered_run.specs.holder_model.Frames.{Entry, Frame}
 use Rattle.lowered_run.specs.holder_model.HolderStates.{HolderState}
-use Rattle.lowered_run.specs.holder_model.ModuleFacts.{facts_of, facts_told}
+use Rattle.lowered_run.specs.holder_model.ModuleFacts.{facts_of}
 use Rattle.lowered_run.specs.holder_model.ModuleShapes.{ModuleShapes, shapes_in, shapes_of}
 use Rattle.lowered_run.specs.holder_model.Outcomes.{Numbers}
 use Rattle.lowered_run.specs.holder_model.Standing.{point_behind, stands_at}
 use Rattle.lowered_run.specs.holder_model.States.{Drops, Goes, Runs, Task, dropping}
 use Rattle.lowered_run.specs.LowEffects.{low_effect, stored_behind}
-use Rattle.lowered_run.specs.LowFrames as low_frames
 use Rattle.lowered_run.specs.LowFrames.{LowFrame, put_all, read_all}
-use Rattle.lowered_run.specs.LowStepParts.{LowState, numbers_for, slots_behind, taken_value, values_taken}
+use Rattle.lowered_run.specs.LowStepParts.{LowState, numbers_for, slots_behind, taken_value}
 use Rattle.lowered_run.specs.LowSteps as steps
 use Rattle.lowered_run.specs.Stored.{each_changed, new_numbers, one_more}
 use Rattle.lowering_laws.specs.lowering_model.LoweredModules.{lowered, lowered_body}
@@ -43,8 +38,6 @@ use Rattle.stored_runs.specs.inner.Along.{AreTotalsFor, IsAlong}
 use Rattle.stored_runs.specs.inner.Frames.{AreGivenPartsFull, AreTasksFor, AreValuesFor, HasFullParts, IsFrameAt, IsFrameFor, IsTaskFor}
 use Rattle.stored_runs.specs.inner.Lowering.{LowersSo}
 use Rattle.stored_runs.specs.inner.Memories.{IsMemoryFor, IsObjectFor}
-use Rattle.stored_runs.specs.inner.Names.{lowered_number}
-use Rattle.stored_runs.specs.inner.PlaceRows.{LowGoes}
 use Rattle.stored_runs.specs.inner.Points.{lowered_point}
 use Rattle.stored_runs.proofs.Reading.{takes_there}
 use Rattle.stored_runs.proofs.NamedSteps.{inst_goes}
@@ -120,8 +113,8 @@ module _ (m : Module) (bound : ℕ) (l : LowState) (frame : Frame) (f : Function
         → read_all values (map taken_value (taken_by j)) ≡ Ok xs → low_effect d low_told low_shapes memory j xs ≡ Makes c → slots_behind c.slots slots ≡ Ok slots'
         → put_all j.results c.results values ≡ Some values' → find (is_dead memory) c.retained ≡ None
         → steps.low_step (lowered m) low_told bound (mid n values slots memory numbers retains)
-          ≡ Goes (waits c.dropped (suc n) values' slots' c.memory
-          (numbers_for c.memory (each_changed one_more c.retained (stored_behind d low_told low_shapes memory j xs numbers))) (retains + length c.retained))
+        ≡ Goes (waits c.dropped (suc n) values' slots' c.memory
+        (numbers_for c.memory (each_changed one_more c.retained (stored_behind d low_told low_shapes memory j xs numbers))) (retains + length c.retained))
     mid_step j xs c slots' values' here read eff slots_are put alive =
         let now : LowState = mid n values slots memory numbers retains in
         let at : LowFrame = low_at n values slots in
@@ -158,7 +151,7 @@ module _ (m : Module) (bound : ℕ) (l : LowState) (frame : Frame) (f : Function
         → length values ≡ length low.values → AreValuesFor d f (item.Inst p ∷ frame.trail) entries values → IsMemoryFor c.memory memory
         → AreGivenPartsFull d f values memory → Each (HasFullParts m memory) lrest
         → IsAlong m (holder.moved m (facts_of m) bound s rest frame (item.Inst p) c slots entries)
-          (waits c.dropped (lowered_point d f (point_behind p)).index values slots memory numbers (l.retains + length c.retained))
+        (waits c.dropped (lowered_point d f (point_behind p)).index values slots memory numbers (l.retains + length c.retained))
     behind_it c slots entries values memory numbers size shown for parts below = record {
       tasks = dropping_for m c.dropped (Runs (after slots entries) ∷ rest) (Runs (low_after slots values) ∷ lrest)
           (IsTaskFor.runs (after slots entries) (low_after slots values) (frame_for slots entries values size shown), rest_for);

@@ -1,9 +1,8 @@
 -- What both runs have where they stand at an instruction: its operands under their lowered numbers, and what its results are put under.
-use Rattle.std.proofs.Common.{◌≡◌, ◌⊎◌, inl, inr, ⊎_elim, ℕ, suc, List, [], ◌∷◌, ◌++◌, map, length, refl, sym, ap, ◌∙◌, subst, Bool, true, false, not, ◌&&◌, ◌||◌, Option, Some, None, Ok}
-use Rattle.std.specs.Prelude.{◌==◌, find, is_some, slice_get}
-use Rattle.std.specs.List.{AllZip, list_any}
-use Rattle.std.proofs.lemmas.Bool.{cases_Bool, eqb-true}
-use Rattle.std.proofs.lemmas.Option.{none-some, same_Some}
+use Rattle.std.proofs.Common.{◌≡◌, inl, inr, List, [], ◌∷◌, map, refl, sym, ap, ◌∙◌, subst, true, false, Option, Some, None}
+use Rattle.std.specs.Prelude.{find, is_some, slice_get}
+use Rattle.std.specs.List.{AllZip}
+use Rattle.std.proofs.lemmas.Option.{same_Some}
 use Rattle.numbered_form.specs.Lists.{Each}
 use Rattle.sil_ast.specs.declared.function.Function.{Function}
 use Rattle.sil_ast.specs.declared.inst.Inst.{Inst}
@@ -17,28 +16,25 @@ use Rattle.item_operands.specs.Items.{item_defined, item_taken}
 use Rattle.item_operands.specs.declared.taken.Taken.{Taken}
 use Rattle.ownership_chains.specs.declared.facts.Facts.{Facts}
 use Rattle.type_definitions.specs.Declarations.{Declarations, declarations_of}
-use Rattle.run_values.specs.Memory.{Memory, is_dead}
+use Rattle.run_values.specs.Memory.{is_dead}
 use Rattle.run_values.specs.Places.{Place, value_at}
 use Rattle.run_values.specs.Values.{Value, references_of}
 use Rattle.accepted_trails.specs.inner.Defined.{makes}
-use Rattle.lowered_run.specs.holder_model.Calling.{as_argument}
 use Rattle.lowered_run.specs.holder_model.Data.{AddressOf, Datum, FunctionOf, ValueOf, as_place, home_references, references_in}
-use Rattle.lowered_run.specs.holder_model.Frames.{Entry, Frame, Operands, any_dead, results_put}
+use Rattle.lowered_run.specs.holder_model.Frames.{Frame, Operands, any_dead}
 use Rattle.lowered_run.specs.holder_model.HolderStates.{HolderState}
 use Rattle.lowered_run.specs.holder_model.ModuleFacts.{facts_of, facts_told}
 use Rattle.lowered_run.specs.holder_model.Standing.{stands_at}
-use Rattle.lowered_run.specs.holder_model.States.{Runs, Task}
+use Rattle.lowered_run.specs.holder_model.States.{Task}
 use Rattle.lowered_run.specs.LowFrames as low_frames
 use Rattle.lowered_run.specs.LowFrames.{LowFrame, put_all, read_all}
 use Rattle.lowered_run.specs.LowStepParts.{LowState, taken_value}
 use Rattle.lowering_laws.specs.ownership_origins.Renamings.{renames}
-use Rattle.stored_runs.specs.inner.Frames.{AreGivenPartsFull, AreValuesFor, HasFullParts, IsDatumFor, IsFrameAt}
-use Rattle.stored_runs.specs.inner.Lowering.{IsOwnName}
-use Rattle.stored_runs.specs.inner.Memories.{IsMemoryFor}
-use Rattle.stored_runs.specs.inner.Names.{IsCurrent, IsOld, lowered_number}
+use Rattle.stored_runs.specs.inner.Frames.{IsNoAddress, AreGivenPartsFull, IsDatumFor, IsFrameAt}
+use Rattle.stored_runs.specs.inner.Lowering.{IsOwnName, IsTakenOld}
+use Rattle.stored_runs.specs.inner.Names.{IsOld, lowered_number}
 use Rattle.stored_runs.specs.inner.PlaceRows.{StandsAt, operand_value}
-use Rattle.stored_runs.proofs.GoesAlong.{PutsSo, puts_none, puts_own}
-use Rattle.stored_runs.proofs.Reading.{AreReadAs, AreReadSo, Like, behind_nothing, defines_there, like_exact, taken_read}
+use Rattle.stored_runs.proofs.Reading.{AreReadAs, AreReadSo, defines_there, like_exact, taken_exact, taken_read}
 use Rattle.stored_runs.proofs.SameRows.{none_dead}
 use Rattle.stored_runs.proofs.ValuesFor.{AreTakenSo, IsGivenAlive, operands_given}
 
@@ -70,7 +66,7 @@ module _ (m : Module) (s : HolderState) (l : LowState) (frame : Frame) (rest : L
   abbrev pub facts : ValueId → Option Facts
   facts v = facts_told (facts_of m) frame.function v
 
-  taken_so : AreTakenSo facts s.memory frame.entries (item_taken f (item.Inst p)) ops
+  pub taken_so : AreTakenSo facts s.memory frame.entries (item_taken f (item.Inst p)) ops
   taken_so = operands_given facts s.memory frame.entries (item_taken f (item.Inst p)) ops x.found
 
   pub reads : AreReadSo d f x.lowers.named x.low.values (item_taken f (item.Inst p)) ops.given
@@ -111,6 +107,13 @@ module _ (m : Module) (s : HolderState) (l : LowState) (frame : Frame) (rest : L
 
   pub operands_under : AreRead IsUnder (map operand_value i.operands) ops.given reads.ys
   operands_under = subst (λ vs. AreRead IsUnder vs ops.given reads.ys) x.takes (by_values (item_taken f (item.Inst p)) ops.given reads.ys reads.like taken_so.given)
+
+  values_old : (ts : List Taken) → Each (IsTakenOld f) ts → Each (IsOld f) (map taken_value ts)
+  values_old [] h = tt
+  values_old (t ∷ ts) h = (h.0, values_old ts h.1)
+
+  pub operands_old : Each (IsOld f) (map operand_value i.operands)
+  operands_old = subst (Each (IsOld f)) x.takes (values_old (item_taken f (item.Inst p)) (x.lowers.taken (item.Inst p) x.is_item))
 
   -- the place under the number of an address
   pub record PlaceUnder (v : ValueId) (y : Place) : Type 0 where
@@ -189,6 +192,38 @@ module _ (m : Module) (s : HolderState) (l : LowState) (frame : Frame) (rest : L
       subst (λ xs. AreRead IsUnder (a.value ∷ b.value ∷ []) xs reads.ys) given (subst (λ os. AreRead IsUnder (map operand_value os) ops.given reads.ys) both operands_under) in
       let r = both_read IsUnder a.value b.value (ValueOf u) (AddressOf y) reads.ys h in
       (value_under a.value u r.0.0 r.0.1, place_under b.value y r.1.0 r.1.1)
+
+  -- what is read for it
+
+  same_data : (v : ValueId) (y z : Datum) → low_frames.value_at x.low.values (number v) ≡ Some z → low_frames.value_at x.low.values (number v) ≡ Some y → z ≡ y
+  same_data v y z e h = same_Some z y (sym e ∙ h)
+
+  all_read : (v : ValueId) (y : Datum) (zs : List Datum) (z : Datum) → AreRead IsUnder (v ∷ []) (y ∷ []) zs → low_frames.value_at x.low.values (number v) ≡ Some z → zs ≡ z ∷ []
+  all_read v y [] z h e = absurd h
+  all_read v y (a ∷ []) z h e = ap (λ b. b ∷ []) (same_data v z a h.0.0 e)
+  all_read v y (a ∷ b ∷ zs) z h e = absurd h.1
+
+  pub place_read_low : (o : Operand) (y : Place) (one : i.operands ≡ o ∷ []) (given : ops.given ≡ AddressOf y ∷ []) → reads.ys ≡ AddressOf (one_place o y one given).place ∷ []
+  place_read_low o y one given =
+      all_read o.value (AddressOf y) reads.ys (AddressOf (one_place o y one given).place)
+      (subst (λ xs. AreRead IsUnder (o.value ∷ []) xs reads.ys) given (subst (λ os. AreRead IsUnder (map operand_value os) ops.given reads.ys) one operands_under))
+      (one_place o y one given).under
+
+  both_all_read : (v w : ValueId) (y u : Datum) (zs : List Datum) (z b : Datum) → AreRead IsUnder (v ∷ w ∷ []) (y ∷ u ∷ []) zs
+      → low_frames.value_at x.low.values (number v) ≡ Some z → low_frames.value_at x.low.values (number w) ≡ Some b → zs ≡ z ∷ b ∷ []
+  both_all_read v w y u [] z b h e g = absurd h
+  both_all_read v w y u (a ∷ zs) z b h e g = ap (λ c. c ∷ zs) (same_data v z a h.0.0 e) ∙ ap (λ cs. z ∷ cs) (all_read w u zs b h.1 g)
+
+  pub both_read_low : (a b : Operand) (u : Value) (y : Place) (both : i.operands ≡ a ∷ b ∷ []) (given : ops.given ≡ ValueOf u ∷ AddressOf y ∷ [])
+      → reads.ys ≡ ValueOf u ∷ AddressOf (value_and_place_under a b u y both given).1.place ∷ []
+  both_read_low a b u y both given =
+      both_all_read a.value b.value (ValueOf u) (AddressOf y) reads.ys (ValueOf u) (AddressOf (value_and_place_under a b u y both given).1.place)
+      (subst (λ xs. AreRead IsUnder (a.value ∷ b.value ∷ []) xs reads.ys) given (subst (λ os. AreRead IsUnder (map operand_value os) ops.given reads.ys) both operands_under))
+      (value_and_place_under a b u y both given).0.under (value_and_place_under a b u y both given).1.under
+
+  -- the same is read where no address is
+  pub exact_read : Each IsNoAddress ops.given → reads.ys ≡ ops.given
+  exact_read none = taken_exact d f x.lowers.named x.low.values (item_taken f (item.Inst p)) ops.given reads.ys reads.like none
 
   -- ---- results
 

@@ -125,7 +125,7 @@ low_top m frame rest tasks l h is = at l.tasks refl (subst (λ ts. AreTasksFor m
         record { low = top.0; others = ts; is_top = e ∙ ap (λ y. y ∷ ts) top.1; of = top.2; rest_for = k.1 }
 
 module _ (d : Declarations) (told : ModuleShapes) (values : List Shape) (low : Memory) (i : Inst) (xs : List Datum) where
-  operated_none : (r : RowEffect) → find (is_dead low) (flat_map references_in xs) ≡ None → find (is_dead low) (low_effects.operated_on d told values low i r xs) ≡ None
+  pub operated_none : (r : RowEffect) → find (is_dead low) (flat_map references_in xs) ≡ None → find (is_dead low) (low_effects.operated_on d told values low i r xs) ≡ None
   operated_none row.NoEffect e = refl
   operated_none row.GivesLiteral e = refl
   operated_none row.GivesFunction e = refl

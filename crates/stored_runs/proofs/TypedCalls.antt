@@ -61,10 +61,10 @@ use Rattle.stored_runs.proofs.LoweredSo.{are_lowered_so}
 
 -- ---- cells of trivial shapes are no storage
 
-abbrev IsStrong : Shape → Type 0
+abbrev pub IsStrong : Shape → Type 0
 IsStrong u = storage_in u ≡ None
 
-each_both : {A : Type 0} (P : A → Type 0) (xs ys : List A) → Each P xs → Each P ys → Each P (xs ++ ys)
+pub each_both : {A : Type 0} (P : A → Type 0) (xs ys : List A) → Each P xs → Each P ys → Each P (xs ++ ys)
 each_both P [] ys h k = k
 each_both P (x ∷ xs) ys h k = (h.0, each_both P xs ys h.1 k)
 
@@ -88,12 +88,12 @@ shape_strong (Enum name cases) hs t = (refl, tt)
 shape_strong (Stored s inner) hs t = absurd (false≢true t)
 shape_strong Unknown hs t = (refl, tt)
 
-trivial_strong : (s : Shape) → AreStrong s
+pub trivial_strong : (s : Shape) → AreStrong s
 trivial_strong = by_parts AreStrong shape_strong
 
 -- ---- places that are handed over to be filled
 
-empty_taken : (cells : List Cell) → list_all is_empty_cell cells ≡ true → Each MayBeTaken cells
+pub empty_taken : (cells : List Cell) → list_all is_empty_cell cells ≡ true → Each MayBeTaken cells
 empty_taken [] e = tt
 empty_taken (c ∷ cells) e = let parts = and_parts (is_empty_cell c) (list_all is_empty_cell cells) e in (one c parts.0, empty_taken cells parts.1)
   where
@@ -108,7 +108,7 @@ module _ (m : Module) (w : World) where
   one_taken u _ CellIs.empty strong e = MayBeTaken.empty
   one_taken u _ (CellIs.keeps x suits) strong e = subst (λ o. MayBeTaken (Keeps (unwrap_or o storage.Strong) x)) (sym strong) (MayBeTaken.keeps x)
 
-  strong_taken : (us : List Shape) (cells : List Cell) → AllZip (CellIs m w) us cells → Each IsStrong us → list_all is_there cells ≡ true → Each MayBeTaken cells
+  pub strong_taken : (us : List Shape) (cells : List Cell) → AllZip (CellIs m w) us cells → Each IsStrong us → list_all is_there cells ≡ true → Each MayBeTaken cells
   strong_taken [] [] h strong e = tt
   strong_taken [] (c ∷ cells) h strong e = absurd h
   strong_taken (u ∷ us) [] h strong e = absurd h

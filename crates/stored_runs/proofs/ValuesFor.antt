@@ -167,7 +167,7 @@ read_so values (v ∷ vs) [] h = absurd h
 read_so values (v ∷ vs) (x ∷ xs) h =
     ap (λ o. and_others (there v o) (read_all values vs)) h.0 ∙ ap (and_others (Ok x)) (read_so values vs xs h.1)
 
-value_set : (values : List (Option Datum)) (v : ValueId) (x : Datum) → v.0 < length values → low_frames.value_at (set values v.0 (Some x)) v ≡ Some x
+pub value_set : (values : List (Option Datum)) (v : ValueId) (x : Datum) → v.0 < length values → low_frames.value_at (set values v.0 (Some x)) v ≡ Some x
 value_set values v x lt = unwrap_or-slice_get (set values v.0 (Some x)) v.0 None ∙ get_or-set_same values v.0 (Some x) None lt
 
 pub value_other : (values : List (Option Datum)) (v w : ValueId) (x : Datum) → (w.0 == v.0) ≡ false → low_frames.value_at (set values v.0 (Some x)) w ≡ low_frames.value_at values w

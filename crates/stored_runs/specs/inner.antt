@@ -20,3 +20,7 @@ pub mod FrameSteps
 pub mod Awaited
 pub mod TypedSteps
 pub mod PlaceRows
+pub mod Spares
+pub mod RowsRight
+pub mod TypedPlaces
+pub mod TypedRows

@@ -10,8 +10,16 @@ ghost use Rattle.stored_runs.specs.inner.FrameSteps.{CallsStep, EndsStep};
 ghost use Rattle.stored_runs.specs.inner.LoweredSo.{AreLoweredSo};
 ghost use Rattle.stored_runs.specs.inner.Memories.{AreFullRead};
 ghost use Rattle.stored_runs.specs.inner.Returned.{AreReturned};
+ghost use Rattle.stored_runs.specs.inner.RowsRight.{AreRowsAlong, AreTrapsAlong};
+ghost use Rattle.stored_runs.specs.inner.Spares.{AreAcceptedSparesApart};
 ghost use Rattle.stored_runs.specs.inner.TypedCalls.{AreCallsRight};
 ghost use Rattle.stored_runs.specs.inner.TypedEnds.{AreEndsPlain};
+ghost use Rattle.stored_runs.specs.inner.TypedPlaces.{
+  ArePlainPlaces,
+  AreStoragePlaces,
+  AreTrivialPlaces,
+};
+ghost use Rattle.stored_runs.specs.inner.TypedRows.{AreTypedPlaceRows};
 ghost use Rattle.stored_runs.specs.inner.TypedSteps.{
   TypedCallsStep,
   TypedDeinitsStep,
@@ -59,4 +67,19 @@ pub fn typed_frames_serve()
 pub fn calls_are_awaited()
     ensures begin { BeginAwaited }
     ensures steps { AreStepsAwaited }
+{}
+
+/// Where an instruction finds what its row needs, the lowered run goes along with it, in as many steps as it has instructions for the row. Spare values, which lowering makes for what a place held, have numbers of their own.
+pub fn rows_go_along()
+    ensures rows { AreRowsAlong }
+    ensures traps { AreTrapsAlong }
+    ensures spares { AreAcceptedSparesApart }
+{}
+
+/// In typed memory a place with no storage in its shape has what rows ask of it; storage and trivial places hold no references. So rows at places of typed states find what they need, but for what parts, slots and words in brackets tell.
+pub fn typed_places_serve()
+    ensures plain { ArePlainPlaces }
+    ensures storage { AreStoragePlaces }
+    ensures trivial { AreTrivialPlaces }
+    ensures rows { AreTypedPlaceRows }
 {}

@@ -1,6 +1,3 @@
-use Rattle.stored_runs.proofs.StandsThere.{own}
-use Rattle.stored_runs.proofs.FullKept.{filling_keeps}
-use Rattle.stored_runs.proofs.RowSteps.{behind_it}
 use Rattle.stored_runs.proofs.MemoriesFor.{place_read}
 use Rattle.stored_runs.proofs.laws.full_places_are_read.Goals as goal
 
