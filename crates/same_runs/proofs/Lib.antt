@@ -12,3 +12,4 @@ pub mod DeinitsCalled
 pub mod CountedTurns
 pub mod Come
 pub mod RightFinishes
+pub mod RowsFound

@@ -55,6 +55,7 @@ use Rattle.same_runs.proofs.CountedTurns.{deinit_counted, end_counted}
 use Rattle.same_runs.proofs.DeinitsCalled.{AreCalled, AreCalledBelow}
 use Rattle.same_runs.proofs.Finishing.{dropped_followed, dropping_followed, finishing_followed}
 use Rattle.same_runs.proofs.RowsFollowed.{row_followed}
+use Rattle.same_runs.proofs.RowsFound.{rows_go_along, rows_trap_along}
 
 module _ (owed : IsOwed) (m : Module) (bound : ℕ) (s : HolderState) (verified : IsVerified m) (comes : IsComeTo m bound s) (l : LowState) (h : IsTypedFor m s l) where
   abbrev told : ModuleFacts
@@ -118,7 +119,7 @@ module _ (owed : IsOwed) (m : Module) (bound : ℕ) (s : HolderState) (verified 
               → GoesBehind m told bound s x.rest (left_with m told bound x.frame x.ops) x.f (item.Inst (stands_at x.f x.frame.trail)) c n → Follows m bound s l n
           behind _ same (GoesBehind.goes slots entries slots_left put) =
               let leaves : LeavesSo m bound s x c slots entries = record { makes = is; slots_left = slots_left; put = put } in
-              row_followed m bound s l x h.related c slots entries (owed.rows m bound s verified right l x h other c slots entries leaves)
+              row_followed m bound s l x h.related c slots entries (rows_go_along owed.rows m bound s verified right l x h other c slots entries leaves)
               (insts_counted m bound s x.rest x.frame x.f x.i x.ops c slots entries l.numbers (record {
                 verified = verified;
                 typed = h.typed;
@@ -137,7 +138,7 @@ module _ (owed : IsOwed) (m : Module) (bound : ℕ) (s : HolderState) (verified 
           absurd (other (ap effect_of (calls_alone (declarations_of m) (shapes_of m) (shapes_in (shapes_of m) x.frame.function) s.memory x.i x.ops.given g args is)))
       performs_followed other _ is _ same (Performs.no_turn g args callee numbers there bare num turn) =
           absurd (other (ap effect_of (calls_alone (declarations_of m) (shapes_of m) (shapes_in (shapes_of m) x.frame.function) s.memory x.i x.ops.given g args is)))
-      performs_followed other _ is _ same (Performs.traps t) = owed.traps m bound s verified right l x h other t is
+      performs_followed other _ is _ same (Performs.traps t) = rows_trap_along owed.traps m bound s verified right l x h other t is
       performs_followed other _ is _ same (Performs.no_callee g args there) = absurd (none WrongShape s (sym same))
       performs_followed other _ is _ same (Performs.no_numbers g args callee there bare num) = absurd (none WrongShape s (sym same))
       performs_followed other _ is _ same (Performs.wrong_place g args callee there bodied before) = absurd (none PlaceNotAsAsked s (sym same))

@@ -1,5 +1,6 @@
 -- What is owed so that the lowered run follows the run by holders: what holds of each state of the run, what rows do, and what is counted.
-use Rattle.std.specs.Prelude.{◌≡◌, ℕ, List, [], ◌∷◌, true, Some, Ok, slice_get}
+use Rattle.std.specs.Prelude.{◌≡◌, ℕ, List, [], ◌∷◌, true, false, Some, Ok, slice_get}
+use Rattle.std.specs.List.{list_any}
 use Rattle.numbered_form.specs.Lists.{Each}
 use Rattle.sil_ast.specs.declared.function.Function.{Function}
 use Rattle.sil_ast.specs.declared.inst.Inst.{Inst}
@@ -9,7 +10,7 @@ use Rattle.sil_ast.specs.declared.place.ObjectId.{ObjectId}
 use Rattle.sil_cfg.specs.declared.item.Item.TheVariants as item
 use Rattle.item_operands.specs.Items.{item_defined, item_taken}
 use Rattle.item_operands.specs.Parts.{inst_at}
-use Rattle.run_values.specs.Memory.{object_at, with_object}
+use Rattle.run_values.specs.Memory.{is_dead, object_at, with_object}
 use Rattle.run_values.specs.Places.{Place}
 use Rattle.accepted_values.specs.accepted_modules.inner.Checked.{IsVerified}
 use Rattle.accepted_runs.specs.inner.RightStates.{IsRightState}
@@ -37,6 +38,7 @@ use Rattle.stored_runs.specs.inner.CallsAlong.{lent_in}
 use Rattle.stored_runs.specs.inner.Entering.{IsFullPart}
 use Rattle.stored_runs.specs.inner.Frames.{AreTasksFor, HasFullParts}
 use Rattle.stored_runs.specs.inner.PlaceRows.{GoesAlong, stored_for}
+use Rattle.stored_runs.specs.inner.RowsRight.{RowRight, TrapRight}
 use Rattle.stored_runs.specs.inner.TypedSteps.{IsTypedFor}
 use Rattle.same_runs.specs.inner.Followed.{EndsToo}
 
@@ -99,6 +101,16 @@ abbrev pub RowsTrapAlong : Type 0
 RowsTrapAlong = OnRightStates (λ m bound s. (l : LowState) (x : AtInst m s) → IsTypedFor m s l → IsNoCall m bound s x
     → (t : Trap) → effect_there m bound s x ≡ effects.Traps t → EndsToo m bound l (outcome_at (Trapped t) s))
 
+-- which is so where a row finds what it needs
+abbrev pub RowsAreRight : Type 0
+RowsAreRight = OnRightStates (λ m bound s. (l : LowState) (x : AtInst m s) → IsTypedFor m s l → IsNoCall m bound s x
+    → (c : Change) (slots : List Place) (entries : List Entry) → LeavesSo m bound s x c slots entries
+    → RowRight m s l x.frame x.f x.i x.ops c × (list_any (is_dead s.memory) c.retained ≡ false))
+
+abbrev pub TrapsAreRight : Type 0
+TrapsAreRight = OnRightStates (λ m bound s. (l : LowState) (x : AtInst m s) → IsTypedFor m s l → IsNoCall m bound s x
+    → (t : Trap) → effect_there m bound s x ≡ effects.Traps t → TrapRight m s x.frame x.i x.ops t)
+
 -- a part that a call hands over is full, where places hold what is asked
 abbrev pub ArePartsHandedFull : Type 0
 ArePartsHandedFull = OnRightStates (λ m bound s. (x : AtInst m s) (g : FuncId) (args : List Datum)
@@ -120,8 +132,8 @@ AreCallsCounted = OnRightStates (λ m bound s. (next : HolderState) (stored : Li
 -- ---- all of it
 
 pub record IsOwed : Type 0 where
-  pub rows : RowsGoAlong
-  pub traps : RowsTrapAlong
+  pub rows : RowsAreRight
+  pub traps : TrapsAreRight
   pub handed : ArePartsHandedFull
   pub outlive : PartsOutlive
   pub calls_counted : AreCallsCounted
