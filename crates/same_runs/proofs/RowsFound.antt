@@ -56,6 +56,7 @@ module _ (m : Module) (bound : ℕ) (s : HolderState) (l : LowState) (x : AtInst
   top = steps.top m bound s l x.frame x.rest x.f h.related x.is x.there lowers
 
   pub stands : StandsAt m s l x.frame x.rest x.f x.i x.ops
+  unfolding top
   stands = record {
     totals = steps.totals m bound s l x.frame x.rest x.f h.related x.is x.there lowers;
     memory = h.related.memory;
