@@ -1,9 +1,8 @@
 -- An instruction of a right state whose row finds what it needs: the lowered run goes along, or traps too.
-use Rattle.std.proofs.Common.{◌≡◌, ℕ, List, ◌∷◌, refl, sym, ap, ◌∙◌, subst}
+use Rattle.std.proofs.Common.{◌≡◌, ℕ, ◌∷◌, refl, sym, ◌∙◌, subst}
 use Rattle.std.proofs.lemmas.Option.{same_Some}
 use Rattle.sil_ast.specs.declared.module.Module.{Module}
 use Rattle.sil_cfg.specs.declared.item.Item.TheVariants as item
-use Rattle.type_definitions.specs.Declarations.{declarations_of}
 use Rattle.accepted_trails.proofs.Unbroken.{are_accepted}
 use Rattle.accepted_trails.proofs.run_trails.RunPaths.{are_trails}
 use Rattle.accepted_trails.proofs.run_trails.TurnedTrails.{turned_item}
@@ -13,7 +12,7 @@ use Rattle.accepted_values.specs.inner.Known.{IsAcceptedBody}
 use Rattle.lowered_run.specs.holder_model.HolderStates.{HolderNext, HolderState}
 use Rattle.lowered_run.specs.holder_model.Outcomes.{outcome_at}
 use Rattle.lowered_run.specs.holder_model.Standing.{stands_at}
-use Rattle.lowered_run.specs.holder_model.States.{Ends, Goes, Runs, Task, Trapped}
+use Rattle.lowered_run.specs.holder_model.States.{Ends, Runs, Trapped}
 use Rattle.lowered_run.specs.holder_model.declared.trap.Trap.{Trap}
 use Rattle.lowered_run.specs.LowOutcomes.{low_outcome_at}
 use Rattle.lowered_run.specs.LowStepParts.{LowNext, LowState}
