@@ -16,7 +16,8 @@ use Rattle.holder_counts.proofs.Entries.{ok_through}
 use Rattle.holder_counts.proofs.Sums.{total_append, total_cons}
 use Rattle.stored_counts.specs.inner.Rows.{BringsAll, BringsNone}
 use Rattle.typed_holders.proofs.Data.{IsBare, entry_bare}
-use Rattle.owned_counts.proofs.TakenOwned.{IsValue, MayEndBy, kind_in}
+use Rattle.owned_counts.specs.inner.Taken.{kind_in}
+use Rattle.owned_counts.proofs.TakenOwned.{IsValue, MayEndBy}
 
 module _ (facts : ValueId → Option Facts) (entries : List Entry) where
   abbrev pub MayHold : ValueId → Type 0

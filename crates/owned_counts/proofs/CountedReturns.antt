@@ -54,7 +54,8 @@ use Rattle.owned_counts.proofs.BroughtOwned.{MayHold, brings_all}
 use Rattle.owned_counts.proofs.GivenOwned.{given_as}
 use Rattle.owned_counts.proofs.OwnedInsts.{each_weaker}
 use Rattle.owned_counts.proofs.RowTables.{all_roles, consumed_role, each_role, is_consumed_role}
-use Rattle.owned_counts.proofs.TakenOwned.{GivesUp, IsTakenAs, IsValue, MayEndBy, takes_all}
+use Rattle.owned_counts.specs.inner.Taken.{IsTakenAs}
+use Rattle.owned_counts.proofs.TakenOwned.{GivesUp, IsValue, MayEndBy, takes_all}
 
 return_roles : (o : Op) → ending_of o ≡ ending.Return → all_roles is_consumed_role (roles_of o) ≡ true
 return_roles op.Return e = refl

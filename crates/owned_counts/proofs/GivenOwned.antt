@@ -25,7 +25,7 @@ use Rattle.typed_holders.specs.typed_memory.inner.Worlds.{World}
 use Rattle.typed_holders.specs.inner.TypedStates.{EntriesAre, EntryIs}
 use Rattle.typed_holders.proofs.Entries.{entry_fits}
 use Rattle.typed_holders.proofs.Operands.{operand_there, operands_read}
-use Rattle.owned_counts.proofs.TakenOwned.{IsTakenAs}
+use Rattle.owned_counts.specs.inner.Taken.{IsTakenAs}
 
 module _ (m : Module) (w : World) (f : Function) (entries : List Entry) (typed : EntriesAre m w f entries) where
   abbrev facts : ValueId → Option Facts

@@ -10,3 +10,4 @@ pub mod RowsOwned
 pub mod Words
 pub mod CountedInsts
 pub mod CountedReturns
+pub mod Handing

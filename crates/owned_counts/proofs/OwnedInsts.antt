@@ -62,7 +62,8 @@ use Rattle.owned_counts.proofs.BroughtOwned.{brings_all, brings_none}
 use Rattle.owned_counts.proofs.GivenOwned.{given_as}
 use Rattle.owned_counts.proofs.RowTables.{all_roles, consumed_role, each_role, forwarded_is, forwarded_role, is_consumed_role, is_forwarded, is_forwarded_role, is_lent, is_lent_role, lent_is, lent_role, row_suits, stays, staying_role, suits}
 use Rattle.owned_counts.proofs.ValueForms.{asks_values, forms_in, forms_out, gives_values, values_of_forms}
-use Rattle.owned_counts.proofs.TakenOwned.{GivesUp, IsTakenAs, IsValue, MayEndBy, kind_in, takes_all, takes_none}
+use Rattle.owned_counts.specs.inner.Taken.{IsTakenAs, kind_in}
+use Rattle.owned_counts.proofs.TakenOwned.{GivesUp, IsValue, MayEndBy, takes_all, takes_none}
 
 pub each_weaker : {A : Type 0} (P Q : A → Type 0) → ((x : A) → P x → Q x) → (xs : List A) → Each P xs → Each Q xs
 each_weaker P Q h [] e = tt

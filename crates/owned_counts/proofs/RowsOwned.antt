@@ -73,7 +73,8 @@ use Rattle.owned_counts.proofs.BroughtOwned.{brings_bare}
 use Rattle.owned_counts.proofs.OwnedInsts as inst
 use Rattle.owned_counts.proofs.OwnedInsts.{each_weaker}
 use Rattle.owned_counts.proofs.RowTables.{address_is, all_roles, each_role, is_address, is_consumed_role, is_forwarded, is_forwarded_role, is_owned, is_scope, owned_is, scope_is, stays, staying_role, suits}
-use Rattle.owned_counts.proofs.TakenOwned.{IsTakenAs, IsValue, gives_one, takes_none}
+use Rattle.owned_counts.specs.inner.Taken.{IsTakenAs}
+use Rattle.owned_counts.proofs.TakenOwned.{IsValue, gives_one, takes_none}
 use Rattle.owned_counts.proofs.TypedCells.{empty_place, kept_strongly, stored_none, written_length, written_strongly, written_weakly}
 use Rattle.owned_counts.proofs.TypedPlaces.{place_stored, typed_within, written_stored}
 use Rattle.owned_counts.proofs.ValueForms.{asks_values, gives_values}

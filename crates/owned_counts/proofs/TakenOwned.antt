@@ -6,7 +6,7 @@ use Rattle.std.proofs.lemmas.Option.{same_Some}
 use Rattle.instruction_table.specs.declared.entries.Role.{Role}
 use Rattle.numbered_form.specs.Lists.{Each}
 use Rattle.item_operands.specs.declared.taken.Taken.{Taken}
-use Rattle.ownership_chains.specs.Facts.{facts_with, known_or}
+use Rattle.ownership_chains.specs.Facts.{facts_with}
 use Rattle.ownership_chains.specs.declared.facts.Facts.{Facts}
 use Rattle.ownership_marks.specs.Marks.{end_of, ended_with, ends_owned, ends_scope}
 use Rattle.sil_ast.specs.declared.place.ObjectId.{ObjectId}
@@ -24,6 +24,7 @@ use Rattle.holder_counts.proofs.Entries.{made_total}
 use Rattle.holder_counts.proofs.Sums.{total_append, total_cons}
 use Rattle.stored_counts.specs.inner.Rows.{TakesAll, TakesNone}
 use Rattle.typed_holders.proofs.Data.{IsBare}
+use Rattle.owned_counts.specs.inner.Taken.{IsTakenAs, kind_in}
 
 -- the role ends a value of this kind
 abbrev pub ends_kind : Kind → Role → Bool
@@ -39,17 +40,7 @@ abbrev pub IsValue : Datum → Type 0
 IsValue x = (v : Value) × (x ≡ ValueOf v)
 
 module _ (facts : ValueId → Option Facts) (entries : List Entry) where
-  abbrev pub kind_in : ValueId → Kind
-  kind_in v = (known_or facts v).kind
-
-  -- the operand's entry is there, as its kind asks, and this is its datum
-  pub record IsTakenAs (t : Taken) (x : Datum) : Type 0 where
-    pub datum : Datum
-    pub made : made_entry (kind_in t.value) datum ≡ Ok (entry_at entries t.value)
-    pub there : datum_in (entry_at entries t.value) ≡ Some x
-    pub bare : kind_in t.value ≡ kind.Plain → IsBare x
-
-  ends_is : (t : Taken) → ends facts t ≡ ends_kind (kind_in t.value) t.role
+  ends_is : (t : Taken) → ends facts t ≡ ends_kind (kind_in facts entries t.value) t.role
   ends_is t = at (facts t.value)
     where
       owned : (b : Bool) → has_any (cond b (end_of t.value ∷ []) []) ≡ b
@@ -76,22 +67,22 @@ module _ (facts : ValueId → Option Facts) (entries : List Entry) where
     held_total kind.Plain y x e made there = made_total weight facts kind.Plain y e made
 
     -- what it takes away where it ends
-    taken_total : (t : Taken) (x : Datum) → IsTakenAs t x
-        → of_references weight (references_ended_by facts entries t) ≡ cond (ends_kind (kind_in t.value) t.role) (of_references weight (owned_references (kind_in t.value) x)) 0
-    taken_total t x h = at (ends facts t) (ends_kind (kind_in t.value) t.role) (ends_is t)
+    pub taken_total : (t : Taken) (x : Datum) → IsTakenAs facts entries t x
+        → of_references weight (references_ended_by facts entries t) ≡ cond (ends_kind (kind_in facts entries t.value) t.role) (of_references weight (owned_references (kind_in facts entries t.value) x)) 0
+    taken_total t x h = at (ends facts t) (ends_kind (kind_in facts entries t.value) t.role) (ends_is t)
       where
-        held : in_entry weight (entry_at entries t.value) ≡ of_references weight (owned_references (kind_in t.value) x)
-        held = held_total (kind_in t.value) h.datum x (entry_at entries t.value) h.made h.there
+        held : in_entry weight (entry_at entries t.value) ≡ of_references weight (owned_references (kind_in facts entries t.value) x)
+        held = held_total (kind_in facts entries t.value) h.datum x (entry_at entries t.value) h.made h.there
 
-        at : (b c : Bool) → b ≡ c → of_references weight (cond b (held_references (entry_at entries t.value)) []) ≡ cond c (of_references weight (owned_references (kind_in t.value) x)) 0
+        at : (b c : Bool) → b ≡ c → of_references weight (cond b (held_references (entry_at entries t.value)) []) ≡ cond c (of_references weight (owned_references (kind_in facts entries t.value) x)) 0
         at true true e = held
         at true false e = cc
         at false true e = cc
         at false false e = refl
 
     -- one that isn't Owned, or isn't ended by its role, takes nothing away
-    pub keeps_one : (t : Taken) (x : Datum) → IsTakenAs t x → (ends_owned t.role ≡ false) ⊎ (kind_in t.value ≡ kind.Owned → ⊥) → of_references weight (references_ended_by facts entries t) ≡ 0
-    keeps_one t x h keeps = taken_total t x h ∙ at (kind_in t.value) keeps
+    pub keeps_one : (t : Taken) (x : Datum) → IsTakenAs facts entries t x → (ends_owned t.role ≡ false) ⊎ (kind_in facts entries t.value ≡ kind.Owned → ⊥) → of_references weight (references_ended_by facts entries t) ≡ 0
+    keeps_one t x h keeps = taken_total t x h ∙ at (kind_in facts entries t.value) keeps
       where
         zero_of : (b : Bool) → ◌≡◌ {A = ℕ} (cond b 0 0) 0
         zero_of true = refl
@@ -104,9 +95,9 @@ module _ (facts : ValueId → Option Facts) (entries : List Entry) where
         at kind.Plain keeps = refl
 
     -- a value that may end takes away what it names
-    pub gives_one : (t : Taken) (x : Datum) → IsTakenAs t x → ends_owned t.role ≡ true → MayEndBy (kind_in t.value) → IsValue x
+    pub gives_one : (t : Taken) (x : Datum) → IsTakenAs facts entries t x → ends_owned t.role ≡ true → MayEndBy (kind_in facts entries t.value) → IsValue x
         → of_references weight (references_ended_by facts entries t) ≡ in_datum weight x
-    gives_one t x h role may is = taken_total t x h ∙ at (kind_in t.value) may h.bare
+    gives_one t x h role may is = taken_total t x h ∙ at (kind_in facts entries t.value) may h.bare
       where
         none : (y : Datum) → IsValue y → IsBare y → in_datum weight y ≡ 0
         none (ValueOf v) is bare = ap (of_references weight) bare
@@ -122,17 +113,17 @@ module _ (facts : ValueId → Option Facts) (entries : List Entry) where
   -- ---- all operands
 
   abbrev pub Keeps : Taken → Type 0
-  Keeps t = (ends_owned t.role ≡ false) ⊎ (kind_in t.value ≡ kind.Owned → ⊥)
+  Keeps t = (ends_owned t.role ≡ false) ⊎ (kind_in facts entries t.value ≡ kind.Owned → ⊥)
 
   pub record GivesUp (t : Taken) : Type 0 where
     pub role : ends_owned t.role ≡ true
-    pub may : MayEndBy (kind_in t.value)
+    pub may : MayEndBy (kind_in facts entries t.value)
 
   ended_cons : (weight : ObjectId → ℕ) (t : Taken) (ts : List Taken) → of_references weight (references_ended facts entries (t ∷ ts))
       ≡ of_references weight (references_ended_by facts entries t) + of_references weight (references_ended facts entries ts)
   ended_cons weight t ts = total_append weight (references_ended_by facts entries t) (references_ended facts entries ts)
 
-  pub takes_none : (vs : List ValueId) (ts : List Taken) (xs : List Datum) → AllZip IsTakenAs ts xs → Each Keeps ts → TakesNone facts entries ts vs xs
+  pub takes_none : (vs : List ValueId) (ts : List Taken) (xs : List Datum) → AllZip (IsTakenAs facts entries) ts xs → Each Keeps ts → TakesNone facts entries ts vs xs
   takes_none vs [] [] given keeps weight = refl
   takes_none vs [] (x ∷ xs) given keeps weight = absurd given
   takes_none vs (t ∷ ts) [] given keeps weight = absurd given
@@ -142,7 +133,7 @@ module _ (facts : ValueId → Option Facts) (entries : List Entry) where
       let rest = takes_none vs ts xs given.1 keeps.1 weight in
       omega (arith, both, first, rest)
 
-  pub takes_all : (vs : List ValueId) (ts : List Taken) (xs : List Datum) → AllZip IsTakenAs ts xs → Each GivesUp ts → Each IsValue xs → TakesAll facts entries ts vs xs
+  pub takes_all : (vs : List ValueId) (ts : List Taken) (xs : List Datum) → AllZip (IsTakenAs facts entries) ts xs → Each GivesUp ts → Each IsValue xs → TakesAll facts entries ts vs xs
   takes_all vs [] [] given gives are weight = refl
   takes_all vs [] (x ∷ xs) given gives are weight = absurd given
   takes_all vs (t ∷ ts) [] given gives are weight = absurd given
