@@ -5,3 +5,4 @@ pub mod RowNames
 pub mod RowsMade
 pub mod RowBalance
 pub mod FrameTurns
+pub mod Alike
