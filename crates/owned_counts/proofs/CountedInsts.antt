@@ -156,13 +156,15 @@ module _ (m : Module) (bound : ℕ) (s : HolderState) (rest : List (Task Frame))
   retained : Each (IsStoredOf stored) c.retained
   retained =
       all_stored m first.w s.memory first.typed stored counts.size c.retained
-      (retained_made m first.w s.memory first.typed d (shapes_of m) values i (forms_of d f (map value_in i.operands)) ops.given c operands_are (changes_told d (shapes_of m) values s.memory i ops.given c h.makes)
+      (retained_made m first.w s.memory first.typed d (shapes_of m) values i (forms_of d f (map value_in i.operands)) ops.given c operands_are
+      (changes_told d (shapes_of m) values s.memory i ops.given c h.makes)
       (λ x q given at. references_made m first.w q.shape x
       (place_read m first.w s.memory first.typed q x (one_place m first.w (forms_of d f (map value_in i.operands)) ops.given q operands_are given) at)))
 
   below : Each (IsBelow (length ops.left)) (item_defined f it)
   below =
-      let left = left_typed m first.w f (facts_in d f) (item_taken f it) frame.entries ops.left first.frame_is.entries (operands_read (facts_in d f) s.memory (item_taken f it) frame.entries ops done.found).left in
+      let left = left_typed m first.w f (facts_in d f) (item_taken f it) frame.entries ops.left first.frame_is.entries
+      (operands_read (facts_in d f) s.memory (item_taken f it) frame.entries ops done.found).left in
       each_weaker (IsOf f) (IsBelow (length ops.left)) (λ v of. subst (λ n. v.0 < n) (sym left.size) of) (item_defined f it)
       (((typed_module m h.verified).functions frame.function.0 f h.there).items it).defined
 

@@ -99,10 +99,10 @@ module _ (m : Module) (g : FuncId) (f : Function) (w : World) (entries : List En
     edges accepted (o ∷ os) (a ∷ args) [] over typed taken fits = absurd taken
     edges accepted (o ∷ os) (a ∷ args) (x ∷ xs) over typed taken (FitEach.more _ _ _ _ fit fits) =
         let ended : of_references weight (references_ended facts entries (map consumed (o ∷ os)))
-            ≡ of_references weight (references_ended_by facts entries (consumed o)) + of_references weight (references_ended facts entries (map consumed os)) =
+        ≡ of_references weight (references_ended_by facts entries (consumed o)) + of_references weight (references_ended facts entries (map consumed os)) =
         total_append weight (references_ended_by facts entries (consumed o)) (references_ended facts entries (map consumed os)) in
         let begun : of_references weight (references_begun facts (map arg_value (a ∷ args)) (x ∷ xs))
-            ≡ of_references weight (owned_references (kind_at d f a.value) x) + of_references weight (references_begun facts (map arg_value args) xs) =
+        ≡ of_references weight (owned_references (kind_at d f a.value) x) + of_references weight (references_begun facts (map arg_value args) xs) =
         total_append weight (owned_references (kind_at d f a.value) x) (references_begun facts (map arg_value args) xs) in
         let first = over_one accepted o a x over.0 typed.0 taken.0 fit in
         let rest = edges accepted os args xs over.1 typed.1 taken.1 fits in
@@ -127,11 +127,13 @@ module _ (m : Module) (g : FuncId) (f : Function) (w : World) (entries : List En
           t : Taken
           t = taken_as o (by_convention told.convention)
 
-          stays : (c : ArgumentConvention) → told.convention ≡ c → ends_owned (by_convention c).role ≡ false → of_references weight (references_ended_by facts entries (taken_as o (by_convention told.convention))) ≡ 0
+          stays : (c : ArgumentConvention) → told.convention ≡ c → ends_owned (by_convention c).role ≡ false
+              → of_references weight (references_ended_by facts entries (taken_as o (by_convention told.convention))) ≡ 0
           stays c e kept = keeps_one facts entries weight (taken_as o (by_convention told.convention)) x taken (inl (ap (λ k. ends_owned (by_convention k).role) e ∙ kept))
 
           at : (c : ArgumentConvention) → told.convention ≡ c → Hands d f c o.value → kind_at d callee a.value ≡ kind_told c
-              → of_references weight (references_ended_by facts entries (taken_as o (by_convention told.convention))) ≡ of_references weight (owned_references (kind_at d callee a.value) (as_argument x))
+              → of_references weight (references_ended_by facts entries (taken_as o (by_convention told.convention)))
+              ≡ of_references weight (owned_references (kind_at d callee a.value) (as_argument x))
           at convention.Plain e hands k = stays convention.Plain e refl ∙ ap (λ k. of_references weight (owned_references k (as_argument x))) (sym k)
           at convention.Guaranteed e hands k = stays convention.Guaranteed e refl ∙ ap (λ k. of_references weight (owned_references k (as_argument x))) (sym k)
           at (convention.Address c) e hands k = stays (convention.Address c) e refl ∙ ap (λ k. of_references weight (owned_references k (as_argument x))) (sym k)
@@ -158,10 +160,10 @@ module _ (m : Module) (g : FuncId) (f : Function) (w : World) (entries : List En
       calls (told ∷ tolds) (o ∷ os) (a ∷ args) (x ∷ xs) hands is typed taken (FitEach.more _ _ _ _ fit fits) =
           let us = taken_each os (map by_convention (map (λ (b : Told). b.convention) tolds)) in
           let ended : of_references weight (references_ended facts entries (taken_as o (by_convention told.convention) ∷ us))
-              ≡ of_references weight (references_ended_by facts entries (taken_as o (by_convention told.convention))) + of_references weight (references_ended facts entries us) =
+          ≡ of_references weight (references_ended_by facts entries (taken_as o (by_convention told.convention))) + of_references weight (references_ended facts entries us) =
           total_append weight (references_ended_by facts entries (taken_as o (by_convention told.convention))) (references_ended facts entries us) in
           let begun : of_references weight (references_begun (facts_in d callee) (map arg_value (a ∷ args)) (map as_argument (x ∷ xs)))
-              ≡ of_references weight (owned_references (kind_at d callee a.value) (as_argument x)) + of_references weight (references_begun (facts_in d callee) (map arg_value args) (map as_argument xs)) =
+          ≡ of_references weight (owned_references (kind_at d callee a.value) (as_argument x)) + of_references weight (references_begun (facts_in d callee) (map arg_value args) (map as_argument xs)) =
           total_append weight (owned_references (kind_at d callee a.value) (as_argument x)) (references_begun (facts_in d callee) (map arg_value args) (map as_argument xs)) in
           let first = handed_one told o a x hands.0 is.0 typed.0 taken.0 fit in
           let rest = calls tolds os args xs hands.1 is.1 typed.1 taken.1 fits in

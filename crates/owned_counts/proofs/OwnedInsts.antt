@@ -60,7 +60,8 @@ use Rattle.typed_holders.proofs.ShapesTold.{result_told}
 use Rattle.owned_counts.specs.inner.OwnedRows.{IsDone}
 use Rattle.owned_counts.proofs.BroughtOwned.{brings_all, brings_none}
 use Rattle.owned_counts.proofs.GivenOwned.{given_as}
-use Rattle.owned_counts.proofs.RowTables.{all_roles, consumed_role, each_role, forwarded_is, forwarded_role, is_consumed_role, is_forwarded, is_forwarded_role, is_lent, is_lent_role, lent_is, lent_role, row_suits, stays, staying_role, suits}
+use Rattle.owned_counts.proofs.RowTables.{all_roles, consumed_role, each_role, forwarded_is, forwarded_role, is_consumed_role, is_forwarded, is_forwarded_role}
+use Rattle.owned_counts.proofs.RowTables.{is_lent, is_lent_role, lent_is, lent_role, row_suits, stays, staying_role, suits}
 use Rattle.owned_counts.proofs.ValueForms.{asks_values, forms_in, forms_out, gives_values, values_of_forms}
 use Rattle.owned_counts.specs.inner.Taken.{IsTakenAs, kind_in}
 use Rattle.owned_counts.proofs.TakenOwned.{GivesUp, IsValue, MayEndBy, takes_all, takes_none}
@@ -161,7 +162,8 @@ module _ (m : Module) (g : FuncId) (f : Function) (w : World) (memory : Memory) 
 
   pub operands_typed : DataAre m w (forms_of d f (map value_in i.operands)) xs
   operands_typed =
-      let fits = operands_fit m w f facts memory ts entries ops done.entries_are (((typed_module m done.accepted.verified).functions g.0 f done.accepted.body.there).items (item.Inst p)).taken done.found in
+      let fits = operands_fit m w f facts memory ts entries ops done.entries_are
+      (((typed_module m done.accepted.verified).functions g.0 f done.accepted.body.there).items (item.Inst p)).taken done.found in
       subst (λ us. DataAre m w (forms_of d f us) xs) inst.takes (fit_data m w f fits.0)
 
   pub values_given : asks_values (effect_of i.op) ≡ true → Each IsValue xs
@@ -228,15 +230,17 @@ module _ (m : Module) (g : FuncId) (f : Function) (w : World) (memory : Memory) 
   consumed_all all are =
       gives_up is_consumed_role refl (λ r e. ap ends_owned (consumed_role r e)) all (both ts (roles is_consumed_role refl all) suited_each) are
     where
-      both : (us : List Taken) → Each (λ (t : Taken). is_consumed_role t.role ≡ true) us → Each (λ (t : Taken). SuitsRole d f t.role t.value) us → Each (λ (t : Taken). MayEndBy (kind_in facts entries t.value)) us
+      both : (us : List Taken) → Each (λ (t : Taken). is_consumed_role t.role ≡ true) us → Each (λ (t : Taken). SuitsRole d f t.role t.value) us
+          → Each (λ (t : Taken). MayEndBy (kind_in facts entries t.value)) us
       both [] a b = tt
       both (u ∷ us) a b = (subst (λ r. SuitsRole d f r u.value) (consumed_role u.role a.0) b.0, both us a.1 b.1)
 
   -- what a part is taken of stays, and so does the part's owner
   pub lent_rows : (all_roles is_lent_role (roles_of i.op) && is_lent (result_kind_of i.op)) ≡ true → TakesNone facts entries ts vs xs × BringsNone facts entries ts vs xs c.results
-  lent_rows so =
-      (takes_none facts entries vs ts xs given (each_weaker _ _ (λ t e. inl (ap ends_owned (lent_role t.role e))) ts lent),
-      none_brought (λ o. not_owned (map value_in i.operands) lend (sym (ap (λ r. kind_by_row r (kind_together d f i)) (lent_is (result_kind_of i.op) parts.1)) ∙ o)))
+  lent_rows so = (
+    takes_none facts entries vs ts xs given (each_weaker _ _ (λ t e. inl (ap ends_owned (lent_role t.role e))) ts lent),
+    none_brought (λ o. not_owned (map value_in i.operands) lend (sym (ap (λ r. kind_by_row r (kind_together d f i)) (lent_is (result_kind_of i.op) parts.1)) ∙ o)),
+  )
     where
       parts : (all_roles is_lent_role (roles_of i.op) ≡ true) × (is_lent (result_kind_of i.op) ≡ true)
       parts = and_parts (all_roles is_lent_role (roles_of i.op)) (is_lent (result_kind_of i.op)) so

@@ -72,7 +72,8 @@ use Rattle.owned_counts.specs.inner.OwnedRows.{AreRowsOwned, HasItsWords, IsDone
 use Rattle.owned_counts.proofs.BroughtOwned.{brings_bare}
 use Rattle.owned_counts.proofs.OwnedInsts as inst
 use Rattle.owned_counts.proofs.OwnedInsts.{each_weaker}
-use Rattle.owned_counts.proofs.RowTables.{address_is, all_roles, each_role, is_address, is_consumed_role, is_forwarded, is_forwarded_role, is_owned, is_scope, owned_is, scope_is, stays, staying_role, suits}
+use Rattle.owned_counts.proofs.RowTables.{address_is, all_roles, each_role, is_address, is_consumed_role, is_forwarded, is_forwarded_role}
+use Rattle.owned_counts.proofs.RowTables.{is_owned, is_scope, owned_is, scope_is, stays, staying_role, suits}
 use Rattle.owned_counts.specs.inner.Taken.{IsTakenAs}
 use Rattle.owned_counts.proofs.TakenOwned.{IsValue, gives_one, takes_none}
 use Rattle.owned_counts.proofs.TypedCells.{empty_place, kept_strongly, stored_none, written_length, written_strongly, written_weakly}
@@ -102,7 +103,8 @@ module _ (facts : ValueId → Option Facts) (memory : Memory) (entries : List En
   alive_data left (t ∷ ts) xs h =
       let first = ok_through (λ x. and_more x (operand_data facts memory entries left ts)) (operand facts memory entries left t) xs h in
       let rest = more_data first.0 (operand_data facts memory entries left ts) xs first.2 in
-      subst (Each (IsAlive memory)) rest.2 (alive_one memory (cond (ends facts t) (datum_or_fault (datum_in (entry_at entries t.value))) (used_datum t.role (entry_at left t.value))) first.0 first.1, alive_data left ts rest.0 rest.1)
+      subst (Each (IsAlive memory)) rest.2 (alive_one memory (cond (ends facts t) (datum_or_fault (datum_in (entry_at entries t.value))) (used_datum t.role (entry_at left t.value)))
+      first.0 first.1, alive_data left ts rest.0 rest.1)
 
   pub given_alive : (ts : List Taken) (ops : Operands) → operands_of facts memory entries ts ≡ Ok ops → Each (IsAlive memory) ops.given
   given_alive ts ops h = alive_data ops.left ts ops.given (operands_read facts memory ts entries ops h).given
@@ -221,7 +223,7 @@ module _ (m : Module) (g : FuncId) (f : Function) (w : World) (memory : Memory) 
 
   giving : asks_values (effect_of i.op) ≡ true → gives_values (effect_of i.op) ≡ true
       → ((all_roles is_consumed_role (roles_of i.op) && is_owned (result_kind_of i.op)) || ((all_roles is_forwarded_role (roles_of i.op) && is_forwarded (result_kind_of i.op))
-          || (all_roles stays (roles_of i.op) && is_scope (result_kind_of i.op)))) ≡ true
+      || (all_roles stays (roles_of i.op) && is_scope (result_kind_of i.op)))) ≡ true
       → HandsOn facts entries ts vs xs c.results
   giving asks gives so = at (either _ _ so)
     where
@@ -295,12 +297,14 @@ module _ (m : Module) (g : FuncId) (f : Function) (w : World) (memory : Memory) 
     where
       makes : IsChange c (memory_effects.stores_by d (shapes_of m) values memory i o x q)
       makes =
-          subst (λ k. IsChange c (effects.with_some (λ o. memory_effects.two (memory_effects.value_and_place (memory_effects.stores_by d (shapes_of m) values memory i o)) (ValueOf x ∷ AddressOf q ∷ [])) k)) op
+          subst (λ k. IsChange c (effects.with_some (λ o. memory_effects.two (memory_effects.value_and_place (memory_effects.stores_by d (shapes_of m) values memory i o))
+          (ValueOf x ∷ AddressOf q ∷ [])) k)) op
           (subst (λ ys. IsChange c (effect_by d (shapes_of m) values memory i (at_places d (shapes_of m) values memory i) row.StoresValue ys)) given (row_makes row.StoresValue is))
 
       empty : PlaceIs m w q → is_first_write o ≡ true → (how : Storage) → KeepNone how (cells_at memory q)
       empty at first =
-          empty_so q at (held_there q content.Empty (effects.Makes (record (unchanged (filled memory q x)) { dropped = references_at memory q })) (subst (λ a. IsChange c (where_held d (shapes_of m) values memory i q a (effects.Makes (record (unchanged (filled memory q x)) { dropped = references_at memory q })))) (first_write o q.is_part first) makes))
+          empty_so q at (held_there q content.Empty (effects.Makes (record (unchanged (filled memory q x)) { dropped = references_at memory q })) (subst (λ a. IsChange c
+          (where_held d (shapes_of m) values memory i q a (effects.Makes (record (unchanged (filled memory q x)) { dropped = references_at memory q })))) (first_write o q.is_part first) makes))
 
       lives : IsAliveAt memory q.home
       lives = alive_home memory q.home (subst (Each (IsAlive memory)) given alive).1.0
@@ -323,11 +327,13 @@ module _ (m : Module) (g : FuncId) (f : Function) (w : World) (memory : Memory) 
         held = λ weight. held weight ∙ ap (λ s. in_cells weight storage.Strong ((cells.in_cells s).cells x)) (sym shape);
       }
 
-      ended : (weight : ObjectId → ℕ) (us : List Taken) (ys : List Datum) → AllZip (IsTakenAs facts entries) us (ValueOf x ∷ ys) → Heads role.Consumed us → Each (λ (u : Taken). SuitsRole d f u.role u.value) us
+      ended : (weight : ObjectId → ℕ) (us : List Taken) (ys : List Datum) → AllZip (IsTakenAs facts entries) us (ValueOf x ∷ ys) → Heads role.Consumed us
+          → Each (λ (u : Taken). SuitsRole d f u.role u.value) us
           → of_references weight (references_ended facts entries us) ≡ of_references weight (references_of x)
       ended weight [] ys given' heads kinds = absurd given'
       ended weight (u ∷ us) ys given' heads kinds =
-          let both : of_references weight (references_ended facts entries (u ∷ us)) ≡ of_references weight (references_ended_by facts entries u) + of_references weight (references_ended facts entries us) =
+          let both : of_references weight (references_ended facts entries (u ∷ us))
+              ≡ of_references weight (references_ended_by facts entries u) + of_references weight (references_ended facts entries us) =
           total_append weight (references_ended_by facts entries u) (references_ended facts entries us) in
           let first : of_references weight (references_ended_by facts entries u) ≡ of_references weight (references_of x) =
           gives_one facts entries weight u (ValueOf x) given'.0 (ap ends_owned heads.0) (subst (λ r. SuitsRole d f r u.value) heads.0 kinds.0) (x, refl) in
@@ -366,16 +372,21 @@ module _ (m : Module) (g : FuncId) (f : Function) (w : World) (memory : Memory) 
   rows row.CopiesOperand is = owning (says row.CopiesOperand is) (ap gives_values is)
   rows row.RetainsOperand is = absurd (false≢true (says row.RetainsOperand is))
   rows row.DropsOperand is = inst.consumed_all m g f w memory entries p i ops c done (says row.DropsOperand is) (values_in (ap asks_values is))
-  rows row.LoadsValue is =
-      (none (and_parts (all_roles stays (roles_of i.op)) (is_owned (result_kind_of i.op) || is_scope (result_kind_of i.op)) (says row.LoadsValue is)).0,
-      λ o q op given. loads (ap gives_values is) o q given (words.loads is o q op given))
+  rows row.LoadsValue is = (
+    none (and_parts (all_roles stays (roles_of i.op)) (is_owned (result_kind_of i.op) || is_scope (result_kind_of i.op)) (says row.LoadsValue is)).0,
+    λ o q op given. loads (ap gives_values is) o q given (words.loads is o q op given),
+  )
   rows row.StoresValue is = λ o x q op given. stores is o x q op given (words.stores is)
   rows row.DestroysPlace is = (none (says row.DestroysPlace is), λ o q op given. (words.destroys is o op, taken q given))
   rows row.LoadsName is =
-      let both = owning (says row.LoadsName is) (ap gives_values is) in
-      (both.0, both.1, λ o q op given.
-      let s = words.names is q given in
-      (taken q given, stored_none m w s.how s.other s.inner (cells_at memory q) (subst (λ t. PlaceCells m w t (cells_at memory q)) s.is (place_cells m w memory done.typed q (place_of q given)))))
+      let both = owning (says row.LoadsName is) (ap gives_values is) in (
+        both.0,
+        both.1,
+        λ o q op given.
+            let s = words.names is q given in
+            (taken q given, stored_none m w s.how s.other s.inner (cells_at memory q) (subst (λ t. PlaceCells m w t (cells_at memory q)) s.is
+            (place_cells m w memory done.typed q (place_of q given)))),
+      )
   rows row.Groups is = forwarding (ap asks_values is) (ap gives_values is) (says row.Groups is)
   rows row.ChoosesCase is = forwarding (ap asks_values is) (ap gives_values is) (says row.ChoosesCase is)
   rows row.GivesMember is = inst.lent_rows m g f w memory entries p i ops c done (says row.GivesMember is)

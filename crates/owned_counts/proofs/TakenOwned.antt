@@ -68,7 +68,8 @@ module _ (facts : ValueId → Option Facts) (entries : List Entry) where
 
     -- what it takes away where it ends
     pub taken_total : (t : Taken) (x : Datum) → IsTakenAs facts entries t x
-        → of_references weight (references_ended_by facts entries t) ≡ cond (ends_kind (kind_in facts entries t.value) t.role) (of_references weight (owned_references (kind_in facts entries t.value) x)) 0
+        → of_references weight (references_ended_by facts entries t)
+        ≡ cond (ends_kind (kind_in facts entries t.value) t.role) (of_references weight (owned_references (kind_in facts entries t.value) x)) 0
     taken_total t x h = at (ends facts t) (ends_kind (kind_in facts entries t.value) t.role) (ends_is t)
       where
         held : in_entry weight (entry_at entries t.value) ≡ of_references weight (owned_references (kind_in facts entries t.value) x)
@@ -81,7 +82,8 @@ module _ (facts : ValueId → Option Facts) (entries : List Entry) where
         at false false e = refl
 
     -- one that isn't Owned, or isn't ended by its role, takes nothing away
-    pub keeps_one : (t : Taken) (x : Datum) → IsTakenAs facts entries t x → (ends_owned t.role ≡ false) ⊎ (kind_in facts entries t.value ≡ kind.Owned → ⊥) → of_references weight (references_ended_by facts entries t) ≡ 0
+    pub keeps_one : (t : Taken) (x : Datum) → IsTakenAs facts entries t x → (ends_owned t.role ≡ false) ⊎ (kind_in facts entries t.value ≡ kind.Owned → ⊥)
+        → of_references weight (references_ended_by facts entries t) ≡ 0
     keeps_one t x h keeps = taken_total t x h ∙ at (kind_in facts entries t.value) keeps
       where
         zero_of : (b : Bool) → ◌≡◌ {A = ℕ} (cond b 0 0) 0

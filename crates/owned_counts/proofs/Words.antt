@@ -250,10 +250,12 @@ module _ (m : Module) (g : FuncId) (f : Function) (w : World) (memory : Memory) 
       let at = found_behind weak_at (written 1 i) it.0 it.1 in
       let behind = found_behind in_weak (target at.0) it.0 at.2 in
       let to : target at.0 ≡ Some (type.Weak it.0) = behind.1 ∙ ap Some (weak_type behind.0 it.0 behind.2) in
-      let asked = subst (λ t. all_pairs (has_type (value_types d f)) (take 1 i.operands) (option_to_list t) ≡ true) it.1 k.asked in
-      (typed_form d it.0, shape_of d it.0,
-      two_operands m f i op.StoreWeak k (of_parts _ k.operands) it.0 at.0 at.1 asked
-      ∙ ap (λ y. typed_form d it.0 ∷ y ∷ []) (place_form d at.0 (type.Weak it.0) to ∙ ap OfPlace (weak_shape m it.0)))
+      let asked = subst (λ t. all_pairs (has_type (value_types d f)) (take 1 i.operands) (option_to_list t) ≡ true) it.1 k.asked in (
+        typed_form d it.0,
+        shape_of d it.0,
+        two_operands m f i op.StoreWeak k (of_parts _ k.operands) it.0 at.0 at.1 asked
+            ∙ ap (λ y. typed_form d it.0 ∷ y ∷ []) (place_form d at.0 (type.Weak it.0) to ∙ ap OfPlace (weak_shape m it.0)),
+      )
 
   unowned_forms : Known m f i op.StoreUnowned → (u : Form) × (inner : Shape) × (operand_forms d f i ≡ u ∷ OfPlace (Stored storage.Unowned inner) ∷ [])
   unowned_forms k =
@@ -261,10 +263,12 @@ module _ (m : Module) (g : FuncId) (f : Function) (w : World) (memory : Memory) 
       let at = found_behind unowned_at (written 1 i) it.0 it.1 in
       let behind = found_behind in_unowned (target at.0) it.0 at.2 in
       let to : target at.0 ≡ Some (type.Unowned it.0) = behind.1 ∙ ap Some (unowned_type behind.0 it.0 behind.2) in
-      let asked = subst (λ t. all_pairs (has_type (value_types d f)) (take 1 i.operands) (option_to_list t) ≡ true) it.1 k.asked in
-      (typed_form d it.0, shape_of d it.0,
-      two_operands m f i op.StoreUnowned k (of_parts _ k.operands) it.0 at.0 at.1 asked
-      ∙ ap (λ y. typed_form d it.0 ∷ y ∷ []) (place_form d at.0 (type.Unowned it.0) to ∙ ap OfPlace (unowned_shape m it.0)))
+      let asked = subst (λ t. all_pairs (has_type (value_types d f)) (take 1 i.operands) (option_to_list t) ≡ true) it.1 k.asked in (
+        typed_form d it.0,
+        shape_of d it.0,
+        two_operands m f i op.StoreUnowned k (of_parts _ k.operands) it.0 at.0 at.1 asked
+            ∙ ap (λ y. typed_form d it.0 ∷ y ∷ []) (place_form d at.0 (type.Unowned it.0) to ∙ ap OfPlace (unowned_shape m it.0)),
+      )
 
   store_row : (o : Op) → effect_of o ≡ row.StoresValue → (o ≡ op.Store) ⊎ ((o ≡ op.StoreWeak) ⊎ (o ≡ op.StoreUnowned))
   store_row op.Store e = inl refl

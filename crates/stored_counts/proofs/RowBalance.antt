@@ -87,7 +87,7 @@ module _ (facts : ValueId → Option Facts) (entries : List Entry) (ts : List Ta
     bare_result [] x e = refl
     bare_result (u ∷ us) x e =
         let both : of_references weight (owned_references (known_or facts u).kind x ++ references_begun facts us [])
-            ≡ of_references weight (owned_references (known_or facts u).kind x) + of_references weight (references_begun facts us []) =
+        ≡ of_references weight (owned_references (known_or facts u).kind x) + of_references weight (references_begun facts us []) =
         total_append weight (owned_references (known_or facts u).kind x) (references_begun facts us []) in
         let first = one (known_or facts u).kind in
         let rest = no_results us in
@@ -237,7 +237,8 @@ module _ (facts : ValueId → Option Facts) (entries : List Entry) (ts : List Ta
       quiet (ap changes_names is) (ValueOf (value.grouped ws) ∷ [])
       (λ weight. handed weight (ValueOf (value.grouped ws) ∷ []) owns (one_datum weight (ValueOf (value.grouped ws)) ∙ values_named weight xs ws are))
   exact _ _ is (MakesBy.case_alone k given) owns =
-      quiet (ap changes_names is) (ValueOf (value.Case k) ∷ []) (λ weight. handed weight (ValueOf (value.Case k) ∷ []) owns (one_datum weight (ValueOf (value.Case k)) ∙ sym (ap (in_data weight) given)))
+      quiet (ap changes_names is) (ValueOf (value.Case k) ∷ []) (λ weight. handed weight (ValueOf (value.Case k) ∷ []) owns
+      (one_datum weight (ValueOf (value.Case k)) ∙ sym (ap (in_data weight) given)))
   exact _ _ is (MakesBy.case_full k x are) owns =
       quiet (ap changes_names is) (ValueOf (value.Full k x) ∷ [])
       (λ weight. handed weight (ValueOf (value.Full k x) ∷ []) owns (one_datum weight (ValueOf (value.Full k x)) ∙ last weight ∙ values_named weight xs (x ∷ []) are))

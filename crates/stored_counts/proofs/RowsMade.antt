@@ -18,7 +18,8 @@ use Rattle.lowered_run.specs.holder_model.Effects as effects
 use Rattle.lowered_run.specs.holder_model.Effects.{Change, Effect, Faults, Makes, Traps, effect_by, effect_of, only, unchanged, with_some}
 use Rattle.lowered_run.specs.holder_model.Faults.{HolderFault, NotLastSlot}
 use Rattle.lowered_run.specs.holder_model.MemoryEffects as memory
-use Rattle.lowered_run.specs.holder_model.MemoryEffects.{after, all_live, asked_before, at_places, effect, fault_of, holds, loaded_name, named_again, operation_done, references_at, two, value_and_place, where_held}
+use Rattle.lowered_run.specs.holder_model.MemoryEffects.{after, all_live, asked_before, at_places, effect, fault_of, holds}
+use Rattle.lowered_run.specs.holder_model.MemoryEffects.{loaded_name, named_again, operation_done, references_at, two, value_and_place, where_held}
 use Rattle.lowered_run.specs.holder_model.ModuleShapes.{ModuleShapes, case_place}
 use Rattle.lowered_run.specs.holder_model.declared.row_effect.RowEffect.{RowEffect}
 use Rattle.lowered_run.specs.holder_model.declared.row_effect.RowEffect.TheVariants as row
@@ -151,7 +152,7 @@ module _ (d : Declarations) (shapes : ModuleShapes) (values : List Shape) (m : M
         let a = at_one (memory.names_by d shapes values m i) h in
         let later = behind a.operation a.place in
         let x = found_in (loaded_name (storage_in a.place.shape) m later) (value_at m a.place) c
-            (made_there a.place (asked_before a.place.is_part a.operation) (with_some (loaded_name (storage_in a.place.shape) m later) (value_at m a.place)) a.made) in
+        (made_there a.place (asked_before a.place.is_part a.operation) (with_some (loaded_name (storage_in a.place.shape) m later) (value_at m a.place)) a.made) in
         by_storage a.operation a.place a.done a.given x.0 (storage_in a.place.shape) x.2
       where
         by_live : (o : Operation) (p : Place) → IsDone o → xs ≡ AddressOf p ∷ [] → (x : Value) (b : Bool) (other : E) → (IsChange c other → MakesBy row.LoadsName c)

@@ -13,7 +13,8 @@ use Rattle.sil_ast.specs.declared.place.ObjectId.{ObjectId}
 use Rattle.run_values.specs.Cells.{Cell}
 use Rattle.lowered_run.specs.holder_model.Holders.{in_cell, in_cells, kept_references, of_references, one_object}
 use Rattle.lowered_run.specs.holder_model.Outcomes.{Numbers}
-use Rattle.lowered_run.specs.Stored.{changed, each_changed, less_unowned, less_weak, more_unowned, more_weak, named, new_numbers, no_numbers, numbers_of, one_less, one_more, unnamed, unowned_named, weakly_named}
+use Rattle.lowered_run.specs.Stored.{changed, each_changed, less_unowned, less_weak, more_unowned, more_weak, named}
+use Rattle.lowered_run.specs.Stored.{new_numbers, no_numbers, numbers_of, one_less, one_more, unnamed, unowned_named, weakly_named}
 use Rattle.stored_counts.specs.inner.Numbers.{AreNamesStored, IsStoredOf}
 
 pub references_more : (weight : ObjectId → ℕ) (o : ObjectId) (os : List ObjectId) → of_references weight (o ∷ os) ≡ weight o + of_references weight os

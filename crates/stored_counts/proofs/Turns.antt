@@ -49,11 +49,14 @@ one_itself : (o : ObjectId) → one_object o o ≡ 1
 one_itself o = ap (λ b. cond b 1 0) (eq-eqb o.0 o.0 refl)
 
 pub drops_stored : (m : Module) (told : ModuleFacts) (bound : ℕ) → AreDropsStored m told bound
-drops_stored m told bound s o os rest stored is alive counts = (number, record {
-  size = changed_length one_less stored o ∙ counts.size;
-  each = λ p. one_changed one_less less_strong_by strong_less stored o within p ∙ ap (less_strong_by (one_object p o)) (counts.each p)
-      ∙ ap (λ n. record { strong = n; unowned = unowned_holders s.memory p; weak = weak_holders s.memory p }) (less p);
-})
+drops_stored m told bound s o os rest stored is alive counts = (
+  number,
+  record {
+    size = changed_length one_less stored o ∙ counts.size;
+    each = λ p. one_changed one_less less_strong_by strong_less stored o within p ∙ ap (less_strong_by (one_object p o)) (counts.each p)
+        ∙ ap (λ n. record { strong = n; unowned = unowned_holders s.memory p; weak = weak_holders s.memory p }) (less p);
+  },
+)
   where
     left : (p : ObjectId) → strong_holders (with_dropped s os rest) p + one_object p o ≡ strong_holders s p
     left p = drops_counted m told bound (one_object p) s o os rest is
@@ -85,8 +88,13 @@ module _ (m : Module) (told : ModuleFacts) (bound : ℕ) where
         unnamed_at stored cells named p
         ∙ ap (λ n. less_weak_by (in_cells (one_object p) storage.Weak cells) (less_unowned_by (in_cells (one_object p) storage.Unowned cells) n)) (counts.each p)
         ∙ same_numbers
-            (record { strong = strong_holders s p; unowned = unowned_holders s.memory p - in_cells (one_object p) storage.Unowned cells; weak = weak_holders s.memory p - in_cells (one_object p) storage.Weak cells })
-            (holders_of (finished m told bound s o) p) (sym (finishes_counted m told bound (one_object p) s o alive)) (less storage.Unowned p) (less storage.Weak p);
+        (record {
+          strong = strong_holders s p;
+          unowned = unowned_holders s.memory p - in_cells
+              (one_object p) storage.Unowned cells;
+          weak = weak_holders s.memory p - in_cells (one_object p) storage.Weak cells;
+        })
+        (holders_of (finished m told bound s o) p) (sym (finishes_counted m told bound (one_object p) s o alive)) (less storage.Unowned p) (less storage.Weak p);
   }
     where
       cells : List Cell

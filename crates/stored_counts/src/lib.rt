@@ -4,4 +4,7 @@
 
 mod laws;
 
-pub use laws::{alike_are_stored, deinitialisations_are_stored, drops_are_stored, frames_are_stored, items_are_stored, kept_counts_are_stored, rows_are_counted};
+pub use laws::{
+    alike_are_stored, deinitialisations_are_stored, drops_are_stored, frames_are_stored,
+    items_are_stored, kept_counts_are_stored, rows_are_counted,
+};
