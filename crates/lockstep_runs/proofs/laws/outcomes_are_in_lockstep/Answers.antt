@@ -1,0 +1,7 @@
+use Rattle.lockstep_runs.proofs.Alike.{calls_in_alike}
+use Rattle.lockstep_runs.proofs.WholeRuns.{runs_agree}
+use Rattle.lockstep_runs.proofs.OutcomesAgree.{outcomes_in_lockstep}
+use Rattle.lockstep_runs.proofs.laws.outcomes_are_in_lockstep.Goals as goal
+
+pub returns : goal.returns
+returns c = outcomes_in_lockstep

@@ -1,0 +1,4 @@
+pub mod Agreeing
+pub mod Lockstep
+pub mod Parts
+pub mod Laws
