@@ -1,3 +1,4 @@
 pub mod Alike
 pub mod WholeRuns
 pub mod OutcomesAgree
+pub mod Locked

@@ -103,4 +103,3 @@ module _ (m m' : Module) (told told' : ModuleFacts) (bound : ℕ) where
           → Excess (strong_holders (with_tasks h rest) o) (strong_holders (with_tasks r rest') o) ⊥
       -- the first run goes alone until both are at rest
       pub alone : (h r : HolderState) → First h → Second r → AreTasksLike Like h.tasks r.tasks → AreLevel h r → InStep h r
-      pub not_alone : (g : FuncId) → ¬ Alone g (item.Entry ∷ [])

@@ -1,3 +1,4 @@
+use Rattle.lockstep_runs.proofs.Locked.{runs_in_lockstep}
 use Rattle.lockstep_runs.proofs.Alike.{calls_in_alike}
 use Rattle.lockstep_runs.proofs.WholeRuns.{runs_agree}
 use Rattle.lockstep_runs.proofs.OutcomesAgree.{outcomes_in_lockstep}
