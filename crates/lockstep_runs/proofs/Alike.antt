@@ -24,8 +24,8 @@ use Rattle.holder_counts.specs.holder_model.StepParts.{fault, new_frame, on_ok, 
 use Rattle.holder_counts.specs.holder_model.States.{Drops, Ending, Ends, Faulted, Finishes, Goes, OutOfTurns, Returned, Runs, Task, Trapped, dropping, enter, frame_count, turn}
 use Rattle.holder_counts.specs.holder_model.Steps as steps
 use Rattle.lockstep_runs.specs.inner.Agreeing.{EndsAsItDid}
-use Rattle.lockstep_runs.specs.inner.Lockstep.{AreLevel, AreStepsAlike, AreTasksLike, frame_at}
-use Rattle.lockstep_runs.specs.inner.Parts.{ArePutAlike, InStep, call_at, entered, puts}
+use Rattle.lockstep_runs.specs.inner.Lockstep.{AreInStep, AreLevel, ArePutAlike, AreStepsAlike, AreTasksLike, frame_at}
+use Rattle.lockstep_runs.specs.inner.Parts.{entered, puts}
 
 -- one more turn has begun
 abbrev pub turned : HolderState → HolderState
@@ -49,10 +49,7 @@ module _ (Like : FuncId → List Item → List Entry → List Item → List Entr
 module _ (m m' : Module) (told told' : ModuleFacts) (bound : ℕ) (First Second : HolderState → Type 0)
     (Like : FuncId → List Item → List Entry → List Item → List Entry → Type 0) (Alone : FuncId → List Item → Type 0) where
   abbrev pub Alike : HolderNext → HolderNext → Type 0
-  Alike x y = AreStepsAlike First Second (InStep m m' told told' bound First Second Like Alone) x y
-
-  abbrev pub PutAlike : FuncId → List Item → List Item → Result (List Entry) HolderFault → Result (List Entry) HolderFault → Type 0
-  PutAlike = ArePutAlike m m' told told' bound First Second Like Alone
+  Alike x y = AreStepsAlike First Second (AreInStep Like Alone m told bound) x y
 
   -- ---- ways to go on
 
@@ -89,7 +86,7 @@ module _ (m m' : Module) (told told' : ModuleFacts) (bound : ℕ) (First Second 
 
   -- ---- with the part that says when the runs are in step again
   module _ (alone : (h r : HolderState) → First h → Second r → AreTasksLike Like h.tasks r.tasks → AreLevel h r
-      → InStep m m' told told' bound First Second Like Alone h r) where
+      → AreInStep Like Alone m told bound h r) where
     pub goes_alike : (h r : HolderState) → AreTasksLike Like h.tasks r.tasks → AreLevel h r → Alike (Goes h) (Goes r)
     goes_alike h r tasks l = inr (λ first second. alone h r first second tasks l)
 
@@ -102,7 +99,7 @@ module _ (m m' : Module) (told told' : ModuleFacts) (bound : ℕ) (First Second 
 
     pub goes_on_alike : (s s' : HolderState) (rest rest' : List (Task Frame)) (g : FuncId) (f f' : Function) (slots : List Place) (lent lent' : List LentPlace)
         (trail trail' : List Item) (entries entries' : List Entry) (i i' : Item) (c c' : Change) → AreLevel s s' → AreTasksLike Like rest rest' → ChangesAlike c c'
-        → PutAlike g (i ∷ trail) (i' ∷ trail') (puts told g f i c.results entries) (puts told' g f' i' c'.results entries')
+        → ArePutAlike Like g (i ∷ trail) (i' ∷ trail') (puts told g f i c.results entries) (puts told' g f' i' c'.results entries')
         → Alike (steps.goes_on m told bound s rest (frame_at g slots lent trail entries) f i c)
         (steps.goes_on m' told' bound s' rest' (frame_at g slots lent' trail' entries') f' i' c')
     goes_on_alike s s' rest rest' g f f' slots lent lent' trail trail' entries entries' i i' c c' l below same put =
@@ -130,7 +127,7 @@ module _ (m m' : Module) (told told' : ModuleFacts) (bound : ℕ) (First Second 
 
     -- a function with a body is called over the tasks
     pub calls_in_alike : (s s' : HolderState) (rest rest' : List (Task Frame)) (g : FuncId) (f f' : Function) (args : List Datum) → AreLevel s s'
-        → AreTasksLike Like rest rest' → PutAlike g (item.Entry ∷ []) (item.Entry ∷ []) (entered told g f args) (entered told' g f' args)
+        → AreTasksLike Like rest rest' → ArePutAlike Like g (item.Entry ∷ []) (item.Entry ∷ []) (entered told g f args) (entered told' g f' args)
         → Alike (steps.calls_in m told bound s rest g f args) (steps.calls_in m' told' bound s' rest' g f' args)
     calls_in_alike s s' rest rest' g f f' args l below put =
         ok_alike s s' _ _ (entered told g f args) (entered told' g f' args) (λ es is.

@@ -2,3 +2,5 @@ pub mod Alike
 pub mod WholeRuns
 pub mod OutcomesAgree
 pub mod Locked
+pub mod Drained
+pub mod FrameSteps

@@ -31,8 +31,8 @@ use Rattle.holder_counts.specs.inner.Moving.{in_tasks}
 use Rattle.holder_counts.proofs.Moves.{first_task}
 use Rattle.lockstep_runs.specs.inner.Agreeing.{RunsAgree}
 use Rattle.lockstep_runs.specs.inner.Laws.{AreRunsInLockstep}
-use Rattle.lockstep_runs.specs.inner.Lockstep.{AreAtRest, AreLevel, AreStepsAlike, AreTasksLike, AreTogether, Excess, IsFault, frame_at}
-use Rattle.lockstep_runs.specs.inner.Parts.{AreAt, AreFramesOn, InStep, Parts}
+use Rattle.lockstep_runs.specs.inner.Lockstep.{AreAtRest, AreInStep, AreLevel, AreStepsAlike, AreTasksLike, AreTogether, Excess, IsFault, frame_at}
+use Rattle.lockstep_runs.specs.inner.Parts.{AreAt, AreFramesOn, Parts}
 use Rattle.lockstep_runs.proofs.Alike as alike
 use Rattle.lockstep_runs.proofs.Alike.{dropping_alike}
 use Rattle.lockstep_runs.proofs.WholeRuns.{runs_agree}
@@ -179,7 +179,7 @@ module _ (m m' : Module) (told told' : ModuleFacts) (bound : ℕ) (First Second 
   lock h r first second t = task_alike h r h.tasks r.tasks first second t.level refl refl t.tasks t.rest
 
   pub begins_in_step : (e : FuncId) (f f' : Function) → slice_get m.functions e.0 ≡ Some f → slice_get m'.functions e.0 ≡ Some f' → First (begins e f)
-      → Second (begins e f') → InStep m m' told told' bound First Second Like Alone (begins e f) (begins e f')
+      → Second (begins e f') → AreInStep Like Alone m told bound (begins e f) (begins e f')
   begins_in_step e f f' is is' first second =
       parts.alone (begins e f) (begins e f') first second
       (AreTasksLike.runs e [] [] (item.Entry ∷ []) (item.Entry ∷ []) (no_entries (value_count f)) (no_entries (value_count f')) [] []

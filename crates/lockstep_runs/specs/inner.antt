@@ -1,4 +1,5 @@
 pub mod Agreeing
 pub mod Lockstep
 pub mod Parts
+pub mod Frames
 pub mod Laws

@@ -1,6 +1,7 @@
 -- Two runs by holders in lockstep: all but frames is the same, and frames of one function are related by their trails and entries. The first
 -- run may make steps of its own before the second one follows.
-use Rattle.std.specs.Prelude.{◌≡◌, ◌≤◌, ◌⊎◌, ◌<◌, ◌+◌, ℕ, List, [], ◌∷◌}
+use Rattle.std.specs.Prelude.{◌≡◌, ◌≤◌, ◌⊎◌, ◌<◌, ◌+◌, ℕ, List, [], ◌∷◌, Ok}
+use Rattle.std.specs.declared.result.Result.{Result}
 use Rattle.sil_ast.specs.declared.module.Module.{Module}
 use Rattle.sil_ast.specs.declared.place.FuncId.{FuncId}
 use Rattle.sil_ast.specs.declared.place.ObjectId.{ObjectId}
@@ -38,6 +39,11 @@ module _ (Like : FuncId → List Item → List Entry → List Item → List Entr
     drops : (references : List ObjectId) (rest rest' : List (Task Frame)) → AreTasksLike rest rest' → AreTasksLike (Drops references ∷ rest) (Drops references ∷ rest')
     finishes : (deinits : List FuncId) (o : ObjectId) (rest rest' : List (Task Frame)) → AreTasksLike rest rest'
         → AreTasksLike (Finishes deinits o ∷ rest) (Finishes deinits o ∷ rest')
+
+  -- entries that are put in the one run have their like in the other
+  abbrev pub ArePutAlike : FuncId → List Item → List Item → Result (List Entry) HolderFault → Result (List Entry) HolderFault → Type 0
+  ArePutAlike g trail trail' put put' = (entries : List Entry) → put ≡ Ok entries
+      → (entries' : List Entry) × (put' ≡ Ok entries') × Like g trail entries trail' entries'
 
 -- ---- states
 

@@ -17,13 +17,13 @@ use Rattle.holder_counts.specs.holder_model.Calling.{value_count}
 use Rattle.holder_counts.specs.holder_model.Data.{Datum}
 use Rattle.holder_counts.specs.holder_model.Dropping.{deinits_of}
 use Rattle.holder_counts.specs.holder_model.Faults.{HolderFault}
-use Rattle.holder_counts.specs.holder_model.Frames.{Entry, Frame, LentPlace, no_entries, results_put}
+use Rattle.holder_counts.specs.holder_model.Frames.{Entry, Frame, LentPlace, has_any, no_entries, results_put}
 use Rattle.holder_counts.specs.holder_model.HolderStates.{HolderState, strong_holders}
 use Rattle.holder_counts.specs.holder_model.ModuleFacts.{ModuleFacts, facts_told}
 use Rattle.holder_counts.specs.holder_model.Standing.{stands_at}
 use Rattle.holder_counts.specs.holder_model.States.{Drops, Finishes, Runs, Task}
 use Rattle.holder_counts.specs.holder_model.Steps as steps
-use Rattle.lockstep_runs.specs.inner.Lockstep.{AreInStep, AreLevel, AreStepsAlike, AreTasksLike, AreTogether, Excess, frame_at}
+use Rattle.lockstep_runs.specs.inner.Lockstep.{AreInStep, AreLevel, ArePutAlike, AreStepsAlike, AreTasksLike, Excess, frame_at}
 
 -- the entries behind some results
 abbrev pub puts : ModuleFacts → FuncId → Function → Item → List Datum → List Entry → Result (List Entry) HolderFault
@@ -44,18 +44,12 @@ module _ (m m' : Module) (told told' : ModuleFacts) (bound : ℕ) where
   -- the second module has a function for each of the first one's, and deinitialises alike
   pub record HasFunctions : Type 0 where
     pub function : (g : FuncId) (f : Function) → slice_get m.functions g.0 ≡ Some f → (f' : Function) × (slice_get m'.functions g.0 ≡ Some f')
+    pub bodied : (g : FuncId) (f f' : Function) → slice_get m.functions g.0 ≡ Some f → slice_get m'.functions g.0 ≡ Some f'
+        → has_any f'.blocks ≡ has_any f.blocks
     pub deinits : (class : Name) → deinits_of (declarations_of m') class ≡ deinits_of (declarations_of m) class
 
   module _ (First Second : HolderState → Type 0) (Like : FuncId → List Item → List Entry → List Item → List Entry → Type 0)
       (Alone : FuncId → List Item → Type 0) where
-    abbrev pub InStep : HolderState → HolderState → Type 0
-    InStep h r = AreInStep Like Alone m told bound h r
-
-    -- entries that are put in the one run have their like in the other
-    abbrev pub ArePutAlike : FuncId → List Item → List Item → Result (List Entry) HolderFault → Result (List Entry) HolderFault → Type 0
-    ArePutAlike g trail trail' put put' = (entries : List Entry) → put ≡ Ok entries
-        → (entries' : List Entry) × (put' ≡ Ok entries') × Like g trail entries trail' entries'
-
     -- two states, and the frames of a function that go on in them
     pub record AreFramesOn (h r : HolderState) (g : FuncId) (slots : List Place) (lent : List LentPlace) (trail trail' : List Item) (entries entries' : List Entry)
         (rest rest' : List (Task Frame)) : Type 0 where
@@ -72,15 +66,15 @@ module _ (m m' : Module) (told told' : ModuleFacts) (bound : ℕ) where
     pub record FramesAgree (g : FuncId) (f f' : Function) : Type 0 where
       -- the frame of an entry function, and a new frame
       pub begin : Like g (item.Entry ∷ []) (no_entries (value_count f)) (item.Entry ∷ []) (no_entries (value_count f'))
-      pub enter : (args : List Datum) → ArePutAlike g (item.Entry ∷ []) (item.Entry ∷ []) (entered told g f args) (entered told' g f' args)
+      pub enter : (args : List Datum) → ArePutAlike Like g (item.Entry ∷ []) (item.Entry ∷ []) (entered told g f args) (entered told' g f' args)
       -- a frame's step
       pub step : (h r : HolderState) (slots : List Place) (lent : List LentPlace) (trail trail' : List Item) (entries entries' : List Entry)
           (rest rest' : List (Task Frame)) → AreFramesOn h r g slots lent trail trail' entries entries' rest rest'
-          → AreStepsAlike First Second InStep (steps.runs m told bound h rest (frame_at g slots lent trail entries))
+          → AreStepsAlike First Second (AreInStep Like Alone m told bound) (steps.runs m told bound h rest (frame_at g slots lent trail entries))
           (steps.runs m' told' bound r rest' (frame_at g slots lent trail' entries'))
       -- a frame takes what its callee returned
       pub resume : (trail trail' : List Item) (entries entries' : List Entry) (x : Datum) → Like g trail entries trail' entries'
-          → ArePutAlike g (call_at f trail ∷ trail) (call_at f' trail' ∷ trail') (puts told g f (call_at f trail) (x ∷ []) entries)
+          → ArePutAlike Like g (call_at f trail ∷ trail) (call_at f' trail' ∷ trail') (puts told g f (call_at f trail) (x ∷ []) entries)
           (puts told' g f' (call_at f' trail') (x ∷ []) entries')
 
     -- two states that are together, at the same task, which isn't a frame
@@ -102,4 +96,5 @@ module _ (m m' : Module) (told told' : ModuleFacts) (bound : ℕ) where
       pub finished : (h r : HolderState) (o : ObjectId) (rest rest' : List (Task Frame)) → AreAt h r (Finishes [] o) rest rest'
           → Excess (strong_holders (with_tasks h rest) o) (strong_holders (with_tasks r rest') o) ⊥
       -- the first run goes alone until both are at rest
-      pub alone : (h r : HolderState) → First h → Second r → AreTasksLike Like h.tasks r.tasks → AreLevel h r → InStep h r
+      pub alone : (h r : HolderState) → First h → Second r → AreTasksLike Like h.tasks r.tasks → AreLevel h r
+          → AreInStep Like Alone m told bound h r

@@ -1,3 +1,4 @@
+use Rattle.lockstep_runs.proofs.FrameSteps.{goes_behind}
 use Rattle.lockstep_runs.proofs.Locked.{runs_in_lockstep}
 use Rattle.lockstep_runs.proofs.Alike.{calls_in_alike}
 use Rattle.lockstep_runs.proofs.WholeRuns.{runs_agree}
