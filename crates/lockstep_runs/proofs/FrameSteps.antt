@@ -1,4 +1,4 @@
--- Where the frames of each function do alike, whole steps are alike: so what is proved of frames gives the parts.
+-- The items of frames, where those of each function do alike: calls and returns too.
 use Rattle.std.proofs.Common.{◌≡◌, ◌≤◌, ◌<◌, ℕ, zero, suc, ◌+◌, arith, List, [], ◌∷◌, ◌++◌, drop, length, map, refl, sym, ap, ◌∙◌, subst, Bool, true, false, cond, Option, Some, None, Ok, Err, inl, inr}
 use Rattle.std.specs.Prelude.{ℤ, option_and_then, option_map, slice_get}
 use Rattle.std.specs.declared.result.Result.{Result}

@@ -4,3 +4,4 @@ pub mod OutcomesAgree
 pub mod Locked
 pub mod Drained
 pub mod FrameSteps
+pub mod FrameParts
