@@ -36,12 +36,14 @@ use Rattle.holder_counts.specs.holder_model.StepParts.{chosen_by, chosen_edge, f
 use Rattle.holder_counts.specs.holder_model.States.{Drops, Ends, Finishes, Goes, Returned, Runs, Task, Trapped, dropping, turn}
 use Rattle.holder_counts.specs.holder_model.Steps as steps
 use Rattle.lockstep_runs.specs.inner.Frames.{AreSpared, AreCallsAlike, AreChangesAlike, AreDropsAlike, AreEdgesAlike, AreEffectsAlike, AreEndsAlike, AreInstsAlike, AreReturnsAlike, DoAlike, does, lends, no_value, takes}
+use Rattle.lockstep_runs.specs.inner.Laws.{AreFramesInLockstep}
 use Rattle.lockstep_runs.specs.inner.Lockstep.{AreInStep, AreLevel, ArePutAlike, AreStepsAlike, AreTasksLike, IsKeptBy, frame_at}
 use Rattle.lockstep_runs.specs.inner.Parts.{AreFramesOn, FramesAgree, HasFunctions, call_at, entered, puts}
 use Rattle.lockstep_runs.proofs.Alike as alike
 use Rattle.lockstep_runs.proofs.Alike.{dropping_alike}
 use Rattle.lockstep_runs.proofs.Drained.{in_step_drained}
 use Rattle.lockstep_runs.proofs.FrameSteps.{effects_alike, returned_alike}
+use Rattle.lockstep_runs.proofs.Locked.{runs_in_lockstep}
 
 module _ (m m' : Module) (told told' : ModuleFacts) (bound : ℕ) (First Second : HolderState → Type 0)
     (Like : FuncId → List Item → List Entry → List Item → List Entry → Type 0) (Alone : FuncId → List Item → Type 0)
@@ -242,3 +244,13 @@ module _ (m m' : Module) (told told' : ModuleFacts) (bound : ℕ) (First Second 
         frame_step_alike g f f' h r slots lent trail trail' entries entries' rest rest' on is is';
         resume = d.resume;
       }
+
+pub frames_in_lockstep : AreFramesInLockstep
+frames_in_lockstep m m' told told' bound First Second Like Alone kept kept' parts =
+    runs_in_lockstep m m' told told' bound First Second Like Alone kept kept' (record {
+      functions = parts.functions;
+      frames = frames_agree m m' told told' bound First Second Like Alone kept parts.functions parts.alone parts.frames;
+      dropped = parts.dropped;
+      finished = parts.finished;
+      alone = parts.alone;
+    })

@@ -5,3 +5,4 @@ pub mod Locked
 pub mod Drained
 pub mod FrameSteps
 pub mod FrameParts
+pub mod Unchanged

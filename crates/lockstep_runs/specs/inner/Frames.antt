@@ -35,7 +35,7 @@ use Rattle.holder_counts.specs.holder_model.Standing.{stands_at}
 use Rattle.holder_counts.specs.holder_model.States.{Runs, Task}
 use Rattle.holder_counts.specs.inner.Moving.{in_tasks}
 use Rattle.lockstep_runs.specs.inner.Lockstep.{ArePutAlike, frame_at}
-use Rattle.lockstep_runs.specs.inner.Parts.{AreFramesOn, call_at, entered, puts}
+use Rattle.lockstep_runs.specs.inner.Parts.{AreDropsCovered, AreFinishesCovered, AreFramesOn, ComeTogether, HasFunctions, call_at, entered, puts}
 
 -- the operands of an item in a frame
 abbrev pub takes : ModuleFacts → FuncId → Function → Item → Memory → List Entry → Result Operands HolderFault
@@ -171,3 +171,13 @@ module _ (m m' : Module) (told told' : ModuleFacts) (bound : ℕ) (First Second 
     pub resume : (trail trail' : List Item) (entries entries' : List Entry) (x : Datum) → Like g trail entries trail' entries'
         → ArePutAlike Like g (call_at f trail ∷ trail) (call_at f' trail' ∷ trail') (puts told g f (call_at f trail) (x ∷ []) entries)
         (puts told' g f' (call_at f' trail') (x ∷ []) entries')
+
+-- The parts, by what frames do.
+pub record FrameParts (m m' : Module) (told told' : ModuleFacts) (bound : ℕ) (First Second : HolderState → Type 0)
+    (Like : FuncId → List Item → List Entry → List Item → List Entry → Type 0) (Alone : FuncId → List Item → Type 0) : Type 0 where
+  pub functions : HasFunctions m m' told told' bound
+  pub frames : (g : FuncId) (f f' : Function) → slice_get m.functions g.0 ≡ Some f → slice_get m'.functions g.0 ≡ Some f'
+      → DoAlike m m' told told' bound First Second Like Alone g f f'
+  pub dropped : AreDropsCovered m m' told told' bound First Second Like Alone
+  pub finished : AreFinishesCovered m m' told told' bound First Second Like Alone
+  pub alone : ComeTogether m m' told told' bound First Second Like Alone

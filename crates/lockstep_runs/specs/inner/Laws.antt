@@ -4,25 +4,53 @@ use Rattle.sil_ast.specs.declared.function.Function.{Function}
 use Rattle.sil_ast.specs.declared.module.Module.{Module}
 use Rattle.sil_ast.specs.declared.place.FuncId.{FuncId}
 use Rattle.sil_cfg.specs.declared.item.Item.{Item}
+use Rattle.type_definitions.specs.Declarations.{declarations_of}
+use Rattle.holder_counts.specs.holder_model.Faults.{HolderFault}
 use Rattle.holder_counts.specs.holder_model.Frames.{Entry}
 use Rattle.holder_counts.specs.holder_model.HolderStates.{HolderState}
 use Rattle.holder_counts.specs.holder_model.ModuleFacts.{ModuleFacts, facts_of}
-use Rattle.holder_counts.specs.holder_model.Outcomes.{begins}
+use Rattle.holder_counts.specs.holder_model.Outcomes.{begins, run}
+use Rattle.holder_counts.specs.holder_model.States.{Ends, Faulted}
+use Rattle.holder_counts.specs.holder_model.Steps.{step}
 use Rattle.lockstep_runs.specs.inner.Agreeing.{OutcomesAgree, RunsAgree, RunsAsItDid}
 use Rattle.lockstep_runs.specs.inner.Lockstep.{IsKeptBy}
+use Rattle.lockstep_runs.specs.inner.Frames.{FrameParts}
 use Rattle.lockstep_runs.specs.inner.Parts.{Parts}
 
--- What is proved of the frames of each function holds of whole runs
-abbrev pub AreRunsInLockstep : Type 1
-AreRunsInLockstep = (m m' : Module) (told told' : ModuleFacts) (bound : ℕ) (First Second : HolderState → Type 0)
+-- so it is of whole runs, from these parts
+abbrev pub RunsAgreeBy : ((m m' : Module) (told told' : ModuleFacts) (bound : ℕ) (First Second : HolderState → Type 0)
+    (Like : FuncId → List Item → List Entry → List Item → List Entry → Type 0) (Alone : FuncId → List Item → Type 0) → Type 0) → Type 1
+RunsAgreeBy By = (m m' : Module) (told told' : ModuleFacts) (bound : ℕ) (First Second : HolderState → Type 0)
     (Like : FuncId → List Item → List Entry → List Item → List Entry → Type 0) (Alone : FuncId → List Item → Type 0)
-    → IsKeptBy m told bound First → IsKeptBy m' told' bound Second → Parts m m' told told' bound First Second Like Alone
+    → IsKeptBy m told bound First → IsKeptBy m' told' bound Second → By m m' told told' bound First Second Like Alone
     → (e : FuncId) (f f' : Function) → slice_get m.functions e.0 ≡ Some f → slice_get m'.functions e.0 ≡ Some f' → First (begins e f) → Second (begins e f')
     → RunsAgree m m' told told' e bound
+
+-- What is proved of the steps of frames holds of whole runs.
+abbrev pub AreRunsInLockstep : Type 1
+AreRunsInLockstep = RunsAgreeBy Parts
+
+-- And so does what is proved of frames, item by item.
+abbrev pub AreFramesInLockstep : Type 1
+AreFramesInLockstep = RunsAgreeBy FrameParts
 
 -- and of what is told of them
 abbrev pub AreOutcomesInLockstep : Type 0
 AreOutcomesInLockstep = (m m' : Module) (e : FuncId) (bound : ℕ) → RunsAgree m m' (facts_of m) (facts_of m') e bound → OutcomesAgree m m' e bound
+
+-- no run from the state ends in a fault
+abbrev pub NeverFaultsFrom : Module → ModuleFacts → ℕ → HolderState → Type 0
+NeverFaultsFrom m told bound s = (steps : ℕ) (last : HolderState) (x : HolderFault) → run (step m told bound) steps s ≡ Ends (Faulted x) last → ⊥
+
+-- modules with the same functions and declarations run alike, whatever else they differ in
+pub record HaveSameFunctions (m m' : Module) : Type 0 where
+  pub functions : m'.functions ≡ m.functions
+  pub declarations : declarations_of m' ≡ declarations_of m
+
+abbrev pub AreUnchangedInLockstep : Type 0
+AreUnchangedInLockstep = (m m' : Module) (told : ModuleFacts) (bound : ℕ) (e : FuncId) (f : Function) → HaveSameFunctions m m'
+    → slice_get m.functions e.0 ≡ Some f → NeverFaultsFrom m told bound (begins e f) → NeverFaultsFrom m' told bound (begins e f)
+    → RunsAgree m m' told told e bound
 
 -- a module runs as itself, and what is rewritten once and again as the first one did
 abbrev pub IsAsItDidAgain : Type 0

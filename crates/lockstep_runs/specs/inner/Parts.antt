@@ -86,15 +86,22 @@ module _ (m m' : Module) (told told' : ModuleFacts) (bound : ℕ) where
       pub r_tasks : r.tasks ≡ task ∷ rest'
       pub below : AreTasksLike Like rest rest'
 
+    -- what the first run holds more where a reference is dropped, and where an object dies
+    abbrev pub AreDropsCovered : Type 0
+    AreDropsCovered = (h r : HolderState) (o : ObjectId) (os : List ObjectId) (rest rest' : List (Task Frame)) → AreAt h r (Drops (o ∷ os)) rest rest'
+        → Excess (strong_holders (with_tasks h (Drops os ∷ rest)) o) (strong_holders (with_tasks r (Drops os ∷ rest')) o) (is_live r.memory o ≡ false)
+
+    abbrev pub AreFinishesCovered : Type 0
+    AreFinishesCovered = (h r : HolderState) (o : ObjectId) (rest rest' : List (Task Frame)) → AreAt h r (Finishes [] o) rest rest'
+        → Excess (strong_holders (with_tasks h rest) o) (strong_holders (with_tasks r rest') o) ⊥
+
+    -- where tasks are alike, the first run goes alone until both are at rest
+    abbrev pub ComeTogether : Type 0
+    ComeTogether = (h r : HolderState) → First h → Second r → AreTasksLike Like h.tasks r.tasks → AreLevel h r → AreInStep Like Alone m told bound h r
+
     pub record Parts : Type 0 where
       pub functions : HasFunctions
       pub frames : (g : FuncId) (f f' : Function) → slice_get m.functions g.0 ≡ Some f → slice_get m'.functions g.0 ≡ Some f' → FramesAgree g f f'
-      -- where a reference is dropped, and where an object dies
-      pub dropped : (h r : HolderState) (o : ObjectId) (os : List ObjectId) (rest rest' : List (Task Frame)) → AreAt h r (Drops (o ∷ os)) rest rest'
-          → Excess (strong_holders (with_tasks h (Drops os ∷ rest)) o) (strong_holders (with_tasks r (Drops os ∷ rest')) o)
-          (is_live r.memory o ≡ false)
-      pub finished : (h r : HolderState) (o : ObjectId) (rest rest' : List (Task Frame)) → AreAt h r (Finishes [] o) rest rest'
-          → Excess (strong_holders (with_tasks h rest) o) (strong_holders (with_tasks r rest') o) ⊥
-      -- the first run goes alone until both are at rest
-      pub alone : (h r : HolderState) → First h → Second r → AreTasksLike Like h.tasks r.tasks → AreLevel h r
-          → AreInStep Like Alone m told bound h r
+      pub dropped : AreDropsCovered
+      pub finished : AreFinishesCovered
+      pub alone : ComeTogether

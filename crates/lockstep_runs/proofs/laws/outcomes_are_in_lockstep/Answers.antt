@@ -1,3 +1,5 @@
+use Rattle.lockstep_runs.proofs.Unchanged.{unchanged_does_alike}
+use Rattle.lockstep_runs.proofs.FrameParts.{frames_in_lockstep}
 use Rattle.lockstep_runs.proofs.FrameParts.{frames_agree}
 use Rattle.lockstep_runs.proofs.FrameSteps.{goes_behind, effects_alike, returned_alike}
 use Rattle.lockstep_runs.proofs.Locked.{runs_in_lockstep}
