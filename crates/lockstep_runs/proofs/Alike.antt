@@ -1,6 +1,6 @@
 -- The parts of steps in two runs in lockstep: where one goes on so does the other, and they are in step again.
-use Rattle.std.proofs.Common.{◌≡◌, ◌≤◌, ℕ, ◌+◌, arith, List, [], ◌∷◌, map, length, refl, sym, ap, ◌∙◌, subst, Bool, true, false, cond, Option, Some, None, Ok, Err, inl, inr}
-use Rattle.std.specs.Prelude.{nat_lt, slice_get}
+use Rattle.std.proofs.Common.{◌≡◌, ◌≤◌, ℕ, ◌+◌, arith, List, [], ◌∷◌, length, refl, sym, ap, ◌∙◌, subst, Bool, true, false, cond, Option, Some, None, Ok, Err, inl, inr}
+use Rattle.std.specs.Prelude.{nat_lt}
 use Rattle.std.specs.declared.result.Result.{Result}
 use Rattle.sil_ast.specs.declared.function.Function.{Function}
 use Rattle.sil_ast.specs.declared.module.Module.{Module}
@@ -8,22 +8,19 @@ use Rattle.sil_ast.specs.declared.place.FuncId.{FuncId}
 use Rattle.sil_ast.specs.declared.place.ObjectId.{ObjectId}
 use Rattle.sil_cfg.specs.declared.item.Item.{Item}
 use Rattle.sil_cfg.specs.declared.item.Item.TheVariants as item
-use Rattle.run_values.specs.Memory.{Memory}
 use Rattle.run_values.specs.Places.{Place}
-use Rattle.run_values.specs.Values.{Value, references_of}
 use Rattle.holder_counts.specs.holder_model.declared.limits.TheConstants.{FRAMES}
 use Rattle.holder_counts.specs.holder_model.declared.trap.Trap.TheVariants as trap
-use Rattle.holder_counts.specs.holder_model.Data.{Datum, as_value}
-use Rattle.holder_counts.specs.holder_model.Effects.{Change, unchanged}
+use Rattle.holder_counts.specs.holder_model.Data.{Datum}
+use Rattle.holder_counts.specs.holder_model.Effects.{Change}
 use Rattle.holder_counts.specs.holder_model.Faults.{HolderFault}
 use Rattle.holder_counts.specs.holder_model.Frames.{Entry, Frame, LentPlace}
-use Rattle.holder_counts.specs.holder_model.HolderStates.{HolderNext, HolderState, in_state}
+use Rattle.holder_counts.specs.holder_model.HolderStates.{HolderNext, HolderState}
 use Rattle.holder_counts.specs.holder_model.ModuleFacts.{ModuleFacts}
 use Rattle.holder_counts.specs.holder_model.Outcomes.{left_by}
-use Rattle.holder_counts.specs.holder_model.StepParts.{fault, new_frame, on_ok, on_some, slots_behind}
-use Rattle.holder_counts.specs.holder_model.States.{Drops, Ending, Ends, Faulted, Finishes, Goes, OutOfTurns, Returned, Runs, Task, Trapped, dropping, enter, frame_count, turn}
+use Rattle.holder_counts.specs.holder_model.StepParts.{new_frame, on_ok, on_some, slots_behind}
+use Rattle.holder_counts.specs.holder_model.States.{Ending, Ends, Goes, OutOfTurns, Runs, Task, Trapped, dropping, enter, frame_count, turn}
 use Rattle.holder_counts.specs.holder_model.Steps as steps
-use Rattle.lockstep_runs.specs.inner.Agreeing.{EndsAsItDid}
 use Rattle.lockstep_runs.specs.inner.Lockstep.{AreInStep, AreLevel, ArePutAlike, AreStepsAlike, AreTasksLike, frame_at}
 use Rattle.lockstep_runs.specs.inner.Parts.{entered, puts}
 
@@ -107,22 +104,22 @@ module _ (m m' : Module) (told told' : ModuleFacts) (bound : ℕ) (First Second 
           behind,
           ap (λ q. slots_behind q slots) same.slots ∙ is,
           ok_alike s s' _ _ (puts told g f i c.results entries) (puts told' g f' i' c'.results entries') (λ es put_is.
-          let z = put es put_is in (
-            z.0,
-            z.1,
-            goes_alike _ _
-            (subst (λ os. AreTasksLike Like (dropping c.dropped (Runs (frame_at g behind [] (i ∷ trail) es) ∷ rest))
-            (dropping os (Runs (frame_at g behind [] (i' ∷ trail') z.0) ∷ rest'))) (sym same.dropped)
-            (dropping_alike Like c.dropped (Runs (frame_at g behind [] (i ∷ trail) es) ∷ rest) (Runs (frame_at g behind [] (i' ∷ trail') z.0) ∷ rest')
-            (AreTasksLike.runs g behind [] (i ∷ trail) (i' ∷ trail') es z.0 rest rest' z.2 below)))
-            (record {
-              memory = same.memory;
-              events = l.events;
-              turns = l.turns;
-              retains = let a = l.retains in let b = same.retained in omega (arith, a, b);
-              releases = l.releases;
-            }),
-          )),
+              let z = put es put_is in (
+                z.0,
+                z.1,
+                goes_alike _ _
+                    (subst (λ os. AreTasksLike Like (dropping c.dropped (Runs (frame_at g behind [] (i ∷ trail) es) ∷ rest))
+                    (dropping os (Runs (frame_at g behind [] (i' ∷ trail') z.0) ∷ rest'))) (sym same.dropped)
+                    (dropping_alike Like c.dropped (Runs (frame_at g behind [] (i ∷ trail) es) ∷ rest) (Runs (frame_at g behind [] (i' ∷ trail') z.0) ∷ rest')
+                    (AreTasksLike.runs g behind [] (i ∷ trail) (i' ∷ trail') es z.0 rest rest' z.2 below)))
+                    (record {
+                      memory = same.memory;
+                      events = l.events;
+                      turns = l.turns;
+                      retains = let a = l.retains in let b = same.retained in omega (arith, a, b);
+                      releases = l.releases;
+                    }),
+              )),
         ))
 
     -- a function with a body is called over the tasks
@@ -135,7 +132,7 @@ module _ (m m' : Module) (told told' : ModuleFacts) (bound : ℕ) (First Second 
           z.0,
           z.1,
           enter_alike s s' rest rest' (λ t. Goes (record t { tasks = Runs (new_frame g es) ∷ rest })) (λ t. Goes (record t { tasks = Runs (new_frame g z.0) ∷ rest' }))
-          l below (λ t. goes_alike _ _
-          (AreTasksLike.runs g [] [] (item.Entry ∷ []) (item.Entry ∷ []) es z.0 rest rest' z.2 below)
-          (record { memory = t.memory; events = t.events; turns = t.turns; retains = t.retains; releases = t.releases })),
+              l below (λ t. goes_alike _ _
+              (AreTasksLike.runs g [] [] (item.Entry ∷ []) (item.Entry ∷ []) es z.0 rest rest' z.2 below)
+              (record { memory = t.memory; events = t.events; turns = t.turns; retains = t.retains; releases = t.releases })),
         ))

@@ -1,6 +1,5 @@
 -- References that the first run alone drops, where each of their objects has another holder or isn't live: nothing comes of them.
-use Rattle.std.proofs.Common.{◌≡◌, ◌<◌, ◌≤◌, ℕ, zero, suc, ◌+◌, arith, List, [], ◌∷◌, length, refl, sym, ap, ◌∙◌, subst, Bool, true, false, cond, ◌⊎◌, ⊎_elim, inl, inr, eq-eqb}
-use Rattle.sil_ast.specs.declared.decl.Storage.TheVariants as storage
+use Rattle.std.proofs.Common.{◌≡◌, ◌<◌, ◌≤◌, ℕ, zero, suc, ◌+◌, arith, List, [], ◌∷◌, refl, sym, ap, ◌∙◌, subst, false, cond, ◌⊎◌, ⊎_elim, inl, inr, eq-eqb}
 use Rattle.sil_ast.specs.declared.module.Module.{Module}
 use Rattle.sil_ast.specs.declared.place.FuncId.{FuncId}
 use Rattle.sil_ast.specs.declared.place.ObjectId.{ObjectId}

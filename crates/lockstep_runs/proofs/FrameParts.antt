@@ -1,6 +1,6 @@
 -- The step of a frame: where the frames of each function do alike, whole steps are alike. So what is proved of frames gives the parts.
-use Rattle.std.proofs.Common.{◌≡◌, ◌≤◌, ◌<◌, ℕ, zero, suc, ◌+◌, arith, List, [], ◌∷◌, ◌++◌, drop, length, map, refl, sym, ap, ◌∙◌, subst, Bool, true, false, cond, Option, Some, None, Ok, Err, inl, inr}
-use Rattle.std.specs.Prelude.{ℤ, option_and_then, option_map, slice_get}
+use Rattle.std.proofs.Common.{◌≡◌, ℕ, arith, List, refl, sym, ap, ◌∙◌, subst, Bool, true, false, cond, Option, Some, None, Ok, Err, inl}
+use Rattle.std.specs.Prelude.{option_and_then, option_map, slice_get}
 use Rattle.std.specs.declared.result.Result.{Result}
 use Rattle.instruction_table.specs.Forms.{ending_of}
 use Rattle.instruction_table.specs.declared.entries.Ending.{Ending}
@@ -16,32 +16,27 @@ use Rattle.sil_cfg.specs.declared.item.Item.TheVariants as item
 use Rattle.item_operands.specs.Parts.{inst_at, terminator_of}
 use Rattle.run_values.specs.Places.{Place}
 use Rattle.run_values.specs.Shapes.{Shape}
-use Rattle.run_values.specs.Values as value
 use Rattle.run_values.specs.Values.{Value}
-use Rattle.holder_counts.specs.holder_model.declared.event.Event.TheVariants as event
 use Rattle.holder_counts.specs.holder_model.declared.trap.Trap.TheVariants as trap
-use Rattle.holder_counts.specs.holder_model.Calling.{are_as_after, are_as_before, as_argument, handed_over, holds_something, places_given}
-use Rattle.holder_counts.specs.holder_model.Data.{Datum, ValueOf, as_value}
+use Rattle.holder_counts.specs.holder_model.Calling.{are_as_after, holds_something, places_given}
+use Rattle.holder_counts.specs.holder_model.Data.{Datum, as_value}
 use Rattle.holder_counts.specs.holder_model.Edges.{branch_of, carried_along, case_edge, edge_of}
-use Rattle.holder_counts.specs.holder_model.Effects as effects
-use Rattle.holder_counts.specs.holder_model.Effects.{Change, Effect, only, unchanged}
-use Rattle.holder_counts.specs.holder_model.Faults.{HolderFault, LeavesHeld, LeavesPlace, LeavesSlot, PlaceNotAsAsked}
+use Rattle.holder_counts.specs.holder_model.Effects.{only, unchanged}
+use Rattle.holder_counts.specs.holder_model.Faults.{HolderFault, LeavesHeld, LeavesPlace, LeavesSlot}
 use Rattle.holder_counts.specs.holder_model.Frames.{Entry, Frame, LentPlace, Operands, datum_in, entry_at, has_any}
 use Rattle.holder_counts.specs.holder_model.HolderStates.{HolderNext, HolderState}
 use Rattle.holder_counts.specs.holder_model.ModuleFacts.{ModuleFacts}
-use Rattle.holder_counts.specs.holder_model.Outcomes.{left_by}
 use Rattle.holder_counts.specs.holder_model.ModuleShapes.{shapes_in}
 use Rattle.holder_counts.specs.holder_model.Standing.{stands_at}
-use Rattle.holder_counts.specs.holder_model.StepParts.{chosen_by, chosen_edge, fault, on_ok, on_some, slots_behind, switched_shape, with_chosen}
-use Rattle.holder_counts.specs.holder_model.States.{Drops, Ends, Finishes, Goes, Returned, Runs, Task, Trapped, dropping, turn}
+use Rattle.holder_counts.specs.holder_model.StepParts.{chosen_by, chosen_edge, fault, on_ok, on_some, switched_shape, with_chosen}
+use Rattle.holder_counts.specs.holder_model.States.{Task, Trapped, turn}
 use Rattle.holder_counts.specs.holder_model.Steps as steps
-use Rattle.lockstep_runs.specs.inner.Frames.{AreSpared, AreCallsAlike, AreChangesAlike, AreDropsAlike, AreEdgesAlike, AreEffectsAlike, AreEndsAlike, AreInstsAlike, AreReturnsAlike, DoAlike, does, lends, no_value, takes}
+use Rattle.lockstep_runs.specs.inner.Frames.{AreEdgesAlike, AreEndsAlike, AreInstsAlike, AreReturnsAlike, DoAlike, does, takes}
 use Rattle.lockstep_runs.specs.inner.Laws.{AreFramesInLockstep}
-use Rattle.lockstep_runs.specs.inner.Lockstep.{AreInStep, AreLevel, ArePutAlike, AreStepsAlike, AreTasksLike, IsKeptBy, frame_at}
-use Rattle.lockstep_runs.specs.inner.Parts.{AreFramesOn, FramesAgree, HasFunctions, call_at, entered, puts}
+use Rattle.lockstep_runs.specs.inner.Lockstep.{AreInStep, AreLevel, AreTasksLike, IsKeptBy, frame_at}
+use Rattle.lockstep_runs.specs.inner.Parts.{AreFramesOn, FramesAgree, HasFunctions}
 use Rattle.lockstep_runs.proofs.Alike as alike
 use Rattle.lockstep_runs.proofs.Alike.{dropping_alike}
-use Rattle.lockstep_runs.proofs.Drained.{in_step_drained}
 use Rattle.lockstep_runs.proofs.FrameSteps.{effects_alike, returned_alike}
 use Rattle.lockstep_runs.proofs.Locked.{runs_in_lockstep}
 
@@ -76,8 +71,8 @@ module _ (m m' : Module) (told told' : ModuleFacts) (bound : ℕ) (First Second 
           z.0,
           z.1,
           effects_alike m m' told told' bound First Second Like Alone kept functions alone frames g f f' slots lent lent trail trail'
-          (item.Inst (stands_at f trail)) (item.Inst (stands_at f' trail')) ops.left z.0.left rest rest' on.below h r on.level
-          (does m told g h.memory i ops.given) (does m' told' g r.memory a.other z.0.given) z.2,
+              (item.Inst (stands_at f trail)) (item.Inst (stands_at f' trail')) ops.left z.0.left rest rest' on.below h r on.level
+              (does m told g h.memory i ops.given) (does m' told' g r.memory a.other z.0.given) z.2,
         ))
 
     -- ---- an edge
@@ -227,8 +222,8 @@ module _ (m m' : Module) (told told' : ModuleFacts) (bound : ℕ) (First Second 
             f',
             is',
             subst (λ k. Alike (steps.acts m told bound h rest here k (stands_at k trail) (inst_at k (stands_at k trail)))
-            (steps.acts m' told' bound r rest' there f' (stands_at f' trail') (inst_at f' (stands_at f' trail')))) same
-            (acts_alike (inst_at f (stands_at f trail)) refl),
+                (steps.acts m' told' bound r rest' there f' (stands_at f' trail') (inst_at f' (stands_at f' trail')))) same
+                (acts_alike (inst_at f (stands_at f trail)) refl),
           ))
 
   -- ---- the parts
@@ -241,7 +236,7 @@ module _ (m m' : Module) (told told' : ModuleFacts) (bound : ℕ) (First Second 
         begin = d.begin;
         enter = d.enter;
         step = λ h r slots lent trail trail' entries entries' rest rest' on.
-        frame_step_alike g f f' h r slots lent trail trail' entries entries' rest rest' on is is';
+            frame_step_alike g f f' h r slots lent trail trail' entries entries' rest rest' on is is';
         resume = d.resume;
       }
 

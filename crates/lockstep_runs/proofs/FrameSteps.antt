@@ -1,42 +1,27 @@
 -- The items of frames, where those of each function do alike: calls and returns too.
-use Rattle.std.proofs.Common.{◌≡◌, ◌≤◌, ◌<◌, ℕ, zero, suc, ◌+◌, arith, List, [], ◌∷◌, ◌++◌, drop, length, map, refl, sym, ap, ◌∙◌, subst, Bool, true, false, cond, Option, Some, None, Ok, Err, inl, inr}
-use Rattle.std.specs.Prelude.{ℤ, option_and_then, option_map, slice_get}
-use Rattle.std.specs.declared.result.Result.{Result}
-use Rattle.instruction_table.specs.Forms.{ending_of}
-use Rattle.instruction_table.specs.declared.entries.Ending.{Ending}
-use Rattle.instruction_table.specs.declared.entries.Ending.TheVariants as ending
+use Rattle.std.proofs.Common.{◌≡◌, ℕ, arith, List, [], ◌∷◌, ◌++◌, map, refl, sym, ap, ◌∙◌, subst, Some, Ok, inl, inr}
+use Rattle.std.specs.Prelude.{ℤ, slice_get}
 use Rattle.sil_ast.specs.declared.function.Function.{Function}
-use Rattle.sil_ast.specs.declared.inst.Inst.{Inst}
 use Rattle.sil_ast.specs.declared.module.Module.{Module}
-use Rattle.sil_ast.specs.declared.operands.Operand.{Operand}
-use Rattle.sil_ast.specs.declared.place.EdgeId.{EdgeId}
 use Rattle.sil_ast.specs.declared.place.FuncId.{FuncId}
 use Rattle.sil_cfg.specs.declared.item.Item.{Item}
-use Rattle.sil_cfg.specs.declared.item.Item.TheVariants as item
-use Rattle.item_operands.specs.Parts.{inst_at, terminator_of}
 use Rattle.run_values.specs.Places.{Place}
-use Rattle.run_values.specs.Shapes.{Shape}
-use Rattle.run_values.specs.Values as value
-use Rattle.run_values.specs.Values.{Value}
 use Rattle.holder_counts.specs.holder_model.declared.event.Event.TheVariants as event
-use Rattle.holder_counts.specs.holder_model.declared.trap.Trap.TheVariants as trap
-use Rattle.holder_counts.specs.holder_model.Calling.{are_as_after, are_as_before, as_argument, handed_over, holds_something, places_given}
-use Rattle.holder_counts.specs.holder_model.Data.{Datum, ValueOf, as_value}
-use Rattle.holder_counts.specs.holder_model.Edges.{branch_of, carried_along, case_edge, edge_of}
+use Rattle.holder_counts.specs.holder_model.Calling.{are_as_before, as_argument, handed_over}
+use Rattle.holder_counts.specs.holder_model.Data.{Datum, as_value}
 use Rattle.holder_counts.specs.holder_model.Effects as effects
 use Rattle.holder_counts.specs.holder_model.Effects.{Change, Effect, only, unchanged}
-use Rattle.holder_counts.specs.holder_model.Faults.{HolderFault, LeavesHeld, LeavesPlace, LeavesSlot, PlaceNotAsAsked}
-use Rattle.holder_counts.specs.holder_model.Frames.{Entry, Frame, LentPlace, Operands, datum_in, entry_at, has_any}
+use Rattle.holder_counts.specs.holder_model.Faults.{HolderFault, PlaceNotAsAsked}
+use Rattle.holder_counts.specs.holder_model.Frames.{Entry, Frame, LentPlace, has_any}
 use Rattle.holder_counts.specs.holder_model.HolderStates.{HolderNext, HolderState}
 use Rattle.holder_counts.specs.holder_model.ModuleFacts.{ModuleFacts}
 use Rattle.holder_counts.specs.holder_model.Outcomes.{left_by}
-use Rattle.holder_counts.specs.holder_model.Standing.{stands_at}
-use Rattle.holder_counts.specs.holder_model.StepParts.{chosen_by, chosen_edge, fault, on_ok, on_some, slots_behind, switched_shape, with_chosen}
-use Rattle.holder_counts.specs.holder_model.States.{Drops, Ends, Finishes, Goes, Returned, Runs, Task, Trapped, dropping}
+use Rattle.holder_counts.specs.holder_model.StepParts.{fault, on_some, slots_behind}
+use Rattle.holder_counts.specs.holder_model.States.{Ends, Finishes, Returned, Runs, Task, Trapped, dropping}
 use Rattle.holder_counts.specs.holder_model.Steps as steps
-use Rattle.lockstep_runs.specs.inner.Frames.{AreSpared, AreCallsAlike, AreChangesAlike, AreDropsAlike, AreEdgesAlike, AreEffectsAlike, AreEndsAlike, AreInstsAlike, AreReturnsAlike, DoAlike, does, lends, no_value, takes}
-use Rattle.lockstep_runs.specs.inner.Lockstep.{AreInStep, AreLevel, ArePutAlike, AreStepsAlike, AreTasksLike, IsKeptBy, frame_at}
-use Rattle.lockstep_runs.specs.inner.Parts.{AreFramesOn, FramesAgree, HasFunctions, call_at, entered, puts}
+use Rattle.lockstep_runs.specs.inner.Frames.{AreSpared, AreCallsAlike, AreChangesAlike, AreDropsAlike, AreEffectsAlike, DoAlike, lends, no_value}
+use Rattle.lockstep_runs.specs.inner.Lockstep.{AreInStep, AreLevel, ArePutAlike, AreTasksLike, IsKeptBy, frame_at}
+use Rattle.lockstep_runs.specs.inner.Parts.{HasFunctions, call_at, puts}
 use Rattle.lockstep_runs.proofs.Alike as alike
 use Rattle.lockstep_runs.proofs.Alike.{dropping_alike}
 use Rattle.lockstep_runs.proofs.Drained.{in_step_drained}
@@ -67,22 +52,22 @@ module _ (m m' : Module) (told told' : ModuleFacts) (bound : ℕ) (First Second 
           behind,
           ap (λ q. slots_behind q slots) a.slots ∙ is,
           alike.ok_alike m m' told told' bound First Second Like Alone s s' _ _ (puts told g f i c.results left) (puts told' g f' i' c'.results left')
-          (λ es put_is.
-          let z = a.put es put_is in (
-            z.0,
-            z.1,
-            inr (λ first second. in_step_drained m told bound First kept Second Like Alone alone _ _ c.dropped (Runs (frame_at g behind [] (i ∷ trail) es) ∷ rest)
-            first second refl (spared behind es put_is)
-            (subst (λ os. AreTasksLike Like (Runs (frame_at g behind [] (i ∷ trail) es) ∷ rest) (dropping os (Runs (frame_at g behind [] (i' ∷ trail') z.0) ∷ rest')))
-            (sym none) (AreTasksLike.runs g behind [] (i ∷ trail) (i' ∷ trail') es z.0 rest rest' z.2 below))
-            (record {
-              memory = a.memory;
-              events = l.events;
-              turns = l.turns;
-              retains = let x = l.retains in let y = a.retained in omega (arith, x, y);
-              releases = l.releases;
-            })),
-          )),
+              (λ es put_is.
+              let z = a.put es put_is in (
+                z.0,
+                z.1,
+                inr (λ first second. in_step_drained m told bound First kept Second Like Alone alone _ _ c.dropped (Runs (frame_at g behind [] (i ∷ trail) es) ∷ rest)
+                    first second refl (spared behind es put_is)
+                    (subst (λ os. AreTasksLike Like (Runs (frame_at g behind [] (i ∷ trail) es) ∷ rest) (dropping os (Runs (frame_at g behind [] (i' ∷ trail') z.0) ∷ rest')))
+                    (sym none) (AreTasksLike.runs g behind [] (i ∷ trail) (i' ∷ trail') es z.0 rest rest' z.2 below))
+                    (record {
+                      memory = a.memory;
+                      events = l.events;
+                      turns = l.turns;
+                      retains = let x = l.retains in let y = a.retained in omega (arith, x, y);
+                      releases = l.releases;
+                    })),
+              )),
         ))
 
     pub goes_behind : (c c' : Change) → Changes c c'
@@ -204,8 +189,8 @@ module _ (m m' : Module) (told told' : ModuleFacts) (bound : ℕ) (First Second 
         v,
         is,
         alike.ends_alike m m' told told' bound First Second Like Alone (Returned v) (record s { tasks = [] }) (record s' { tasks = [] })
-        (ap (λ y. left_by (record s { tasks = []; memory = y }) (Returned v)) l.memory)
-        (record { memory = l.memory; events = l.events; turns = l.turns; retains = l.retains; releases = l.releases }),
+            (ap (λ y. left_by (record s { tasks = []; memory = y }) (Returned v)) l.memory)
+            (record { memory = l.memory; events = l.events; turns = l.turns; retains = l.retains; releases = l.releases }),
       ))
   returned_alike s s' l x _ _ (AreTasksLike.runs g slots lent trail trail' entries entries' rest rest' like below) =
       alike.some_alike m m' told told' bound First Second Like Alone s s' _ _ (slice_get m.functions g.0) (slice_get m'.functions g.0) (λ f is.
@@ -213,9 +198,9 @@ module _ (m m' : Module) (told told' : ModuleFacts) (bound : ℕ) (First Second 
         z.0,
         z.1,
         alike.goes_on_alike m m' told told' bound First Second Like Alone alone s s' rest rest' g f z.0 slots lent lent trail trail' entries entries'
-        (call_at f trail) (call_at z.0 trail') (record (unchanged s.memory) { results = x ∷ [] }) (record (unchanged s'.memory) { results = x ∷ [] }) l below
-        (record { dropped = refl; memory = l.memory; slots = refl; retained = omega arith })
-        ((frames g f z.0 is z.1).resume trail trail' entries entries' x like),
+            (call_at f trail) (call_at z.0 trail') (record (unchanged s.memory) { results = x ∷ [] }) (record (unchanged s'.memory) { results = x ∷ [] }) l below
+            (record { dropped = refl; memory = l.memory; slots = refl; retained = omega arith })
+            ((frames g f z.0 is z.1).resume trail trail' entries entries' x like),
       ))
   returned_alike s s' l x _ _ (AreTasksLike.drops os rest rest' below) = inl tt
   returned_alike s s' l x _ _ (AreTasksLike.finishes gs o rest rest' below) =

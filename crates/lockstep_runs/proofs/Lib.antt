@@ -6,3 +6,5 @@ pub mod Drained
 pub mod FrameSteps
 pub mod FrameParts
 pub mod Unchanged
+pub mod SameFunctions
+pub mod Again

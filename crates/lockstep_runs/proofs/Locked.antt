@@ -1,5 +1,5 @@
 -- From the parts of a proof: two runs that are together make steps that are alike, so that whole runs agree.
-use Rattle.std.proofs.Common.{◌≡◌, ◌≤◌, ◌<◌, ℕ, zero, suc, ◌+◌, arith, List, [], ◌∷◌, ◌++◌, refl, sym, ap, ◌∙◌, subst, Bool, true, false, cond, Option, Some, None, ⊎_elim, inl, inr}
+use Rattle.std.proofs.Common.{◌≡◌, ℕ, zero, suc, ◌+◌, arith, List, [], ◌∷◌, ◌++◌, refl, sym, ap, ◌∙◌, subst, false, cond, Option, Some, None, ⊎_elim, inl}
 use Rattle.std.specs.Prelude.{slice_get}
 use Rattle.sil_ast.specs.declared.function.Function.{Function}
 use Rattle.sil_ast.specs.declared.module.Module.{Module}
@@ -23,16 +23,15 @@ use Rattle.holder_counts.specs.holder_model.HolderStates.{HolderNext, HolderStat
 use Rattle.holder_counts.specs.holder_model.ModuleFacts.{ModuleFacts}
 use Rattle.holder_counts.specs.holder_model.Outcomes.{begins}
 use Rattle.holder_counts.specs.holder_model.Standing.{stands_at}
-use Rattle.holder_counts.specs.holder_model.StepParts.{fault, on_some}
-use Rattle.holder_counts.specs.holder_model.States.{Drops, Ends, Finishes, Goes, Runs, Task, Trapped, dropping}
+use Rattle.holder_counts.specs.holder_model.StepParts.{on_some}
+use Rattle.holder_counts.specs.holder_model.States.{Drops, Finishes, Goes, Task, Trapped, dropping}
 use Rattle.holder_counts.specs.holder_model.Steps as steps
 use Rattle.holder_counts.specs.holder_model.Holders.{one_object}
 use Rattle.holder_counts.specs.inner.Moving.{in_tasks}
 use Rattle.holder_counts.proofs.Moves.{first_task}
-use Rattle.lockstep_runs.specs.inner.Agreeing.{RunsAgree}
 use Rattle.lockstep_runs.specs.inner.Laws.{AreRunsInLockstep}
-use Rattle.lockstep_runs.specs.inner.Lockstep.{AreAtRest, AreInStep, AreLevel, AreStepsAlike, AreTasksLike, AreTogether, Excess, IsFault, frame_at}
-use Rattle.lockstep_runs.specs.inner.Parts.{AreAt, AreFramesOn, Parts}
+use Rattle.lockstep_runs.specs.inner.Lockstep.{AreAtRest, AreInStep, AreLevel, AreTasksLike, AreTogether, Excess, IsFault, frame_at}
+use Rattle.lockstep_runs.specs.inner.Parts.{AreFramesOn, Parts}
 use Rattle.lockstep_runs.proofs.Alike as alike
 use Rattle.lockstep_runs.proofs.Alike.{dropping_alike}
 use Rattle.lockstep_runs.proofs.WholeRuns.{runs_agree}

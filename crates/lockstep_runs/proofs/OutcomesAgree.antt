@@ -1,5 +1,5 @@
 -- What is told of runs that agree.
-use Rattle.std.proofs.Common.{◌≡◌, ℕ, refl, sym, ap, ◌∙◌, subst, Option, Some, None}
+use Rattle.std.proofs.Common.{◌≡◌, ℕ, refl, ap, ◌∙◌, subst, Option, Some, None}
 use Rattle.std.specs.Prelude.{option_and_then, slice_get}
 use Rattle.sil_ast.specs.declared.function.Function.{Function}
 use Rattle.sil_ast.specs.declared.module.Module.{Module}
@@ -7,10 +7,10 @@ use Rattle.sil_ast.specs.declared.place.FuncId.{FuncId}
 use Rattle.holder_counts.specs.holder_model.Faults.{HolderFault}
 use Rattle.holder_counts.specs.holder_model.HolderStates.{HolderNext, HolderState}
 use Rattle.holder_counts.specs.holder_model.ModuleFacts.{facts_of}
-use Rattle.holder_counts.specs.holder_model.Outcomes.{EndsSo, Outcome, begins, outcome_after, outcome_at, outcome_with, run}
+use Rattle.holder_counts.specs.holder_model.Outcomes.{EndsSo, Outcome, begins, outcome_after, outcome_at, run}
 use Rattle.holder_counts.specs.holder_model.States.{Ending, Ends, Goes}
 use Rattle.holder_counts.specs.holder_model.Steps.{step}
-use Rattle.lockstep_runs.specs.inner.Agreeing.{EndsAsItDid, EndsIn, OutcomesAgree, RunsAgree, TellsAsItDid}
+use Rattle.lockstep_runs.specs.inner.Agreeing.{EndsAsItDid, EndsIn, TellsAsItDid}
 use Rattle.lockstep_runs.specs.inner.Laws.{AreOutcomesInLockstep}
 
 -- an outcome is told of the state in which the run ends
@@ -46,17 +46,17 @@ tells x h r did = record { events = did.events; ending = refl; left = did.left; 
 pub outcomes_in_lockstep : AreOutcomesInLockstep
 outcomes_in_lockstep m m' e bound agree = record {
   forth = λ first so.
-  let z = ends_with m e bound first so in
-  let f = agree.forth z.ending z.s z.ends in (
-    outcome_at z.ending f.second,
-    ends_so m' e bound z.ending f.second f.ends,
-    subst (λ o. TellsAsItDid o (outcome_at z.ending f.second)) z.is (tells z.ending z.s f.second f.as_it_did),
-  );
+      let z = ends_with m e bound first so in
+      let f = agree.forth z.ending z.s z.ends in (
+        outcome_at z.ending f.second,
+        ends_so m' e bound z.ending f.second f.ends,
+        subst (λ o. TellsAsItDid o (outcome_at z.ending f.second)) z.is (tells z.ending z.s f.second f.as_it_did),
+      );
   back = λ second so.
-  let z = ends_with m' e bound second so in
-  let b = agree.back z.ending z.s z.ends in (
-    outcome_at z.ending b.first,
-    ends_so m e bound z.ending b.first b.ends,
-    subst (λ o. TellsAsItDid (outcome_at z.ending b.first) o) z.is (tells z.ending b.first z.s b.as_it_did),
-  );
+      let z = ends_with m' e bound second so in
+      let b = agree.back z.ending z.s z.ends in (
+        outcome_at z.ending b.first,
+        ends_so m e bound z.ending b.first b.ends,
+        subst (λ o. TellsAsItDid (outcome_at z.ending b.first) o) z.is (tells z.ending b.first z.s b.as_it_did),
+      );
 }

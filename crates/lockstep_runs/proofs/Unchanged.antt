@@ -1,9 +1,6 @@
 -- A function that is the same in both modules, and whose frames are alike where they are the same, does alike.
-use Rattle.std.proofs.Common.{◌≡◌, ◌≤◌, ◌<◌, ℕ, zero, suc, ◌+◌, arith, List, [], ◌∷◌, length, refl, sym, ap, ◌∙◌, subst, false, Option, Some, None, Ok}
+use Rattle.std.proofs.Common.{◌≡◌, ℕ, arith, List, [], ◌∷◌, refl, sym, ap, ◌∙◌, subst, Option, Some, None}
 use Rattle.std.specs.Prelude.{slice_get, unwrap_or}
-use Rattle.std.specs.declared.result.Result.{Result}
-use Rattle.instruction_table.specs.Forms.{ending_of}
-use Rattle.instruction_table.specs.declared.entries.Ending.TheVariants as ending
 use Rattle.sil_ast.specs.declared.function.Function.{Function}
 use Rattle.sil_ast.specs.declared.inst.Inst.{Inst}
 use Rattle.sil_ast.specs.declared.module.Module.{Module}
@@ -17,23 +14,22 @@ use Rattle.ownership_chains.specs.Facts.{told_at}
 use Rattle.ownership_chains.specs.declared.facts.Facts.{Facts}
 use Rattle.type_definitions.specs.Declarations.{declarations_of}
 use Rattle.run_values.specs.Memory.{Memory}
-use Rattle.run_values.specs.Places.{Place}
 use Rattle.holder_counts.specs.holder_model.Calling.{value_count}
 use Rattle.holder_counts.specs.holder_model.Data.{Datum}
-use Rattle.holder_counts.specs.holder_model.Edges.{carried_along, edge_of}
+use Rattle.holder_counts.specs.holder_model.Edges.{edge_of}
 use Rattle.holder_counts.specs.holder_model.Effects as effects
 use Rattle.holder_counts.specs.holder_model.Effects.{Effect}
 use Rattle.holder_counts.specs.holder_model.Faults.{HolderFault}
-use Rattle.holder_counts.specs.holder_model.Frames.{Entry, Frame, LentPlace, Operands, no_entries, operands_of, results_put}
+use Rattle.holder_counts.specs.holder_model.Frames.{Entry, Frame, no_entries, operands_of, results_put}
 use Rattle.holder_counts.specs.holder_model.HolderStates.{HolderState}
 use Rattle.holder_counts.specs.holder_model.MemoryEffects.{effect}
 use Rattle.holder_counts.specs.holder_model.ModuleFacts.{ModuleFacts}
 use Rattle.holder_counts.specs.holder_model.ModuleShapes.{shapes_in}
 use Rattle.holder_counts.specs.holder_model.Standing.{stands_at}
 use Rattle.holder_counts.specs.holder_model.States.{Task}
-use Rattle.lockstep_runs.specs.inner.Frames.{AreDropsAlike, AreEdgesAlike, AreEffectsAlike, AreEndsAlike, AreInstsAlike, AreReturnsAlike, DoAlike, does, takes}
+use Rattle.lockstep_runs.specs.inner.Frames.{AreDropsAlike, AreEdgesAlike, AreEffectsAlike, AreEndsAlike, AreInstsAlike, DoAlike, does, takes}
 use Rattle.lockstep_runs.specs.inner.Lockstep.{ArePutAlike}
-use Rattle.lockstep_runs.specs.inner.Parts.{AreFramesOn, call_at, entered, puts}
+use Rattle.lockstep_runs.specs.inner.Parts.{call_at, puts}
 
 -- what is told of the values of a function
 abbrev pub told_of : ModuleFacts → FuncId → List (Option Facts)
@@ -93,8 +89,8 @@ module _ (m m' : Module) (told told' : ModuleFacts) (bound : ℕ) (First Second 
         ops,
         takes_same (item.Inst (stands_at f trail)) h.memory r.memory entries memory ∙ is,
         subst (λ e. AreEffectsAlike m m' told told' bound First Second Like Alone g f f trail trail (item.Inst (stands_at f trail)) (item.Inst (stands_at f trail))
-        ops.left ops.left rest (does m told g h.memory i ops.given) e) (sym (does_same h.memory r.memory i ops.given memory))
-        (effect_alike trail (item.Inst (stands_at f trail)) ops.left rest (does m told g h.memory i ops.given)),
+            ops.left ops.left rest (does m told g h.memory i ops.given) e) (sym (does_same h.memory r.memory i ops.given memory))
+            (effect_alike trail (item.Inst (stands_at f trail)) ops.left rest (does m told g h.memory i ops.given)),
       );
     }
 
@@ -128,19 +124,19 @@ module _ (m m' : Module) (told told' : ModuleFacts) (bound : ℕ) (First Second 
     begin = alike (item.Entry ∷ []) (no_entries (value_count f));
     enter = λ args. put_alike (item.Entry ∷ []) item.Entry args (no_entries (value_count f));
     insts = λ h r slots lent trail trail' entries entries' rest rest' on i at.
-    let s = same trail trail' entries entries' on.like in
-    subst (λ t. AreInstsAlike m m' told told' bound First Second Like Alone g f f h r trail t entries entries' rest i) (sym s.0)
-    (subst (λ es. AreInstsAlike m m' told told' bound First Second Like Alone g f f h r trail trail entries es rest i) (sym s.1)
-    (inst_alike h r on.level.memory trail entries rest i at));
+        let s = same trail trail' entries entries' on.like in
+        subst (λ t. AreInstsAlike m m' told told' bound First Second Like Alone g f f h r trail t entries entries' rest i) (sym s.0)
+        (subst (λ es. AreInstsAlike m m' told told' bound First Second Like Alone g f f h r trail trail entries es rest i) (sym s.1)
+        (inst_alike h r on.level.memory trail entries rest i at));
     ends = λ h r slots lent trail trail' entries entries' rest rest' on i at is.
-    let s = same trail trail' entries entries' on.like in
-    subst (λ t. AreEndsAlike m m' told told' bound First Second Like Alone g f f h r trail t entries entries' rest i) (sym s.0)
-    (subst (λ es. AreEndsAlike m m' told told' bound First Second Like Alone g f f h r trail trail entries es rest i) (sym s.1)
-    (end_alike h r on.level.memory trail entries rest i at is));
+        let s = same trail trail' entries entries' on.like in
+        subst (λ t. AreEndsAlike m m' told told' bound First Second Like Alone g f f h r trail t entries entries' rest i) (sym s.0)
+        (subst (λ es. AreEndsAlike m m' told told' bound First Second Like Alone g f f h r trail trail entries es rest i) (sym s.1)
+        (end_alike h r on.level.memory trail entries rest i at is));
     resume = λ trail trail' entries entries' x like.
-    let s = same trail trail' entries entries' like in
-    subst (λ t. ArePutAlike Like g (call_at f trail ∷ trail) (call_at f t ∷ t) (puts told g f (call_at f trail) (x ∷ []) entries)
-    (puts told' g f (call_at f t) (x ∷ []) entries')) (sym s.0)
-    (subst (λ es. ArePutAlike Like g (call_at f trail ∷ trail) (call_at f trail ∷ trail) (puts told g f (call_at f trail) (x ∷ []) entries)
-    (puts told' g f (call_at f trail) (x ∷ []) es)) (sym s.1) (put_alike (call_at f trail ∷ trail) (call_at f trail) (x ∷ []) entries));
+        let s = same trail trail' entries entries' like in
+        subst (λ t. ArePutAlike Like g (call_at f trail ∷ trail) (call_at f t ∷ t) (puts told g f (call_at f trail) (x ∷ []) entries)
+        (puts told' g f (call_at f t) (x ∷ []) entries')) (sym s.0)
+        (subst (λ es. ArePutAlike Like g (call_at f trail ∷ trail) (call_at f trail ∷ trail) (puts told g f (call_at f trail) (x ∷ []) entries)
+        (puts told' g f (call_at f trail) (x ∷ []) es)) (sym s.1) (put_alike (call_at f trail ∷ trail) (call_at f trail) (x ∷ []) entries));
   }

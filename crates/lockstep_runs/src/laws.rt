@@ -1,8 +1,18 @@
-//! Runs in lockstep, each law on a call that does nothing. The lemmas behind them are in `proofs/`.
+//! Runs that agree, each law on a call that does nothing. The lemmas behind them are in `proofs/`.
 
-ghost use Rattle.lockstep_runs.specs.inner.Laws.{AreOutcomesInLockstep};
+ghost use Rattle.lockstep_runs.specs.inner.Laws.{AreOutcomesInLockstep, AreUnchangedInLockstep, IsAsItDidAgain};
+
+/// Modules with the same functions and declarations run alike: the theorem on lockstep, where no function is rewritten.
+pub fn unchanged_are_in_lockstep()
+    ensures { AreUnchangedInLockstep }
+{}
 
 /// Where runs agree, what is told of them does.
 pub fn outcomes_are_in_lockstep()
     ensures { AreOutcomesInLockstep }
+{}
+
+/// A module runs as it did itself, and what is rewritten once and again runs as the first did.
+pub fn rewritten_again()
+    ensures { IsAsItDidAgain }
 {}

@@ -1,6 +1,6 @@
 -- The parts of a proof that two modules run in lockstep: what the frames of each function do, what the first run holds more, and where it goes
 -- alone. Nothing here speaks of more than one frame at a time, but for what is held.
-use Rattle.std.specs.Prelude.{◌≡◌, ℕ, List, [], ◌∷◌, false, Ok, Some, None, slice_get}
+use Rattle.std.specs.Prelude.{◌≡◌, ℕ, List, [], ◌∷◌, false, Some, slice_get}
 use Rattle.std.specs.declared.result.Result.{Result}
 use Rattle.numbered_form.specs.Names.{Name}
 use Rattle.sil_ast.specs.declared.function.Function.{Function}
