@@ -42,7 +42,7 @@ use Rattle.lockstep_runs.proofs.Locked.{runs_in_lockstep}
 
 module _ (m m' : Module) (told told' : ModuleFacts) (bound : ℕ) (First Second : HolderState → Type 0)
     (Like : FuncId → List Item → List Entry → List Item → List Entry → Type 0) (Alone : FuncId → List Item → Type 0)
-    (kept : IsKeptBy m told bound First) (functions : HasFunctions m m' told told' bound)
+    (kept : IsKeptBy m told bound First) (functions : HasFunctions m m')
     (alone : (h r : HolderState) → First h → Second r → AreTasksLike Like h.tasks r.tasks → AreLevel h r → AreInStep Like Alone m told bound h r)
     (frames : (g : FuncId) (f f' : Function) → slice_get m.functions g.0 ≡ Some f → slice_get m'.functions g.0 ≡ Some f'
     → DoAlike m m' told told' bound First Second Like Alone g f f') where

@@ -28,7 +28,7 @@ use Rattle.lockstep_runs.proofs.Drained.{in_step_drained}
 
 module _ (m m' : Module) (told told' : ModuleFacts) (bound : ℕ) (First Second : HolderState → Type 0)
     (Like : FuncId → List Item → List Entry → List Item → List Entry → Type 0) (Alone : FuncId → List Item → Type 0)
-    (kept : IsKeptBy m told bound First) (functions : HasFunctions m m' told told' bound)
+    (kept : IsKeptBy m told bound First) (functions : HasFunctions m m')
     (alone : (h r : HolderState) → First h → Second r → AreTasksLike Like h.tasks r.tasks → AreLevel h r → AreInStep Like Alone m told bound h r)
     (frames : (g : FuncId) (f f' : Function) → slice_get m.functions g.0 ≡ Some f → slice_get m'.functions g.0 ≡ Some f'
     → DoAlike m m' told told' bound First Second Like Alone g f f') where
@@ -138,7 +138,7 @@ module _ (m m' : Module) (told told' : ModuleFacts) (bound : ℕ) (First Second 
           (on_some s (steps.calls_out m told bound s rest (frame_at g slots lent trail left) f i k) (steps.numbers_of m told bound args))
           (steps.lends m' told' bound s' rest' (frame_at g slots lent' trail' left') k callee' (lends f' i' args) args)
           (on_some s' (steps.calls_out m' told' bound s' rest' (frame_at g slots lent' trail' left') f' i' k) (steps.numbers_of m' told' bound args))
-          (functions.bodied k callee callee' is is')
+          (functions.stands k callee callee' is is').bodied
           (λ so. subst (λ x. Alike (steps.lends m told bound s rest (frame_at g slots lent trail left) k callee (lends f i args) args)
           (steps.lends m' told' bound s' rest' (frame_at g slots lent' trail' left') k callee' x args)) (sym places) (lends_alike (lends f i args) like))
           (λ other. alike.some_alike m m' told told' bound First Second Like Alone s s' _ _ (steps.numbers_of m told bound args) (steps.numbers_of m' told' bound args)

@@ -8,3 +8,4 @@ pub mod FrameParts
 pub mod Unchanged
 pub mod SameFunctions
 pub mod Again
+pub mod AsTheyDid

@@ -1,23 +1,27 @@
--- Modules with the same functions and declarations run in lockstep: the least use of the theorem, where frames are alike that are the same.
+-- Modules with the same functions and declarations run as each other: the least use of the theorem, where frames are alike that are the same.
 use Rattle.std.proofs.Common.{◌≡◌, ℕ, suc, arith, List, [], ◌∷◌, refl, sym, ap, ◌∙◌, subst, Some}
-use Rattle.std.specs.Prelude.{slice_get}
+use Rattle.std.specs.Prelude.{map, slice_get}
+use Rattle.std.specs.List.{flat_map}
 use Rattle.sil_ast.specs.declared.function.Function.{Function}
 use Rattle.sil_ast.specs.declared.module.Module.{Module}
 use Rattle.sil_ast.specs.declared.place.FuncId.{FuncId}
 use Rattle.sil_ast.specs.declared.place.ObjectId.{ObjectId}
 use Rattle.sil_cfg.specs.declared.item.Item.{Item}
+use Rattle.type_definitions.specs.Declarations.{Declarations, declarations_of}
 use Rattle.holder_counts.specs.holder_model.Dropping.{deinits_of}
 use Rattle.holder_counts.specs.holder_model.Frames.{Entry, Frame, has_any}
 use Rattle.holder_counts.specs.holder_model.HolderStates.{HolderState, strong_holders}
-use Rattle.holder_counts.specs.holder_model.ModuleFacts.{ModuleFacts}
+use Rattle.holder_counts.specs.holder_model.ModuleFacts.{ModuleFacts, facts_of, function_facts}
+use Rattle.holder_counts.specs.holder_model.ModuleShapes.{class_shape, function_shapes}
 use Rattle.holder_counts.specs.holder_model.Outcomes.{run}
 use Rattle.holder_counts.specs.holder_model.States.{Drops, Finishes, Runs, Task, step_on}
 use Rattle.holder_counts.specs.holder_model.Steps.{step}
-use Rattle.lockstep_runs.specs.inner.Frames.{DoAlike}
-use Rattle.lockstep_runs.specs.inner.Laws.{AreUnchangedInLockstep, NeverFaultsFrom}
+use Rattle.lockstep_runs.specs.inner.Frames.{DoAlike, FrameParts}
+use Rattle.lockstep_runs.specs.inner.Laws.{HaveSameFunctions, NeverFaultsFrom, UnchangedRunAsTheyDid}
 use Rattle.lockstep_runs.specs.inner.Lockstep.{AreAtRest, AreTasksLike, Excess, IsKeptBy, frame_at}
-use Rattle.lockstep_runs.proofs.FrameParts.{frames_in_lockstep}
-use Rattle.lockstep_runs.proofs.Unchanged.{unchanged_does_alike}
+use Rattle.lockstep_runs.specs.inner.Parts.{HasFunctions}
+use Rattle.lockstep_runs.proofs.AsTheyDid.{run_as_they_did}
+use Rattle.lockstep_runs.proofs.Unchanged.{told_of, unchanged_does_alike}
 
 -- a run that never faults goes on so
 pub never_faults_kept : (m : Module) (told : ModuleFacts) (bound : ℕ) → IsKeptBy m told bound (NeverFaultsFrom m told bound)
@@ -54,22 +58,43 @@ holders_same : (h r : HolderState) (o : ObjectId) (tasks tasks' : List (Task Fra
 holders_same h r o tasks tasks' e memory =
     ap (λ ts. strong_holders (record r { tasks = ts }) o) e ∙ ap (λ y. strong_holders (record h { tasks = tasks; memory = y }) o) memory
 
-pub unchanged_in_lockstep : AreUnchangedInLockstep
-unchanged_in_lockstep m m' told bound e f same is never never' =
-    frames_in_lockstep m m' told told bound (NeverFaultsFrom m told bound) (NeverFaultsFrom m' told bound) Same Never (never_faults_kept m told bound)
-    (never_faults_kept m' told bound) (record {
-      functions = record {
-        function = λ g k there. (k, ap (λ fs. slice_get fs g.0) same.functions ∙ there);
-        bodied = λ g k k' there there'. let one : k' ≡ k = one_function g k k' there there' in ap (λ x. has_any x.blocks) one;
-        deinits = λ class. ap (λ d. deinits_of d class) same.declarations;
-      };
+-- what a run is told is of functions and declarations alone
+facts_same : (m m' : Module) → HaveSameFunctions m m' → facts_of m' ≡ facts_of m
+facts_same m m' same =
+    ap (told_by (declarations_of m')) same.functions ∙ ap (λ d. told_by d m.functions) same.declarations
+  where
+    told_by : Declarations → List Function → ModuleFacts
+    told_by d fs = record {
+      shapes = record { functions = map (function_shapes d) fs; classes = flat_map (class_shape d) d.decls };
+      facts = map (function_facts d) fs;
+    }
+
+module _ (m m' : Module) (same : HaveSameFunctions m m') where
+  one_function : (g : FuncId) (k k' : Function) → slice_get m.functions g.0 ≡ Some k → slice_get m'.functions g.0 ≡ Some k' → k' ≡ k
+  one_function g k k' there there' =
+      let here : slice_get m.functions g.0 ≡ Some k' = sym (ap (λ fs. slice_get fs g.0) same.functions) ∙ there' in
+      cc
+
+  functions : HasFunctions m m'
+  functions = record {
+    function = λ g k there. (k, ap (λ fs. slice_get fs g.0) same.functions ∙ there);
+    back = λ g k there. (k, sym (ap (λ fs. slice_get fs g.0) same.functions) ∙ there);
+    stands = λ g k k' there there'.
+    let one : k' ≡ k = one_function g k k' there there' in
+    record { bodied = ap (λ (x : Function). has_any x.blocks) one; signature = ap (λ (x : Function). x.signature) one };
+    deinits = λ class. ap (λ d. deinits_of d class) same.declarations;
+  }
+
+  module _ (told told' : ModuleFacts) (facts : told' ≡ told) (bound : ℕ) (First Second : HolderState → Type 0) where
+    parts : FrameParts m m' told told' bound First Second Same Never
+    parts = record {
+      functions = functions;
       frames = λ g k k' there there'.
-          subst (λ x. DoAlike m m' told told bound (NeverFaultsFrom m told bound) (NeverFaultsFrom m' told bound) Same Never g k x)
-          (sym (one_function g k k' there there'))
-          (unchanged_does_alike m m' told told bound (NeverFaultsFrom m told bound) (NeverFaultsFrom m' told bound) Same Never same.declarations refl g k refl
-          (λ trail trail' entries entries' like. like) (λ trail entries. (refl, refl)));
+      subst (λ x. DoAlike m m' told told' bound First Second Same Never g k x) (sym (one_function g k k' there there'))
+      (unchanged_does_alike m m' told told' bound First Second Same Never same.declarations (ap (λ t. t.shapes) facts) g k (ap (λ t. told_of t g) facts)
+      (λ trail trail' entries entries' like. like) (λ trail entries. (refl, refl)));
       dropped = λ h r o os rest rest' at. no_excess _ _ _ (holders_same h r o (Drops os ∷ rest) (Drops os ∷ rest')
-          (ap (λ ts. Drops os ∷ ts) (same_tasks rest rest' at.below)) at.level.memory);
+      (ap (λ ts. Drops os ∷ ts) (same_tasks rest rest' at.below)) at.level.memory);
       finished = λ h r o rest rest' at. no_excess _ _ _ (holders_same h r o rest rest' (same_tasks rest rest' at.below) at.level.memory);
       alone = λ h r first second like level. record {
         ahead = 0;
@@ -77,9 +102,12 @@ unchanged_in_lockstep m m' told bound e f same is never never' =
         comes = refl;
         together = record { tasks = like; level = level; rest = at_rest h.tasks };
       };
-    }) e f f is (ap (λ fs. slice_get fs e.0) same.functions ∙ is) never never'
-  where
-    one_function : (g : FuncId) (k k' : Function) → slice_get m.functions g.0 ≡ Some k → slice_get m'.functions g.0 ≡ Some k' → k' ≡ k
-    one_function g k k' there there' =
-        let here : slice_get m.functions g.0 ≡ Some k' = sym (ap (λ fs. slice_get fs g.0) same.functions) ∙ there' in
-        cc
+    }
+
+pub unchanged_run_as_they_did : UnchangedRunAsTheyDid
+unchanged_run_as_they_did m m' same never never' =
+    run_as_they_did m m' (NeverFaultsFrom m (facts_of m)) (NeverFaultsFrom m' (facts_of m')) Same Never
+    (record { begin = never; kept = never_faults_kept m (facts_of m) }) (record { begin = never'; kept = never_faults_kept m' (facts_of m') })
+    (functions m m' same)
+    (λ bound. parts m m' same (facts_of m) (facts_of m') (facts_same m m' same) bound (NeverFaultsFrom m (facts_of m) bound)
+    (NeverFaultsFrom m' (facts_of m') bound))

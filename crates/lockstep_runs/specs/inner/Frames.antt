@@ -175,7 +175,7 @@ module _ (m m' : Module) (told told' : ModuleFacts) (bound : ℕ) (First Second 
 -- The parts, by what frames do.
 pub record FrameParts (m m' : Module) (told told' : ModuleFacts) (bound : ℕ) (First Second : HolderState → Type 0)
     (Like : FuncId → List Item → List Entry → List Item → List Entry → Type 0) (Alone : FuncId → List Item → Type 0) : Type 0 where
-  pub functions : HasFunctions m m' told told' bound
+  pub functions : HasFunctions m m'
   pub frames : (g : FuncId) (f f' : Function) → slice_get m.functions g.0 ≡ Some f → slice_get m'.functions g.0 ≡ Some f'
       → DoAlike m m' told told' bound First Second Like Alone g f f'
   pub dropped : AreDropsCovered m m' told told' bound First Second Like Alone

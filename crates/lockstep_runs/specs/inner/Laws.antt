@@ -1,5 +1,5 @@
 -- Laws of runs in lockstep.
-use Rattle.std.specs.Prelude.{◌≡◌, ℕ, List, Some, slice_get}
+use Rattle.std.specs.Prelude.{◌≡◌, ℕ, List, true, Some, slice_get}
 use Rattle.sil_ast.specs.declared.function.Function.{Function}
 use Rattle.sil_ast.specs.declared.module.Module.{Module}
 use Rattle.sil_ast.specs.declared.place.FuncId.{FuncId}
@@ -9,13 +9,13 @@ use Rattle.holder_counts.specs.holder_model.Faults.{HolderFault}
 use Rattle.holder_counts.specs.holder_model.Frames.{Entry}
 use Rattle.holder_counts.specs.holder_model.HolderStates.{HolderState}
 use Rattle.holder_counts.specs.holder_model.ModuleFacts.{ModuleFacts, facts_of}
-use Rattle.holder_counts.specs.holder_model.Outcomes.{begins, run}
+use Rattle.holder_counts.specs.holder_model.Outcomes.{begins, may_start, run}
 use Rattle.holder_counts.specs.holder_model.States.{Ends, Faulted}
 use Rattle.holder_counts.specs.holder_model.Steps.{step}
 use Rattle.lockstep_runs.specs.inner.Agreeing.{OutcomesAgree, RunsAgree, RunsAsItDid}
 use Rattle.lockstep_runs.specs.inner.Lockstep.{IsKeptBy}
 use Rattle.lockstep_runs.specs.inner.Frames.{FrameParts}
-use Rattle.lockstep_runs.specs.inner.Parts.{Parts}
+use Rattle.lockstep_runs.specs.inner.Parts.{HasFunctions, Parts}
 
 -- so it is of whole runs, from these parts
 abbrev pub RunsAgreeBy : ((m m' : Module) (told told' : ModuleFacts) (bound : ℕ) (First Second : HolderState → Type 0)
@@ -34,6 +34,17 @@ AreRunsInLockstep = RunsAgreeBy Parts
 abbrev pub AreFramesInLockstep : Type 1
 AreFramesInLockstep = RunsAgreeBy FrameParts
 
+-- what holds of the states of all runs of a module, for each bound on turns. None of them faults
+pub record HoldsOnRuns (m : Module) (Holds : ℕ → HolderState → Type 0) : Type 0 where
+  pub begin : (bound : ℕ) (e : FuncId) (f : Function) → slice_get m.functions e.0 ≡ Some f → may_start f ≡ true → Holds bound (begins e f)
+  pub kept : (bound : ℕ) → IsKeptBy m (facts_of m) bound (Holds bound)
+
+-- So a module runs as it did, where the parts are proved for each bound.
+abbrev pub RunAsTheyDid : Type 1
+RunAsTheyDid = (m m' : Module) (First Second : ℕ → HolderState → Type 0) (Like : FuncId → List Item → List Entry → List Item → List Entry → Type 0)
+    (Alone : FuncId → List Item → Type 0) → HoldsOnRuns m First → HoldsOnRuns m' Second → HasFunctions m m'
+    → ((bound : ℕ) → FrameParts m m' (facts_of m) (facts_of m') bound (First bound) (Second bound) Like Alone) → RunsAsItDid m m'
+
 -- and of what is told of them
 abbrev pub AreOutcomesInLockstep : Type 0
 AreOutcomesInLockstep = (m m' : Module) (e : FuncId) (bound : ℕ) → RunsAgree m m' (facts_of m) (facts_of m') e bound → OutcomesAgree m m' e bound
@@ -42,15 +53,17 @@ AreOutcomesInLockstep = (m m' : Module) (e : FuncId) (bound : ℕ) → RunsAgree
 abbrev pub NeverFaultsFrom : Module → ModuleFacts → ℕ → HolderState → Type 0
 NeverFaultsFrom m told bound s = (steps : ℕ) (last : HolderState) (x : HolderFault) → run (step m told bound) steps s ≡ Ends (Faulted x) last → ⊥
 
+abbrev pub RunsNeverFault : Module → Type 0
+RunsNeverFault m = (bound : ℕ) (e : FuncId) (f : Function) → slice_get m.functions e.0 ≡ Some f → may_start f ≡ true
+    → NeverFaultsFrom m (facts_of m) bound (begins e f)
+
 -- modules with the same functions and declarations run alike, whatever else they differ in
 pub record HaveSameFunctions (m m' : Module) : Type 0 where
   pub functions : m'.functions ≡ m.functions
   pub declarations : declarations_of m' ≡ declarations_of m
 
-abbrev pub AreUnchangedInLockstep : Type 0
-AreUnchangedInLockstep = (m m' : Module) (told : ModuleFacts) (bound : ℕ) (e : FuncId) (f : Function) → HaveSameFunctions m m'
-    → slice_get m.functions e.0 ≡ Some f → NeverFaultsFrom m told bound (begins e f) → NeverFaultsFrom m' told bound (begins e f)
-    → RunsAgree m m' told told e bound
+abbrev pub UnchangedRunAsTheyDid : Type 0
+UnchangedRunAsTheyDid = (m m' : Module) → HaveSameFunctions m m' → RunsNeverFault m → RunsNeverFault m' → RunsAsItDid m m'
 
 -- a module runs as itself, and what is rewritten once and again as the first one did
 abbrev pub IsAsItDidAgain : Type 0

@@ -40,14 +40,19 @@ call_at f trail = item.Inst (stands_at f trail)
 abbrev pub with_tasks : HolderState → List (Task Frame) → HolderState
 with_tasks s tasks = record s { tasks = tasks }
 
-module _ (m m' : Module) (told told' : ModuleFacts) (bound : ℕ) where
-  -- the second module has a function for each of the first one's, and deinitialises alike
-  pub record HasFunctions : Type 0 where
-    pub function : (g : FuncId) (f : Function) → slice_get m.functions g.0 ≡ Some f → (f' : Function) × (slice_get m'.functions g.0 ≡ Some f')
-    pub bodied : (g : FuncId) (f f' : Function) → slice_get m.functions g.0 ≡ Some f → slice_get m'.functions g.0 ≡ Some f'
-        → has_any f'.blocks ≡ has_any f.blocks
-    pub deinits : (class : Name) → deinits_of (declarations_of m') class ≡ deinits_of (declarations_of m) class
+-- a function and what stands for it in the second module
+pub record StandsFor (f f' : Function) : Type 0 where
+  pub bodied : has_any f'.blocks ≡ has_any f.blocks
+  pub signature : f'.signature ≡ f.signature
 
+-- the two modules have the same functions but for what these do, and deinitialise alike
+pub record HasFunctions (m m' : Module) : Type 0 where
+  pub function : (g : FuncId) (f : Function) → slice_get m.functions g.0 ≡ Some f → (f' : Function) × (slice_get m'.functions g.0 ≡ Some f')
+  pub back : (g : FuncId) (f' : Function) → slice_get m'.functions g.0 ≡ Some f' → (f : Function) × (slice_get m.functions g.0 ≡ Some f)
+  pub stands : (g : FuncId) (f f' : Function) → slice_get m.functions g.0 ≡ Some f → slice_get m'.functions g.0 ≡ Some f' → StandsFor f f'
+  pub deinits : (class : Name) → deinits_of (declarations_of m') class ≡ deinits_of (declarations_of m) class
+
+module _ (m m' : Module) (told told' : ModuleFacts) (bound : ℕ) where
   module _ (First Second : HolderState → Type 0) (Like : FuncId → List Item → List Entry → List Item → List Entry → Type 0)
       (Alone : FuncId → List Item → Type 0) where
     -- two states, and the frames of a function that go on in them
@@ -100,7 +105,7 @@ module _ (m m' : Module) (told told' : ModuleFacts) (bound : ℕ) where
     ComeTogether = (h r : HolderState) → First h → Second r → AreTasksLike Like h.tasks r.tasks → AreLevel h r → AreInStep Like Alone m told bound h r
 
     pub record Parts : Type 0 where
-      pub functions : HasFunctions
+      pub functions : HasFunctions m m'
       pub frames : (g : FuncId) (f f' : Function) → slice_get m.functions g.0 ≡ Some f → slice_get m'.functions g.0 ≡ Some f' → FramesAgree g f f'
       pub dropped : AreDropsCovered
       pub finished : AreFinishesCovered
