@@ -33,7 +33,7 @@ run_as_they_did m m' First Second Like Alone first second functions parts = reco
   starts = starts m m' functions;
   started = started m m' functions;
   agree = λ e bound may.
-  let other : MayStartAt m' e = starts m m' functions e may in
-  frames_in_lockstep m m' (facts_of m) (facts_of m') bound (First bound) (Second bound) Like Alone (first.kept bound) (second.kept bound) (parts bound) e may.f
-  other.f may.is other.is (first.begin bound e may.f may.is may.may) (second.begin bound e other.f other.is other.may);
+      let other : MayStartAt m' e = starts m m' functions e may in
+      frames_in_lockstep m m' (facts_of m) (facts_of m') bound (First bound) (Second bound) Like Alone (first.kept bound) (second.kept bound) (parts bound) e may.f
+      other.f may.is other.is (first.begin bound e may.f may.is may.may) (second.begin bound e other.f other.is other.may);
 }

@@ -80,8 +80,8 @@ module _ (m m' : Module) (same : HaveSameFunctions m m') where
     function = λ g k there. (k, ap (λ fs. slice_get fs g.0) same.functions ∙ there);
     back = λ g k there. (k, sym (ap (λ fs. slice_get fs g.0) same.functions) ∙ there);
     stands = λ g k k' there there'.
-    let one : k' ≡ k = one_function g k k' there there' in
-    record { bodied = ap (λ (x : Function). has_any x.blocks) one; signature = ap (λ (x : Function). x.signature) one };
+        let one : k' ≡ k = one_function g k k' there there' in
+        record { bodied = ap (λ (x : Function). has_any x.blocks) one; signature = ap (λ (x : Function). x.signature) one };
     deinits = λ class. ap (λ d. deinits_of d class) same.declarations;
   }
 
@@ -90,11 +90,11 @@ module _ (m m' : Module) (same : HaveSameFunctions m m') where
     parts = record {
       functions = functions;
       frames = λ g k k' there there'.
-      subst (λ x. DoAlike m m' told told' bound First Second Same Never g k x) (sym (one_function g k k' there there'))
-      (unchanged_does_alike m m' told told' bound First Second Same Never same.declarations (ap (λ t. t.shapes) facts) g k (ap (λ t. told_of t g) facts)
-      (λ trail trail' entries entries' like. like) (λ trail entries. (refl, refl)));
+          subst (λ x. DoAlike m m' told told' bound First Second Same Never g k x) (sym (one_function g k k' there there'))
+          (unchanged_does_alike m m' told told' bound First Second Same Never same.declarations (ap (λ t. t.shapes) facts) g k (ap (λ t. told_of t g) facts)
+          (λ trail trail' entries entries' like. like) (λ trail entries. (refl, refl)));
       dropped = λ h r o os rest rest' at. no_excess _ _ _ (holders_same h r o (Drops os ∷ rest) (Drops os ∷ rest')
-      (ap (λ ts. Drops os ∷ ts) (same_tasks rest rest' at.below)) at.level.memory);
+          (ap (λ ts. Drops os ∷ ts) (same_tasks rest rest' at.below)) at.level.memory);
       finished = λ h r o rest rest' at. no_excess _ _ _ (holders_same h r o rest rest' (same_tasks rest rest' at.below) at.level.memory);
       alone = λ h r first second like level. record {
         ahead = 0;
