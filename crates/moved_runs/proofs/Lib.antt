@@ -1,0 +1,4 @@
+pub mod ClearedEntries
+pub mod MovedPoints
+pub mod Quiet
+pub mod SameTold
