@@ -44,6 +44,11 @@ module _ (facts : ValueId → Option Facts) where
   abbrev pub EndNot : ValueId → List Taken → Type 0
   EndNot w ts = Each (λ (t : Taken). ends facts t ≡ true → t.value.0 ≡ w.0 → ⊥) ts
 
+  -- what isn't taken isn't ended
+  pub others_end_not : (v : ValueId) (ts : List Taken) → AreOthers v ts → EndNot v ts
+  others_end_not v [] others = tt
+  others_end_not v (t ∷ ts) others = (λ is e. others.0 e, others_end_not v ts others.1)
+
   pub left_kept : (w : ValueId) (ts : List Taken) (es left : List Entry) → EndNot w ts → without_ended facts ts es ≡ Ok left → entry_at left w ≡ entry_at es w
   left_kept w [] es left none is = let same : es ≡ left = cc in ap (λ l. entry_at l w) (sym same)
   left_kept w (t ∷ ts) es left none is = by (λ l h. left_kept w ts l left none.1 h) (ends facts t) (none.0) is

@@ -2,3 +2,4 @@ pub mod ClearedEntries
 pub mod MovedPoints
 pub mod Quiet
 pub mod SameTold
+pub mod DoMoved

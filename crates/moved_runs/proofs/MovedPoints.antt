@@ -51,12 +51,12 @@ module _ {f : Function} {p : PointId} {last : ℕ} {c v : ValueId} (s : IsSplit 
 
   -- in the block, where a frame doesn't lag, it stands before the copy or behind the destroy
   before_copy : (q : PointId) → (LagsAt q → ⊥) → (q ≡ p → ⊥) → q.block.0 ≡ p.block.0 → q.index < last → q.index < p.index
-  before_copy q no ne block lt = by (cases_lt q.index p.index) (cases_eq q.index p.index)
+  before_copy q outside ne block lt = by (cases_lt q.index p.index) (cases_eq q.index p.index)
     where
       by : (q.index < p.index) ⊎ (p.index ≤ q.index) → (q.index ≡ p.index) ⊎ (q.index ≡ p.index → ⊥) → q.index < p.index
       by (inl x) y = x
       by (inr x) (inl y) = absurd (ne (one_point q p block y))
-      by (inr x) (inr y) = absurd (no (record { block = block; behind = beyond p.index q.index x y; until = omega arith }))
+      by (inr x) (inr y) = absurd (outside (record { block = block; behind = beyond p.index q.index x y; until = omega arith }))
         where
           beyond : (a b : ℕ) → a ≤ b → (b ≡ a → ⊥) → a < b
           beyond a b le other = ⊎_elim (λ (x : a < b). x) (λ (x : b ≤ a). absurd (other (omega (arith, x, le)))) (cases_lt a b)
@@ -64,7 +64,7 @@ module _ {f : Function} {p : PointId} {last : ℕ} {c v : ValueId} (s : IsSplit 
   -- behind another item than the copy
   pub level_behind : (q q' : PointId) → q ≡ old_point p last q' → (LagsAt q → ⊥) → (q ≡ p → ⊥)
       → (point_behind q ≡ old_point p last (point_behind q')) × (LagsAt (point_behind q) → ⊥)
-  level_behind q q' e no ne = by_block (cases_eq q'.block.0 p.block.0)
+  level_behind q q' e outside ne = by_block (cases_eq q'.block.0 p.block.0)
     where
       by_place : q'.block.0 ≡ p.block.0 → (q'.index < last) ⊎ (last ≤ q'.index)
           → (point_behind q ≡ old_point p last (point_behind q')) × (LagsAt (point_behind q) → ⊥)
@@ -72,7 +72,7 @@ module _ {f : Function} {p : PointId} {last : ℕ} {c v : ValueId} (s : IsSplit 
           let same : q ≡ q' = e ∙ old_before q' b lt in
           let index : q.index ≡ q'.index = ap (λ (r : PointId). r.index) same in
           let block : q.block.0 ≡ p.block.0 = ap (λ (r : PointId). r.block.0) same ∙ b in
-          let before : q.index < p.index = before_copy q no ne block (let a = index in omega (arith, a, lt)) in
+          let before : q.index < p.index = before_copy q outside ne block (let a = index in omega (arith, a, lt)) in
           let first = copy_first in (ap point_behind same ∙ sym (old_before (point_behind q') b (omega arith)), λ lags. let after = lags.behind in absurd (omega arith))
       by_place b (inr le) =
           let same : q ≡ point_behind q' = e ∙ old_behind q' b le in
@@ -91,12 +91,12 @@ module _ {f : Function} {p : PointId} {last : ℕ} {c v : ValueId} (s : IsSplit 
   lags_behind q h ne = record {
     block = h.block;
     behind = let lt = h.behind in omega arith;
-    until = before;
+    until = by (cases_lt q.index last);
   }
     where
-      before : suc q.index ≤ last
-      before = ⊎_elim (λ (x : q.index < last). omega (arith, x)) (λ (x : last ≤ q.index).
-      let le = h.until in absurd (ne (one_point q (point_at p.block.0 last) h.block (omega (arith, x, le))))) (cases_lt q.index last)
+      by : (q.index < last) ⊎ (last ≤ q.index) → suc q.index ≤ last
+      by (inl lt) = omega (arith, lt)
+      by (inr le) = let end = h.until in absurd (ne (one_point q (point_at p.block.0 last) h.block (omega (arith, le, end))))
 
   -- the destroy is alone in the first run, which then stands where the second one does
   pub level_behind_gone : (point_behind (point_at p.block.0 last) ≡ old_point p last (point_at p.block.0 last)) × (LagsAt (point_behind (point_at p.block.0 last)) → ⊥)

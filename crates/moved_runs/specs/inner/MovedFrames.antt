@@ -1,5 +1,5 @@
 -- The frames of a function in two runs, where in the second one a copy c of v is a move, and a destroy of v behind it in its block is gone.
-use Rattle.std.specs.Prelude.{◌≡◌, ◌<◌, ◌≤◌, ℕ, List, set}
+use Rattle.std.specs.Prelude.{◌≡◌, ◌<◌, ◌≤◌, ◌⊎◌, ℕ, List, ◌∷◌, length, set}
 use Rattle.sil_ast.specs.declared.function.Function.{Function}
 use Rattle.sil_ast.specs.declared.place.FuncId.{FuncId}
 use Rattle.sil_ast.specs.declared.place.PointId.{PointId}
@@ -7,7 +7,11 @@ use Rattle.sil_ast.specs.declared.place.ValueId.{ValueId}
 use Rattle.sil_cfg.specs.Items.{point_at}
 use Rattle.sil_cfg.specs.declared.item.Item.{Item}
 use Rattle.holder_counts.specs.holder_model.Data.{Datum}
-use Rattle.holder_counts.specs.holder_model.Frames.{Entry, Gone, Held, entry_at}
+use Rattle.holder_counts.specs.holder_model.Frames.{Entry, Frame, Gone, Held, LentPlace, entry_at}
+use Rattle.holder_counts.specs.holder_model.HolderStates.{HolderState}
+use Rattle.holder_counts.specs.holder_model.States.{Runs, Task}
+use Rattle.lockstep_runs.specs.inner.Lockstep.{frame_at}
+use Rattle.run_values.specs.Places.{Place}
 use Rattle.holder_counts.specs.holder_model.Standing.{stands_at}
 use Rattle.moved_functions.specs.inner.Structure.{old_point}
 
@@ -39,3 +43,14 @@ module _ (p : PointId) (c v : ValueId) (last : ℕ) where
     -- the first run alone has the destroy
     abbrev pub IsAlone : FuncId → List Item → Type 0
     IsAlone g trail = (g.0 ≡ n) × (stands_at f trail ≡ point_at p.block.0 last)
+
+    -- what is known of the frames of the function in the states of the first run
+    pub record KnowsFrames (First : HolderState → Type 0) : Type 0 where
+      -- v's entry is gone or held, and c has an entry
+      pub held : (h : HolderState) → First h → (g : FuncId) → g.0 ≡ n → (slots : List Place) (lent : List LentPlace) (trail : List Item) (entries : List Entry)
+          (rest : List (Task Frame)) → h.tasks ≡ Runs (frame_at g slots lent trail entries) ∷ rest
+          → ((entry_at entries v ≡ Gone) ⊎ ((y : Datum) × (entry_at entries v ≡ Held y))) × (c.0 < length entries)
+      -- none waits for a callee at the copy
+      pub waits : (h : HolderState) → First h → (callee : Frame) (g : FuncId) → g.0 ≡ n → (slots : List Place) (lent : List LentPlace) (trail : List Item)
+          (entries : List Entry) (rest : List (Task Frame)) → h.tasks ≡ Runs callee ∷ Runs (frame_at g slots lent trail entries) ∷ rest
+          → stands_at f trail ≡ p → ⊥
