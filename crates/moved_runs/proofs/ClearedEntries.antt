@@ -15,6 +15,9 @@ use Rattle.holder_counts.specs.holder_model.Frames.{Entry, Gone, Held, Lent, Pla
 use Rattle.holder_counts.specs.holder_model.Frames.{operand, operand_data, operands_of, put_entry, result_put, results_put, unless_dead, used_datum, with_ok, without_ended}
 use Rattle.held_entries.proofs.EntriesEnded.{entry_set_other}
 
+pub same_ok : {A : Type 0} (a b : A) → (let r : Result A HolderFault = Ok a in r) ≡ Ok b → a ≡ b
+same_ok a b e = cc
+
 -- ---- one entry
 
 pub set_swap : (es : List Entry) (a b : ℕ) (x y : Entry) → (b ≡ a → ⊥) → set (set es a x) b y ≡ set (set es b y) a x

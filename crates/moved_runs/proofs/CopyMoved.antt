@@ -70,7 +70,7 @@ use Rattle.moved_functions.proofs.Marks.{copy_defines, move_defines}
 use Rattle.moved_functions.proofs.Places.{copy_stood, destroy_stood, inst_elsewhere, inst_there}
 use Rattle.moved_functions.proofs.Split.{move_of}
 use Rattle.moved_functions.proofs.TheCopy.{copy_op}
-use Rattle.moved_runs.proofs.ClearedEntries.{puts_first}
+use Rattle.moved_runs.proofs.ClearedEntries.{puts_first, same_ok}
 use Rattle.moved_runs.proofs.DoMoved as kinds
 use Rattle.moved_runs.proofs.MovedPoints.{at_copy, lags_behind_copy}
 use Rattle.moved_runs.proofs.TheCopied.{consumed, copies_so, moves_so, used}
@@ -132,9 +132,8 @@ module _ (m : Module) (n : ℕ) (f : Function) (verified : IsVerified m) (in_mod
       copy_put y es held within behind is =
           let put_is : results_put facts (c ∷ []) (y ∷ []) es ≡ Ok behind = ap (λ vs. results_put facts vs (y ∷ []) es) (sym here_defines) ∙ is in
           let one = puts_first facts c [] y [] es behind put_is in
-          let made : Ok (Held y) ≡ Ok one.entry = sym (ap (λ k. made_entry k y) c_kind) ∙ one.made in
-          let entry : one.entry ≡ Held y = entry_is one.entry made in
-          let more : set es c.0 one.entry ≡ behind = left_is (set es c.0 one.entry) behind one.more in (
+          let entry : one.entry ≡ Held y = sym (same_ok (Held y) one.entry (sym (ap (λ k. made_entry k y) c_kind) ∙ one.made)) in
+          let more : set es c.0 one.entry ≡ behind = same_ok (set es c.0 one.entry) behind one.more in (
             set behind v.0 Gone,
             ap (λ vs. results_put facts vs (y ∷ []) (set es v.0 Gone)) there_defines ∙ put_cleared facts v y (c ∷ []) (y ∷ []) es behind put_is held,
             IsLike.here g_is (AreAt.lagging (ap point_behind (at' ∙ sym at)) (subst (λ q. Lags p c v last (point_behind q)) (sym at) (lags_behind_copy s)) (record {
@@ -144,14 +143,8 @@ module _ (m : Module) (n : ℕ) (f : Function) (verified : IsVerified m) (in_mod
               cleared = refl;
             })),
           )
-        where
-          entry_is : (e : Entry) → Ok (Held y) ≡ Ok e → e ≡ Held y
-          entry_is e q = cc
 
-          left_is : (a b : List Entry) → Ok a ≡ Ok b → a ≡ b
-          left_is a b q = cc
-
-      copy_inst : (h r : HolderState) (entries entries' : List Entry) (rest : List (Task Frame)) → r.memory ≡ h.memory → entries' ≡ entries
+      pub copy_inst : (h r : HolderState) (entries entries' : List Entry) (rest : List (Task Frame)) → r.memory ≡ h.memory → entries' ≡ entries
           → (entry_at entries v ≡ Gone) ⊎ ((y : Datum) × (entry_at entries v ≡ Held y)) → c.0 < length entries → (i : Inst) → inst_at f (stands_at f trail) ≡ Some i
           → AreInstsAlike m m' told told bound First Second Like Alone g f f' h r trail trail' entries entries' rest i
       copy_inst h r entries entries' rest memory same entry within i stands = record {

@@ -14,6 +14,7 @@ use Rattle.holder_counts.specs.holder_model.Frames.{Entry, Frame, Gone, Held, en
 use Rattle.holder_counts.specs.holder_model.HolderStates.{HolderState, in_entry, in_task, strong_holders}
 use Rattle.holder_counts.specs.holder_model.Holders.{in_memory, of_references, one_object}
 use Rattle.holder_counts.specs.holder_model.ModuleFacts.{ModuleFacts}
+use Rattle.holder_counts.specs.holder_model.Standing.{stands_at}
 use Rattle.holder_counts.specs.holder_model.States.{Drops, Finishes, Runs, Task}
 use Rattle.holder_counts.specs.inner.Moving.{in_tasks}
 use Rattle.holder_counts.specs.inner.Taking.{in_entries}
@@ -58,7 +59,7 @@ both_more a a' b b' x y =
     record { more = k + l; sum = omega (arith, i, j); held = λ some. held k l x.held y.held some }
   where
     held : (k l : ℕ) → (0 < k → 0 < a') → (0 < l → 0 < b') → 0 < k + l → 0 < a' + b'
-    held zero l f g some = let z = g some in omega (arith, z)
+    held zero l f g some = let z = g (omega (arith, some)) in omega (arith, z)
     held (suc k) l f g some = let z = f (omega arith) in omega (arith, z)
 
 module _ (p : PointId) (c v : ValueId) (last : ℕ) (n : ℕ) (f f' : Function) (apart : c.0 ≡ v.0 → ⊥) where
@@ -84,7 +85,7 @@ module _ (p : PointId) (c v : ValueId) (last : ℕ) (n : ℕ) (f f' : Function) 
     frames_more g t t' es es' (IsLike.elsewhere other trail same) = same_total _ _ (ap (in_entries weight) (sym same))
     frames_more g t t' es es' (IsLike.here is at) = by at
       where
-        by : AreAt p c v last _ _ es es' → IsMore (in_entries weight es) (in_entries weight es')
+        by : AreAt p c v last (stands_at f t) (stands_at f' t') es es' → IsMore (in_entries weight es) (in_entries weight es')
         by (AreAt.level point outside same) = same_total _ _ (ap (in_entries weight) (sym same))
         by (AreAt.lagging point lags cleared) = cleared_more es es' cleared
 

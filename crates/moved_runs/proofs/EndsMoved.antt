@@ -276,7 +276,8 @@ module _ (m : Module) (n : ℕ) (f : Function) (verified : IsVerified m) (in_mod
         by (inl at) behind put_is =
             absurd (none_put (item_defined f (call_at f trail))
             (ap (λ q. item_defined f (item.Inst q)) at ∙ destroy_defines s (destroy_makes_none m n f verified in_module s)) behind put_is)
-        by (inr ne) = lag_put m n f verified in_module s owned quiet bound First Second g g_is trail trail' same lags ne (x ∷ []) entries entries' cleared
+        by (inr ne) behind put_is =
+            lag_put m n f verified in_module s owned quiet bound First Second g g_is trail trail' same lags ne (x ∷ []) entries entries' cleared behind put_is
 
     -- ---- together
 

@@ -3,3 +3,10 @@ pub mod MovedPoints
 pub mod Quiet
 pub mod SameTold
 pub mod DoMoved
+pub mod TheCopied
+pub mod CopyMoved
+pub mod EndsMoved
+pub mod Covered
+pub mod Together
+pub mod KnownFrames
+pub mod InRuns

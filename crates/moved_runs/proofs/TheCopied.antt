@@ -22,7 +22,7 @@ use Rattle.holder_counts.specs.holder_model.Frames.{operand_data, operands_of, u
 use Rattle.holder_counts.specs.holder_model.MemoryEffects.{at_places, effect}
 use Rattle.holder_counts.specs.holder_model.ModuleShapes.{ModuleShapes}
 use Rattle.moved_functions.proofs.Marks.{known}
-use Rattle.moved_runs.proofs.ClearedEntries.{taken_by, taken_from}
+use Rattle.moved_runs.proofs.ClearedEntries.{AreTakenBy, same_ok, taken_by}
 
 module _ (facts : ValueId → Option Facts) (v : ValueId) (owned : is_owned (known_or facts v).kind ≡ true) (x : Operand) (is_v : x.value ≡ v) where
   facts_known : (y : Facts) × (facts v ≡ Some y) × (y.kind ≡ kind.Owned)
@@ -51,14 +51,15 @@ module _ (facts : ValueId → Option Facts) (v : ValueId) (owned : is_owned (kno
       → operands_of facts mem es (taken_as x (by_row role.Used) ∷ []) ≡ Ok ops → IsUsed mem es ops
   used mem es ops entry is = by_entry entry
     where
+      parts : AreTakenBy facts mem es (taken_as x (by_row role.Used) ∷ []) ops
       parts = taken_by facts mem es (taken_as x (by_row role.Used) ∷ []) ops is
 
-      left_is : Ok es ≡ Ok ops.left
+      left_is : (let r : Result (List Entry) HolderFault = Ok es in r) ≡ Ok ops.left
       left_is =
           sym (ap (λ b. cond b (with_ok (without_ended facts []) (ended_entry x.value es (entry_at es x.value))) (Ok es)) used_stays) ∙ parts.left
 
       left : ops.left ≡ es
-      left = let same : es ≡ ops.left = cc in sym same
+      left = sym (same_ok es ops.left left_is)
 
       given_is : with_ok (λ y. and_more y (Ok [])) (with_ok (unless_dead mem) (used_datum role.Used (entry_at es v))) ≡ Ok ops.given
       given_is =
@@ -75,7 +76,7 @@ module _ (facts : ValueId → Option Facts) (v : ValueId) (owned : is_owned (kno
         datum = y;
         held = held;
         alive = ap (λ b. cond b (Err NamesDead) (Ok y)) dead;
-        given = let same : y ∷ [] ≡ ops.given = cc in sym same;
+        given = sym (same_ok (y ∷ []) ops.given e);
         left = left;
       }
 
@@ -93,8 +94,9 @@ module _ (facts : ValueId → Option Facts) (v : ValueId) (owned : is_owned (kno
   pub consumed : (mem : Memory) (es : List Entry) (y : Datum) (b : Bool) → entry_at es v ≡ Held y → any_dead mem (references_in y) ≡ b
       → operands_of facts mem es (taken_as x (by_row role.Consumed) ∷ []) ≡ cond b (Err NamesDead) (Ok (record { given = y ∷ []; left = set es v.0 Gone }))
   consumed mem es y b held dead =
-      ap (with_ok (λ left. with_ok (λ xs. Ok (record { given = xs; left = left })) (operand_data facts mem es left (taken_as x (by_row role.Consumed) ∷ [])))) left_is
-      ∙ ap (λ o. with_ok (λ xs. Ok (record { given = xs; left = set es v.0 Gone })) (with_ok (λ z. and_more z (Ok [])) o)) operand_is
+      ap (with_ok {B = Operands} (λ left. with_ok {B = Operands} (λ xs. Ok (record { given = xs; left = left }))
+      (operand_data facts mem es left (taken_as x (by_row role.Consumed) ∷ [])))) left_is
+      ∙ ap (λ o. with_ok {B = Operands} (λ xs. Ok (record { given = xs; left = set es v.0 Gone })) (with_ok (λ z. and_more z (Ok [])) o)) operand_is
       ∙ by b
     where
       left_is : without_ended facts (taken_as x (by_row role.Consumed) ∷ []) es ≡ Ok (set es v.0 Gone)
@@ -110,7 +112,7 @@ module _ (facts : ValueId → Option Facts) (v : ValueId) (owned : is_owned (kno
           ∙ ap (λ e. with_ok (unless_dead mem) (datum_or_fault (datum_in e))) held
           ∙ ap (λ b. cond b (Err NamesDead) (Ok y)) dead
 
-      by : (b : Bool) → with_ok (λ xs. Ok (record { given = xs; left = set es v.0 Gone })) (with_ok (λ z. and_more z (Ok [])) (cond b (Err NamesDead) (Ok y)))
+      by : (b : Bool) → with_ok {B = Operands} (λ xs. Ok (record { given = xs; left = set es v.0 Gone })) (with_ok (λ z. and_more z (Ok [])) (cond b (Err NamesDead) (Ok y)))
           ≡ cond b (Err NamesDead) (Ok (record { given = y ∷ []; left = set es v.0 Gone }))
       by true = refl
       by false = refl

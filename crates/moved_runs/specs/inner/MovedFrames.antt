@@ -1,5 +1,5 @@
 -- The frames of a function in two runs, where in the second one a copy c of v is a move, and a destroy of v behind it in its block is gone.
-use Rattle.std.specs.Prelude.{◌≡◌, ◌<◌, ◌≤◌, ◌⊎◌, ℕ, List, ◌∷◌, length, set}
+use Rattle.std.specs.Prelude.{◌≡◌, ◌<◌, ◌≤◌, ◌⊎◌, ℕ, List, [], ◌∷◌, length, set}
 use Rattle.sil_ast.specs.declared.function.Function.{Function}
 use Rattle.sil_ast.specs.declared.place.FuncId.{FuncId}
 use Rattle.sil_ast.specs.declared.place.PointId.{PointId}
@@ -46,10 +46,10 @@ module _ (p : PointId) (c v : ValueId) (last : ℕ) where
 
     -- what is known of the frames of the function in the states of the first run
     pub record KnowsFrames (First : HolderState → Type 0) : Type 0 where
-      -- v's entry is gone or held, and c has an entry
+      -- v's entry is gone or held, c has an entry, and a frame that goes on lends nothing
       pub held : (h : HolderState) → First h → (g : FuncId) → g.0 ≡ n → (slots : List Place) (lent : List LentPlace) (trail : List Item) (entries : List Entry)
           (rest : List (Task Frame)) → h.tasks ≡ Runs (frame_at g slots lent trail entries) ∷ rest
-          → ((entry_at entries v ≡ Gone) ⊎ ((y : Datum) × (entry_at entries v ≡ Held y))) × (c.0 < length entries)
+          → ((entry_at entries v ≡ Gone) ⊎ ((y : Datum) × (entry_at entries v ≡ Held y))) × (c.0 < length entries) × (lent ≡ [])
       -- none waits for a callee at the copy
       pub waits : (h : HolderState) → First h → (callee : Frame) (g : FuncId) → g.0 ≡ n → (slots : List Place) (lent : List LentPlace) (trail : List Item)
           (entries : List Entry) (rest : List (Task Frame)) → h.tasks ≡ Runs callee ∷ Runs (frame_at g slots lent trail entries) ∷ rest
