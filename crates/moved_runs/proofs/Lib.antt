@@ -10,3 +10,4 @@ pub mod Covered
 pub mod Together
 pub mod KnownFrames
 pub mod InRuns
+pub mod AsItDid

@@ -3,4 +3,4 @@
 
 mod laws;
 
-pub use laws::try_it;
+pub use laws::moved_runs_as_it_did;
