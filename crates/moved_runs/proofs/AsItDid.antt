@@ -37,7 +37,8 @@ right_on_runs m verified = record {
 
 module _ (m : Module) (n : ℕ) (f : Function) (verified : IsVerified m) (there : slice_get m.functions n ≡ Some f) {p : PointId} {last : ℕ} {c v : ValueId} (s : IsSplit f p last c v)
     (owned : is_owned (known_or (facts_in (declarations_of m) f) v).kind ≡ true)
-    (quiet : (k : ℕ) → p.index < k → k < last → list_any (concerns c v) (marks_of (facts_in (declarations_of m) f) f (item.Inst (point_at p.block.0 k))) ≡ false)
+    (quiet : (k : ℕ) → p.index < k → k < last
+    → list_any (concerns c v) (marks_of (facts_in (declarations_of m) f) f (item.Inst (point_at p.block.0 k))) ≡ false)
     (verified' : IsVerified (with_function n (moved p last) m)) where
   split_as_it_did : RunsAsItDid m (with_function n (moved p last) m)
   split_as_it_did =

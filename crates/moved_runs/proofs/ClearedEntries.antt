@@ -1,8 +1,7 @@
 -- Entries of which that of one value is gone: operands and results of an item that doesn't touch the value.
-use Rattle.std.proofs.Common.{◌≡◌, ℕ, zero, suc, List, [], ◌∷◌, set, refl, sym, ap, ap₂, ◌∙◌, subst, Bool, true, false, cond, Option, Some, None, Ok, Err}
-use Rattle.std.specs.Prelude.{◌==◌}
+use Rattle.std.proofs.Common.{◌≡◌, ℕ, zero, suc, List, [], ◌∷◌, set, refl, sym, ap, ap₂, ◌∙◌, subst, Bool, true, false, cond, Option, Ok, Err}
 use Rattle.std.specs.declared.result.Result.{Result}
-use Rattle.std.proofs.lemmas.Bool.{eq-eqb, ne_eqb, true≢false}
+use Rattle.std.proofs.lemmas.Bool.{ne_eqb, true≢false}
 use Rattle.item_operands.specs.declared.taken.Taken.{Taken}
 use Rattle.numbered_form.specs.Lists.{Each}
 use Rattle.ownership_chains.specs.Facts.{known_or}
@@ -12,7 +11,7 @@ use Rattle.run_values.specs.Memory.{Memory}
 use Rattle.holder_counts.specs.holder_model.Data.{Datum}
 use Rattle.holder_counts.specs.holder_model.Faults.{HolderFault, OverwritesHeld}
 use Rattle.holder_counts.specs.holder_model.Frames.{Entry, Gone, Held, Lent, Plain, Operands, and_more, datum_in, datum_or_fault, ended_entry, ends, entry_at, is_held, made_entry}
-use Rattle.holder_counts.specs.holder_model.Frames.{operand, operand_data, operands_of, put_entry, result_put, results_put, unless_dead, used_datum, with_ok, without_ended}
+use Rattle.holder_counts.specs.holder_model.Frames.{operand, operand_data, operands_of, put_entry, results_put, unless_dead, used_datum, with_ok, without_ended}
 use Rattle.held_entries.proofs.EntriesEnded.{entry_set_other}
 
 pub same_ok : {A : Type 0} (a b : A) → (let r : Result A HolderFault = Ok a in r) ≡ Ok b → a ≡ b
@@ -26,11 +25,6 @@ set_swap (e ∷ es) zero zero x y ne = absurd (ne refl)
 set_swap (e ∷ es) zero (suc b) x y ne = refl
 set_swap (e ∷ es) (suc a) zero x y ne = refl
 set_swap (e ∷ es) (suc a) (suc b) x y ne = ap (λ l. e ∷ l) (set_swap es a b x y (λ q. ne (ap suc q)))
-
-set_twice : (es : List Entry) (a : ℕ) (x y : Entry) → set (set es a x) a y ≡ set es a y
-set_twice [] a x y = refl
-set_twice (e ∷ es) zero x y = refl
-set_twice (e ∷ es) (suc a) x y = ap (λ l. e ∷ l) (set_twice es a x y)
 
 -- another value's entry stays
 pub stays : (es : List Entry) (v w : ValueId) (e : Entry) → (w.0 ≡ v.0 → ⊥) → entry_at (set es v.0 e) w ≡ entry_at es w

@@ -1,5 +1,5 @@
 -- What the first run holds more, where a copy became a move: the copied value's entry, while the copy's entry holds the same.
-use Rattle.std.proofs.Common.{◌≡◌, ◌⊎◌, inl, inr, ⊎_elim, ℕ, zero, suc, ◌+◌, ◌<◌, ◌≤◌, List, [], ◌∷◌, set, get_or, length, refl, sym, ap, ◌∙◌, subst, arith, false}
+use Rattle.std.proofs.Common.{◌≡◌, inl, ℕ, zero, suc, ◌+◌, ◌<◌, List, ◌∷◌, set, get_or, length, refl, sym, ap, ◌∙◌, arith, false}
 use Rattle.std.proofs.lemmas.Option.{unwrap_or-slice_get}
 use Rattle.run_values.specs.Memory.{is_live}
 use Rattle.sil_ast.specs.declared.decl.Storage.TheVariants as storage

@@ -1,28 +1,21 @@
 -- The frames of the function whose copy is a move do alike: instructions, edges, returns, and what a callee returned.
-use Rattle.std.proofs.Common.{◌≡◌, ◌⊎◌, inl, inr, ℕ, zero, suc, ◌+◌, ◌<◌, ◌≤◌, List, [], ◌∷◌, ◌++◌, length, drop, set, refl, sym, ap, ap₂, ◌∙◌, subst, arith, Bool, true, false, cond, Option, Some, None, Ok, Err}
+use Rattle.std.proofs.Common.{◌≡◌, ◌⊎◌, inl, inr, ℕ, zero, suc, ◌<◌, ◌≤◌, List, [], ◌∷◌, length, drop, refl, sym, ap, ap₂, ◌∙◌, subst, arith}
+use Rattle.std.proofs.Common.{true, false, Option, Some, None, Ok}
 use Rattle.std.specs.Prelude.{option_and_then, option_map, slice_get}
 use Rattle.std.specs.List.{list_any}
-use Rattle.std.specs.declared.result.Result.{Result}
 use Rattle.std.proofs.lemmas.Bool.{cases_eq}
-use Rattle.std.proofs.lemmas.Option.{none-some, same_Some}
-use Rattle.accepted_values.proofs.Facts.{run_facts}
+use Rattle.std.proofs.lemmas.Option.{none-some}
 use Rattle.accepted_modules.specs.inner.Checked.{IsVerified}
-use Rattle.copy_removal.specs.Copies.{is_op}
 use Rattle.copy_removal.specs.ownership_kinds.Facts.{facts_in}
 use Rattle.copy_removal.specs.Removable.{concerns}
 use Rattle.copy_removal.specs.Rewritten.{moved, with_function}
-use Rattle.instruction_table.specs.declared.entries.Role.TheVariants as role
-use Rattle.instruction_table.specs.declared.op.Op.TheVariants as op
 use Rattle.instruction_table.specs.Forms.{ending_of}
 use Rattle.instruction_table.specs.declared.entries.Ending.TheVariants as ending
 use Rattle.item_operands.specs.Items.{item_defined, item_taken}
 use Rattle.item_operands.specs.Parts.{inst_at, inst_in, terminator_of}
-use Rattle.item_operands.specs.Roles.{by_row, taken_as}
-use Rattle.item_operands.specs.declared.taken.Taken.{Taken}
-use Rattle.ownership_chains.specs.Facts.{facts_with, is_owned, known_or}
+use Rattle.ownership_chains.specs.Facts.{is_owned, known_or}
 use Rattle.ownership_chains.specs.declared.facts.Facts.{Facts}
 use Rattle.ownership_marks.specs.Marks.{marks_of}
-use Rattle.run_values.specs.Memory.{Memory}
 use Rattle.run_values.specs.Places.{Place}
 use Rattle.sil_ast.specs.declared.function.Function.{Function}
 use Rattle.sil_ast.specs.declared.inst.Inst.{Inst}
@@ -35,43 +28,36 @@ use Rattle.sil_ast.specs.declared.place.ValueId.{ValueId}
 use Rattle.sil_cfg.specs.Items.{point_at}
 use Rattle.sil_cfg.specs.declared.item.Item.{Item}
 use Rattle.sil_cfg.specs.declared.item.Item.TheVariants as item
-use Rattle.type_definitions.specs.Declarations.{Declarations, declarations_of}
-use Rattle.type_definitions.specs.declared.kind.Kind.TheVariants as kind
-use Rattle.holder_counts.specs.holder_model.Calling.{lent_places, value_count}
+use Rattle.type_definitions.specs.Declarations.{declarations_of}
 use Rattle.holder_counts.specs.holder_model.Data.{Datum}
-use Rattle.holder_counts.specs.holder_model.Effects as effects
-use Rattle.holder_counts.specs.holder_model.Effects.{Effect}
-use Rattle.holder_counts.specs.holder_model.Faults.{HolderFault}
-use Rattle.holder_counts.specs.holder_model.Frames.{Entry, Frame, Gone, Held, LentPlace, Operands, entry_at, datum_in, no_entries, operands_of, results_put}
+use Rattle.holder_counts.specs.holder_model.Frames.{Entry, Frame, LentPlace, entry_at, datum_in, no_entries, operands_of, results_put}
 use Rattle.holder_counts.specs.holder_model.HolderStates.{HolderState}
 use Rattle.holder_counts.specs.holder_model.ModuleFacts.{ModuleFacts, facts_of, facts_told}
-use Rattle.holder_counts.specs.holder_model.Standing.{point_behind, stands_at}
+use Rattle.holder_counts.specs.holder_model.Standing.{stands_at}
 use Rattle.holder_counts.specs.holder_model.States.{Runs, Task}
-use Rattle.lockstep_runs.specs.inner.Frames.{AreDropsAlike, AreEffectsAlike, AreInstsAlike, does, takes}
+use Rattle.lockstep_runs.specs.inner.Frames.{AreInstsAlike}
 use Rattle.lockstep_runs.specs.inner.Lockstep.{ArePutAlike, frame_at}
 use Rattle.lockstep_runs.specs.inner.Parts.{puts}
 use Rattle.moved_functions.specs.inner.Structure.{old_point}
-use Rattle.moved_functions.proofs.Marks.{copy_takes, destroy_defines, move_takes}
+use Rattle.moved_functions.proofs.Marks.{destroy_defines}
 use Rattle.moved_functions.proofs.Places.{after, same_defined, same_taken}
-use Rattle.moved_functions.proofs.SameFacts.{copy_apart, copy_owned, destroy_makes_none}
+use Rattle.moved_functions.proofs.SameFacts.{destroy_makes_none}
 use Rattle.moved_functions.proofs.Split.{IsSplit}
 use Rattle.moved_runs.specs.inner.MovedFrames.{AreAt, IsAlone, IsCleared, IsLike, Lags}
-use Rattle.moved_runs.proofs.ClearedEntries.{held_behind, left_kept, others_end_not, put_cleared, stays, taken_by, taken_cleared}
-use Rattle.moved_runs.proofs.MovedPoints.{copy_first, lags_behind, level_behind, old_before, old_copy}
-use Rattle.moved_runs.proofs.Quiet.{quiet_operands}
+use Rattle.moved_runs.proofs.MovedPoints.{old_copy}
 use Rattle.holder_counts.specs.holder_model.Edges.{carried_along, carried_by, edge_of, first_value_of, switched_data}
-use Rattle.holder_counts.specs.holder_model.Calling.{given_places, argument_data, places_given}
+use Rattle.holder_counts.specs.holder_model.Calling.{given_places, argument_data}
 use Rattle.holder_counts.specs.holder_model.Standing.{first_point, target_of}
 use Rattle.argument_conventions.specs.Arguments.{arguments_of}
 use Rattle.instruction_table.specs.declared.entries.Ending.{Ending}
-use Rattle.item_operands.specs.Parts.{args_behind, edge_at}
+use Rattle.item_operands.specs.Parts.{edge_at}
 use Rattle.sil_ast.specs.declared.inst.Edge as edge
 use Rattle.lockstep_runs.specs.inner.Frames.{AreEdgesAlike, AreEndsAlike, DoAlike}
 use Rattle.lockstep_runs.specs.inner.Parts.{AreFramesOn, call_at}
 use Rattle.moved_functions.proofs.Places.{copy_stood, destroy_stood, inst_elsewhere, old_block, same_args, same_edge, same_operands, same_terminator}
 use Rattle.moved_runs.specs.inner.MovedFrames.{KnowsFrames}
 use Rattle.moved_runs.proofs.CopyMoved.{copy_inst}
-use Rattle.moved_runs.proofs.DoMoved.{lag_inst, lag_put, lag_taken, level_inst, level_put, level_taken, old_lag}
+use Rattle.moved_runs.proofs.DoMoved.{lag_inst, lag_put, level_inst, level_put, old_lag}
 use Rattle.moved_runs.proofs.MovedPoints.{at_copy, level_first}
 use Rattle.moved_runs.proofs.SameTold.{count_same}
 
@@ -89,9 +75,11 @@ is_point q r = by (cases_eq q.block.0 r.block.0) (cases_eq q.index r.index)
     by (inl b) (inr i) = inr (λ e. i (ap (λ (x : PointId). x.index) e))
     by (inr b) i = inr (λ e. b (ap (λ (x : PointId). x.block.0) e))
 
-module _ (m : Module) (n : ℕ) (f : Function) (verified : IsVerified m) (in_module : slice_get m.functions n ≡ Some f) {p : PointId} {last : ℕ} {c v : ValueId} (s : IsSplit f p last c v)
+module _ (m : Module) (n : ℕ) (f : Function) (verified : IsVerified m) (in_module : slice_get m.functions n ≡ Some f) {p : PointId} {last : ℕ}
+    {c v : ValueId} (s : IsSplit f p last c v)
     (owned : is_owned (known_or (facts_in (declarations_of m) f) v).kind ≡ true)
-    (quiet : (k : ℕ) → p.index < k → k < last → list_any (concerns c v) (marks_of (facts_in (declarations_of m) f) f (item.Inst (point_at p.block.0 k))) ≡ false)
+    (quiet : (k : ℕ) → p.index < k → k < last
+    → list_any (concerns c v) (marks_of (facts_in (declarations_of m) f) f (item.Inst (point_at p.block.0 k))) ≡ false)
     (bound : ℕ) (First Second : HolderState → Type 0) (knows : KnowsFrames p c v last n f (after s) First) where
   abbrev m' : Module
   m' = with_function n (moved p last) m

@@ -10,7 +10,6 @@ use Rattle.copy_removal.specs.Removable.{concerns}
 use Rattle.copy_removal.specs.Rewritten.{changed_at, moved, moved_block, with_function}
 use Rattle.ownership_chains.specs.Facts.{is_owned, known_or}
 use Rattle.ownership_marks.specs.Marks.{marks_of}
-use Rattle.sil_ast.specs.declared.function.Block.{Block}
 use Rattle.sil_ast.specs.declared.function.Function.{Function}
 use Rattle.sil_ast.specs.declared.module.Module.{Module}
 use Rattle.sil_ast.specs.declared.place.FuncId.{FuncId}
@@ -46,7 +45,8 @@ any_still change n [] = refl
 any_still change zero (x ∷ xs) = refl
 any_still change (suc n) (x ∷ xs) = refl
 
-module _ (m : Module) (n : ℕ) (f : Function) (verified : IsVerified m) (in_module : slice_get m.functions n ≡ Some f) {p : PointId} {last : ℕ} {c v : ValueId} (s : IsSplit f p last c v) where
+module _ (m : Module) (n : ℕ) (f : Function) (verified : IsVerified m) (in_module : slice_get m.functions n ≡ Some f) {p : PointId} {last : ℕ}
+    {c v : ValueId} (s : IsSplit f p last c v) where
   abbrev m' : Module
   m' = with_function n (moved p last) m
 
@@ -104,11 +104,9 @@ module _ (m : Module) (n : ℕ) (f : Function) (verified : IsVerified m) (in_mod
   -- ---- the parts
 
   module _ (owned : is_owned (known_or (facts_in (declarations_of m) f) v).kind ≡ true)
-      (quiet : (k : ℕ) → p.index < k → k < last → list_any (concerns c v) (marks_of (facts_in (declarations_of m) f) f (item.Inst (point_at p.block.0 k))) ≡ false) where
+      (quiet : (k : ℕ) → p.index < k → k < last
+      → list_any (concerns c v) (marks_of (facts_in (declarations_of m) f) f (item.Inst (point_at p.block.0 k))) ≡ false) where
     module _ (bound : ℕ) (First Second : HolderState → Type 0) (kept : IsKeptBy m (facts_of m) bound First) (knows : KnowsFrames p c v last n f (after s) First) where
-      Does : FuncId → Function → Function → Type 0
-      Does g k k' = DoAlike m m' told told bound First Second Like Alone g k k'
-
       frames : (g : FuncId) (k k' : Function) → slice_get m.functions g.0 ≡ Some k → slice_get m'.functions g.0 ≡ Some k'
           → DoAlike m m' told told bound First Second Like Alone g k k'
       frames g k k' there there' = by (cases_eq g.0 n)

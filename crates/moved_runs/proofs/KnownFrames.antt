@@ -1,5 +1,5 @@
 -- What is known of the frames of the function: an Owned value's entry is gone or held, and a frame that waits stands at a call.
-use Rattle.std.proofs.Common.{◌≡◌, ◌⊎◌, inl, inr, ⊎_elim, ℕ, ◌<◌, ◌≤◌, List, [], ◌∷◌, length, refl, sym, ap, ◌∙◌, subst, arith, true, Option, Some, None, Ok}
+use Rattle.std.proofs.Common.{◌≡◌, ◌⊎◌, inl, inr, ℕ, ◌<◌, ◌≤◌, List, [], ◌∷◌, length, refl, sym, ap, ◌∙◌, subst, arith, true, Option, Some}
 use Rattle.std.specs.Prelude.{slice_get, unwrap_or}
 use Rattle.std.proofs.lemmas.Bool.{cases_lt}
 use Rattle.std.proofs.lemmas.Option.{same_Some, slice_get_past}
@@ -8,7 +8,6 @@ use Rattle.accepted_values.proofs.Facts.{value_or_none}
 use Rattle.accepted_values.specs.run_typing.Forms.{Form, form_of}
 use Rattle.accepted_modules.specs.inner.Checked.{IsVerified}
 use Rattle.copy_removal.specs.ownership_kinds.Facts.{facts_in}
-use Rattle.instruction_table.specs.declared.op.Op.{Op}
 use Rattle.instruction_table.specs.declared.op.Op.TheVariants as op
 use Rattle.item_operands.specs.Parts.{inst_at}
 use Rattle.numbered_form.specs.Numbering.{values_of}
@@ -53,7 +52,8 @@ gone_or_held : (m : Module) (w : World) (k : Kind) (form : Form) (e : Entry) →
 gone_or_held m w k form _ is EntryIs.gone = inl refl
 gone_or_held m w k form _ is (EntryIs.made x e made typed) = inr (x, sym (same_ok (Held x) e (sym (ap (λ z. made_entry z x) is) ∙ made)))
 
-module _ (m : Module) (n : ℕ) (f : Function) (verified : IsVerified m) (in_module : slice_get m.functions n ≡ Some f) {p : PointId} {last : ℕ} {c v : ValueId} (s : IsSplit f p last c v)
+module _ (m : Module) (n : ℕ) (f : Function) (verified : IsVerified m) (in_module : slice_get m.functions n ≡ Some f) {p : PointId} {last : ℕ}
+    {c v : ValueId} (s : IsSplit f p last c v)
     (owned : is_owned (known_or (facts_in (declarations_of m) f) v).kind ≡ true)
     (First : HolderState → Type 0) (typed : (h : HolderState) → First h → IsTypedState m h) (placed : (h : HolderState) → First h → AreSlotsRight m h) where
   v_kind : kind_at (declarations_of m) f v ≡ kind.Owned

@@ -1,12 +1,12 @@
 -- Where frames of the function stand next, in the two runs.
-use Rattle.std.proofs.Common.{◌≡◌, ◌⊎◌, inl, inr, ℕ, suc, ◌+◌, ◌<◌, ◌≤◌, List, length, refl, sym, ap, ap₂, ◌∙◌, subst, arith, ⊎_elim}
+use Rattle.std.proofs.Common.{◌≡◌, ◌⊎◌, inl, inr, ℕ, suc, ◌+◌, ◌<◌, ◌≤◌, length, refl, sym, ap, ap₂, ◌∙◌, arith, ⊎_elim}
 use Rattle.std.proofs.lemmas.Bool.{cases_eq, cases_lt}
 use Rattle.sil_ast.specs.declared.function.Function.{Function}
 use Rattle.sil_ast.specs.declared.place.PointId.{PointId}
 use Rattle.sil_ast.specs.declared.place.ValueId.{ValueId}
 use Rattle.sil_cfg.specs.Items.{point_at}
 use Rattle.holder_counts.specs.holder_model.Standing.{first_point, point_behind}
-use Rattle.moved_functions.specs.inner.Structure.{old_point, stood_at}
+use Rattle.moved_functions.specs.inner.Structure.{old_point}
 use Rattle.moved_functions.proofs.Lists.{stood_before, stood_behind}
 use Rattle.moved_functions.proofs.Places.{old_block, old_elsewhere, old_here}
 use Rattle.moved_functions.proofs.Split.{IsSplit}
@@ -73,16 +73,19 @@ module _ {f : Function} {p : PointId} {last : ℕ} {c v : ValueId} (s : IsSplit 
           let index : q.index ≡ q'.index = ap (λ (r : PointId). r.index) same in
           let block : q.block.0 ≡ p.block.0 = ap (λ (r : PointId). r.block.0) same ∙ b in
           let before : q.index < p.index = before_copy q outside ne block (let a = index in omega (arith, a, lt)) in
-          let first = copy_first in (ap point_behind same ∙ sym (old_before (point_behind q') b (omega arith)), λ lags. let after = lags.behind in absurd (omega arith))
+          let first = copy_first in
+          (ap point_behind same ∙ sym (old_before (point_behind q') b (omega arith)), λ lags. let after = lags.behind in absurd (omega arith))
       by_place b (inr le) =
           let same : q ≡ point_behind q' = e ∙ old_behind q' b le in
-          let index : q.index ≡ suc q'.index = ap (λ (r : PointId). r.index) same in (ap point_behind same ∙ sym (old_behind (point_behind q') b (omega arith)), λ lags. let end = lags.until in absurd (omega arith))
+          let index : q.index ≡ suc q'.index = ap (λ (r : PointId). r.index) same in
+          (ap point_behind same ∙ sym (old_behind (point_behind q') b (omega arith)), λ lags. let end = lags.until in absurd (omega arith))
 
       by_block : (q'.block.0 ≡ p.block.0) ⊎ (q'.block.0 ≡ p.block.0 → ⊥)
           → (point_behind q ≡ old_point p last (point_behind q')) × (LagsAt (point_behind q) → ⊥)
       by_block (inl b) = by_place b (cases_lt q'.index last)
       by_block (inr other) =
-          let same : q ≡ q' = e ∙ old_elsewhere s q' other in (ap point_behind same ∙ sym (old_elsewhere s (point_behind q') other), λ lags. other (sym (ap (λ (r : PointId). r.block.0) same) ∙ lags.block))
+          let same : q ≡ q' = e ∙ old_elsewhere s q' other in
+          (ap point_behind same ∙ sym (old_elsewhere s (point_behind q') other), λ lags. other (sym (ap (λ (r : PointId). r.block.0) same) ∙ lags.block))
 
   pub lags_behind_copy : LagsAt (point_behind p)
   lags_behind_copy = let lt = copy_first in record { block = refl; behind = omega arith; until = omega arith }

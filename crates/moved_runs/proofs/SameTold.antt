@@ -19,7 +19,7 @@ use Rattle.holder_counts.specs.holder_model.ModuleShapes.{function_shapes, value
 use Rattle.moved_functions.proofs.InModule.{row_kept}
 use Rattle.moved_functions.proofs.Places.{after}
 use Rattle.moved_functions.proofs.SameFacts.{destroy_makes_none, facts_are}
-use Rattle.moved_functions.proofs.Split.{IsSplit, move_of}
+use Rattle.moved_functions.proofs.Split.{IsSplit}
 use Rattle.moved_functions.proofs.TheCopy.{copy_at, copy_makes, move_makes}
 use Rattle.moved_functions.proofs.ValueRows.{rows_same}
 
@@ -29,7 +29,8 @@ same_map tell change n [] x e same = refl
 same_map tell change zero (y ∷ xs) x e same = ap (λ v. v ∷ map tell xs) (ap (λ z. tell (change z)) (same_Some y x e) ∙ same ∙ sym (ap tell (same_Some y x e)))
 same_map tell change (suc n) (y ∷ xs) x e same = ap (λ v. tell y ∷ v) (same_map tell change n xs x e same)
 
-module _ (m : Module) (n : ℕ) (f : Function) (verified : IsVerified m) (in_module : slice_get m.functions n ≡ Some f) {p : PointId} {last : ℕ} {c v : ValueId} (s : IsSplit f p last c v) where
+module _ (m : Module) (n : ℕ) (f : Function) (verified : IsVerified m) (in_module : slice_get m.functions n ≡ Some f) {p : PointId} {last : ℕ}
+    {c v : ValueId} (s : IsSplit f p last c v) where
   abbrev d : Declarations
   d = declarations_of m
 

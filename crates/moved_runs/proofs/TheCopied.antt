@@ -1,5 +1,5 @@
 -- What the copy, the move and the destroy take, each of one Owned value, and what they do.
-use Rattle.std.proofs.Common.{◌≡◌, ◌⊎◌, inl, inr, List, [], ◌∷◌, set, refl, sym, ap, ◌∙◌, subst, Bool, true, false, cond, Option, Some, Ok, Err}
+use Rattle.std.proofs.Common.{◌≡◌, ◌⊎◌, inl, inr, List, [], ◌∷◌, set, refl, sym, ap, ◌∙◌, Bool, true, false, cond, Option, Some, Ok, Err}
 use Rattle.std.specs.declared.result.Result.{Result}
 use Rattle.instruction_table.specs.declared.entries.Role.TheVariants as role
 use Rattle.instruction_table.specs.declared.op.Op.TheVariants as op
@@ -15,7 +15,7 @@ use Rattle.run_values.specs.Shapes.{Shape}
 use Rattle.type_definitions.specs.Declarations.{Declarations}
 use Rattle.type_definitions.specs.declared.kind.Kind.TheVariants as kind
 use Rattle.holder_counts.specs.holder_model.Data.{Datum, references_in}
-use Rattle.holder_counts.specs.holder_model.Effects.{Effect, Makes, effect_by, effect_of, unchanged}
+use Rattle.holder_counts.specs.holder_model.Effects.{Makes, effect_by, effect_of, unchanged}
 use Rattle.holder_counts.specs.holder_model.Faults.{HolderFault, NamesDead}
 use Rattle.holder_counts.specs.holder_model.Frames.{Entry, Gone, Held, Operands, and_more, any_dead, datum_in, datum_or_fault, ended_entry, ends, entry_at, has_any, operand}
 use Rattle.holder_counts.specs.holder_model.Frames.{operand_data, operands_of, unless_dead, used_datum, with_ok, without_ended}

@@ -1,16 +1,13 @@
 -- The destroy that is gone: the first run makes it alone, and drops what the copied value held, while the copy holds the same. Then frames are level.
-use Rattle.std.proofs.Common.{◌≡◌, ◌⊎◌, inl, inr, ℕ, suc, ◌+◌, ◌<◌, ◌≤◌, List, [], ◌∷◌, set, refl, sym, ap, ap₂, ◌∙◌, subst, arith, Bool, true, false, cond, Option, Some, Ok, Err}
+use Rattle.std.proofs.Common.{◌≡◌, ◌⊎◌, inl, inr, ℕ, suc, ◌+◌, List, [], ◌∷◌, set, refl, sym, ap, ◌∙◌, subst, arith, Bool, true, false, cond, Option, Some, Ok, Err}
 use Rattle.std.specs.Prelude.{slice_get}
 use Rattle.std.proofs.lemmas.Bool.{cases_eq}
-use Rattle.instruction_table.specs.declared.entries.Role.TheVariants as role
 use Rattle.item_operands.specs.Items.{item_defined, item_taken}
 use Rattle.item_operands.specs.Parts.{inst_at}
-use Rattle.item_operands.specs.Roles.{by_row, taken_as}
 use Rattle.ownership_chains.specs.Facts.{is_owned, known_or}
 use Rattle.ownership_chains.specs.declared.facts.Facts.{Facts}
 use Rattle.run_values.specs.Places.{Place}
 use Rattle.sil_ast.specs.declared.function.Function.{Function}
-use Rattle.sil_ast.specs.declared.inst.Inst.{Inst}
 use Rattle.sil_ast.specs.declared.module.Module.{Module}
 use Rattle.sil_ast.specs.declared.place.FuncId.{FuncId}
 use Rattle.sil_ast.specs.declared.place.ObjectId.{ObjectId}
@@ -20,20 +17,18 @@ use Rattle.sil_cfg.specs.Items.{point_at}
 use Rattle.sil_cfg.specs.declared.item.Item.{Item}
 use Rattle.sil_cfg.specs.declared.item.Item.TheVariants as item
 use Rattle.type_definitions.specs.Declarations.{declarations_of}
-use Rattle.holder_counts.specs.holder_model.Data.{Datum, references_in}
-use Rattle.holder_counts.specs.holder_model.Effects.{Change, Effect, Makes, unchanged}
-use Rattle.holder_counts.specs.holder_model.Faults.{HolderFault, NamesDead}
-use Rattle.holder_counts.specs.holder_model.Frames.{Entry, Frame, Gone, Held, LentPlace, Operands, any_dead, entry_at, operands_of, results_put}
-use Rattle.holder_counts.specs.holder_model.HolderStates.{HolderNext, HolderState, in_entry, in_task}
-use Rattle.holder_counts.specs.holder_model.Holders.{of_references, one_object}
+use Rattle.holder_counts.specs.holder_model.Data.{references_in}
+use Rattle.holder_counts.specs.holder_model.Faults.{NamesDead}
+use Rattle.holder_counts.specs.holder_model.Frames.{Entry, Frame, Gone, Held, Operands, any_dead, operands_of, results_put}
+use Rattle.holder_counts.specs.holder_model.HolderStates.{HolderNext, HolderState}
+use Rattle.holder_counts.specs.holder_model.Holders.{one_object}
 use Rattle.holder_counts.specs.holder_model.ModuleFacts.{ModuleFacts, facts_told}
 use Rattle.holder_counts.specs.holder_model.ModuleShapes.{shapes_in}
 use Rattle.holder_counts.specs.holder_model.Outcomes.{run}
 use Rattle.holder_counts.specs.holder_model.Standing.{point_behind, stands_at}
 use Rattle.holder_counts.specs.holder_model.StepParts.{on_ok, on_some}
-use Rattle.holder_counts.specs.holder_model.States.{Drops, Ends, Faulted, Finishes, Goes, Runs, Task, dropping, step_on}
+use Rattle.holder_counts.specs.holder_model.States.{Drops, Finishes, Goes, Runs, Task, dropping, step_on}
 use Rattle.holder_counts.specs.holder_model.Steps as steps
-use Rattle.holder_counts.specs.inner.Moving.{in_tasks}
 use Rattle.holder_counts.proofs.Moves.{first_task}
 use Rattle.lockstep_runs.specs.inner.Frames.{AreSpared}
 use Rattle.lockstep_runs.specs.inner.Lockstep.{AreAtRest, AreInStep, AreLevel, AreTasksLike, IsKeptBy, frame_at}
