@@ -1,0 +1,295 @@
+-- Operands and results where the copy is lent: they are those that they were, and the entries that are left or made are so but for the copy's.
+use Rattle.std.proofs.Common.{◌≡◌, ℕ, List, [], ◌∷◌, set, refl, sym, ap, ◌∙◌, subst, Bool, true, false, cond, Option, Some, None, Ok, Err, ◌⊎◌, inl, inr}
+use Rattle.std.specs.Prelude.{◌==◌, unwrap_or}
+use Rattle.std.specs.declared.result.Result.{Result}
+use Rattle.std.proofs.lemmas.Bool.{eq-eqb, eqb-true}
+use Rattle.instruction_table.specs.declared.entries.Role.{Role}
+use Rattle.instruction_table.specs.declared.entries.Role.TheVariants as role
+use Rattle.item_operands.specs.Roles.{by_row, taken_as}
+use Rattle.item_operands.specs.declared.taken.Taken.{Taken}
+use Rattle.numbered_form.specs.Lists.{Each}
+use Rattle.ownership_chains.specs.Facts.{facts_with, known_or}
+use Rattle.ownership_chains.specs.declared.facts.Facts.{Facts}
+use Rattle.ownership_marks.specs.Marks.{ended_by, ended_with}
+use Rattle.run_values.specs.Memory.{Memory}
+use Rattle.sil_ast.specs.declared.operands.Operand.{Operand}
+use Rattle.sil_ast.specs.declared.place.ValueId.{ValueId}
+use Rattle.type_definitions.specs.declared.kind.Kind.TheVariants as kind
+use Rattle.holder_counts.specs.holder_model.Data.{Datum, references_in}
+use Rattle.holder_counts.specs.holder_model.Faults.{ConsumesLent, HolderFault, NamesDead, NoEntry, OverwritesHeld}
+use Rattle.holder_counts.specs.holder_model.Frames.{Entry, Gone, Held, Lent, Operands, Plain, and_more, any_dead, datum_in, datum_or_fault, ended_entry, ends}
+use Rattle.holder_counts.specs.holder_model.Frames.{entry_at, has_any, is_consumed, is_held, made_entry, operand, operand_data, operands_of, put_entry}
+use Rattle.holder_counts.specs.holder_model.Frames.{result_put, results_put, unless_dead, used_datum, with_ok, without_ended}
+use Rattle.lent_functions.proofs.Roles.{is_mild}
+use Rattle.lent_functions.proofs.ValueRows.{same_value}
+use Rattle.lent_runs.specs.inner.LentEntries.{lent_entries, lent_entry}
+use Rattle.lent_runs.proofs.Entries.{copy_free, datum_same, entry_copy, entry_other, put_copy, put_other}
+
+mild_stays : (r : Role) (v : ValueId) → is_mild r ≡ true → has_any (ended_by kind.Owned r v) ≡ false
+mild_stays role.Consumed v m = absurd (let wrong : false ≡ true = m in cc)
+mild_stays role.Used v m = refl
+mild_stays role.Lent v m = refl
+mild_stays role.Forwarded v m = absurd (let wrong : false ≡ true = m in cc)
+mild_stays role.AddressRole v m = refl
+mild_stays role.AnyRole v m = refl
+mild_stays role.ScopeRole v m = refl
+mild_stays role.ByParameter v m = refl
+mild_stays role.Counted v m = refl
+
+mild_lent_stays : (r : Role) (v : ValueId) → is_mild r ≡ true → has_any (ended_by kind.Guaranteed r v) ≡ false
+mild_lent_stays role.Consumed v m = refl
+mild_lent_stays role.Used v m = refl
+mild_lent_stays role.Lent v m = refl
+mild_lent_stays role.Forwarded v m = refl
+mild_lent_stays role.AddressRole v m = refl
+mild_lent_stays role.AnyRole v m = refl
+mild_lent_stays role.ScopeRole v m = absurd (let wrong : false ≡ true = m in cc)
+mild_lent_stays role.ByParameter v m = refl
+mild_lent_stays role.Counted v m = refl
+
+mild_takes_lent : (r : Role) → is_mild r ≡ true → is_consumed r ≡ false
+mild_takes_lent role.Consumed m = absurd (let wrong : false ≡ true = m in cc)
+mild_takes_lent role.Used m = refl
+mild_takes_lent role.Lent m = refl
+mild_takes_lent role.Forwarded m = refl
+mild_takes_lent role.AddressRole m = refl
+mild_takes_lent role.AnyRole m = refl
+mild_takes_lent role.ScopeRole m = refl
+mild_takes_lent role.ByParameter m = refl
+mild_takes_lent role.Counted m = refl
+
+-- an operand that doesn't end may be lent
+used_same : (r : Role) → is_mild r ≡ true → (e : Entry) → used_datum r (lent_entry e) ≡ used_datum r e
+used_same r m Gone = refl
+used_same r m (Held x) = ap (λ b. cond b (Err ConsumesLent) (Ok x)) (mild_takes_lent r m)
+used_same r m (Lent x) = refl
+used_same r m (Plain x) = refl
+
+module _ (facts facts' : ValueId → Option Facts) (c : ValueId) (others : (w : ValueId) → (w.0 ≡ c.0 → ⊥) → facts' w ≡ facts w)
+    (owned : facts c ≡ Some (facts_with kind.Owned (c ∷ []))) (lends : facts' c ≡ Some (facts_with kind.Guaranteed (c ∷ []))) where
+  -- where the operand is the copy, it doesn't end
+  abbrev pub IsGentle : Taken → Type 0
+  IsGentle t = t.value.0 ≡ c.0 → is_mild t.role ≡ true
+
+  apart : (w : ValueId) → (w.0 == c.0) ≡ false → w.0 ≡ c.0 → ⊥
+  apart w e same = let wrong : true ≡ false = sym (eq-eqb w.0 c.0 same) ∙ e in cc
+
+  abbrev pub lent_ok : Result (List Entry) HolderFault → Result (List Entry) HolderFault
+  lent_ok (Ok es) = Ok (lent_entries c es)
+  lent_ok (Err x) = Err x
+
+  -- ---- ends
+
+  copy_stays : (t : Taken) → t.value.0 ≡ c.0 → is_mild t.role ≡ true → ends facts t ≡ false
+  copy_stays t same m = ap (λ o. has_any (ended_with o t)) (ap facts (same_value t.value c same) ∙ owned) ∙ mild_stays t.role t.value m
+
+  lent_stays : (t : Taken) → t.value.0 ≡ c.0 → is_mild t.role ≡ true → ends facts' t ≡ false
+  lent_stays t same m = ap (λ o. has_any (ended_with o t)) (ap facts' (same_value t.value c same) ∙ lends) ∙ mild_lent_stays t.role t.value m
+
+  ends_same : (t : Taken) → IsGentle t → ends facts' t ≡ ends facts t
+  ends_same t g = by (t.value.0 == c.0) refl
+    where
+      by : (b : Bool) → (t.value.0 == c.0) ≡ b → ends facts' t ≡ ends facts t
+      by true e = let same = eqb-true t.value.0 c.0 e in lent_stays t same (g same) ∙ sym (copy_stays t same (g same))
+      by false e = ap (λ o. has_any (ended_with o t)) (others t.value (apart t.value e))
+
+  -- what ends isn't the copy
+  end_apart : (t : Taken) → IsGentle t → ends facts t ≡ true → t.value.0 ≡ c.0 → ⊥
+  end_apart t g e same = let wrong : true ≡ false = sym e ∙ copy_stays t same (g same) in cc
+
+  without_lent : (ts : List Taken) → Each IsGentle ts → (es : List Entry) → without_ended facts' ts (lent_entries c es) ≡ lent_ok (without_ended facts ts es)
+  without_lent [] g es = refl
+  without_lent (t ∷ ts) g es = by (ends facts t) refl
+    where
+      go : Entry → Result (List Entry) HolderFault
+      go e = with_ok (without_ended facts' ts) (ended_entry t.value (lent_entries c es) e)
+
+      gone : (t.value.0 ≡ c.0 → ⊥) → without_ended facts' ts (set (lent_entries c es) t.value.0 Gone) ≡ lent_ok (without_ended facts ts (set es t.value.0 Gone))
+      gone other = ap (without_ended facts' ts) (sym (put_other c t.value es Gone other)) ∙ without_lent ts g.1 (set es t.value.0 Gone)
+
+      of_entry : (t.value.0 ≡ c.0 → ⊥) → (e : Entry) → go e ≡ lent_ok (with_ok (without_ended facts ts) (ended_entry t.value es e))
+      of_entry other Gone = refl
+      of_entry other (Held x) = gone other
+      of_entry other (Lent x) = gone other
+      of_entry other (Plain x) = without_lent ts g.1 es
+
+      by : (b : Bool) → ends facts t ≡ b
+          → cond (ends facts' t) (go (entry_at (lent_entries c es) t.value)) (without_ended facts' ts (lent_entries c es))
+          ≡ lent_ok (cond b (with_ok (without_ended facts ts) (ended_entry t.value es (entry_at es t.value))) (without_ended facts ts es))
+      by false e = ap (λ b. cond b (go (entry_at (lent_entries c es) t.value)) (without_ended facts' ts (lent_entries c es))) (ends_same t g.0 ∙ e) ∙ without_lent ts g.1 es
+      by true e =
+          let other = end_apart t g.0 e in
+          ap (λ b. cond b (go (entry_at (lent_entries c es) t.value)) (without_ended facts' ts (lent_entries c es))) (ends_same t g.0 ∙ e)
+          ∙ (ap go (entry_other c t.value es other) ∙ of_entry other (entry_at es t.value))
+
+  -- ---- operands
+
+  module _ (m : Memory) (before left : List Entry) where
+    datum_lent : (v : ValueId) (es : List Entry) → datum_in (entry_at (lent_entries c es) v) ≡ datum_in (entry_at es v)
+    datum_lent v es = by (v.0 == c.0) refl
+      where
+        by : (b : Bool) → (v.0 == c.0) ≡ b → datum_in (entry_at (lent_entries c es) v) ≡ datum_in (entry_at es v)
+        by true e = ap datum_in (entry_copy c v es (eqb-true v.0 c.0 e)) ∙ datum_same (entry_at es v)
+        by false e = ap datum_in (entry_other c v es (apart v e))
+
+    used_lent : (t : Taken) → IsGentle t → used_datum t.role (entry_at (lent_entries c left) t.value) ≡ used_datum t.role (entry_at left t.value)
+    used_lent t g = by (t.value.0 == c.0) refl
+      where
+        by : (b : Bool) → (t.value.0 == c.0) ≡ b → used_datum t.role (entry_at (lent_entries c left) t.value) ≡ used_datum t.role (entry_at left t.value)
+        by true e =
+            let same = eqb-true t.value.0 c.0 e in
+            ap (used_datum t.role) (entry_copy c t.value left same) ∙ used_same t.role (g same) (entry_at left t.value)
+        by false e = ap (used_datum t.role) (entry_other c t.value left (apart t.value e))
+
+    operand_lent : (t : Taken) → IsGentle t → operand facts' m (lent_entries c before) (lent_entries c left) t ≡ operand facts m before left t
+    operand_lent t g =
+        ap (λ b. with_ok (unless_dead m) (cond b (datum_or_fault (datum_in (entry_at (lent_entries c before) t.value)))
+        (used_datum t.role (entry_at (lent_entries c left) t.value)))) (ends_same t g)
+        ∙ (ap (λ o. with_ok (unless_dead m) (cond (ends facts t) (datum_or_fault o) (used_datum t.role (entry_at (lent_entries c left) t.value))))
+        (datum_lent t.value before)
+        ∙ ap (λ r. with_ok (unless_dead m) (cond (ends facts t) (datum_or_fault (datum_in (entry_at before t.value))) r)) (used_lent t g))
+
+    data_lent : (ts : List Taken) → Each IsGentle ts
+        → operand_data facts' m (lent_entries c before) (lent_entries c left) ts ≡ operand_data facts m before left ts
+    data_lent [] g = refl
+    data_lent (t ∷ ts) g =
+        ap (with_ok (λ x. and_more x (operand_data facts' m (lent_entries c before) (lent_entries c left) ts))) (operand_lent t g.0)
+        ∙ ap (λ r. with_ok (λ x. and_more x r) (operand facts m before left t)) (data_lent ts g.1)
+
+  abbrev pub lent_operands : Operands → Operands
+  lent_operands ops = record { given = ops.given; left = lent_entries c ops.left }
+
+  abbrev from_left : (ValueId → Option Facts) → Memory → List Entry → List Taken → List Entry → Result Operands HolderFault
+  from_left known m es ts left = with_ok (λ xs. Ok (record { given = xs; left = left })) (operand_data known m es left ts)
+
+  -- items whose operands don't end the copy take what they took
+  pub operands_lent : (m : Memory) (es : List Entry) (ts : List Taken) → Each IsGentle ts → (ops : Operands) → operands_of facts m es ts ≡ Ok ops
+      → operands_of facts' m (lent_entries c es) ts ≡ Ok (lent_operands ops)
+  operands_lent m es ts g ops is = by (without_ended facts ts es) refl is
+    where
+      by_data : (left : List Entry) (r : Result (List Datum) HolderFault) → operand_data facts m es left ts ≡ r
+          → with_ok (λ xs. Ok (record { given = xs; left = left })) r ≡ Ok ops → from_left facts' m (lent_entries c es) ts (lent_entries c left) ≡ Ok (lent_operands ops)
+      by_data left (Err x) e h = absurd (cc)
+      by_data left (Ok xs) e h =
+          ap (with_ok (λ ys. Ok (record { given = ys; left = lent_entries c left }))) (data_lent m es left ts g ∙ e) ∙ ap lent_result h
+        where
+          lent_result : Result Operands HolderFault → Result Operands HolderFault
+          lent_result (Ok o) = Ok (lent_operands o)
+          lent_result (Err x) = Err x
+
+      by : (r : Result (List Entry) HolderFault) → without_ended facts ts es ≡ r → with_ok (from_left facts m es ts) r ≡ Ok ops
+          → operands_of facts' m (lent_entries c es) ts ≡ Ok (lent_operands ops)
+      by (Err x) e h = absurd (cc)
+      by (Ok left) e h =
+          ap (with_ok (from_left facts' m (lent_entries c es) ts)) (without_lent ts g es ∙ ap lent_ok e) ∙ by_data left (operand_data facts m es left ts) refl h
+
+  -- ---- results
+
+  put_same : (v : ValueId) (es behind : List Entry) (e e' : Entry) → lent_entries c (set es v.0 e) ≡ set (lent_entries c es) v.0 e'
+      → (is_held (entry_at es v) ≡ false → is_held (entry_at (lent_entries c es) v) ≡ false) → put_entry es v e ≡ Ok behind
+      → put_entry (lent_entries c es) v e' ≡ Ok (lent_entries c behind)
+  put_same v es behind e e' sets free is = by (is_held (entry_at es v)) refl is
+    where
+      by : (b : Bool) → is_held (entry_at es v) ≡ b → cond b (Err OverwritesHeld) (Ok (set es v.0 e)) ≡ Ok behind
+          → put_entry (lent_entries c es) v e' ≡ Ok (lent_entries c behind)
+      by true h q = absurd (cc)
+      by false h q =
+          ap (λ b. cond b (Err OverwritesHeld) (Ok (set (lent_entries c es) v.0 e'))) (free h) ∙ (ap Ok (sym sets) ∙ ap lent_ok q)
+
+  result_lent : (v : ValueId) (x : Datum) (es behind : List Entry) → result_put facts v x es ≡ Ok behind
+      → result_put facts' v x (lent_entries c es) ≡ Ok (lent_entries c behind)
+  result_lent v x es behind is = by (v.0 == c.0) refl
+    where
+      by_made : (v.0 ≡ c.0 → ⊥) → (r : Result Entry HolderFault) → with_ok (put_entry es v) r ≡ Ok behind
+          → with_ok (put_entry (lent_entries c es) v) r ≡ Ok (lent_entries c behind)
+      by_made other (Err y) h = absurd (cc)
+      by_made other (Ok e) h = put_same v es behind e e (put_other c v es e other) (λ free. ap is_held (entry_other c v es other) ∙ free) h
+
+      by : (b : Bool) → (v.0 == c.0) ≡ b → result_put facts' v x (lent_entries c es) ≡ Ok (lent_entries c behind)
+      by true e =
+          let same = eqb-true v.0 c.0 e in
+          let is_c : v ≡ c = same_value v c same in
+          let was : (known_or facts v).kind ≡ kind.Owned = ap (λ (o : Option Facts). (unwrap_or o (facts_with kind.Plain [])).kind) (ap facts is_c ∙ owned) in
+          let now : (known_or facts' v).kind ≡ kind.Guaranteed = ap (λ (o : Option Facts). (unwrap_or o (facts_with kind.Plain [])).kind) (ap facts' is_c ∙ lends) in
+          ap (λ k. with_ok (put_entry (lent_entries c es) v) (made_entry k x)) now
+          ∙ put_same v es behind (Held x) (Lent x) (put_copy c v es (Held x) same) (λ free. copy_free c v es same)
+          (sym (ap (λ k. with_ok (put_entry es v) (made_entry k x)) was) ∙ is)
+      by false e =
+          let other = apart v e in
+          ap (λ (o : Option Facts). with_ok (put_entry (lent_entries c es) v) (made_entry (unwrap_or o (facts_with kind.Plain [])).kind x)) (others v other)
+          ∙ by_made other (made_entry (known_or facts v).kind x) is
+
+  pub results_lent : (vs : List ValueId) (xs : List Datum) (es behind : List Entry) → results_put facts vs xs es ≡ Ok behind
+      → results_put facts' vs xs (lent_entries c es) ≡ Ok (lent_entries c behind)
+  results_lent [] [] es behind is = ap lent_ok is
+  results_lent [] (x ∷ xs) es behind is = absurd (cc)
+  results_lent (v ∷ vs) [] es behind is = absurd (cc)
+  results_lent (v ∷ vs) (x ∷ xs) es behind is = by (result_put facts v x es) refl is
+    where
+      by : (r : Result (List Entry) HolderFault) → result_put facts v x es ≡ r → with_ok (results_put facts vs xs) r ≡ Ok behind
+          → results_put facts' (v ∷ vs) (x ∷ xs) (lent_entries c es) ≡ Ok (lent_entries c behind)
+      by (Err y) e h = absurd (cc)
+      by (Ok now) e h = ap (with_ok (results_put facts' vs xs)) (result_lent v x es now e) ∙ results_lent vs xs now behind h
+
+  -- ---- the destroy of the copy, which becomes the end of its scope
+
+  pub record Destroyed (m : Memory) (es : List Entry) (ts' : List Taken) (ops : Operands) : Type 0 where
+    pub datum : Datum
+    pub held : entry_at es c ≡ Held datum
+    pub given : ops.given ≡ datum ∷ []
+    pub left : ops.left ≡ set es c.0 Gone
+    pub ends : operands_of facts' m (lent_entries c es) ts' ≡ Ok (lent_operands ops)
+
+  -- one operand, which ends
+  abbrev one_ended : Memory → ValueId → List Entry → Entry → Result Operands HolderFault
+  one_ended m v es e =
+      with_ok (λ left. with_ok (λ xs. Ok (record { given = xs; left = left })) (with_ok (λ x. and_more x (Ok [])) (with_ok (unless_dead m) (datum_or_fault (datum_in e)))))
+      (with_ok (λ l. Ok l) (ended_entry v es e))
+
+  one_end : (known : ValueId → Option Facts) (m : Memory) (es : List Entry) (t : Taken) → ends known t ≡ true
+      → operands_of known m es (t ∷ []) ≡ one_ended m t.value es (entry_at es t.value)
+  one_end known m es t e =
+      ap (λ b. with_ok (λ left. with_ok (λ xs. Ok (record { given = xs; left = left }))
+      (with_ok (λ x. and_more x (Ok []))
+      (with_ok (unless_dead m) (cond b (datum_or_fault (datum_in (entry_at es t.value))) (used_datum t.role (entry_at left t.value))))))
+      (cond b (with_ok (λ l. Ok l) (ended_entry t.value es (entry_at es t.value))) (Ok es))) e
+
+  same_operands : (x y : Operands) → ◌≡◌ {A = Result Operands HolderFault} (Ok x) (Ok y) → x ≡ y
+  same_operands x y e = cc
+
+  pub destroyed : (o : Operand) → o.value ≡ c → (m : Memory) (es : List Entry) (ops : Operands)
+      → (entry_at es c ≡ Gone) ⊎ ((x : Datum) × (entry_at es c ≡ Held x))
+      → operands_of facts m es (taken_as o (by_row role.Consumed) ∷ []) ≡ Ok ops
+      → Destroyed m es (taken_as o (by_row role.ScopeRole) ∷ []) ops
+  destroyed o is m es ops form took =
+      subst (λ w. Destroyed m es (record { value = w; role = role.ScopeRole; handed = None } ∷ []) ops) (sym is)
+      (by form (sym (one_end facts m es first (ap (λ x. has_any (ended_with x first)) owned))
+      ∙ subst (λ w. operands_of facts m es (record { value = w; role = role.Consumed; handed = None } ∷ []) ≡ Ok ops) is took))
+    where
+      first : Taken
+      first = record { value = c; role = role.Consumed; handed = None }
+
+      second : Taken
+      second = record { value = c; role = role.ScopeRole; handed = None }
+
+      held : (x : Datum) → entry_at es c ≡ Held x → (b : Bool) → any_dead m (references_in x) ≡ b
+          → with_ok (λ xs. Ok (record { given = xs; left = set es c.0 Gone })) (with_ok (λ y. and_more y (Ok [])) (cond b (Err NamesDead) (Ok x))) ≡ Ok ops
+          → Destroyed m es (second ∷ []) ops
+      held x e true dead h = absurd (cc)
+      held x e false alive h =
+          let same : record { given = x ∷ []; left = set es c.0 Gone } ≡ ops = same_operands (record { given = x ∷ []; left = set es c.0 Gone }) ops h in
+          record {
+            datum = x;
+            held = e;
+            given = sym (ap (λ (y : Operands). y.given) same);
+            left = sym (ap (λ (y : Operands). y.left) same);
+            ends = one_end facts' m (lent_entries c es) second (ap (λ y. has_any (ended_with y second)) lends)
+                ∙ (ap (one_ended m c (lent_entries c es)) (entry_copy c c es refl ∙ ap lent_entry e)
+                ∙ (ap (λ b. with_ok (λ xs. Ok (record { given = xs; left = set (lent_entries c es) c.0 Gone }))
+                (with_ok (λ y. and_more y (Ok [])) (cond b (Err NamesDead) (Ok x)))) alive
+                ∙ (ap (λ l. Ok (record { given = x ∷ []; left = l })) (sym (put_copy c c es Gone refl)) ∙ ap (λ y. Ok (lent_operands y)) same)));
+          }
+
+      by : (entry_at es c ≡ Gone) ⊎ ((x : Datum) × (entry_at es c ≡ Held x)) → one_ended m c es (entry_at es c) ≡ Ok ops → Destroyed m es (second ∷ []) ops
+      by (inl gone) h = absurd (let wrong : Err NoEntry ≡ Ok ops = sym (ap (one_ended m c es) gone) ∙ h in cc)
+      by (inr z) h = held z.0 z.1 (any_dead m (references_in z.0)) refl (sym (ap (one_ended m c es) z.1) ∙ h)
