@@ -1,8 +1,8 @@
 -- Entries of which one that is held is lent: what stands there, what is set there, and what they hold.
 use Rattle.std.proofs.Common.{◌≡◌, ℕ, zero, suc, ◌+◌, List, [], ◌∷◌, map, sum, set, replicate, refl, sym, ap, ◌∙◌, arith, Bool, true, false}
-use Rattle.std.specs.Prelude.{◌||◌, slice_get, unwrap_or}
+use Rattle.std.specs.Prelude.{◌||◌, ◌==◌, slice_get, unwrap_or}
 use Rattle.std.specs.List.{list_any}
-use Rattle.std.proofs.lemmas.Bool.{true≢false}
+use Rattle.std.proofs.lemmas.Bool.{eq-eqb, eqb-true, true≢false}
 use Rattle.sil_ast.specs.declared.place.ObjectId.{ObjectId}
 use Rattle.sil_ast.specs.declared.place.ValueId.{ValueId}
 use Rattle.copy_removal.specs.Rewritten.{changed_at}
@@ -15,7 +15,7 @@ use Rattle.lent_runs.specs.inner.LentEntries.{lent_entries, lent_entry}
 
 -- ---- one entry
 
-pub datum_same : (e : Entry) → datum_in (lent_entry e) ≡ datum_in e
+datum_same : (e : Entry) → datum_in (lent_entry e) ≡ datum_in e
 datum_same Gone = refl
 datum_same (Held x) = refl
 datum_same (Lent x) = refl
@@ -127,6 +127,13 @@ module _ (c : ValueId) where
   -- what stands there is as it was, but that it isn't held
   pub copy_free : (v : ValueId) (es : List Entry) → v.0 ≡ c.0 → is_held (entry_at (lent_entries c es) v) ≡ false
   copy_free v es same = ap is_held (entry_copy v es same) ∙ lent_free (entry_at es v)
+
+  pub datum_lent : (v : ValueId) (es : List Entry) → datum_in (entry_at (lent_entries c es) v) ≡ datum_in (entry_at es v)
+  datum_lent v es = by (v.0 == c.0) refl
+    where
+      by : (b : Bool) → (v.0 == c.0) ≡ b → datum_in (entry_at (lent_entries c es) v) ≡ datum_in (entry_at es v)
+      by true e = ap datum_in (entry_copy v es (eqb-true v.0 c.0 e)) ∙ datum_same (entry_at es v)
+      by false e = ap datum_in (entry_other v es (λ same. let wrong : true ≡ false = sym (eq-eqb v.0 c.0 same) ∙ e in cc))
 
   pub no_entries_lent : (n : ℕ) → lent_entries c (no_entries n) ≡ no_entries n
   no_entries_lent n = none_lent c.0 n

@@ -23,7 +23,7 @@ use Rattle.holder_counts.specs.holder_model.Frames.{result_put, results_put, unl
 use Rattle.lent_functions.proofs.Roles.{is_mild}
 use Rattle.lent_functions.proofs.ValueRows.{same_value}
 use Rattle.lent_runs.specs.inner.LentEntries.{lent_entries, lent_entry}
-use Rattle.lent_runs.proofs.Entries.{copy_free, datum_same, entry_copy, entry_other, put_copy, put_other}
+use Rattle.lent_runs.proofs.Entries.{copy_free, datum_lent, entry_copy, entry_other, put_copy, put_other}
 
 mild_stays : (r : Role) (v : ValueId) → is_mild r ≡ true → has_any (ended_by kind.Owned r v) ≡ false
 mild_stays role.Consumed v m = absurd (let wrong : false ≡ true = m in cc)
@@ -99,39 +99,36 @@ module _ (facts facts' : ValueId → Option Facts) (c : ValueId) (others : (w : 
 
   without_lent : (ts : List Taken) → Each IsGentle ts → (es : List Entry) → without_ended facts' ts (lent_entries c es) ≡ lent_ok (without_ended facts ts es)
   without_lent [] g es = refl
-  without_lent (t ∷ ts) g es = by (ends facts t) refl
+  without_lent (t ∷ ts) g es = by (without_lent ts g.1) (ends facts t) refl
     where
+      More : Type 0
+      More = (es : List Entry) → without_ended facts' ts (lent_entries c es) ≡ lent_ok (without_ended facts ts es)
+
       go : Entry → Result (List Entry) HolderFault
       go e = with_ok (without_ended facts' ts) (ended_entry t.value (lent_entries c es) e)
 
-      gone : (t.value.0 ≡ c.0 → ⊥) → without_ended facts' ts (set (lent_entries c es) t.value.0 Gone) ≡ lent_ok (without_ended facts ts (set es t.value.0 Gone))
-      gone other = ap (without_ended facts' ts) (sym (put_other c t.value es Gone other)) ∙ without_lent ts g.1 (set es t.value.0 Gone)
+      gone : More → (t.value.0 ≡ c.0 → ⊥) → without_ended facts' ts (set (lent_entries c es) t.value.0 Gone) ≡ lent_ok (without_ended facts ts (set es t.value.0 Gone))
+      gone more other = ap (without_ended facts' ts) (sym (put_other c t.value es Gone other)) ∙ more (set es t.value.0 Gone)
 
-      of_entry : (t.value.0 ≡ c.0 → ⊥) → (e : Entry) → go e ≡ lent_ok (with_ok (without_ended facts ts) (ended_entry t.value es e))
-      of_entry other Gone = refl
-      of_entry other (Held x) = gone other
-      of_entry other (Lent x) = gone other
-      of_entry other (Plain x) = without_lent ts g.1 es
+      of_entry : More → (t.value.0 ≡ c.0 → ⊥) → (e : Entry) → go e ≡ lent_ok (with_ok (without_ended facts ts) (ended_entry t.value es e))
+      of_entry more other Gone = refl
+      of_entry more other (Held x) = gone more other
+      of_entry more other (Lent x) = gone more other
+      of_entry more other (Plain x) = more es
 
-      by : (b : Bool) → ends facts t ≡ b
+      by : More → (b : Bool) → ends facts t ≡ b
           → cond (ends facts' t) (go (entry_at (lent_entries c es) t.value)) (without_ended facts' ts (lent_entries c es))
           ≡ lent_ok (cond b (with_ok (without_ended facts ts) (ended_entry t.value es (entry_at es t.value))) (without_ended facts ts es))
-      by false e = ap (λ b. cond b (go (entry_at (lent_entries c es) t.value)) (without_ended facts' ts (lent_entries c es))) (ends_same t g.0 ∙ e) ∙ without_lent ts g.1 es
-      by true e =
+      by more false e =
+          ap (λ b. cond b (go (entry_at (lent_entries c es) t.value)) (without_ended facts' ts (lent_entries c es))) (ends_same t g.0 ∙ e) ∙ more es
+      by more true e =
           let other = end_apart t g.0 e in
           ap (λ b. cond b (go (entry_at (lent_entries c es) t.value)) (without_ended facts' ts (lent_entries c es))) (ends_same t g.0 ∙ e)
-          ∙ (ap go (entry_other c t.value es other) ∙ of_entry other (entry_at es t.value))
+          ∙ (ap go (entry_other c t.value es other) ∙ of_entry more other (entry_at es t.value))
 
   -- ---- operands
 
   module _ (m : Memory) (before left : List Entry) where
-    datum_lent : (v : ValueId) (es : List Entry) → datum_in (entry_at (lent_entries c es) v) ≡ datum_in (entry_at es v)
-    datum_lent v es = by (v.0 == c.0) refl
-      where
-        by : (b : Bool) → (v.0 == c.0) ≡ b → datum_in (entry_at (lent_entries c es) v) ≡ datum_in (entry_at es v)
-        by true e = ap datum_in (entry_copy c v es (eqb-true v.0 c.0 e)) ∙ datum_same (entry_at es v)
-        by false e = ap datum_in (entry_other c v es (apart v e))
-
     used_lent : (t : Taken) → IsGentle t → used_datum t.role (entry_at (lent_entries c left) t.value) ≡ used_datum t.role (entry_at left t.value)
     used_lent t g = by (t.value.0 == c.0) refl
       where
@@ -146,7 +143,7 @@ module _ (facts facts' : ValueId → Option Facts) (c : ValueId) (others : (w : 
         ap (λ b. with_ok (unless_dead m) (cond b (datum_or_fault (datum_in (entry_at (lent_entries c before) t.value)))
         (used_datum t.role (entry_at (lent_entries c left) t.value)))) (ends_same t g)
         ∙ (ap (λ o. with_ok (unless_dead m) (cond (ends facts t) (datum_or_fault o) (used_datum t.role (entry_at (lent_entries c left) t.value))))
-        (datum_lent t.value before)
+        (datum_lent c t.value before)
         ∙ ap (λ r. with_ok (unless_dead m) (cond (ends facts t) (datum_or_fault (datum_in (entry_at before t.value))) r)) (used_lent t g))
 
     data_lent : (ts : List Taken) → Each IsGentle ts
@@ -224,12 +221,13 @@ module _ (facts facts' : ValueId → Option Facts) (c : ValueId) (others : (w : 
   results_lent [] [] es behind is = ap lent_ok is
   results_lent [] (x ∷ xs) es behind is = absurd (cc)
   results_lent (v ∷ vs) [] es behind is = absurd (cc)
-  results_lent (v ∷ vs) (x ∷ xs) es behind is = by (result_put facts v x es) refl is
+  results_lent (v ∷ vs) (x ∷ xs) es behind is = by (λ now h. results_lent vs xs now behind h) (result_put facts v x es) refl is
     where
-      by : (r : Result (List Entry) HolderFault) → result_put facts v x es ≡ r → with_ok (results_put facts vs xs) r ≡ Ok behind
+      by : ((now : List Entry) → results_put facts vs xs now ≡ Ok behind → results_put facts' vs xs (lent_entries c now) ≡ Ok (lent_entries c behind))
+          → (r : Result (List Entry) HolderFault) → result_put facts v x es ≡ r → with_ok (results_put facts vs xs) r ≡ Ok behind
           → results_put facts' (v ∷ vs) (x ∷ xs) (lent_entries c es) ≡ Ok (lent_entries c behind)
-      by (Err y) e h = absurd (cc)
-      by (Ok now) e h = ap (with_ok (results_put facts' vs xs)) (result_lent v x es now e) ∙ results_lent vs xs now behind h
+      by more (Err y) e h = absurd (cc)
+      by more (Ok now) e h = ap (with_ok (results_put facts' vs xs)) (result_lent v x es now e) ∙ more now h
 
   -- ---- the destroy of the copy, which becomes the end of its scope
 
