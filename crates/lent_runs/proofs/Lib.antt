@@ -1,3 +1,5 @@
 pub mod Entries
 pub mod Operands
 pub mod Told
+pub mod Items
+pub mod DoesAlike

@@ -1,2 +1,3 @@
 pub mod LentEntries
+pub mod Sparing
 pub mod Laws
