@@ -1,5 +1,5 @@
 -- A function in which a copy is lent does alike: with the same operands, effects and results; where the copy was destroyed its scope ends.
-use Rattle.std.proofs.Common.{◌≡◌, ℕ, arith, List, [], ◌∷◌, ◌++◌, drop, length, map, set, refl, sym, ap, ap₂, ◌∙◌, subst, Bool, true, false, cond, Option, Some, None, Ok, Err}
+use Rattle.std.proofs.Common.{◌≡◌, ℕ, arith, List, [], ◌∷◌, ◌++◌, drop, length, map, set, refl, sym, ap, ap₂, ◌∙◌, subst, Bool, true, false, cond, Option, Some, None, Ok, Err, ◌⊎◌, inl, inr, ⊎_elim}
 use Rattle.std.specs.Prelude.{◌==◌, ◌&&◌, ◌||◌, option_map, slice_get}
 use Rattle.std.specs.List.{list_any}
 use Rattle.std.specs.declared.result.Result.{Result}
@@ -40,7 +40,7 @@ use Rattle.holder_counts.specs.holder_model.Edges.{carried_along, edge_of}
 use Rattle.holder_counts.specs.holder_model.Effects as effects
 use Rattle.holder_counts.specs.holder_model.Effects.{Effect, effect_by, effect_of, only, unchanged, with_some}
 use Rattle.holder_counts.specs.holder_model.Faults.{HolderFault}
-use Rattle.holder_counts.specs.holder_model.Frames.{Entry, Frame, Gone, Operands, datum_in, entry_at, no_entries, operands_of, results_put}
+use Rattle.holder_counts.specs.holder_model.Frames.{Entry, Frame, Gone, Held, Operands, datum_in, entry_at, no_entries, operands_of, results_put}
 use Rattle.holder_counts.specs.holder_model.HolderStates.{HolderState}
 use Rattle.holder_counts.specs.holder_model.MemoryEffects.{at_places, effect}
 use Rattle.holder_counts.specs.holder_model.ModuleFacts.{ModuleFacts, facts_told}
@@ -57,11 +57,11 @@ use Rattle.lent_functions.proofs.Parts.{defined_lent, inst_at_lent, terminator_l
 use Rattle.lent_functions.proofs.Ready.{Ready}
 use Rattle.lent_functions.proofs.Roles.{IsGentle}
 use Rattle.lent_functions.proofs.ValueRows.{same_value}
-use Rattle.lent_runs.specs.inner.LentEntries.{IsLentFrame, NeverAlone, lent_entries, lent_in}
+use Rattle.lent_runs.specs.inner.LentEntries.{IsGoneOrMade, IsLentFrame, NeverAlone, lent_entries, lent_in, makes_copy}
 use Rattle.lent_runs.specs.inner.Sparing.{AreCopiesSpared, IsCopySpared}
-use Rattle.lent_runs.proofs.Entries.{datum_lent, holds_nothing, no_entries_lent}
+use Rattle.lent_runs.proofs.Entries.{datum_lent, holds_nothing, no_entries_lent, none_there}
 use Rattle.lent_runs.proofs.Items.{carried_lent, edge_gentle, edge_taken, exit_gentle, exit_taken, inst_gentle, inst_taken, stands_lent}
-use Rattle.lent_runs.proofs.Operands.{destroyed, lent_operands, operands_lent, results_lent}
+use Rattle.lent_runs.proofs.Operands.{IsPutSo, as_it_was, copy_left, destroyed, gone, lent_operands, made, operands_lent, results_lent, results_so}
 
 module _ (m m' : Module) (told told' : ModuleFacts) (bound : ℕ) (First Second : HolderState → Type 0) (n : ℕ) (p : PointId) (c v : ValueId)
     (g : FuncId) (numbered : g.0 ≡ n) (f : Function) (r : Ready (declarations_of m) f p c v)
@@ -75,7 +75,7 @@ module _ (m m' : Module) (told told' : ModuleFacts) (bound : ℕ) (First Second 
   f' = lent c f
 
   abbrev Like : FuncId → List Item → List Entry → List Item → List Entry → Type 0
-  Like = IsLentFrame n c
+  Like = IsLentFrame n f c
 
   abbrev Alike : List Item → Item → List Entry → List Entry → List (Task Frame) → Effect HolderFault → Effect HolderFault → Type 0
   Alike trail i left left' rest e e' = AreEffectsAlike m m' told told' bound First Second Like NeverAlone g f f' trail trail i i left left' rest e e'
@@ -83,8 +83,11 @@ module _ (m m' : Module) (told told' : ModuleFacts) (bound : ℕ) (First Second 
   same_entries : (es : List Entry) → lent_in n c g es ≡ lent_entries c es
   same_entries es = ap (λ b. cond b (lent_entries c es) es) (eq-eqb g.0 n numbered)
 
-  like : (trail : List Item) (es : List Entry) → Like g trail es trail (lent_entries c es)
-  like trail es = (refl, sym (same_entries es))
+  abbrev IsSo : List Item → List Entry → Type 0
+  IsSo trail es = IsGoneOrMade f c trail es
+
+  like : (trail : List Item) (es : List Entry) → IsSo trail es → Like g trail es trail (lent_entries c es)
+  like trail es so = record { trails = refl; lent = sym (same_entries es); copy = λ is. so }
 
   -- ---- facts
 
@@ -108,13 +111,33 @@ module _ (m m' : Module) (told told' : ModuleFacts) (bound : ℕ) (First Second 
 
   -- ---- results
 
-  put_alike : (trail : List Item) (i : Item) (xs : List Datum) (es : List Entry)
-      → ArePutAlike Like g trail trail (puts told g f i xs es) (puts told' g f' i xs (lent_entries c es))
-  put_alike trail i xs es behind is = (
+  -- the copy's entry is gone or held still, behind ends and behind results
+  left_so : (trail : List Item) (i : Item) (memory : Memory) (es : List Entry) (ops : Operands) → IsSo trail es → takes told g f i memory es ≡ Ok ops
+      → IsSo trail ops.left
+  left_so trail i memory es ops so is =
+      ⊎_elim (λ same. ⊎_elim (λ none. inl (same ∙ none)) (λ held. inr (record { datum = held.datum; held = same ∙ held.held; made = held.made })) so)
+      (λ none. inl none) (copy_left (facts_told told g) (facts_told told' g) c others owned lends memory es (item_taken f i) ops is)
+
+  behind_so : (trail : List Item) (i : Item) (es behind : List Entry) → IsSo trail es → IsPutSo (facts_told told g) (facts_told told' g) c others owned lends (item_defined f i) es behind
+      → IsSo (i ∷ trail) behind
+  behind_so trail i es behind so (as_it_was e) =
+      ⊎_elim (λ none. inl (e ∙ none))
+      (λ held. inr (record { datum = held.datum; held = e ∙ held.held; made = later (makes_copy f c i) (list_any (makes_copy f c) trail) held.made })) so
+    where
+      later : (a b : Bool) → b ≡ true → (a || b) ≡ true
+      later true b h = refl
+      later false b h = h
+  behind_so trail i es behind so (gone e) = inl e
+  behind_so trail i es behind so (made x e h) = inr (record { datum = x; held = e; made = ap (λ b. b || list_any (makes_copy f c) trail) h })
+
+  put_alike : (trail : List Item) (i : Item) (xs : List Datum) (es : List Entry) → IsSo trail es
+      → ArePutAlike Like g (i ∷ trail) (i ∷ trail) (puts told g f i xs es) (puts told' g f' i xs (lent_entries c es))
+  put_alike trail i xs es so behind is = (
     lent_entries c behind,
     ap (λ vs. results_put (facts_told told' g) vs xs (lent_entries c es)) (defined_lent c f i)
         ∙ results_lent (facts_told told g) (facts_told told' g) c others owned lends (item_defined f i) xs es behind is,
-    like trail behind,
+    like (i ∷ trail) behind
+        (behind_so trail i es behind so (results_so (facts_told told g) (facts_told told' g) c others owned lends (item_defined f i) xs es behind is)),
   )
 
   -- ---- operands
@@ -133,25 +156,25 @@ module _ (m m' : Module) (told told' : ModuleFacts) (bound : ℕ) (First Second 
       ap (λ y. does m' told' g y i xs) e ∙ (ap (λ k. effect k told'.shapes (shapes_in told'.shapes g) memory i xs) declarations
       ∙ ap (λ s. effect d s (shapes_in s g) memory i xs) shapes)
 
-  effect_alike : (trail : List Item) (i : Item) (left : List Entry) (rest : List (Task Frame)) → item_taken f' i ≡ item_taken f i → (e : Effect HolderFault)
+  effect_alike : (trail : List Item) (i : Item) (left : List Entry) (rest : List (Task Frame)) → IsSo trail left → item_taken f' i ≡ item_taken f i → (e : Effect HolderFault)
       → Alike trail i left (lent_entries c left) rest e e
-  effect_alike trail i left rest taken (effects.Makes x) = record {
+  effect_alike trail i left rest so taken (effects.Makes x) = record {
     memory = refl;
     slots = refl;
     retained = omega arith;
     dropped = AreDropsAlike.both refl;
-    put = put_alike (i ∷ trail) i x.results left;
+    put = put_alike trail i x.results left so;
   }
-  effect_alike trail i left rest taken (effects.Calls k args) = record {
+  effect_alike trail i left rest so taken (effects.Calls k args) = record {
     callee = refl;
     given = refl;
     lent = ap (λ ts. lent_places (drop 1 ts) args) taken;
-    waits = like trail left;
-    out = put_alike (i ∷ trail) i _ left;
+    waits = like trail left so;
+    out = put_alike trail i _ left so;
   }
-  effect_alike trail i left rest taken (effects.Traps t) = refl
-  effect_alike trail i left rest taken (effects.Faults x) = tt
-  effect_alike trail i left rest taken effects.Unfit = tt
+  effect_alike trail i left rest so taken (effects.Traps t) = refl
+  effect_alike trail i left rest so taken (effects.Faults x) = tt
+  effect_alike trail i left rest so taken effects.Unfit = tt
 
   nothing_put : (known : ValueId → Option Facts) (vs : List ValueId) (es behind : List Entry) → results_put known vs [] es ≡ Ok behind → behind ≡ es
   nothing_put known [] es behind is = let same : ◌≡◌ {A = Result (List Entry) HolderFault} (Ok es) (Ok behind) = is in cc
@@ -169,12 +192,15 @@ module _ (m m' : Module) (told told' : ModuleFacts) (bound : ℕ) (First Second 
   -- ---- frames that go on
 
   module _ (h s : HolderState) (memory : s.memory ≡ h.memory) (trail : List Item) (es : List Entry) (rest : List (Task Frame))
-      (spared : IsCopySpared m m' told told' bound First Second n c g h es rest) where
+      (so : IsGoneOrMade f c trail es) (spared : IsCopySpared m m' told told' bound First Second n f c g h es rest) where
     abbrev q : PointId
     q = stands_at f trail
 
     abbrev it : Item
     it = item.Inst q
+
+    form : (entry_at es c ≡ Gone) ⊎ ((x : Datum) × (entry_at es c ≡ Held x))
+    form = ⊎_elim (λ none. inl none) (λ held. inr (held.datum, held.held)) so
 
     -- what the instruction i does in the first function, and j in the second one
     abbrev Done : Inst → Inst → Operands → Type 0
@@ -193,7 +219,7 @@ module _ (m m' : Module) (told told' : ModuleFacts) (bound : ℕ) (First Second 
           lent_of ops,
           taken_alike it h.memory s.memory es memory same (subst (Each (IsGentle d f p c v r)) (sym (inst_taken c f q i at)) gentle) ops is,
           subst (λ e. Alike trail it ops.left (lent_entries c ops.left) rest (does m told g h.memory i ops.given) e)
-              (sym (does_same h.memory s.memory i ops.given memory)) (effect_alike trail it ops.left rest same (does m told g h.memory i ops.given)),
+              (sym (does_same h.memory s.memory i ops.given memory)) (effect_alike trail it ops.left rest (left_so trail it h.memory es ops so is) same (does m told g h.memory i ops.given)),
         )
 
     -- the copy, which becomes a borrow: nothing is retained
@@ -223,7 +249,7 @@ module _ (m m' : Module) (told told' : ModuleFacts) (bound : ℕ) (First Second 
           slots = refl;
           retained = omega arith;
           dropped = AreDropsAlike.both refl;
-          put = put_alike (it ∷ trail) it (x ∷ []) ops.left;
+          put = put_alike trail it (x ∷ []) ops.left (left_so trail it h.memory es ops so is);
         }
 
     -- a destroy of the copy, which becomes the end of the scope: nothing is dropped
@@ -235,7 +261,7 @@ module _ (m m' : Module) (told told' : ModuleFacts) (bound : ℕ) (First Second 
         let new : item_taken f' it ≡ taken_as o (by_row role.ScopeRole) ∷ [] =
         inst_taken c f' q (with_op op.EndBorrow i) at'
         ∙ ap (λ os. taken_each os (roles_for (roles_of op.EndBorrow) (conventions_in i) (length os)) ++ []) alone in
-        let z = destroyed (facts_told told g) (facts_told told' g) c others owned lends o is h.memory es ops spared.form
+        let z = destroyed (facts_told told g) (facts_told told' g) c others owned lends o is h.memory es ops form
         (sym (ap (operands_of (facts_told told g) h.memory es) old) ∙ took) in
         let does_so : does m told g h.memory i ops.given ≡ effects.Makes (record (unchanged h.memory) { dropped = references_in z.datum }) =
         ap (λ xs. does m told g h.memory i xs) z.given ∙ ap (λ x. by_row_of i x (z.datum ∷ [])) e in (
@@ -247,8 +273,8 @@ module _ (m m' : Module) (told told' : ModuleFacts) (bound : ℕ) (First Second 
             retained = omega arith;
             dropped = AreDropsAlike.alone refl (λ places entries put.
                 subst (λ x. AreSpared h.memory (Runs (frame_at g places [] (it ∷ trail) x) ∷ rest) (references_in z.datum))
-                (sym (nothing_put (facts_told told g) (item_defined f it) ops.left entries put ∙ z.left)) (spared.spared z.datum z.held places (it ∷ trail)));
-            put = put_alike (it ∷ trail) it [] ops.left;
+                (sym (nothing_put (facts_told told g) (item_defined f it) ops.left entries put ∙ z.left)) (spared z.datum z.held places (it ∷ trail)));
+            put = put_alike trail it [] ops.left (left_so trail it h.memory es ops so took);
           }),
         )
 
@@ -285,7 +311,7 @@ module _ (m m' : Module) (told told' : ModuleFacts) (bound : ℕ) (First Second 
       other = lent_of ops;
       taken = taken_alike (item.Edge e) h.memory s.memory es memory (edge_taken c f e) (edge_gentle d f p c v r e) ops is;
       carries = carried_lent c f e ops.given ∙ some;
-      put = put_alike (item.Edge e ∷ trail) (item.Edge e) carried ops.left;
+      put = put_alike trail (item.Edge e) carried ops.left (left_so trail (item.Edge e) h.memory es ops so is);
     }
 
     end_alike : (i : Inst) → inst_at f q ≡ None → terminator_of f q.block.0 ≡ Some i
@@ -312,26 +338,26 @@ module _ (m m' : Module) (told told' : ModuleFacts) (bound : ℕ) (First Second 
   empty_same : no_entries (value_count f') ≡ lent_entries c (no_entries (value_count f))
   empty_same = ap no_entries count ∙ sym (no_entries_lent c (value_count f))
 
-  pub lent_does_alike : AreCopiesSpared m m' told told' bound First Second n c g → DoAlike m m' told told' bound First Second Like NeverAlone g f f'
+  pub lent_does_alike : AreCopiesSpared m m' told told' bound First Second n f c g → DoAlike m m' told told' bound First Second Like NeverAlone g f f'
   lent_does_alike spared = record {
     shapes = ap (λ x. shapes_in x g) shapes;
-    begin = (refl, empty_same ∙ sym (same_entries (no_entries (value_count f))));
+    begin = record { trails = refl; lent = empty_same ∙ sym (same_entries (no_entries (value_count f))); copy = λ is. inl (none_there c (value_count f)) };
     enter = λ args.
         subst (λ es. ArePutAlike Like g (item.Entry ∷ []) (item.Entry ∷ []) (puts told g f item.Entry args (no_entries (value_count f))) (puts told' g f' item.Entry args es))
-        (sym empty_same) (put_alike (item.Entry ∷ []) item.Entry args (no_entries (value_count f)));
+        (sym empty_same) (put_alike [] item.Entry args (no_entries (value_count f)) (inl (none_there c (value_count f))));
     insts = λ h s slots lent trail trail' es es' rest rest' on i at.
-        subst (λ t. AreInstsAlike m m' told told' bound First Second Like NeverAlone g f f' h s trail t es es' rest i) (sym on.like.0)
-        (subst (λ x. AreInstsAlike m m' told told' bound First Second Like NeverAlone g f f' h s trail trail es x rest i) (sym (on.like.1 ∙ same_entries es))
-        (inst_alike h s on.level.memory trail es rest (spared h s slots lent trail trail' es es' rest rest' on) i at));
+        subst (λ t. AreInstsAlike m m' told told' bound First Second Like NeverAlone g f f' h s trail t es es' rest i) (sym on.like.trails)
+        (subst (λ x. AreInstsAlike m m' told told' bound First Second Like NeverAlone g f f' h s trail trail es x rest i) (sym (on.like.lent ∙ same_entries es))
+        (inst_alike h s on.level.memory trail es rest (on.like.copy numbered) (spared h s slots lent trail trail' es es' rest rest' on) i at));
     ends = λ h s slots lent trail trail' es es' rest rest' on i at is.
-        subst (λ t. AreEndsAlike m m' told told' bound First Second Like NeverAlone g f f' h s trail t es es' rest i) (sym on.like.0)
-        (subst (λ x. AreEndsAlike m m' told told' bound First Second Like NeverAlone g f f' h s trail trail es x rest i) (sym (on.like.1 ∙ same_entries es))
-        (end_alike h s on.level.memory trail es rest (spared h s slots lent trail trail' es es' rest rest' on) i at is));
+        subst (λ t. AreEndsAlike m m' told told' bound First Second Like NeverAlone g f f' h s trail t es es' rest i) (sym on.like.trails)
+        (subst (λ x. AreEndsAlike m m' told told' bound First Second Like NeverAlone g f f' h s trail trail es x rest i) (sym (on.like.lent ∙ same_entries es))
+        (end_alike h s on.level.memory trail es rest (on.like.copy numbered) (spared h s slots lent trail trail' es es' rest rest' on) i at is));
     resume = λ trail trail' es es' x alike.
         subst (λ t. ArePutAlike Like g (call_at f trail ∷ trail) (call_at f' t ∷ t) (puts told g f (call_at f trail) (x ∷ []) es)
-        (puts told' g f' (call_at f' t) (x ∷ []) es')) (sym alike.0)
+        (puts told' g f' (call_at f' t) (x ∷ []) es')) (sym alike.trails)
         (subst (λ q. ArePutAlike Like g (call_at f trail ∷ trail) (item.Inst q ∷ trail) (puts told g f (call_at f trail) (x ∷ []) es)
         (puts told' g f' (item.Inst q) (x ∷ []) es')) (sym (stands_lent c f trail))
         (subst (λ y. ArePutAlike Like g (call_at f trail ∷ trail) (call_at f trail ∷ trail) (puts told g f (call_at f trail) (x ∷ []) es)
-        (puts told' g f' (call_at f trail) (x ∷ []) y)) (sym (alike.1 ∙ same_entries es)) (put_alike (call_at f trail ∷ trail) (call_at f trail) (x ∷ []) es)));
+        (puts told' g f' (call_at f trail) (x ∷ []) y)) (sym (alike.lent ∙ same_entries es)) (put_alike trail (call_at f trail) (x ∷ []) es (alike.copy numbered))));
   }

@@ -1,5 +1,5 @@
 -- Entries of which one that is held is lent: what stands there, what is set there, and what they hold.
-use Rattle.std.proofs.Common.{◌≡◌, ℕ, zero, suc, ◌+◌, List, [], ◌∷◌, map, sum, set, replicate, refl, sym, ap, ◌∙◌, arith, Bool, true, false}
+use Rattle.std.proofs.Common.{◌≡◌, ℕ, zero, suc, ◌+◌, List, [], ◌∷◌, map, sum, set, replicate, refl, sym, ap, ◌∙◌, arith, Bool, true, false, ◌⊎◌, inl, inr}
 use Rattle.std.specs.Prelude.{◌||◌, ◌==◌, slice_get, unwrap_or}
 use Rattle.std.specs.List.{list_any}
 use Rattle.std.proofs.lemmas.Bool.{eq-eqb, eqb-true, true≢false}
@@ -65,10 +65,27 @@ set_other zero (suc k) (x ∷ es) e other = refl
 set_other (suc n) zero (x ∷ es) e other = refl
 set_other (suc n) (suc k) (x ∷ es) e other = ap (λ l. x ∷ l) (set_other n k es e (λ same. other (ap suc same)))
 
+set_at : (n : ℕ) (es : List Entry) (e : Entry) → (at (set es n e) n ≡ e) ⊎ (at (set es n e) n ≡ Gone)
+set_at n [] e = inr refl
+set_at zero (x ∷ es) e = inl refl
+set_at (suc n) (x ∷ es) e = set_at n es e
+
+set_apart : (n k : ℕ) (es : List Entry) (e : Entry) → (k ≡ n → ⊥) → at (set es k e) n ≡ at es n
+set_apart n k [] e other = refl
+set_apart zero zero (x ∷ es) e other = absurd (other refl)
+set_apart zero (suc k) (x ∷ es) e other = refl
+set_apart (suc n) zero (x ∷ es) e other = refl
+set_apart (suc n) (suc k) (x ∷ es) e other = set_apart n k es e (λ same. other (ap suc same))
+
 none_lent : (n k : ℕ) → lent_list n (replicate k Gone) ≡ replicate k Gone
 none_lent n zero = refl
 none_lent zero (suc k) = refl
 none_lent (suc n) (suc k) = ap (λ l. Gone ∷ l) (none_lent n k)
+
+none_at : (n k : ℕ) → at (replicate n Gone) k ≡ Gone
+none_at zero k = refl
+none_at (suc n) zero = refl
+none_at (suc n) (suc k) = none_at n k
 
 or_false : (a b : Bool) → (a || b) ≡ false → (a ≡ false) × (b ≡ false)
 or_false true b e = absurd (true≢false e)
@@ -123,6 +140,16 @@ module _ (c : ValueId) where
 
   pub put_other : (v : ValueId) (es : List Entry) (e : Entry) → (v.0 ≡ c.0 → ⊥) → lent_entries c (set es v.0 e) ≡ set (lent_entries c es) v.0 e
   put_other v es e other = set_other c.0 v.0 es e other
+
+  pub set_there : (es : List Entry) (e : Entry) → (entry_at (set es c.0 e) c ≡ e) ⊎ (entry_at (set es c.0 e) c ≡ Gone)
+  set_there es e = set_at c.0 es e
+
+  pub set_elsewhere : (v : ValueId) (es : List Entry) (e : Entry) → (v.0 ≡ c.0 → ⊥) → entry_at (set es v.0 e) c ≡ entry_at es c
+  set_elsewhere v es e other = set_apart c.0 v.0 es e other
+
+  -- none is there
+  pub none_there : (n : ℕ) → entry_at (no_entries n) c ≡ Gone
+  none_there n = none_at n c.0
 
   -- what stands there is as it was, but that it isn't held
   pub copy_free : (v : ValueId) (es : List Entry) → v.0 ≡ c.0 → is_held (entry_at (lent_entries c es) v) ≡ false

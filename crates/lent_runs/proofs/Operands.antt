@@ -1,6 +1,6 @@
 -- Operands and results where the copy is lent: they are those that they were, and the entries that are left or made are so but for the copy's.
-use Rattle.std.proofs.Common.{◌≡◌, ℕ, List, [], ◌∷◌, set, refl, sym, ap, ◌∙◌, subst, Bool, true, false, cond, Option, Some, None, Ok, Err, ◌⊎◌, inl, inr}
-use Rattle.std.specs.Prelude.{◌==◌, unwrap_or}
+use Rattle.std.proofs.Common.{◌≡◌, ℕ, List, [], ◌∷◌, set, refl, sym, ap, ◌∙◌, subst, Bool, true, false, cond, Option, Some, None, Ok, Err, ◌⊎◌, inl, inr, ⊎_elim}
+use Rattle.std.specs.Prelude.{◌==◌, ◌||◌, unwrap_or}
 use Rattle.std.specs.declared.result.Result.{Result}
 use Rattle.std.proofs.lemmas.Bool.{eq-eqb, eqb-true}
 use Rattle.instruction_table.specs.declared.entries.Role.{Role}
@@ -8,7 +8,7 @@ use Rattle.instruction_table.specs.declared.entries.Role.TheVariants as role
 use Rattle.item_operands.specs.Roles.{by_row, taken_as}
 use Rattle.item_operands.specs.declared.taken.Taken.{Taken}
 use Rattle.numbered_form.specs.Lists.{Each}
-use Rattle.ownership_chains.specs.Facts.{facts_with, known_or}
+use Rattle.ownership_chains.specs.Facts.{facts_with, has, known_or}
 use Rattle.ownership_chains.specs.declared.facts.Facts.{Facts}
 use Rattle.ownership_marks.specs.Marks.{ended_by, ended_with}
 use Rattle.run_values.specs.Memory.{Memory}
@@ -20,10 +20,11 @@ use Rattle.holder_counts.specs.holder_model.Faults.{ConsumesLent, HolderFault, N
 use Rattle.holder_counts.specs.holder_model.Frames.{Entry, Gone, Held, Lent, Operands, Plain, and_more, any_dead, datum_in, datum_or_fault, ended_entry, ends}
 use Rattle.holder_counts.specs.holder_model.Frames.{entry_at, has_any, is_consumed, is_held, made_entry, operand, operand_data, operands_of, put_entry}
 use Rattle.holder_counts.specs.holder_model.Frames.{result_put, results_put, unless_dead, used_datum, with_ok, without_ended}
+use Rattle.holder_counts.proofs.Entries.{left_of}
 use Rattle.lent_functions.proofs.Roles.{is_mild}
 use Rattle.lent_functions.proofs.ValueRows.{same_value}
 use Rattle.lent_runs.specs.inner.LentEntries.{lent_entries, lent_entry}
-use Rattle.lent_runs.proofs.Entries.{copy_free, datum_lent, entry_copy, entry_other, put_copy, put_other}
+use Rattle.lent_runs.proofs.Entries.{copy_free, datum_lent, entry_copy, entry_other, put_copy, put_other, set_elsewhere, set_there}
 
 mild_stays : (r : Role) (v : ValueId) → is_mild r ≡ true → has_any (ended_by kind.Owned r v) ≡ false
 mild_stays role.Consumed v m = absurd (let wrong : false ≡ true = m in cc)
@@ -64,6 +65,14 @@ used_same r m Gone = refl
 used_same r m (Held x) = ap (λ b. cond b (Err ConsumesLent) (Ok x)) (mild_takes_lent r m)
 used_same r m (Lent x) = refl
 used_same r m (Plain x) = refl
+
+or_second : (a b : Bool) → b ≡ true → (a || b) ≡ true
+or_second true b e = refl
+or_second false b e = e
+
+or_front : (a b : Bool) → (a || false) ≡ true → (a || b) ≡ true
+or_front true b e = refl
+or_front false b e = absurd (let wrong : false ≡ true = e in cc)
 
 module _ (facts facts' : ValueId → Option Facts) (c : ValueId) (others : (w : ValueId) → (w.0 ≡ c.0 → ⊥) → facts' w ≡ facts w)
     (owned : facts c ≡ Some (facts_with kind.Owned (c ∷ []))) (lends : facts' c ≡ Some (facts_with kind.Guaranteed (c ∷ []))) where
@@ -229,6 +238,81 @@ module _ (facts facts' : ValueId → Option Facts) (c : ValueId) (others : (w : 
       by more (Err y) e h = absurd (cc)
       by more (Ok now) e h = ap (with_ok (results_put facts' vs xs)) (result_lent v x es now e) ∙ more now h
 
+  -- ---- the copy's entry, behind ends and behind results
+
+  pub copy_left : (m : Memory) (es : List Entry) (ts : List Taken) (ops : Operands) → operands_of facts m es ts ≡ Ok ops
+      → (entry_at ops.left c ≡ entry_at es c) ⊎ (entry_at ops.left c ≡ Gone)
+  copy_left m es ts ops is = by (without_ended facts ts es) refl is
+    where
+      same_left : (x y : Operands) → ◌≡◌ {A = Result Operands HolderFault} (Ok x) (Ok y) → x.left ≡ y.left
+      same_left x y e = let same : x ≡ y = cc in ap (λ (o : Operands). o.left) same
+
+      by_data : (left : List Entry) → without_ended facts ts es ≡ Ok left → (r : Result (List Datum) HolderFault)
+          → with_ok (λ xs. Ok (record { given = xs; left = left })) r ≡ Ok ops → (entry_at ops.left c ≡ entry_at es c) ⊎ (entry_at ops.left c ≡ Gone)
+      by_data left e (Err x) h = absurd (cc)
+      by_data left e (Ok xs) h =
+          subst (λ l. (entry_at l c ≡ entry_at es c) ⊎ (entry_at l c ≡ Gone)) (same_left (record { given = xs; left = left }) ops h) (left_of facts ts es left e c)
+
+      by : (r : Result (List Entry) HolderFault) → without_ended facts ts es ≡ r → with_ok (from_left facts m es ts) r ≡ Ok ops
+          → (entry_at ops.left c ≡ entry_at es c) ⊎ (entry_at ops.left c ≡ Gone)
+      by (Err x) e h = absurd (cc)
+      by (Ok left) e h = by_data left e (operand_data facts m es left ts) h
+
+  -- it is as it was, or one of the results is the copy
+  pub data IsPutSo (vs : List ValueId) (es behind : List Entry) : Type 0 where
+    as_it_was : entry_at behind c ≡ entry_at es c → IsPutSo vs es behind
+    gone : entry_at behind c ≡ Gone → IsPutSo vs es behind
+    made : (x : Datum) → entry_at behind c ≡ Held x → has vs c.0 ≡ true → IsPutSo vs es behind
+
+  put_so : (v : ValueId) (es behind : List Entry) (e : Entry) → put_entry es v e ≡ Ok behind → set es v.0 e ≡ behind
+  put_so v es behind e is = by (is_held (entry_at es v)) is
+    where
+      by : (b : Bool) → cond b (Err OverwritesHeld) (Ok (set es v.0 e)) ≡ Ok behind → set es v.0 e ≡ behind
+      by true h = absurd (cc)
+      by false h = same_entries (set es v.0 e) behind h
+        where
+          same_entries : (x y : List Entry) → ◌≡◌ {A = Result (List Entry) HolderFault} (Ok x) (Ok y) → x ≡ y
+          same_entries x y e = cc
+
+  result_so : (v : ValueId) (x : Datum) (es behind : List Entry) → result_put facts v x es ≡ Ok behind → IsPutSo (v ∷ []) es behind
+  result_so v x es behind is = by (v.0 == c.0) refl
+    where
+      by_made : (v.0 ≡ c.0 → ⊥) → (r : Result Entry HolderFault) → with_ok (put_entry es v) r ≡ Ok behind → IsPutSo (v ∷ []) es behind
+      by_made other (Err y) h = absurd (cc)
+      by_made other (Ok e) h = as_it_was (ap (λ l. entry_at l c) (sym (put_so v es behind e h)) ∙ set_elsewhere c v es e other)
+
+      by : (b : Bool) → (v.0 == c.0) ≡ b → IsPutSo (v ∷ []) es behind
+      by true e =
+          let same = eqb-true v.0 c.0 e in
+          let is_c : v ≡ c = same_value v c same in
+          let was : (known_or facts v).kind ≡ kind.Owned = ap (λ (o : Option Facts). (unwrap_or o (facts_with kind.Plain [])).kind) (ap facts is_c ∙ owned) in
+          let puts : set es v.0 (Held x) ≡ behind = put_so v es behind (Held x) (sym (ap (λ k. with_ok (put_entry es v) (made_entry k x)) was) ∙ is) in
+          let now : set es c.0 (Held x) ≡ behind = ap (λ k. set es k (Held x)) (sym same) ∙ puts in
+          ⊎_elim (λ there. made x (ap (λ l. entry_at l c) (sym now) ∙ there) (ap (λ b. b || false) e)) (λ none. gone (ap (λ l. entry_at l c) (sym now) ∙ none))
+          (set_there c es (Held x))
+      by false e = by_made (apart v e) (made_entry (known_or facts v).kind x) is
+
+  both_so : (v : ValueId) (vs : List ValueId) (es now behind : List Entry) → IsPutSo (v ∷ []) es now → IsPutSo vs now behind → IsPutSo (v ∷ vs) es behind
+  both_so v vs es now behind first (gone e) = gone e
+  both_so v vs es now behind first (made x e h) = made x e (or_second (v.0 == c.0) (has vs c.0) h)
+  both_so v vs es now behind (gone k) (as_it_was e) = gone (e ∙ k)
+  both_so v vs es now behind (as_it_was k) (as_it_was e) = as_it_was (e ∙ k)
+  both_so v vs es now behind (made x k h) (as_it_was e) = made x (e ∙ k) (or_front (v.0 == c.0) (has vs c.0) h)
+
+  pub results_so : (vs : List ValueId) (xs : List Datum) (es behind : List Entry) → results_put facts vs xs es ≡ Ok behind → IsPutSo vs es behind
+  results_so [] [] es behind is = as_it_was (ap (λ l. entry_at l c) (sym (same_list es behind is)))
+    where
+      same_list : (x y : List Entry) → ◌≡◌ {A = Result (List Entry) HolderFault} (Ok x) (Ok y) → x ≡ y
+      same_list x y e = cc
+  results_so [] (x ∷ xs) es behind is = absurd (cc)
+  results_so (v ∷ vs) [] es behind is = absurd (cc)
+  results_so (v ∷ vs) (x ∷ xs) es behind is = by (λ now h. results_so vs xs now behind h) (result_put facts v x es) refl is
+    where
+      by : ((now : List Entry) → results_put facts vs xs now ≡ Ok behind → IsPutSo vs now behind)
+          → (r : Result (List Entry) HolderFault) → result_put facts v x es ≡ r → with_ok (results_put facts vs xs) r ≡ Ok behind → IsPutSo (v ∷ vs) es behind
+      by more (Err y) e h = absurd (cc)
+      by more (Ok now) e h = both_so v vs es now behind (result_so v x es now e) (more now h)
+
   -- ---- the destroy of the copy, which becomes the end of its scope
 
   pub record Destroyed (m : Memory) (es : List Entry) (ts' : List Taken) (ops : Operands) : Type 0 where
@@ -289,5 +373,5 @@ module _ (facts facts' : ValueId → Option Facts) (c : ValueId) (others : (w : 
           }
 
       by : (entry_at es c ≡ Gone) ⊎ ((x : Datum) × (entry_at es c ≡ Held x)) → one_ended m c es (entry_at es c) ≡ Ok ops → Destroyed m es (second ∷ []) ops
-      by (inl gone) h = absurd (let wrong : Err NoEntry ≡ Ok ops = sym (ap (one_ended m c es) gone) ∙ h in cc)
+      by (inl none) h = absurd (let wrong : Err NoEntry ≡ Ok ops = sym (ap (one_ended m c es) none) ∙ h in cc)
       by (inr z) h = held z.0 z.1 (any_dead m (references_in z.0)) refl (sym (ap (one_ended m c es) z.1) ∙ h)

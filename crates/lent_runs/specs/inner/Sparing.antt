@@ -1,6 +1,6 @@
--- What the run of a function in which a copy is lent needs of its states: the copy's entry is held where it is there, and what it names is spared
--- where it goes.
-use Rattle.std.specs.Prelude.{◌≡◌, ◌⊎◌, ℕ, List, [], ◌∷◌, set}
+-- What the run of a function in which a copy is lent needs of its states: what the copy names is spared where it goes.
+use Rattle.std.specs.Prelude.{◌≡◌, ℕ, List, [], ◌∷◌, set}
+use Rattle.sil_ast.specs.declared.function.Function.{Function}
 use Rattle.sil_ast.specs.declared.module.Module.{Module}
 use Rattle.sil_ast.specs.declared.place.FuncId.{FuncId}
 use Rattle.sil_ast.specs.declared.place.ValueId.{ValueId}
@@ -16,19 +16,15 @@ use Rattle.lockstep_runs.specs.inner.Lockstep.{frame_at}
 use Rattle.lockstep_runs.specs.inner.Parts.{AreFramesOn}
 use Rattle.lent_runs.specs.inner.LentEntries.{IsLentFrame, NeverAlone}
 
--- the entry is gone or held
-abbrev pub IsGoneOrHeld : Entry → Type 0
-IsGoneOrHeld e = (e ≡ Gone) ⊎ ((x : Datum) × (e ≡ Held x))
+module _ (m m' : Module) (told told' : ModuleFacts) (bound : ℕ) (First Second : HolderState → Type 0) (n : ℕ) (f : Function) (c : ValueId) (g : FuncId) where
+  -- what the copy's entry names is spared, where the frame goes on over these tasks without it
+  abbrev pub IsCopySpared : HolderState → List Entry → List (Task Frame) → Type 0
+  IsCopySpared h entries rest = (x : Datum) → entry_at entries c ≡ Held x → (places : List Place) (t : List Item)
+      → AreSpared h.memory (Runs (frame_at g places [] t (set entries c.0 Gone)) ∷ rest) (references_in x)
 
-module _ (m m' : Module) (told told' : ModuleFacts) (bound : ℕ) (First Second : HolderState → Type 0) (n : ℕ) (c : ValueId) (g : FuncId) where
-  -- where frames of the function go on
-  pub record IsCopySpared (h : HolderState) (entries : List Entry) (rest : List (Task Frame)) : Type 0 where
-    pub form : IsGoneOrHeld (entry_at entries c)
-    pub spared : (x : Datum) → entry_at entries c ≡ Held x → (places : List Place) (t : List Item)
-        → AreSpared h.memory (Runs (frame_at g places [] t (set entries c.0 Gone)) ∷ rest) (references_in x)
-
+  -- so it is where frames of the function go on
   abbrev pub AreCopiesSpared : Type 0
   AreCopiesSpared = (h r : HolderState) (slots : List Place) (lent : List LentPlace) (trail trail' : List Item) (entries entries' : List Entry)
       (rest rest' : List (Task Frame))
-      → AreFramesOn m m' told told' bound First Second (IsLentFrame n c) NeverAlone h r g slots lent trail trail' entries entries' rest rest'
+      → AreFramesOn m m' told told' bound First Second (IsLentFrame n f c) NeverAlone h r g slots lent trail trail' entries entries' rest rest'
       → IsCopySpared h entries rest
