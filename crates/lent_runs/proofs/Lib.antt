@@ -3,3 +3,6 @@ pub mod Operands
 pub mod Told
 pub mod Items
 pub mod DoesAlike
+pub mod Cover
+pub mod Covered
+pub mod AsItDid
