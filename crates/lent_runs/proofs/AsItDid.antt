@@ -1,5 +1,5 @@
 -- A module in which a copy is lent runs as it did: all parts of lockstep together.
-use Rattle.std.proofs.Common.{◌≡◌, ℕ, List, [], ◌∷◌, refl, sym, ap, ◌∙◌, subst, Bool, true, false, cond, Some}
+use Rattle.std.proofs.Common.{◌≡◌, ℕ, List, refl, sym, ap, ◌∙◌, subst, Bool, true, false, cond, Some}
 use Rattle.std.specs.Prelude.{◌==◌, option_map, slice_get}
 use Rattle.std.proofs.lemmas.Bool.{eq-eqb, eqb-true}
 use Rattle.std.proofs.lemmas.Option.{same_Some}
@@ -10,13 +10,9 @@ use Rattle.sil_ast.specs.declared.place.PointId.{PointId}
 use Rattle.sil_ast.specs.declared.place.ValueId.{ValueId}
 use Rattle.sil_cfg.specs.declared.item.Item.{Item}
 use Rattle.type_definitions.specs.Declarations.{declarations_of}
-use Rattle.copy_removal.specs.Copies.{IsCopy}
-use Rattle.copy_removal.specs.Optimised.{Rewrites, lends}
-use Rattle.copy_removal.specs.Optimised as optimised
-use Rattle.copy_removal.specs.Removable.{IsBorrowable}
+use Rattle.copy_removal.specs.Optimised.{lends}
 use Rattle.copy_removal.specs.Rewritten.{lent, with_function}
 use Rattle.holder_counts.specs.holder_model.Frames.{Entry}
-use Rattle.holder_counts.specs.holder_model.HolderStates.{HolderState}
 use Rattle.holder_counts.specs.holder_model.ModuleFacts.{facts_of}
 use Rattle.held_loans.specs.inner.Loans.{loans_of}
 use Rattle.accepted_runs.specs.inner.RightStates.{IsRightState}

@@ -1,13 +1,13 @@
 -- What a copy holds in the first run has another holder in the second one, or a finish: there the copy's scope is open, so it is guarded.
-use Rattle.std.proofs.Common.{◌≡◌, ℕ, zero, suc, ◌<◌, ◌≤◌, ◌+◌, List, [], ◌∷◌, refl, sym, ap, ◌∙◌, subst, arith, Bool, true, false, cond, ◌⊎◌, inl, inr, ⊎_elim, Some}
+use Rattle.std.proofs.Common.{◌≡◌, ℕ, zero, suc, ◌<◌, ◌≤◌, ◌+◌, List, [], ◌∷◌, refl, sym}
+use Rattle.std.proofs.Common.{ap, ◌∙◌, subst, arith, Bool, true, false, cond, ◌⊎◌, inl, inr, ⊎_elim, Some}
 use Rattle.std.specs.Prelude.{◌||◌, ◌&&◌, ◌==◌, not, slice_get}
 use Rattle.std.specs.List.{list_any}
-use Rattle.std.proofs.lemmas.Bool.{eq-eqb, eqb-true}
+use Rattle.std.proofs.lemmas.Bool.{eqb-true}
 use Rattle.std.proofs.lemmas.Option.{same_Some}
-use Rattle.ownership_chains.specs.Facts.{facts_with, has, known_or}
+use Rattle.ownership_chains.specs.Facts.{has, known_or}
 use Rattle.run_values.specs.Memory.{Memory}
 use Rattle.run_values.specs.Places.{Place}
-use Rattle.sil_ast.specs.declared.decl.Storage.TheVariants as storage
 use Rattle.sil_ast.specs.declared.function.Function.{Function}
 use Rattle.sil_ast.specs.declared.module.Module.{Module}
 use Rattle.sil_ast.specs.declared.place.FuncId.{FuncId}
@@ -15,13 +15,12 @@ use Rattle.sil_ast.specs.declared.place.ObjectId.{ObjectId}
 use Rattle.sil_ast.specs.declared.place.PointId.{PointId}
 use Rattle.sil_ast.specs.declared.place.ValueId.{ValueId}
 use Rattle.sil_cfg.specs.declared.item.Item.{Item}
-use Rattle.type_definitions.specs.Declarations.{Declarations, declarations_of}
-use Rattle.type_definitions.specs.declared.kind.Kind.TheVariants as kind
+use Rattle.type_definitions.specs.Declarations.{declarations_of}
 use Rattle.copy_removal.specs.ownership_kinds.Facts.{facts_in}
 use Rattle.copy_removal.specs.Rewritten.{lent}
 use Rattle.holder_counts.specs.holder_model.Data.{references_in}
-use Rattle.holder_counts.specs.holder_model.Frames.{Entry, Frame, Gone, Held, Lent, LentPlace, entry_at}
-use Rattle.holder_counts.specs.holder_model.Holders.{in_memory, of_references, one_object}
+use Rattle.holder_counts.specs.holder_model.Frames.{Entry, Frame, Lent, LentPlace, entry_at}
+use Rattle.holder_counts.specs.holder_model.Holders.{of_references, one_object}
 use Rattle.holder_counts.specs.holder_model.HolderStates.{in_entry, in_task}
 use Rattle.holder_counts.specs.holder_model.States.{Drops, Finishes, Runs, Task}
 use Rattle.holder_counts.specs.inner.Moving.{in_tasks}
@@ -40,7 +39,7 @@ use Rattle.lent_functions.proofs.Ready.{Ready}
 use Rattle.lent_functions.proofs.Tables.{known_lent}
 use Rattle.lent_functions.proofs.ValueRows.{same_value}
 use Rattle.lent_runs.specs.inner.Covering.{IsCovered, IsGuardedStack, lent_count}
-use Rattle.lent_runs.specs.inner.LentEntries.{IsGoneOrMade, IsLentFrame, IsMadeHeld, lent_entries, lent_entry, lent_in, makes_copy}
+use Rattle.lent_runs.specs.inner.LentEntries.{IsGoneOrMade, IsLentFrame, IsMadeHeld, lent_entries, lent_entry, makes_copy}
 use Rattle.lent_runs.proofs.Entries.{entry_copy, lent_holds}
 
 -- ---- what the first run holds more

@@ -1,11 +1,10 @@
 -- From what is covered: the parts of lockstep that speak of drops, of objects that die, and of the copies that are destroyed in the first run alone.
-use Rattle.std.proofs.Common.{◌≡◌, ℕ, ◌<◌, ◌+◌, List, [], ◌∷◌, set, refl, sym, ap, ◌∙◌, subst, arith, Bool, true, false, cond, ◌⊎◌, inl, inr, ⊎_elim, Some}
-use Rattle.std.specs.Prelude.{◌==◌, slice_get}
+use Rattle.std.proofs.Common.{◌≡◌, ℕ, ◌<◌, ◌+◌, List, [], ◌∷◌, set, refl, sym, ap, ◌∙◌, subst, arith, false, cond, inl, inr, ⊎_elim, Some}
+use Rattle.std.specs.Prelude.{slice_get}
 use Rattle.std.proofs.lemmas.Bool.{eq-eqb}
 use Rattle.run_values.specs.declared.phase.Phase.{Phase}
 use Rattle.run_values.specs.declared.phase.Phase.TheVariants.{Dead, Deiniting, Live}
 use Rattle.run_values.specs.Memory.{Memory, is_live, is_live_phase, phase_of}
-use Rattle.run_values.specs.Places.{Place}
 use Rattle.sil_ast.specs.declared.decl.Storage.TheVariants as storage
 use Rattle.sil_ast.specs.declared.function.Function.{Function}
 use Rattle.sil_ast.specs.declared.module.Module.{Module}

@@ -1,25 +1,23 @@
 -- A function in which a copy is lent does alike: with the same operands, effects and results; where the copy was destroyed its scope ends.
-use Rattle.std.proofs.Common.{◌≡◌, ℕ, arith, List, [], ◌∷◌, ◌++◌, drop, length, map, set, refl, sym, ap, ap₂, ◌∙◌, subst, Bool, true, false, cond, Option, Some, None, Ok, Err, ◌⊎◌, inl, inr, ⊎_elim}
-use Rattle.std.specs.Prelude.{◌==◌, ◌&&◌, ◌||◌, option_map, slice_get}
+use Rattle.std.proofs.Common.{◌≡◌, ℕ, arith, List, [], ◌∷◌, ◌++◌, drop, length, refl, sym, ap, ap₂}
+use Rattle.std.proofs.Common.{◌∙◌, subst, Bool, true, false, cond, Option, Some, None, Ok, ◌⊎◌, inl, inr, ⊎_elim}
+use Rattle.std.specs.Prelude.{◌==◌, ◌||◌, option_map}
 use Rattle.std.specs.List.{list_any}
 use Rattle.std.specs.declared.result.Result.{Result}
 use Rattle.std.proofs.lemmas.Bool.{eq-eqb, eqb-true}
 use Rattle.argument_conventions.specs.Arguments.{arguments_of}
-use Rattle.instruction_table.specs.Forms.{ending_of, roles_of}
-use Rattle.instruction_table.specs.declared.entries.Ending.TheVariants as ending
+use Rattle.instruction_table.specs.Forms.{roles_of}
 use Rattle.instruction_table.specs.declared.entries.Role.TheVariants as role
 use Rattle.instruction_table.specs.declared.op.Op.{Op}
 use Rattle.instruction_table.specs.declared.op.Op.TheVariants as op
 use Rattle.item_operands.specs.Items.{item_defined, item_taken}
 use Rattle.item_operands.specs.Parts.{inst_at, terminator_of}
 use Rattle.item_operands.specs.Roles.{by_row, conventions_in, roles_for, taken_as, taken_by, taken_each}
-use Rattle.item_operands.specs.declared.taken.Taken.{Taken}
 use Rattle.numbered_form.specs.Lists.{Each}
 use Rattle.numbered_form.specs.inner.Parts.{has_operands}
 use Rattle.ownership_chains.specs.Facts.{facts_with}
 use Rattle.ownership_chains.specs.declared.facts.Facts.{Facts}
 use Rattle.run_values.specs.Memory.{Memory}
-use Rattle.run_values.specs.Places.{Place}
 use Rattle.sil_ast.specs.declared.function.Function.{Function}
 use Rattle.sil_ast.specs.declared.inst.Inst.{Inst}
 use Rattle.sil_ast.specs.declared.module.Module.{Module}
@@ -36,11 +34,11 @@ use Rattle.copy_removal.specs.Rewritten.{lent, lent_inst, with_op}
 use Rattle.copy_removal.specs.ownership_kinds.Facts.{facts_in}
 use Rattle.holder_counts.specs.holder_model.Calling.{argument_data, given_places, lent_places, places_given, value_count}
 use Rattle.holder_counts.specs.holder_model.Data.{Datum, references_in}
-use Rattle.holder_counts.specs.holder_model.Edges.{carried_along, edge_of}
+use Rattle.holder_counts.specs.holder_model.Edges.{edge_of}
 use Rattle.holder_counts.specs.holder_model.Effects as effects
 use Rattle.holder_counts.specs.holder_model.Effects.{Effect, effect_by, effect_of, only, unchanged, with_some}
 use Rattle.holder_counts.specs.holder_model.Faults.{HolderFault}
-use Rattle.holder_counts.specs.holder_model.Frames.{Entry, Frame, Gone, Held, Operands, datum_in, entry_at, no_entries, operands_of, results_put}
+use Rattle.holder_counts.specs.holder_model.Frames.{Entry, Frame, Gone, Held, Operands, entry_at, no_entries, operands_of, results_put}
 use Rattle.holder_counts.specs.holder_model.HolderStates.{HolderState}
 use Rattle.holder_counts.specs.holder_model.MemoryEffects.{at_places, effect}
 use Rattle.holder_counts.specs.holder_model.ModuleFacts.{ModuleFacts, facts_told}
@@ -49,7 +47,7 @@ use Rattle.holder_counts.specs.holder_model.Standing.{stands_at}
 use Rattle.holder_counts.specs.holder_model.States.{Runs, Task}
 use Rattle.lockstep_runs.specs.inner.Frames.{AreDropsAlike, AreEdgesAlike, AreEffectsAlike, AreEndsAlike, AreInstsAlike, AreSpared, DoAlike, does, takes}
 use Rattle.lockstep_runs.specs.inner.Lockstep.{ArePutAlike, frame_at}
-use Rattle.lockstep_runs.specs.inner.Parts.{AreFramesOn, call_at, puts}
+use Rattle.lockstep_runs.specs.inner.Parts.{call_at, puts}
 use Rattle.lent_functions.proofs.Facts.{copy_facts, other_facts}
 use Rattle.lent_functions.proofs.Insts.{Becomes, becomes, borrows, ends, stays}
 use Rattle.lent_functions.proofs.Marks.{first, not_destroy, one_operand, stands}
@@ -118,8 +116,8 @@ module _ (m m' : Module) (told told' : ModuleFacts) (bound : ℕ) (First Second 
       ⊎_elim (λ same. ⊎_elim (λ none. inl (same ∙ none)) (λ held. inr (record { datum = held.datum; held = same ∙ held.held; made = held.made })) so)
       (λ none. inl none) (copy_left (facts_told told g) (facts_told told' g) c others owned lends memory es (item_taken f i) ops is)
 
-  behind_so : (trail : List Item) (i : Item) (es behind : List Entry) → IsSo trail es → IsPutSo (facts_told told g) (facts_told told' g) c others owned lends (item_defined f i) es behind
-      → IsSo (i ∷ trail) behind
+  behind_so : (trail : List Item) (i : Item) (es behind : List Entry) → IsSo trail es
+      → IsPutSo (facts_told told g) (facts_told told' g) c others owned lends (item_defined f i) es behind → IsSo (i ∷ trail) behind
   behind_so trail i es behind so (as_it_was e) =
       ⊎_elim (λ none. inl (e ∙ none))
       (λ held. inr (record { datum = held.datum; held = e ∙ held.held; made = later (makes_copy f c i) (list_any (makes_copy f c) trail) held.made })) so
@@ -219,7 +217,8 @@ module _ (m m' : Module) (told told' : ModuleFacts) (bound : ℕ) (First Second 
           lent_of ops,
           taken_alike it h.memory s.memory es memory same (subst (Each (IsGentle d f p c v r)) (sym (inst_taken c f q i at)) gentle) ops is,
           subst (λ e. Alike trail it ops.left (lent_entries c ops.left) rest (does m told g h.memory i ops.given) e)
-              (sym (does_same h.memory s.memory i ops.given memory)) (effect_alike trail it ops.left rest (left_so trail it h.memory es ops so is) same (does m told g h.memory i ops.given)),
+              (sym (does_same h.memory s.memory i ops.given memory))
+              (effect_alike trail it ops.left rest (left_so trail it h.memory es ops so is) same (does m told g h.memory i ops.given)),
         )
 
     -- the copy, which becomes a borrow: nothing is retained

@@ -1,5 +1,5 @@
 -- Items of the function in which the copy is lent: where they stand, what they take and what they carry; and which take the copy without ending it.
-use Rattle.std.proofs.Common.{◌≡◌, ℕ, List, [], ◌∷◌, ◌++◌, drop, length, refl, sym, ap, ap₂, ◌∙◌, subst, false, Option, Some, None}
+use Rattle.std.proofs.Common.{◌≡◌, ℕ, List, [], ◌∷◌, ◌++◌, drop, length, refl, ap, ap₂, ◌∙◌, false, Option, Some, None}
 use Rattle.std.specs.Prelude.{◌&&◌, option_and_then, option_map, slice_get}
 use Rattle.std.specs.List.{flat_map}
 use Rattle.instruction_table.specs.Forms.{ending_of}
@@ -7,7 +7,7 @@ use Rattle.instruction_table.specs.declared.entries.Ending.{Ending}
 use Rattle.instruction_table.specs.declared.entries.Ending.TheVariants as ending
 use Rattle.instruction_table.specs.declared.op.Op.TheVariants as op
 use Rattle.item_operands.specs.Items.{item_taken, taken_along_in, taken_in}
-use Rattle.item_operands.specs.Parts.{args_behind, edge_at, edge_in, inst_at, item_operands, terminator_of}
+use Rattle.item_operands.specs.Parts.{edge_at, edge_in, inst_at, terminator_of}
 use Rattle.item_operands.specs.Roles.{taken_along, taken_by}
 use Rattle.item_operands.specs.declared.taken.Taken.{Taken}
 use Rattle.numbered_form.specs.Lists.{Each}
@@ -28,7 +28,7 @@ use Rattle.holder_counts.specs.holder_model.Standing.{behind, first_point, stand
 use Rattle.lent_functions.proofs.Graph.{args_lent}
 use Rattle.lent_functions.proofs.Lists.{each_append, each_behind, each_front, each_got, each_unflat}
 use Rattle.lent_functions.proofs.Marks.{end_calm, ends_at, stands}
-use Rattle.lent_functions.proofs.Parts.{edge_lent, inst_at_lent, operands_lent, terminator_lent}
+use Rattle.lent_functions.proofs.Parts.{edge_lent, operands_lent, terminator_lent}
 use Rattle.lent_functions.proofs.Ready.{Ready}
 use Rattle.lent_functions.proofs.Roles.{IsGentle, gentle_at}
 

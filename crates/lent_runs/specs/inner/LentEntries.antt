@@ -1,5 +1,5 @@
 -- Entries of a frame in which one value that is held is lent, and frames of two runs that are alike but for that.
-use Rattle.std.specs.Prelude.{◌≡◌, ◌⊎◌, ◌==◌, ℕ, List, Bool, true, false, cond}
+use Rattle.std.specs.Prelude.{◌≡◌, ◌⊎◌, ◌==◌, ℕ, List, Bool, true, cond}
 use Rattle.std.specs.List.{list_any}
 use Rattle.item_operands.specs.Items.{item_defined}
 use Rattle.ownership_chains.specs.Facts.{has}
