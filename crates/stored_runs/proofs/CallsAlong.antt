@@ -64,7 +64,7 @@ use Rattle.stored_runs.specs.inner.Names.{lowered_number}
 use Rattle.stored_runs.specs.inner.Runs.{IsEndingFor}
 use Rattle.stored_runs.proofs.Entering.{are_entered}
 use Rattle.stored_runs.proofs.GoesAlong.{goes_along, parts_full, puts_own}
-use Rattle.stored_runs.proofs.HandedOver.{arguments_for, as_many_read, handed_for, parts_full_for, values_read}
+use Rattle.stored_runs.proofs.HandedOver.{addresses_for, arguments_for, as_many_read, handed_for, parts_full_for, values_read}
 use Rattle.stored_runs.proofs.LoweredCode.{mapped_at}
 use Rattle.stored_runs.proofs.Reading.{AreReadAs, AreReadSo, Like, defines_there, like_exact, taken_read}
 use Rattle.stored_runs.proofs.StandsStaying.{behind_at, defines_same, low_here, takes_same}
@@ -252,11 +252,13 @@ module _ (m : Module) (bound : ℕ) (s : HolderState) (l : LowState) (frame : Fr
           frames = record { function = frames.function; at = frames.at; slots = frames.slots; size = frames.size; values = left_frames.values };
         })
 
-        hands_over : HandsOver l.memory callee (map as_argument args) so.args'
+        hands_over : HandsOver d l.memory callee (map as_argument args) so.args'
         hands_over = record {
           as_many = as_many_read d f lowers.named low.values s.memory l.memory memory given_parts so.others args so.args' so.like ∙ hands.as_many;
           same = arguments_for d f lowers.named low.values s.memory l.memory memory given_parts so.others args so.args' so.like;
           full = parts_full_for d f lowers.named low.values s.memory l.memory memory given_parts so.others args so.args' so.like hands.full;
+          addresses = addresses_for d callee (item_defined callee item.Entry) args so.args'
+              (arguments_for d f lowers.named low.values s.memory l.memory memory given_parts so.others args so.args' so.like) hands.addresses;
         }
 
         calls_in : (next : HolderNext)

@@ -1,5 +1,5 @@
 -- A function with a body is called: both runs enter it.
-use Rattle.std.proofs.Common.{◌≡◌, inr, ℕ, ◌+◌, ◌<◌, List, [], ◌∷◌, length, map, refl, sym, ap, ◌∙◌, subst, Bool, true, false, Option, Some, None, Ok}
+use Rattle.std.proofs.Common.{◌≡◌, inl, inr, ℕ, ◌+◌, ◌<◌, List, [], ◌∷◌, length, map, refl, sym, ap, ◌∙◌, subst, Bool, true, false, Option, Some, None, Ok}
 use Rattle.std.specs.Prelude.{nat_lt, slice_get}
 use Rattle.std.specs.List.{AllZip}
 use Rattle.std.proofs.lemmas.List.{length-map, length-replicate}
@@ -19,7 +19,7 @@ use Rattle.lowering_laws.proofs.run_typing_laws.ItemFacts.{values_counted}
 use Rattle.lowered_run.specs.holder_model.declared.limits.TheConstants.{FRAMES}
 use Rattle.lowered_run.specs.holder_model.declared.trap.Trap.TheVariants as trap
 use Rattle.lowered_run.specs.holder_model.Calling.{value_count}
-use Rattle.lowered_run.specs.holder_model.Data.{AddressOf, Datum}
+use Rattle.lowered_run.specs.holder_model.Data.{AddressOf, Datum, FunctionOf, ValueOf}
 use Rattle.lowered_run.specs.holder_model.Frames.{Entry, Frame, datum_in, no_entries, results_put}
 use Rattle.lowered_run.specs.holder_model.HolderStates.{HolderNext, HolderState}
 use Rattle.lowered_run.specs.holder_model.ModuleFacts.{facts_of, facts_told}
@@ -33,7 +33,7 @@ use Rattle.lowering_laws.specs.lowering_model.LoweredModules.{lowered, lowered_b
 use Rattle.holder_steps.specs.inner.Ways as holder
 use Rattle.lowered_steps.specs.inner.LowWays as ways
 use Rattle.stored_runs.specs.inner.Along.{AreTotalsFor, IsAlong, IsNextAlong, IsNoFault}
-use Rattle.stored_runs.specs.inner.Entering.{AreEntered, HandsOver, IsArgumentFor, IsFullPart}
+use Rattle.stored_runs.specs.inner.Entering.{AreEntered, HandsOver, IsAddressFor, IsArgumentFor, IsFullPart}
 use Rattle.stored_runs.specs.inner.Frames.{AreTasksFor, HasFullParts, IsFrameFor, IsTaskFor}
 use Rattle.stored_runs.specs.inner.Lowering.{IsOwnName, LowersSo}
 use Rattle.stored_runs.specs.inner.Memories.{IsMemoryFor}
@@ -61,7 +61,7 @@ frames_for m (task ∷ tasks) (low ∷ lows) h = same_frames m task low tasks lo
 module _ (m : Module) (bound : ℕ) (s : HolderState) (l : LowState) (rest : List (Task Frame)) (lrest : List (Task LowFrame))
     (g : FuncId) (callee : Function) (xs ys : List Datum)
     (totals : AreTotalsFor s l) (memory : IsMemoryFor s.memory l.memory) (rest_for : AreTasksFor m rest lrest) (full : Each (HasFullParts m l.memory) lrest)
-    (there : slice_get m.functions g.0 ≡ Some callee) (lowers : LowersSo m g callee) (hands : HandsOver l.memory callee xs ys) where
+    (there : slice_get m.functions g.0 ≡ Some callee) (lowers : LowersSo m g callee) (hands : HandsOver (declarations_of m) l.memory callee xs ys) where
   abbrev d : Declarations
   d = declarations_of m
 
@@ -92,13 +92,19 @@ module _ (m : Module) (bound : ℕ) (s : HolderState) (l : LowState) (rest : Lis
   counted : value_count lc ≡ lowered_count d callee
   counted = values_counted lc
 
-  like_of : (rs : List ValueId) (xs ys : List Datum) → Each Given rs → AllZip IsArgumentFor xs ys → AreLike number (Like d callee lowers.named) rs xs ys
-  like_of [] [] [] h k = tt
-  like_of [] [] (y ∷ ys) h k = absurd k
-  like_of [] (x ∷ xs) ys h k = tt
-  like_of (r ∷ rs) [] ys h k = tt
-  like_of (r ∷ rs) (x ∷ xs) [] h k = absurd k
-  like_of (r ∷ rs) (x ∷ xs) (y ∷ ys) h k = (inr (h.0, k.0), like_of rs xs ys h.1 k.1)
+  one_like : (r : ValueId) (x y : Datum) → Given r → IsArgumentFor x y → IsAddressFor d callee r y → Like d callee lowers.named r x y
+  one_like r x (ValueOf u) given e a = inl e
+  one_like r x (AddressOf p) given e a = let s = a p refl in inr (record { made = given; shape = s.0; is = s.1 }, e)
+  one_like r x (FunctionOf h) given e a = inl e
+
+  like_of : (rs : List ValueId) (xs ys : List Datum) → Each Given rs → AllZip IsArgumentFor xs ys → AllZip (IsAddressFor d callee) rs ys
+      → AreLike number (Like d callee lowers.named) rs xs ys
+  like_of [] [] [] h k a = tt
+  like_of [] [] (y ∷ ys) h k a = absurd k
+  like_of [] (x ∷ xs) ys h k a = tt
+  like_of (r ∷ rs) [] ys h k a = tt
+  like_of (r ∷ rs) (x ∷ xs) [] h k a = absurd k
+  like_of (r ∷ rs) (x ∷ xs) (y ∷ ys) h k a = (one_like r x y h.0 k.0 a.0, like_of rs xs ys h.1 k.1 a.1)
 
   low_defines : item_defined lc item.Entry ≡ map number args
   low_defines = lowers.entry
@@ -112,7 +118,7 @@ module _ (m : Module) (bound : ℕ) (s : HolderState) (l : LowState) (rest : Lis
   module _ (entries : List Entry) (put : results_put facts args xs (no_entries (value_count callee)) ≡ Ok entries) where
     putting : ArePut number (Like d callee lowers.named) facts args ys entries no_low (λ v. IsOld callee v × IsCurrent callee [] v)
     putting =
-        results_shown number (Like d callee lowers.named) facts args xs ys (like_of args xs ys all_given hands.same) (no_entries (value_count callee)) entries no_low
+        results_shown number (Like d callee lowers.named) facts args xs ys (like_of args xs ys all_given hands.same hands.addresses) (no_entries (value_count callee)) entries no_low
         (λ v. IsOld callee v × IsCurrent callee [] v)
         (each_weaker (IsOwnName callee) (λ r. (number r).0 < length no_low)
         (λ r o. subst (λ n. (number r).0 < n) (sym (length-replicate (value_count lc) None ∙ counted)) (lowers.named.few r o.0)) args own)

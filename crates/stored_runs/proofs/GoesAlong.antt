@@ -105,7 +105,7 @@ module _ (m : Module) (bound : ℕ) (s : HolderState) (l : LowState) (totals : A
           parts = λ v p given at part.
               parts_full v p given
               (sym (put_other (map number (item_defined f i)) xs low.values putting.values' (number v) putting.is
-              (other_numbers v given (item_defined f i) own all_made)) ∙ at) part;
+              (other_numbers v given.made (item_defined f i) own all_made)) ∙ at) part;
         }
       where
         putting : ArePut number (Like d f lowers.named) facts (item_defined f i) xs entries low.values (λ v. IsOld f v × IsCurrent f frame.trail v)

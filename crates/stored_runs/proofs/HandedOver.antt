@@ -16,11 +16,11 @@ use Rattle.run_values.specs.Memory.{Memory, Object, no_object, object_at, put_ce
 use Rattle.run_values.specs.Places.{Home, Inside, OnStack, Place, cells_at, emptied, home_cells, value_at, with_home_cells}
 use Rattle.run_values.specs.Values.{Value}
 use Rattle.lowered_run.specs.holder_model.Calling.{as_argument, emptied_for, handed_over}
-use Rattle.lowered_run.specs.holder_model.Data.{AddressOf, Datum, FunctionOf, ValueOf, as_value, values_of, with_first}
+use Rattle.lowered_run.specs.holder_model.Data.{AddressOf, Datum, FunctionOf, ValueOf, as_place, as_value, values_of, with_first}
 use Rattle.lowered_run.specs.holder_model.Frames.{LentPlace}
 use Rattle.lowered_run.specs.LowFrames as low_frames
 use Rattle.stored_runs.specs.inner.CallsAlong.{MayBeHandedOver}
-use Rattle.stored_runs.specs.inner.Entering.{IsArgumentFor, IsFullPart}
+use Rattle.stored_runs.specs.inner.Entering.{IsAddressFor, IsArgumentFor, IsFullPart}
 use Rattle.stored_runs.specs.inner.Frames.{AreGivenPartsFull, IsDatumFor}
 use Rattle.stored_runs.specs.inner.Memories.{IsMemoryFor, MayBeTaken}
 use Rattle.stored_runs.specs.inner.Names.{AreNamed, lowered_number}
@@ -105,6 +105,22 @@ module _ (low : Memory) where
 
 -- ---- arguments
 
+address_of : (x y : Datum) → as_argument y ≡ as_argument x → (p : Place) → y ≡ AddressOf p → (q : Place) × (x ≡ AddressOf q)
+address_of (ValueOf v) y e p is = absurd (none-some _ (sym (ap as_place (ap as_argument (sym is) ∙ e))))
+address_of (AddressOf q) y e p is = (q, refl)
+address_of (FunctionOf g) y e p is = absurd (none-some _ (sym (ap as_place (ap as_argument (sym is) ∙ e))))
+
+-- what stands for an address in the lowered run is one for the callee too
+pub addresses_for : (d : Declarations) (f : Function) (vs : List ValueId) (xs ys : List Datum) → AllZip IsArgumentFor (map as_argument xs) ys
+    → AllZip (IsAddressFor d f) vs xs → AllZip (IsAddressFor d f) vs ys
+addresses_for d f [] [] [] h k = tt
+addresses_for d f [] [] (y ∷ ys) h k = absurd h
+addresses_for d f [] (x ∷ xs) ys h k = absurd k
+addresses_for d f (v ∷ vs) [] ys h k = absurd k
+addresses_for d f (v ∷ vs) (x ∷ xs) [] h k = absurd h
+addresses_for d f (v ∷ vs) (x ∷ xs) (y ∷ ys) h k =
+    (λ p is. let q = address_of x y h.0 p is in k.0 q.0 q.1, addresses_for d f vs xs ys h.1 k.1)
+
 whole_twice : (y : Datum) → as_argument (as_argument y) ≡ as_argument y
 whole_twice (ValueOf v) = refl
 whole_twice (AddressOf p) = refl
@@ -112,7 +128,7 @@ whole_twice (FunctionOf g) = refl
 
 module _ (d : Declarations) (f : Function) (named : AreNamed d f) (values : List (Option Datum)) (m low : Memory) (memory : IsMemoryFor m low)
     (given : AreGivenPartsFull d f values low) where
-  one_argument : (v : ValueId) (x y : Datum) → IsDatumFor f v x y → as_argument y ≡ as_argument x
+  one_argument : (v : ValueId) (x y : Datum) → IsDatumFor d f v x y → as_argument y ≡ as_argument x
   one_argument v x y (inl same) = ap as_argument same
   one_argument v x y (inr (made, whole)) = sym (whole_twice y) ∙ ap as_argument whole
 
@@ -128,7 +144,7 @@ module _ (d : Declarations) (f : Function) (named : AreNamed d f) (values : List
   full_in_both None p e h = absurd (cc)
   full_in_both (Some x) p e h = ap is_some (place_read m low memory p x e)
 
-  one_full : (v : ValueId) (x y : Datum) → low_frames.value_at values (lowered_number d f v) ≡ Some y → IsDatumFor f v x y → IsFullPart m x → IsFullPart low y
+  one_full : (v : ValueId) (x y : Datum) → low_frames.value_at values (lowered_number d f v) ≡ Some y → IsDatumFor d f v x y → IsFullPart m x → IsFullPart low y
   one_full v x y at (inl same) full p is part = full_in_both (value_at m p) p refl (full p (sym same ∙ is) part)
   one_full v x y at (inr (made, whole)) full p is part = given v p made (at ∙ ap Some is) part
 
@@ -154,7 +170,7 @@ module _ (d : Declarations) (f : Function) (named : AreNamed d f) (values : List
   more_values (Some v) None vs e = absurd (none-some vs e)
   more_values (Some v) (Some ws) vs e = (v, ws, refl, refl)
 
-  value_exact : (v : ValueId) (x y : Datum) (z : Value) → as_value x ≡ Some z → IsDatumFor f v x y → y ≡ x
+  value_exact : (v : ValueId) (x y : Datum) (z : Value) → as_value x ≡ Some z → IsDatumFor d f v x y → y ≡ x
   value_exact v (ValueOf u) y z e h = like_exact d f named v (ValueOf u) y refl h
   value_exact v (AddressOf p) y z e h = absurd (none-some z e)
   value_exact v (FunctionOf g) y z e h = absurd (none-some z e)

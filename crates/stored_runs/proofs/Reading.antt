@@ -69,7 +69,7 @@ module _ (d : Declarations) (f : Function) (named : AreNamed d f) where
   number v = lowered_number d f v
 
   abbrev pub Like : ValueId → Datum → Datum → Type 0
-  Like v x y = IsDatumFor f v x y
+  Like v x y = IsDatumFor d f v x y
 
   pub like_itself : (v : ValueId) (x : Datum) → Like v x x
   like_itself v x = inl refl
@@ -188,7 +188,7 @@ module _ (d : Declarations) (f : Function) (named : AreNamed d f) where
       one : OneChanged facts left entries r x
       one = one_put facts left entries r x put
 
-      at : ((v.0 == r.0) ≡ true) ⊎ ((v.0 == r.0) ≡ false) → IsShownAs f v y (low_frames.value_at values (number v))
+      at : ((v.0 == r.0) ≡ true) ⊎ ((v.0 == r.0) ≡ false) → IsShownAs d f v y (low_frames.value_at values (number v))
       at (inl same) =
           let is : v ≡ r = same_id v r (eqb-true v.0 r.0 same) in
           let worth : x ≡ y = same_Some x y (sym (one.here y (subst (λ u. datum_in (entry_at entries u) ≡ Some y) is there))) in

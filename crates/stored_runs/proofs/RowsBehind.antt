@@ -208,5 +208,5 @@ module _ (m : Module) (bound : ℕ) (s : HolderState) (l : LowState) (frame : Fr
           h v q given
           (sym (put_other (map num rs) ys x.low.values putting.values' (num v) putting.is
           (other_numbers m bound s l x.totals x.memory x.size from rest f x.lowers x.there x.low x.lrest (left_frames m s l frame rest f i ops x) x.rest_for x.full
-          it (λ h. absurd (cc)) (subst (Each (IsOwnName f)) (sym defined) owns) v given rs owns
+          it (λ h. absurd (cc)) (subst (Each (IsOwnName f)) (sym defined) owns) v given.made rs owns
           (subst (Each (λ r. makes f r it ≡ true)) defined (each_among (λ (r : ValueId). r) (λ r. makes f r it ≡ true) (item_defined f it) (λ r h. h))))) ∙ at) part

@@ -66,8 +66,8 @@ module _ (m : Module) (bound : ℕ) (s : HolderState) (l : LowState) (frame : Fr
         (subst (λ n. (number spare).0 < n) (sym x.frames.size) (spares.few spare (lowered_to m bound s l frame rest f i ops x).beyond defined))
 
     pub shown_still : (t : List Item) (entries : List Entry) → AreValuesFor d f t entries x.low.values → AreValuesFor d f t entries with_spare
-    shown_still t entries shown v dat is ok = subst (IsShownAs f v dat) (sym (stays_under v ok.0)) (shown v dat is ok)
+    shown_still t entries shown v dat is ok = subst (IsShownAs d f v dat) (sym (stays_under v ok.0)) (shown v dat is ok)
 
     pub parts_still : (memory : Memory) → KeepsFull l.memory memory → AreGivenPartsFull d f with_spare memory
     parts_still memory keeps v p arg at is_part =
-        keeps p (given_parts m s l frame rest f i ops x v p arg (sym (stays_under v (x.lowers.given v arg).0) ∙ at) is_part)
+        keeps p (given_parts m s l frame rest f i ops x v p arg (sym (stays_under v (x.lowers.given v arg.made).0) ∙ at) is_part)

@@ -2,6 +2,7 @@
 use Rattle.std.proofs.Common.{◌≡◌, inl, inr, List, [], ◌∷◌, map, refl, sym, ap, ◌∙◌, subst, true, false, Option, Some, None}
 use Rattle.std.specs.Prelude.{find, is_some, slice_get}
 use Rattle.std.specs.List.{AllZip}
+use Rattle.std.proofs.lemmas.Bool.{true≢false}
 use Rattle.std.proofs.lemmas.Option.{same_Some}
 use Rattle.numbered_form.specs.Lists.{Each}
 use Rattle.sil_ast.specs.declared.function.Function.{Function}
@@ -94,7 +95,7 @@ module _ (m : Module) (s : HolderState) (l : LowState) (frame : Frame) (rest : L
 
   -- the datum of the lowered run under the value's number, and none of its objects is dead
   abbrev pub IsUnder : ValueId → Datum → Datum → Type 0
-  IsUnder v y z = (low_frames.value_at x.low.values (number v) ≡ Some z) × IsDatumFor f v y z × (any_dead s.memory (references_in y) ≡ false)
+  IsUnder v y z = (low_frames.value_at x.low.values (number v) ≡ Some z) × IsDatumFor d f v y z × (any_dead s.memory (references_in y) ≡ false)
 
   by_values : (ts : List Taken) (ys zs : List Datum) → AreReadAs d f x.lowers.named x.low.values ts ys zs → AllZip (IsGivenAlive facts s.memory frame.entries) ts ys
       → AreRead IsUnder (map taken_value ts) ys zs
@@ -145,7 +146,7 @@ module _ (m : Module) (s : HolderState) (l : LowState) (frame : Frame) (rest : L
         same = ap whole is;
         alive = none_dead s.memory l.memory x.memory (home_references q.home) (subst (λ (w : Place). any_dead s.memory (home_references w.home) ≡ false) (sym is) alive);
         part_full = λ part whole_one. given_parts v q made at part;
-        exact = λ h. absurd (cc);
+        exact = λ h. absurd (true≢false (sym made.made ∙ h));
       }
 
   -- a value under its number

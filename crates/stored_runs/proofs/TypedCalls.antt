@@ -54,7 +54,7 @@ use Rattle.typed_holders.proofs.GoesOn.{accepted_body, typed_module}
 use Rattle.typed_holders.proofs.RowForms.{row_fits}
 use Rattle.typed_holders.proofs.ShapesTold.{result_told}
 use Rattle.stored_runs.specs.inner.CallsAlong.{HandsRight, MayBeHandedOver, lent_in}
-use Rattle.stored_runs.specs.inner.Entering.{IsFullPart}
+use Rattle.stored_runs.specs.inner.Entering.{IsAddressFor, IsFullPart}
 use Rattle.stored_runs.specs.inner.Memories.{MayBeTaken}
 use Rattle.stored_runs.specs.inner.TypedCalls.{AreCallsRight}
 use Rattle.stored_runs.proofs.LoweredSo.{are_lowered_so}
@@ -155,6 +155,23 @@ module _ (m : Module) (w : World) where
   as_long DataAre.none = refl
   as_long (DataAre.more form x forms xs is rest) = ap suc (as_long rest)
 
+-- arguments that are addresses are so by their types
+module _ (m : Module) (w : World) (f : Function) where
+  one_address : (v : ValueId) (form : Form) (x : Datum) → form ≡ form_of (declarations_of m) f v → DatumIs m w form x → IsAddressFor (declarations_of m) f v x
+  one_address v _ _ e (DatumIs.value s x suits) = λ p is. absurd (cc)
+  one_address v _ _ e (DatumIs.function g) = λ p is. absurd (cc)
+  one_address v _ _ e (DatumIs.place q at) = λ p is. (q.shape, sym e)
+
+  all_addresses : (vs : List ValueId) {forms : List Form} {xs : List Datum} → forms ≡ map (form_of (declarations_of m) f) vs → DataAre m w forms xs
+      → AllZip (IsAddressFor (declarations_of m) f) vs xs
+  all_addresses [] e DataAre.none = tt
+  all_addresses [] e (DataAre.more form x forms xs is rest) = absurd (cc)
+  all_addresses (v ∷ vs) e DataAre.none = absurd (cc)
+  all_addresses (v ∷ vs) e (DataAre.more form x forms xs is rest) =
+      let head : form ≡ form_of (declarations_of m) f v = cc in
+      let tail : forms ≡ map (form_of (declarations_of m) f) vs = cc in
+      (one_address v form x head is, all_addresses vs tail rest)
+
 module _ (m : Module) (bound : ℕ) (s : HolderState) (w : World) (frame : Frame) (f : Function) (i : Inst) (ops : Operands)
     (a : IsAcceptedBody m frame.function.0 f) (of : IsWorldOf m w) (memory : MemoryIs m w s.memory) (is : FrameIs m w f frame)
     (here : inst_at f (stands_at f frame.trail) ≡ Some i)
@@ -195,6 +212,8 @@ module _ (m : Module) (bound : ℕ) (s : HolderState) (w : World) (frame : Frame
           as_many = as_long m w typed_args ∙ length-map (item_defined other item.Entry) (form_of (declarations_of m) other)
               ∙ ap (λ (c : Function). length (item_defined c item.Entry)) one;
           full = full;
+          addresses = subst (λ (c : Function). AllZip (IsAddressFor (declarations_of m) c) (item_defined c item.Entry) args) one
+              (all_addresses m w other (item_defined other item.Entry) refl typed_args);
           taken = all_before m w s.memory memory (lent_in f frame args) (all_lent m w s.memory memory (drop 1 (item_taken f (item.Inst p))) typed_args) before;
         }
     right forms _ (EffectFits.calls_out h xs other ns called bodiless numbers form) same =

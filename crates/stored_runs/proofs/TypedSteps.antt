@@ -1,6 +1,7 @@
 -- Steps of typed states whose first frame stands at a terminator or a call, and calls of deinitialisers: the lowered run goes along.
 use Rattle.std.proofs.Common.{◌≡◌, List, [], ◌∷◌, length, refl, sym, ap, ◌∙◌, subst, true, Some}
 use Rattle.std.specs.Prelude.{slice_get}
+use Rattle.std.specs.List.{AllZip}
 use Rattle.std.proofs.lemmas.List.{length-map}
 use Rattle.std.proofs.lemmas.Option.{same_Some}
 use Rattle.numbered_form.specs.Lists.{Each}
@@ -8,10 +9,12 @@ use Rattle.sil_ast.specs.declared.function.Function.{Function}
 use Rattle.sil_ast.specs.declared.module.Module.{Module}
 use Rattle.sil_ast.specs.declared.place.FuncId.{FuncId}
 use Rattle.sil_ast.specs.declared.place.ObjectId.{ObjectId}
+use Rattle.sil_ast.specs.declared.place.ValueId.{ValueId}
 use Rattle.sil_cfg.specs.declared.item.Item.TheVariants as item
 use Rattle.item_operands.specs.Items.{item_defined}
-use Rattle.type_definitions.specs.Declarations.{declarations_of}
+use Rattle.type_definitions.specs.Declarations.{Declarations, declarations_of}
 use Rattle.run_values.specs.Values as value
+use Rattle.run_values.specs.Values.{Value}
 use Rattle.accepted_trails.proofs.Unbroken.{are_accepted}
 use Rattle.accepted_trails.proofs.run_trails.RunPaths.{are_trails}
 use Rattle.accepted_trails.proofs.run_trails.TurnedTrails.{turned_item}
@@ -37,7 +40,7 @@ use Rattle.typed_holders.specs.typed_memory.inner.Worlds.{World}
 use Rattle.typed_holders.proofs.GoesOn.{accepted_body, typed_module}
 use Rattle.stored_runs.specs.inner.Along.{IsNextAlong}
 use Rattle.stored_runs.specs.inner.Awaited.{AreAwaited, AreAwaitedBelow}
-use Rattle.stored_runs.specs.inner.Entering.{HandsOver}
+use Rattle.stored_runs.specs.inner.Entering.{HandsOver, IsAddressFor}
 use Rattle.stored_runs.specs.inner.Frames.{AreTasksFor, HasFullParts, IsTaskFor}
 use Rattle.stored_runs.specs.inner.EndsAlong.{MayReturnTo}
 use Rattle.stored_runs.specs.inner.Lowering.{LowersSo}
@@ -50,6 +53,12 @@ use Rattle.stored_runs.proofs.Returned.{low_finish}
 use Rattle.stored_runs.proofs.StayingSteps.{function_there}
 use Rattle.stored_runs.proofs.TypedCalls.{are_calls_right}
 use Rattle.stored_runs.proofs.TypedEnds.{are_ends_plain}
+
+-- a value alone is no address
+no_address : (d : Declarations) (f : Function) (vs : List ValueId) (x : Value) → length (ValueOf x ∷ []) ≡ length vs → AllZip (IsAddressFor d f) vs (ValueOf x ∷ [])
+no_address d f [] x e = absurd (cc)
+no_address d f (v ∷ []) x e = (λ p is. absurd (cc), tt)
+no_address d f (v ∷ w ∷ vs) x e = absurd (cc)
 
 module _ (m : Module) (w : World) where
   abbrev TypedBelow : Frame → List (Task Frame) → Type 0
@@ -149,12 +158,17 @@ typed_deinits_step m bound s l g gs o rest f next h is there way none =
     full : Each (HasFullParts m l.memory) (Finishes (g ∷ gs) o ∷ top.others)
     full = subst (Each (HasFullParts m l.memory)) top.is_top h.related.parts
 
-    hands : HandsOver l.memory f (ValueOf (value.Object o) ∷ []) (ValueOf (value.Object o) ∷ [])
+    many : length (ValueOf (value.Object o) ∷ []) ≡ length (item_defined f item.Entry)
+    many =
+        ap length (sym deinit.takes) ∙ length-map (item_defined deinit.body item.Entry) (form_of (declarations_of m) deinit.body)
+        ∙ ap (λ (b : Function). length (item_defined b item.Entry)) same
+
+    hands : HandsOver (declarations_of m) l.memory f (ValueOf (value.Object o) ∷ []) (ValueOf (value.Object o) ∷ [])
     hands = record {
-      as_many = ap length (sym deinit.takes) ∙ length-map (item_defined deinit.body item.Entry) (form_of (declarations_of m) deinit.body)
-          ∙ ap (λ (b : Function). length (item_defined b item.Entry)) same;
+      as_many = many;
       same = (refl, tt);
       full = ((λ p e part. absurd (cc)), tt);
+      addresses = no_address (declarations_of m) f (item_defined f item.Entry) (value.Object o) many;
     }
 
     e : (low_next : LowNext)

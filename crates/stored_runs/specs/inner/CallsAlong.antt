@@ -1,5 +1,6 @@
 -- An `apply` in both runs: a function with a body is entered, and one without a body is called for its event.
 use Rattle.std.specs.Prelude.{◌≡◌, ℕ, List, ◌∷◌, true, Some, Ok, drop, length, slice_get}
+use Rattle.std.specs.List.{AllZip}
 use Rattle.argument_conventions.specs.declared.row.Content.TheVariants as content
 use Rattle.instruction_table.specs.declared.op.Op.TheVariants as op
 use Rattle.numbered_form.specs.Lists.{Each}
@@ -31,7 +32,7 @@ use Rattle.lowering_laws.specs.lowering_model.LoweredModules.{lowered, lowered_b
 use Rattle.holder_steps.specs.inner.Ways as holder
 use Rattle.lowered_steps.specs.inner.LowWays as ways
 use Rattle.stored_runs.specs.inner.Along.{AreTotalsFor, IsNextAlong, IsNoFault}
-use Rattle.stored_runs.specs.inner.Entering.{IsFullPart}
+use Rattle.stored_runs.specs.inner.Entering.{IsAddressFor, IsFullPart}
 use Rattle.stored_runs.specs.inner.Frames.{AreTasksFor, HasFullParts, IsFrameAt}
 use Rattle.stored_runs.specs.inner.Lowering.{LowersSo}
 use Rattle.stored_runs.specs.inner.Memories.{IsMemoryFor, MayBeTaken}
@@ -51,6 +52,7 @@ pub record HandsRight (m : Module) (s : HolderState) (frame : Frame) (f : Functi
   -- a part that is handed over is full
   pub full : Each (IsFullPart s.memory) args
   pub taken : Each (MayBeHandedOver s.memory) (lent_in f frame args)
+  pub addresses : AllZip (IsAddressFor (declarations_of m) callee) (item_defined callee item.Entry) args
 
 -- so it is of the call that the instruction makes, where each place that is lent holds what is asked
 abbrev pub CallsRight : Module → ℕ → HolderState → Frame → Function → Inst → Operands → Type 0

@@ -11,7 +11,9 @@ use Rattle.sil_cfg.specs.declared.item.Item.TheVariants as item
 use Rattle.type_definitions.specs.Declarations.{Declarations, declarations_of}
 use Rattle.run_values.specs.Memory.{Memory}
 use Rattle.run_values.specs.Places.{Place, value_at}
+use Rattle.run_values.specs.Shapes.{Shape}
 use Rattle.accepted_trails.specs.inner.Defined.{makes}
+use Rattle.accepted_values.specs.run_typing.Forms.{OfPlace, form_of}
 use Rattle.lowered_run.specs.holder_model.Calling.{as_argument}
 use Rattle.lowered_run.specs.holder_model.Data.{AddressOf, Datum, as_place}
 use Rattle.lowered_run.specs.holder_model.Frames.{Entry, Frame, datum_in, entry_at}
@@ -22,28 +24,34 @@ use Rattle.lowered_run.specs.LowFrames.{LowFrame}
 use Rattle.stored_runs.specs.inner.Names.{IsCurrent, IsOld, lowered_count, lowered_number}
 use Rattle.stored_runs.specs.inner.Points.{lowered_point}
 
+-- the function is given an address by this value
+pub record IsGivenPlace (d : Declarations) (f : Function) (v : ValueId) : Type 0 where
+  pub made : makes f v item.Entry ≡ true
+  pub shape : Shape
+  pub is : form_of d f v ≡ OfPlace shape
+
 -- the datum of a lowered value beside that of the entry. To the callee the place of an argument is a whole one, and in the lowered run it still says that it is a part
-abbrev pub IsDatumFor : Function → ValueId → Datum → Datum → Type 0
-IsDatumFor f v x low = (low ≡ x) ⊎ ((makes f v item.Entry ≡ true) × (as_argument low ≡ x))
+abbrev pub IsDatumFor : Declarations → Function → ValueId → Datum → Datum → Type 0
+IsDatumFor d f v x low = (low ≡ x) ⊎ (IsGivenPlace d f v × (as_argument low ≡ x))
 
 -- the datum is no address: just the same stands for it
 abbrev pub IsNoAddress : Datum → Type 0
 IsNoAddress x = as_place x ≡ None
 
 -- the lowered value is there, and stands for the datum of the entry
-abbrev pub IsShownAs : Function → ValueId → Datum → Option Datum → Type 0
-IsShownAs f v x low = (y : Datum) × (low ≡ Some y) × IsDatumFor f v x y
+abbrev pub IsShownAs : Declarations → Function → ValueId → Datum → Option Datum → Type 0
+IsShownAs d f v x low = (y : Datum) × (low ≡ Some y) × IsDatumFor d f v x y
 
 -- each current value whose entry is there is shown under its lowered number
 abbrev pub AreValuesFor : Declarations → Function → List Item → List Entry → List (Option Datum) → Type 0
 AreValuesFor d f t entries values =
     (v : ValueId) (x : Datum) → datum_in (entry_at entries v) ≡ Some x → IsOld f v × IsCurrent f t v
-    → IsShownAs f v x (low_frames.value_at values (lowered_number d f v))
+    → IsShownAs d f v x (low_frames.value_at values (lowered_number d f v))
 
 -- a part that the function was given by its address is full in the lowered run, even where it was taken
 abbrev pub AreGivenPartsFull : Declarations → Function → List (Option Datum) → Memory → Type 0
 AreGivenPartsFull d f values low =
-    (v : ValueId) (p : Place) → makes f v item.Entry ≡ true → low_frames.value_at values (lowered_number d f v) ≡ Some (AddressOf p) → p.is_part ≡ true
+    (v : ValueId) (p : Place) → IsGivenPlace d f v → low_frames.value_at values (lowered_number d f v) ≡ Some (AddressOf p) → p.is_part ≡ true
     → is_some (value_at low p) ≡ true
 
 -- both stand at the same place of the function, and have the same slots
