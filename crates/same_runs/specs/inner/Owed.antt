@@ -135,5 +135,4 @@ pub record IsOwed : Type 0 where
   pub rows : RowsAreRight
   pub traps : TrapsAreRight
   pub handed : ArePartsHandedFull
-  pub outlive : PartsOutlive
   pub calls_counted : AreCallsCounted
