@@ -14,3 +14,4 @@ pub mod Come
 pub mod RightFinishes
 pub mod RowsFound
 pub mod Outlive
+pub mod HandedFull

@@ -95,10 +95,10 @@ no_root _ IsRoot.slot e = cc
 no_root _ IsRoot.argument e = cc
 no_root _ IsRoot.field e = cc
 
-record IsArgumentSource (s : Source) : Type 0 where
-  row : AddressRow
-  trivial : Bool
-  is : s ≡ source.Argument row trivial
+pub record IsArgumentSource (s : Source) : Type 0 where
+  pub row : AddressRow
+  pub trivial : Bool
+  pub is : s ≡ source.Argument row trivial
 
 module _ (m : Module) (n : ℕ) (f : Function) (a : IsAcceptedBody m n f) (v : ValueId) (given : IsGivenPlace (declarations_of m) f v) where
   abbrev sources : List Source
@@ -116,7 +116,7 @@ module _ (m : Module) (n : ℕ) (f : Function) (a : IsAcceptedBody m n f) (v : V
   never e (MakesAddress.makes_root root) = no_root _ root e
   never e (MakesAddress.makes_member of k is taken at) = let two : source.Part of k ≡ source.Other = sym is ∙ e in cc
 
-  given_source : IsArgumentSource (source_at sources v)
+  pub given_source : IsArgumentSource (source_at sources v)
   given_source = at (source_at sources v) refl told_source
     where
       at : (s : Source) → source_at sources v ≡ s → IsToldSource s → IsArgumentSource s

@@ -54,6 +54,7 @@ use Rattle.same_runs.proofs.CountedEnds.{CountedNext}
 use Rattle.same_runs.proofs.CountedTurns.{deinit_counted, end_counted}
 use Rattle.same_runs.proofs.DeinitsCalled.{AreCalled, AreCalledBelow}
 use Rattle.same_runs.proofs.Finishing.{dropped_followed, dropping_followed, finishing_followed}
+use Rattle.same_runs.proofs.HandedFull.{parts_handed_full}
 use Rattle.same_runs.proofs.Outlive.{parts_outlive}
 use Rattle.same_runs.proofs.RowsFollowed.{row_followed}
 use Rattle.same_runs.proofs.RowsFound.{rows_go_along, rows_trap_along}
@@ -110,7 +111,7 @@ module _ (owed : IsOwed) (m : Module) (bound : ℕ) (s : HolderState) (verified 
       call_followed call way =
           steps_along next (λ s' e. owed.calls_counted m bound s verified right s' l.numbers x call (is_next ∙ e) h.related.counts)
           (typed_calls_step m bound s l x.frame x.rest x.f x.i x.ops next h x.is x.there x.here (op_of x.i.op call) x.found
-          (owed.handed m bound s verified right x) way none)
+          (parts_handed_full m bound s verified right x) way none)
 
       performs_followed : (effect_of x.i.op ≡ row.CallsFunction → ⊥) → (e : effects.Effect HolderFault) → effect_there m bound s x ≡ e → (n : HolderNext) → n ≡ next
           → Performs m told bound s x.rest (left_with m told bound x.frame x.ops) x.f (item.Inst (stands_at x.f x.frame.trail)) e n → Follows m bound s l n

@@ -200,20 +200,23 @@ module _ (m : Module) (bound : ℕ) (s : HolderState) (w : World) (frame : Frame
       (fit_data m w f taken) (result_told m frame.function f is.is s.memory i)
 
   module _ (g : FuncId) (callee : Function) (args : List Datum) (there : slice_get m.functions g.0 ≡ Some callee) (bodied : has_any callee.blocks ≡ true)
-      (before : are_as_before s.memory (lent_in f frame args) ≡ true) (full : Each (IsFullPart s.memory) args) where
+      (before : are_as_before s.memory (lent_in f frame args) ≡ true) (full : AllZip (IsAddressFor (declarations_of m) callee) (item_defined callee item.Entry) args → are_as_before s.memory (lent_in f frame args) ≡ true
+      → Each (IsFullPart s.memory) args) where
     right : (forms : List Form) (e : Effect HolderFault) → EffectFits m w i.op ops.given forms e → e ≡ effects.Calls g args → HandsRight m s frame f g callee args
     right forms _ (EffectFits.calls h xs other called body typed_as form owned) same =
         let args_are : xs ≡ args = cc in
         let g_is : h ≡ g = cc in
         let one : other ≡ callee = same_Some other callee (sym called ∙ ap (λ (k : FuncId). slice_get m.functions k.0) g_is ∙ there) in
         let typed_args : DataAre m w (entry_forms (declarations_of m) other) args = subst (λ zs. DataAre m w (entry_forms (declarations_of m) other) zs) args_are typed_as in
+        let addresses : AllZip (IsAddressFor (declarations_of m) callee) (item_defined callee item.Entry) args =
+        subst (λ (c : Function). AllZip (IsAddressFor (declarations_of m) c) (item_defined c item.Entry) args) one
+        (all_addresses m w other (item_defined other item.Entry) refl typed_args) in
         record {
           lowers = are_lowered_so m g callee (accepted_body m a.verified g callee there bodied);
           as_many = as_long m w typed_args ∙ length-map (item_defined other item.Entry) (form_of (declarations_of m) other)
               ∙ ap (λ (c : Function). length (item_defined c item.Entry)) one;
-          full = full;
-          addresses = subst (λ (c : Function). AllZip (IsAddressFor (declarations_of m) c) (item_defined c item.Entry) args) one
-              (all_addresses m w other (item_defined other item.Entry) refl typed_args);
+          full = full addresses before;
+          addresses = addresses;
           taken = all_before m w s.memory memory (lent_in f frame args) (all_lent m w s.memory memory (drop 1 (item_taken f (item.Inst p))) typed_args) before;
         }
     right forms _ (EffectFits.calls_out h xs other ns called bodiless numbers form) same =
@@ -226,5 +229,5 @@ module _ (m : Module) (bound : ℕ) (s : HolderState) (w : World) (frame : Frame
 
 pub are_calls_right : AreCallsRight
 are_calls_right m bound s w frame f i ops a of memory is here found full g callee args calls there bodied before =
-    right m bound s w frame f i ops a of memory is here found g callee args there bodied before (full g args calls before) (forms_of (declarations_of m) f i.results)
+    right m bound s w frame f i ops a of memory is here found g callee args there bodied before (full g callee args calls there bodied) (forms_of (declarations_of m) f i.results)
     (holder_run.effect_in m (facts_of m) bound s frame i ops.given) (fits m bound s w frame f i ops a of memory is here found) calls

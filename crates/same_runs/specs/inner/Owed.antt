@@ -34,7 +34,7 @@ use Rattle.lowered_run.specs.LowFrames.{LowFrame}
 use Rattle.lowered_run.specs.LowStepParts.{LowState}
 use Rattle.holder_steps.specs.inner.Ways.{left_with, moved}
 use Rattle.stored_counts.specs.inner.Numbers.{AreCounts}
-use Rattle.stored_runs.specs.inner.CallsAlong.{lent_in}
+use Rattle.stored_runs.specs.inner.CallsAlong.{HandsFullParts}
 use Rattle.stored_runs.specs.inner.Entering.{IsFullPart}
 use Rattle.stored_runs.specs.inner.Frames.{AreTasksFor, HasFullParts}
 use Rattle.stored_runs.specs.inner.PlaceRows.{GoesAlong, stored_for}
@@ -113,8 +113,7 @@ TrapsAreRight = OnRightStates (λ m bound s. (l : LowState) (x : AtInst m s) →
 
 -- a part that a call hands over is full, where places hold what is asked
 abbrev pub ArePartsHandedFull : Type 0
-ArePartsHandedFull = OnRightStates (λ m bound s. (x : AtInst m s) (g : FuncId) (args : List Datum)
-    → effect_there m bound s x ≡ effects.Calls g args → are_as_before s.memory (lent_in x.f x.frame args) ≡ true → Each (IsFullPart s.memory) args)
+ArePartsHandedFull = OnRightStates (λ m bound s. (x : AtInst m s) → HandsFullParts m bound s x.frame x.f x.i x.ops)
 
 -- an object that dies has no part that a frame was given
 abbrev pub PartsOutlive : Type 0
@@ -134,5 +133,4 @@ AreCallsCounted = OnRightStates (λ m bound s. (next : HolderState) (stored : Li
 pub record IsOwed : Type 0 where
   pub rows : RowsAreRight
   pub traps : TrapsAreRight
-  pub handed : ArePartsHandedFull
   pub calls_counted : AreCallsCounted

@@ -61,6 +61,14 @@ CallsRight m bound s frame f i ops = (g : FuncId) (callee : Function) (args : Li
     → slice_get m.functions g.0 ≡ Some callee → has_any callee.blocks ≡ true → are_as_before s.memory (lent_in f frame args) ≡ true
     → HandsRight m s frame f g callee args
 
+-- a part that the instruction hands over is full, where places hold what is asked
+abbrev pub HandsFullParts : Module → ℕ → HolderState → Frame → Function → Inst → Operands → Type 0
+HandsFullParts m bound s frame f i ops = (g : FuncId) (callee : Function) (args : List Datum)
+    → holder_run.effect_in m (facts_of m) bound s frame i ops.given ≡ effects.Calls g args
+    → slice_get m.functions g.0 ≡ Some callee → has_any callee.blocks ≡ true
+    → AllZip (IsAddressFor (declarations_of m) callee) (item_defined callee item.Entry) args
+    → are_as_before s.memory (lent_in f frame args) ≡ true → Each (IsFullPart s.memory) args
+
 abbrev pub AreCallsAlong : Type 0
 AreCallsAlong = (m : Module) (bound : ℕ) (s : HolderState) (l : LowState) (frame : Frame) (rest : List (Task Frame)) (f : Function)
     (low : LowFrame) (lrest : List (Task LowFrame)) (i : Inst) (ops : Operands) (next : HolderNext)

@@ -19,7 +19,7 @@ use Rattle.lowered_run.specs.holder_model.Standing.{stands_at}
 use Rattle.lowered_run.specs.holder_model.Steps as holder_run
 use Rattle.typed_holders.specs.inner.TypedStates.{FrameIs}
 use Rattle.typed_holders.specs.typed_memory.inner.Worlds.{IsWorldOf, MemoryIs, World}
-use Rattle.stored_runs.specs.inner.CallsAlong.{CallsRight, lent_in}
+use Rattle.stored_runs.specs.inner.CallsAlong.{CallsRight, HandsFullParts}
 use Rattle.stored_runs.specs.inner.Entering.{IsFullPart}
 
 -- where places that hold what is asked are full if they are parts, as the rows of calls say
@@ -28,6 +28,5 @@ AreCallsRight = (m : Module) (bound : ℕ) (s : HolderState) (w : World) (frame 
     → IsAcceptedBody m frame.function.0 f → IsWorldOf m w → MemoryIs m w s.memory → FrameIs m w f frame
     → inst_at f (stands_at f frame.trail) ≡ Some i
     → operands_of (facts_told (facts_of m) frame.function) s.memory frame.entries (item_taken f (item.Inst (stands_at f frame.trail))) ≡ Ok ops
-    → ((g : FuncId) (args : List Datum) → holder_run.effect_in m (facts_of m) bound s frame i ops.given ≡ effects.Calls g args
-    → are_as_before s.memory (lent_in f frame args) ≡ true → Each (IsFullPart s.memory) args)
+    → HandsFullParts m bound s frame f i ops
     → CallsRight m bound s frame f i ops

@@ -30,7 +30,7 @@ use Rattle.holder_steps.specs.inner.Ways as holder
 use Rattle.typed_holders.specs.inner.TypedStates.{IsTypedState}
 use Rattle.stored_runs.specs.inner.Along.{IsNoFault}
 use Rattle.stored_runs.specs.inner.Awaited.{AreAwaited}
-use Rattle.stored_runs.specs.inner.CallsAlong.{lent_in}
+use Rattle.stored_runs.specs.inner.CallsAlong.{HandsFullParts}
 use Rattle.stored_runs.specs.inner.Entering.{IsFullPart}
 use Rattle.stored_runs.specs.inner.FrameSteps.{StepsAlong}
 use Rattle.stored_runs.specs.inner.Returned.{AreCountsReturned}
@@ -64,8 +64,7 @@ TypedCallsStep = (m : Module) (bound : ℕ) (s : HolderState) (l : LowState) (fr
     → IsTypedFor m s l → s.tasks ≡ Runs frame ∷ rest → slice_get m.functions frame.function.0 ≡ Some f
     → inst_at f (stands_at f frame.trail) ≡ Some i → i.op ≡ op.Apply
     → operands_of (facts_told (facts_of m) frame.function) s.memory frame.entries (item_taken f (item.Inst (stands_at f frame.trail))) ≡ Ok ops
-    → ((g : FuncId) (args : List Datum) → holder_run.effect_in m (facts_of m) bound s frame i ops.given ≡ effects.Calls g args
-    → are_as_before s.memory (lent_in f frame args) ≡ true → Each (IsFullPart s.memory) args)
+    → HandsFullParts m bound s frame f i ops
     → holder.Performs m (facts_of m) bound s rest (holder.left_with m (facts_of m) bound frame ops) f (item.Inst (stands_at f frame.trail))
     (holder_run.effect_in m (facts_of m) bound s frame i ops.given) next
     → IsNoFault next → StepsAlong m bound l next
