@@ -1,26 +1,19 @@
 -- Calls of typed frames: what they hand over is right but for parts, of which places tell.
-use Rattle.std.specs.Prelude.{◌≡◌, ℕ, List, true, Some, Ok}
-use Rattle.numbered_form.specs.Lists.{Each}
+use Rattle.std.specs.Prelude.{◌≡◌, ℕ, Some, Ok}
 use Rattle.sil_ast.specs.declared.function.Function.{Function}
 use Rattle.sil_ast.specs.declared.inst.Inst.{Inst}
 use Rattle.sil_ast.specs.declared.module.Module.{Module}
-use Rattle.sil_ast.specs.declared.place.FuncId.{FuncId}
 use Rattle.sil_cfg.specs.declared.item.Item.TheVariants as item
 use Rattle.item_operands.specs.Items.{item_taken}
 use Rattle.item_operands.specs.Parts.{inst_at}
 use Rattle.accepted_values.specs.inner.Known.{IsAcceptedBody}
-use Rattle.lowered_run.specs.holder_model.Calling.{are_as_before}
-use Rattle.lowered_run.specs.holder_model.Data.{Datum}
-use Rattle.lowered_run.specs.holder_model.Effects as effects
 use Rattle.lowered_run.specs.holder_model.Frames.{Frame, Operands, operands_of}
 use Rattle.lowered_run.specs.holder_model.HolderStates.{HolderState}
 use Rattle.lowered_run.specs.holder_model.ModuleFacts.{facts_of, facts_told}
 use Rattle.lowered_run.specs.holder_model.Standing.{stands_at}
-use Rattle.lowered_run.specs.holder_model.Steps as holder_run
 use Rattle.typed_holders.specs.inner.TypedStates.{FrameIs}
 use Rattle.typed_holders.specs.typed_memory.inner.Worlds.{IsWorldOf, MemoryIs, World}
 use Rattle.stored_runs.specs.inner.CallsAlong.{CallsRight, HandsFullParts}
-use Rattle.stored_runs.specs.inner.Entering.{IsFullPart}
 
 -- where places that hold what is asked are full if they are parts, as the rows of calls say
 abbrev pub AreCallsRight : Type 0

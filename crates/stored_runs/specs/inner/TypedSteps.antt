@@ -1,9 +1,8 @@
 -- Steps of typed states whose first frame stands at a terminator or a call, and calls of deinitialisers: the lowered run goes along.
-use Rattle.std.specs.Prelude.{◌≡◌, ℕ, List, [], ◌∷◌, true, false, Some, None, Ok, slice_get}
+use Rattle.std.specs.Prelude.{◌≡◌, ℕ, List, [], ◌∷◌, false, Some, None, Ok, slice_get}
 use Rattle.instruction_table.specs.Forms.{ending_of}
 use Rattle.instruction_table.specs.declared.entries.Ending.TheVariants as ending
 use Rattle.instruction_table.specs.declared.op.Op.TheVariants as op
-use Rattle.numbered_form.specs.Lists.{Each}
 use Rattle.sil_ast.specs.declared.function.Function.{Function}
 use Rattle.sil_ast.specs.declared.inst.Inst.{Inst}
 use Rattle.sil_ast.specs.declared.module.Module.{Module}
@@ -15,9 +14,8 @@ use Rattle.item_operands.specs.Parts.{inst_at, terminator_of}
 use Rattle.run_values.specs.Values as value
 use Rattle.run_values.specs.Values.{Value}
 use Rattle.accepted_values.specs.accepted_modules.inner.Checked.{IsVerified}
-use Rattle.lowered_run.specs.holder_model.Calling.{are_as_before, holds_something}
+use Rattle.lowered_run.specs.holder_model.Calling.{holds_something}
 use Rattle.lowered_run.specs.holder_model.Data.{Datum, ValueOf, as_value}
-use Rattle.lowered_run.specs.holder_model.Effects as effects
 use Rattle.lowered_run.specs.holder_model.Effects.{only}
 use Rattle.lowered_run.specs.holder_model.Frames.{Frame, Operands, operands_of}
 use Rattle.lowered_run.specs.holder_model.HolderStates.{HolderNext, HolderState}
@@ -31,7 +29,6 @@ use Rattle.typed_holders.specs.inner.TypedStates.{IsTypedState}
 use Rattle.stored_runs.specs.inner.Along.{IsNoFault}
 use Rattle.stored_runs.specs.inner.Awaited.{AreAwaited}
 use Rattle.stored_runs.specs.inner.CallsAlong.{HandsFullParts}
-use Rattle.stored_runs.specs.inner.Entering.{IsFullPart}
 use Rattle.stored_runs.specs.inner.FrameSteps.{StepsAlong}
 use Rattle.stored_runs.specs.inner.Returned.{AreCountsReturned}
 use Rattle.stored_runs.specs.inner.States.{IsStateFor}
