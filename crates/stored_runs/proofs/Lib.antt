@@ -51,3 +51,5 @@ pub mod RowsAlong
 pub mod TypedPlaces
 pub mod PlacesFound
 pub mod TypedRows
+pub mod TypedInsts
+pub mod TypedPlainRows

@@ -24,3 +24,4 @@ pub mod Spares
 pub mod RowsRight
 pub mod TypedPlaces
 pub mod TypedRows
+pub mod TypedPlainRows

@@ -19,6 +19,7 @@ ghost use Rattle.stored_runs.specs.inner.TypedPlaces.{
   AreStoragePlaces,
   AreTrivialPlaces,
 };
+ghost use Rattle.stored_runs.specs.inner.TypedPlainRows.{AreTypedPlainRows};
 ghost use Rattle.stored_runs.specs.inner.TypedRows.{AreTypedPlaceRows};
 ghost use Rattle.stored_runs.specs.inner.TypedSteps.{
   TypedCallsStep,
@@ -82,4 +83,9 @@ pub fn typed_places_serve()
     ensures storage { AreStoragePlaces }
     ensures trivial { AreTrivialPlaces }
     ensures rows { AreTypedPlaceRows }
+{}
+
+/// Rows of typed states that do nothing at places, call nothing and take nothing apart find what they need.
+pub fn typed_rows_serve()
+    ensures { AreTypedPlainRows }
 {}
