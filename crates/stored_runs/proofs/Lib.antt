@@ -53,3 +53,5 @@ pub mod PlacesFound
 pub mod TypedRows
 pub mod TypedInsts
 pub mod TypedPlainRows
+pub mod TypedTraps
+pub mod WrittenPlaces

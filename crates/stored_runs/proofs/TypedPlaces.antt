@@ -58,7 +58,7 @@ shape_bare Unknown hs t = (refl, tt)
 bare_cells : (s : Shape) → AreBare s
 bare_cells = by_parts AreBare shape_bare
 
-bare_whole : (s : Shape) → has_no_storage s ≡ true → storage_in s ≡ None
+pub bare_whole : (s : Shape) → has_no_storage s ≡ true → storage_in s ≡ None
 bare_whole (Integer width) t = refl
 bare_whole (Reference class) t = refl
 bare_whole (Struct name ss) t = refl

@@ -58,7 +58,7 @@ computes_op : (o : Op) → effect_of o ≡ row.Computes → StaysItself o
 computes_op op.Builtin e = (refl, refl)
 computes_op _ e = absurd (cc)
 
-traps_op : (o : Op) → effect_of o ≡ row.TrapsWhereSet → StaysItself o
+pub traps_op : (o : Op) → effect_of o ≡ row.TrapsWhereSet → StaysItself o
 traps_op op.CondFail e = (refl, refl)
 traps_op _ e = absurd (cc)
 

@@ -25,3 +25,5 @@ pub mod RowsRight
 pub mod TypedPlaces
 pub mod TypedRows
 pub mod TypedPlainRows
+pub mod TypedTraps
+pub mod WrittenPlaces

@@ -21,6 +21,8 @@ ghost use Rattle.stored_runs.specs.inner.TypedPlaces.{
 };
 ghost use Rattle.stored_runs.specs.inner.TypedPlainRows.{AreTypedPlainRows};
 ghost use Rattle.stored_runs.specs.inner.TypedRows.{AreTypedPlaceRows};
+ghost use Rattle.stored_runs.specs.inner.TypedTraps.{AreTypedTraps};
+ghost use Rattle.stored_runs.specs.inner.WrittenPlaces.{ArePlacesWritten};
 ghost use Rattle.stored_runs.specs.inner.TypedSteps.{
   TypedCallsStep,
   TypedDeinitsStep,
@@ -85,7 +87,9 @@ pub fn typed_places_serve()
     ensures rows { AreTypedPlaceRows }
 {}
 
-/// Rows of typed states that do nothing at places, call nothing and take nothing apart find what they need.
+/// Rows of typed states that do nothing at places, call nothing and take nothing apart find what they need, and so do rows that trap. Written types tell which words a store may have, and where storage is.
 pub fn typed_rows_serve()
-    ensures { AreTypedPlainRows }
+    ensures rows { AreTypedPlainRows }
+    ensures traps { AreTypedTraps }
+    ensures written { ArePlacesWritten }
 {}
