@@ -13,3 +13,4 @@ pub mod CountedTurns
 pub mod Come
 pub mod RightFinishes
 pub mod RowsFound
+pub mod TrapsRight

@@ -37,7 +37,7 @@ module _ (m : Module) (bound : ℕ) (s : HolderState) (l : LowState) (x : AtInst
   tasks : TasksAre m h.typed.world (Runs x.frame ∷ x.rest)
   tasks = subst (TasksAre m h.typed.world) x.is h.typed.tasks
 
-  frame_is : FrameIs m h.typed.world x.f x.frame
+  pub frame_is : FrameIs m h.typed.world x.f x.frame
   frame_is = subst (λ g. FrameIs m h.typed.world g x.frame) (same_Some tasks.0.0 x.f (sym tasks.0.1.is ∙ x.there)) tasks.0.1
 
   pub accepted : IsAcceptedBody m x.frame.function.0 x.f

@@ -55,3 +55,4 @@ pub mod TypedInsts
 pub mod TypedPlainRows
 pub mod TypedTraps
 pub mod WrittenPlaces
+pub mod OwnSlots

@@ -1,5 +1,5 @@
 -- Rows of typed states that do nothing at places, call nothing and take nothing apart find what they need.
-use Rattle.std.proofs.Common.{◌≡◌, List, [], ◌∷◌, map, refl, sym, ap, ap₂, ◌∙◌, subst, Bool, true, false}
+use Rattle.std.proofs.Common.{◌≡◌, List, [], ◌∷◌, map, refl, sym, ap, ap₂, ◌∙◌, subst, true, false}
 use Rattle.std.proofs.lemmas.Bool.{false≢true}
 use Rattle.instruction_table.specs.declared.op.Op.{Op}
 use Rattle.instruction_table.specs.declared.op.Op.TheVariants as op
@@ -17,7 +17,7 @@ use Rattle.accepted_values.specs.owned_run_typing.inner.OwnedRows as owned
 use Rattle.accepted_values.specs.run_typing.Forms.{Form, OfPlace, OfValue, form_of}
 use Rattle.accepted_values.specs.run_typing.RowForms.{RowForms, operand_shapes}
 use Rattle.accepted_values.specs.run_typing.RowForms as lowered
-use Rattle.lowered_run.specs.holder_model.Data.{AddressOf, Datum, ValueOf}
+use Rattle.lowered_run.specs.holder_model.Data.{Datum, ValueOf}
 use Rattle.lowered_run.specs.holder_model.Effects.{Change, Effect, Makes, effect_by, effect_of, unchanged}
 use Rattle.lowered_run.specs.holder_model.Faults.{HolderFault}
 use Rattle.lowered_run.specs.holder_model.Frames.{Frame, Operands}
@@ -32,8 +32,8 @@ use Rattle.lowering_laws.specs.lowering_model.LoweredInsts.{lowering_of}
 use Rattle.lowering_laws.specs.lowering_model.declared.lowering.Lowering.TheVariants as lowering
 use Rattle.lowering_laws.specs.ownership_origins.Renamings.{renames}
 use Rattle.typed_holders.specs.inner.TypedStates.{FrameIs}
-use Rattle.typed_holders.specs.typed_memory.inner.Worlds.{DatumIs, IsWorldOf, MemoryIs, Suits, World}
-use Rattle.typed_holders.proofs.Data.{DataAre, read_place, read_value}
+use Rattle.typed_holders.specs.typed_memory.inner.Worlds.{Suits, World}
+use Rattle.typed_holders.proofs.Data.{DataAre, read_value}
 use Rattle.stored_runs.specs.inner.Frames.{IsNoAddress}
 use Rattle.stored_runs.specs.inner.PlaceRows.{StandsAt}
 use Rattle.stored_runs.specs.inner.RowsRight.{RowRight, held_effect, is_place_row}

@@ -1,52 +1,36 @@
 -- A row of a typed state that traps finds what it needs: it is a `cond_fail`, or a name is loaded.
-use Rattle.std.proofs.Common.{◌≡◌, ◌⊎◌, inl, inr, ℕ, ℤ, List, [], ◌∷◌, map, refl, sym, ap, ap₂, ◌∙◌, subst, Bool, true, false, cond, Option, Some, None}
+use Rattle.std.proofs.Common.{◌≡◌, ℕ, ℤ, List, [], ◌∷◌, map, refl, sym, ap, subst, Bool, true, false, cond, Option, Some, None}
 use Rattle.std.specs.Prelude.{option_and_then}
-use Rattle.std.proofs.lemmas.Option.{none-some}
 use Rattle.argument_conventions.specs.declared.row.Content.{Content}
 use Rattle.argument_conventions.specs.declared.row.Content.TheVariants as content
-use Rattle.instruction_table.specs.declared.op.Op.{Op}
-use Rattle.instruction_table.specs.declared.op.Op.TheVariants as op
 use Rattle.numbered_form.specs.Lists.{Each}
-use Rattle.sil_ast.specs.declared.function.Function.{Function}
 use Rattle.sil_ast.specs.declared.inst.Inst.{Inst}
 use Rattle.sil_ast.specs.declared.member.Member.{Member}
 use Rattle.sil_ast.specs.declared.module.Module.{Module}
-use Rattle.sil_ast.specs.declared.operands.Operand.{Operand}
 use Rattle.sil_ast.specs.declared.place.FuncId.{FuncId}
-use Rattle.sil_ast.specs.declared.place.ValueId.{ValueId}
 use Rattle.type_definitions.specs.Declarations.{Declarations, declarations_of}
 use Rattle.run_values.specs.Memory.{Memory}
 use Rattle.run_values.specs.Places.{Place, emptied, is_there_at, member_place, removed, value_at}
 use Rattle.run_values.specs.Shapes.{Shape, class_in, storage_in}
 use Rattle.run_values.specs.Values as value
 use Rattle.run_values.specs.Values.{Value, grouped, members_of, object_of, references_of}
-use Rattle.accepted_values.specs.inner.Known.{IsAcceptedBody}
 use Rattle.accepted_values.specs.run_typing.Forms.{Form, form_of}
 use Rattle.lowered_run.specs.holder_model.Data.{AddressOf, Datum, FunctionOf, ValueOf, as_place, as_value, references_in, values_of}
 use Rattle.lowered_run.specs.holder_model.Effects as effects
-use Rattle.lowered_run.specs.holder_model.Effects.{Effect, Faults, Makes, Traps, Unfit, effect_by, effect_of, only, with_some}
+use Rattle.lowered_run.specs.holder_model.Effects.{Effect, Faults, Makes, Traps, effect_by, effect_of, only, with_some}
 use Rattle.lowered_run.specs.holder_model.Faults.{HolderFault, NotLastSlot}
-use Rattle.lowered_run.specs.holder_model.Frames.{Frame, Operands}
-use Rattle.lowered_run.specs.holder_model.HolderStates.{HolderState}
 use Rattle.lowered_run.specs.holder_model.MemoryEffects as memory_effects
 use Rattle.lowered_run.specs.holder_model.MemoryEffects.{asked_before, fault_of, holds, loaded_name, takes, where_held}
 use Rattle.lowered_run.specs.holder_model.ModuleShapes.{ModuleShapes, shapes_in, shapes_of}
-use Rattle.lowered_run.specs.holder_model.States.{Task}
 use Rattle.lowered_run.specs.holder_model.declared.row_effect.RowEffect.{RowEffect}
 use Rattle.lowered_run.specs.holder_model.declared.row_effect.RowEffect.TheVariants as row
 use Rattle.lowered_run.specs.holder_model.declared.trap.Trap.{Trap}
 use Rattle.lowered_run.specs.holder_model.memory_accesses.Operations.{access_kind_of, operation_by}
 use Rattle.lowered_run.specs.holder_model.memory_accesses.declared.access.Operation.{Operation}
-use Rattle.lowered_run.specs.LowStepParts.{LowState}
-use Rattle.lowering_laws.specs.lowering_model.LoweredInsts.{lowering_of}
-use Rattle.lowering_laws.specs.lowering_model.declared.lowering.Lowering.TheVariants as lowering
-use Rattle.lowering_laws.specs.ownership_origins.Renamings.{renames}
-use Rattle.typed_holders.specs.inner.TypedStates.{FrameIs}
 use Rattle.typed_holders.specs.typed_memory.inner.Worlds.{World}
 use Rattle.typed_holders.proofs.Data.{DataAre}
 use Rattle.stored_runs.specs.inner.Frames.{IsNoAddress}
-use Rattle.stored_runs.specs.inner.PlaceRows.{StandsAt}
-use Rattle.stored_runs.specs.inner.RowsRight.{TrapRight, held_effect, is_place_row}
+use Rattle.stored_runs.specs.inner.RowsRight.{TrapRight, is_place_row}
 use Rattle.stored_runs.specs.inner.TypedTraps.{AreTypedTraps}
 use Rattle.stored_runs.proofs.PlacesFound.{names_op, one_of}
 use Rattle.stored_runs.proofs.TypedInsts.{given_typed, operand_forms}

@@ -54,7 +54,7 @@ use Rattle.typed_holders.specs.typed_memory.inner.Worlds.{World}
 use Rattle.typed_holders.proofs.Data.{DataAre}
 use Rattle.typed_holders.proofs.TrivialShapes.{trivial_shape}
 use Rattle.stored_runs.specs.inner.WrittenPlaces.{ArePlacesWritten}
-use Rattle.stored_runs.proofs.PlacesFound.{OnePlace, ValueAndPlace, one_place_of, value_and_place_of}
+use Rattle.stored_runs.proofs.PlacesFound.{one_place_of}
 use Rattle.stored_runs.proofs.TypedInsts.{given_typed, operand_forms}
 use Rattle.stored_runs.proofs.TypedPlaces.{bare_whole}
 

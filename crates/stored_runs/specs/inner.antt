@@ -27,3 +27,4 @@ pub mod TypedRows
 pub mod TypedPlainRows
 pub mod TypedTraps
 pub mod WrittenPlaces
+pub mod OwnSlots

@@ -9,6 +9,7 @@ ghost use Rattle.stored_runs.specs.inner.Entering.{AreEntered};
 ghost use Rattle.stored_runs.specs.inner.FrameSteps.{CallsStep, EndsStep};
 ghost use Rattle.stored_runs.specs.inner.LoweredSo.{AreLoweredSo};
 ghost use Rattle.stored_runs.specs.inner.Memories.{AreFullRead};
+ghost use Rattle.stored_runs.specs.inner.OwnSlots.{AreSlotsOwn};
 ghost use Rattle.stored_runs.specs.inner.Returned.{AreReturned};
 ghost use Rattle.stored_runs.specs.inner.RowsRight.{AreRowsAlong, AreTrapsAlong};
 ghost use Rattle.stored_runs.specs.inner.Spares.{AreAcceptedSparesApart};
@@ -92,4 +93,5 @@ pub fn typed_rows_serve()
     ensures rows { AreTypedPlainRows }
     ensures traps { AreTypedTraps }
     ensures written { ArePlacesWritten }
+    ensures slots { AreSlotsOwn }
 {}

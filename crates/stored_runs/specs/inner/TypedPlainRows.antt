@@ -4,18 +4,17 @@ use Rattle.sil_ast.specs.declared.function.Function.{Function}
 use Rattle.sil_ast.specs.declared.inst.Inst.{Inst}
 use Rattle.sil_ast.specs.declared.module.Module.{Module}
 use Rattle.accepted_values.specs.inner.Known.{IsAcceptedBody}
-use Rattle.lowered_run.specs.holder_model.Effects.{Change, Makes, Traps, effect_of}
+use Rattle.lowered_run.specs.holder_model.Effects.{Change, Makes, effect_of}
 use Rattle.lowered_run.specs.holder_model.Frames.{Frame, Operands}
 use Rattle.lowered_run.specs.holder_model.HolderStates.{HolderState}
 use Rattle.lowered_run.specs.holder_model.States.{Task}
 use Rattle.lowered_run.specs.holder_model.declared.row_effect.RowEffect.{RowEffect}
 use Rattle.lowered_run.specs.holder_model.declared.row_effect.RowEffect.TheVariants as row
-use Rattle.lowered_run.specs.holder_model.declared.trap.Trap.{Trap}
 use Rattle.lowered_run.specs.LowStepParts.{LowState}
 use Rattle.typed_holders.specs.inner.TypedStates.{FrameIs}
 use Rattle.typed_holders.specs.typed_memory.inner.Worlds.{IsWorldOf, MemoryIs, World}
 use Rattle.stored_runs.specs.inner.PlaceRows.{StandsAt}
-use Rattle.stored_runs.specs.inner.RowsRight.{RowRight, TrapRight, held_effect, is_place_row}
+use Rattle.stored_runs.specs.inner.RowsRight.{RowRight, held_effect, is_place_row}
 
 abbrev pub calls_or_parts : RowEffect → Bool
 calls_or_parts row.CallsFunction = true

@@ -1,3 +1,4 @@
+use Rattle.stored_runs.proofs.OwnSlots.{are_slots_own}
 use Rattle.stored_runs.proofs.TypedPlainRows.{are_typed_plain_rows}
 use Rattle.stored_runs.proofs.TypedTraps.{are_typed_traps}
 use Rattle.stored_runs.proofs.WrittenPlaces.{are_places_written}
@@ -11,3 +12,6 @@ returns-clause-traps c = are_typed_traps
 
 pub returns-clause-written : goal.returns-clause-written
 returns-clause-written c = are_places_written
+
+pub returns-clause-slots : goal.returns-clause-slots
+returns-clause-slots c = are_slots_own
