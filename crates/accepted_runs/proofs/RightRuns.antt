@@ -109,7 +109,7 @@ guarded_kept_here = guarded_kept loans_of AreSlotsRight IsBuiltState loans_kept
 abbrev Parts : Module → HolderState → Type 0
 Parts = And IsTypedState (And IsTrackedState (And (And AreSlotsRight IsBuiltState) IsLentState))
 
-abbrev by_parts : HolderFault → Bool
+abbrev pub by_parts : HolderFault → Bool
 by_parts x = is_shape_fault x || (is_entry_fault x || (is_place_fault x || is_dead_fault x))
 
 parts_kept : IsKept Nothing Parts by_parts
@@ -127,7 +127,7 @@ joined : (m : Module) (s : HolderState) → Parts m s → IsRightState m s
 joined m s is = record { typed = is.0; tracked = is.1.0; placed = is.1.1.0.0; built = is.1.1.0.1; guarded = is.1.1.1 }
 
 -- each fault is one of these
-each_excluded : (x : HolderFault) → by_parts x ≡ false → ⊥
+pub each_excluded : (x : HolderFault) → by_parts x ≡ false → ⊥
 each_excluded NoEntry e = true≢false e
 each_excluded ConsumesLent e = true≢false e
 each_excluded NamesDead e = true≢false e
@@ -141,7 +141,7 @@ each_excluded LeavesSlot e = true≢false e
 each_excluded LeavesPlace e = true≢false e
 each_excluded WrongShape e = true≢false e
 
-right_kept : IsKept Nothing IsRightState by_parts
+pub right_kept : IsKept Nothing IsRightState by_parts
 right_kept = record {
   begin = λ m e f v there may. joined m _ (parts_kept.begin m e f v there may);
   goes = λ m bound s next v before then is by. joined m next (parts_kept.goes m bound s next v tt tt (parted m s is) by);

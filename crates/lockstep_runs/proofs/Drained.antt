@@ -44,18 +44,18 @@ module _ (m : Module) (told : ModuleFacts) (bound : ℕ) where
       ⊎_elim (λ a. inl (omega (arith, a, first))) (λ a. inr a) (spared o (omega (arith, named, itself))))
 
   -- the references are gone, and nothing else has changed
-  record IsDrained (s : HolderState) (rest : List (Task Frame)) : Type 0 where
-    count : ℕ
-    later : HolderState
-    comes : run (steps.step m told bound) count s ≡ Goes later
-    tasks : later.tasks ≡ rest
-    memory : later.memory ≡ s.memory
-    events : later.events ≡ s.events
-    turns : later.turns ≡ s.turns
-    retains : later.retains ≡ s.retains
-    releases : s.releases ≤ later.releases
+  pub record IsDrained (s : HolderState) (rest : List (Task Frame)) : Type 0 where
+    pub count : ℕ
+    pub later : HolderState
+    pub comes : run (steps.step m told bound) count s ≡ Goes later
+    pub tasks : later.tasks ≡ rest
+    pub memory : later.memory ≡ s.memory
+    pub events : later.events ≡ s.events
+    pub turns : later.turns ≡ s.turns
+    pub retains : later.retains ≡ s.retains
+    pub releases : s.releases ≤ later.releases
 
-  drained : (s : HolderState) (os : List ObjectId) (rest : List (Task Frame)) → s.tasks ≡ Drops os ∷ rest → AreSpared s.memory rest os → IsDrained s rest
+  pub drained : (s : HolderState) (os : List ObjectId) (rest : List (Task Frame)) → s.tasks ≡ Drops os ∷ rest → AreSpared s.memory rest os → IsDrained s rest
   drained s [] rest is spared = record {
     count = 1;
     later = record s { tasks = rest };

@@ -155,7 +155,8 @@ module _ (m m' : Module) (told told' : ModuleFacts) (bound : ℕ) (First Second 
               (are_as_after r.memory (places_given f' b.other.left)) (steps.returns_to m told bound h x rest) (fault h LeavesPlace)
               (steps.returns_to m' told' bound r x rest') (fault r LeavesPlace)
               (ap (λ y. are_as_after y (places_given f' b.other.left)) on.level.memory ∙ ap (are_as_after h.memory) b.places)
-              (λ so. returned_alike m m' told told' bound First Second Like Alone kept functions alone frames h r on.level x rest rest' on.below)
+              (λ so. returned_alike m m' told told' bound First Second Like Alone kept functions alone frames here h r on.first on.level x rest rest'
+              on.h_tasks on.below)
               (λ other. inl tt)))
 
       returns_alike : ending_of i.op ≡ ending.Return → Alike (steps.returns m told bound h rest here f (stands_at f trail))

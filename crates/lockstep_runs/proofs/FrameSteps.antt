@@ -182,9 +182,10 @@ module _ (m m' : Module) (told told' : ModuleFacts) (bound : ℕ) (First Second 
 
   -- ---- returns
 
-  pub returned_alike : (s s' : HolderState) → AreLevel s s' → (x : Datum) (rest rest' : List (Task Frame)) → AreTasksLike Like rest rest'
+  pub returned_alike : (callee : Frame) (s s' : HolderState) → First s → AreLevel s s' → (x : Datum) (rest rest' : List (Task Frame))
+      → s.tasks ≡ Runs callee ∷ rest → AreTasksLike Like rest rest'
       → Alike (steps.returns_to m told bound s x rest) (steps.returns_to m' told' bound s' x rest')
-  returned_alike s s' l x _ _ AreTasksLike.none =
+  returned_alike callee s s' first l x _ _ tasks AreTasksLike.none =
       alike.some_alike m m' told told' bound First Second Like Alone s s' _ _ (as_value x) (as_value x) (λ v is. (
         v,
         is,
@@ -192,7 +193,7 @@ module _ (m m' : Module) (told told' : ModuleFacts) (bound : ℕ) (First Second 
             (ap (λ y. left_by (record s { tasks = []; memory = y }) (Returned v)) l.memory)
             (record { memory = l.memory; events = l.events; turns = l.turns; retains = l.retains; releases = l.releases }),
       ))
-  returned_alike s s' l x _ _ (AreTasksLike.runs g slots lent trail trail' entries entries' rest rest' like below) =
+  returned_alike callee s s' first l x _ _ tasks (AreTasksLike.runs g slots lent trail trail' entries entries' rest rest' like below) =
       alike.some_alike m m' told told' bound First Second Like Alone s s' _ _ (slice_get m.functions g.0) (slice_get m'.functions g.0) (λ f is.
       let z = functions.function g f is in (
         z.0,
@@ -200,10 +201,10 @@ module _ (m m' : Module) (told told' : ModuleFacts) (bound : ℕ) (First Second 
         alike.goes_on_alike m m' told told' bound First Second Like Alone alone s s' rest rest' g f z.0 slots lent lent trail trail' entries entries'
             (call_at f trail) (call_at z.0 trail') (record (unchanged s.memory) { results = x ∷ [] }) (record (unchanged s'.memory) { results = x ∷ [] }) l below
             (record { dropped = refl; memory = l.memory; slots = refl; retained = omega arith })
-            ((frames g f z.0 is z.1).resume trail trail' entries entries' x like),
+            ((frames g f z.0 is z.1).resume s callee slots lent trail trail' entries entries' rest x first tasks like),
       ))
-  returned_alike s s' l x _ _ (AreTasksLike.drops os rest rest' below) = inl tt
-  returned_alike s s' l x _ _ (AreTasksLike.finishes gs o rest rest' below) =
+  returned_alike callee s s' first l x _ _ tasks (AreTasksLike.drops os rest rest' below) = inl tt
+  returned_alike callee s s' first l x _ _ tasks (AreTasksLike.finishes gs o rest rest' below) =
       alike.goes_alike m m' told told' bound First Second Like Alone alone (record s { tasks = Finishes gs o ∷ rest }) (record s' { tasks = Finishes gs o ∷ rest' })
       (AreTasksLike.finishes gs o rest rest' below)
       (record { memory = l.memory; events = l.events; turns = l.turns; retains = l.retains; releases = l.releases })

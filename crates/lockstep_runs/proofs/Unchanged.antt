@@ -133,7 +133,7 @@ module _ (m m' : Module) (told told' : ModuleFacts) (bound : ℕ) (First Second 
         subst (λ t. AreEndsAlike m m' told told' bound First Second Like Alone g f f h r trail t entries entries' rest i) (sym s.0)
         (subst (λ es. AreEndsAlike m m' told told' bound First Second Like Alone g f f h r trail trail entries es rest i) (sym s.1)
         (end_alike h r on.level.memory trail entries rest i at is));
-    resume = λ trail trail' entries entries' x like.
+    resume = λ h callee slots lent trail trail' entries entries' rest x first tasks like.
         let s = same trail trail' entries entries' like in
         subst (λ t. ArePutAlike Like g (call_at f trail ∷ trail) (call_at f t ∷ t) (puts told g f (call_at f trail) (x ∷ []) entries)
         (puts told' g f (call_at f t) (x ∷ []) entries')) (sym s.0)

@@ -39,11 +39,11 @@ op_is o i e = same_op i.op o (eqb-true (number_of i.op) (number_of o) e)
 
 -- ---- types
 
-record IsNontrivialWritten (d : Declarations) (o : Option TypeName) : Type 0 where
-  ty : TypeName
-  there : o ≡ Some ty
-  object : is_object ty ≡ true
-  nontrivial : is_trivial d ty ≡ false
+pub record IsNontrivialWritten (d : Declarations) (o : Option TypeName) : Type 0 where
+  pub ty : TypeName
+  pub there : o ≡ Some ty
+  pub object : is_object ty ≡ true
+  pub nontrivial : is_trivial d ty ≡ false
 
 nontrivial_written : (d : Declarations) (o : Option TypeName) → is_some (gives (where_it (is_nontrivial d) o)) ≡ true → IsNontrivialWritten d o
 nontrivial_written d None e = absurd (let no : false ≡ true = e in cc)
@@ -101,13 +101,13 @@ module _ {f : Function} {p : PointId} {last : ℕ} {c v : ValueId} (s : IsSplit 
   operand_values = ap (map value_of) s.copies.operands ∙ ap (λ w. w ∷ []) s.copies.copied
 
   module _ (d : Declarations) (kept : is_some (row_types d s.copy) ≡ true) where
-    type_written : IsNontrivialWritten d (written 0 s.copy)
+    pub type_written : IsNontrivialWritten d (written 0 s.copy)
     type_written = nontrivial_written d (written 0 s.copy) (subst (λ o. is_some (given_by o d s.copy) ≡ true) copy_op kept)
 
-    copy_makes : made_types d s.copy ≡ type_written.ty ∷ []
+    pub copy_makes : made_types d s.copy ≡ type_written.ty ∷ []
     copy_makes = ap (λ (o : Op). unwrap_or (given_by o d s.copy) []) copy_op ∙ ap (λ (o : MadeTypes). unwrap_or o []) (given_nontrivial d (written 0 s.copy) type_written)
 
-    move_makes : made_types d (move_of s.copy) ≡ type_written.ty ∷ []
+    pub move_makes : made_types d (move_of s.copy) ≡ type_written.ty ∷ []
     move_makes = ap (λ (o : MadeTypes). unwrap_or o []) (given_object d (written 0 s.copy) type_written)
 
     owned_by : (i : Inst) (k : ℕ) → result_kind_of i.op ≡ result_kind_of op.CopyValue

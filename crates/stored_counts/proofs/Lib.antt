@@ -3,5 +3,7 @@ pub mod Turns
 pub mod Items
 pub mod RowNames
 pub mod RowsMade
+pub mod QuietRows
 pub mod RowBalance
 pub mod FrameTurns
+pub mod Alike

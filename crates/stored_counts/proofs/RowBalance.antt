@@ -46,16 +46,10 @@ use Rattle.holder_counts.proofs.Sums.{total_append, total_cons}
 use Rattle.holder_counts.proofs.Values.{read_counted}
 use Rattle.stored_counts.specs.inner.Items.{AreMade, AreNamesBehind}
 use Rattle.stored_counts.specs.inner.Rows.{AreRowsCounted, HandsOn, IsRemoved, IsRowCounted, IsTaken, Loads, Owns, Stores, TakesNone}
+use Rattle.stored_counts.proofs.QuietRows.{changes_names, stays_stored, untold_quiet}
 use Rattle.stored_counts.proofs.RowNames.{names_stay, same_objects, strong_none, taken_names, written_names}
 use Rattle.stored_counts.proofs.RowsMade as exactly
 use Rattle.stored_counts.proofs.RowsMade.{IsChange, MakesBy, found_in, is_told, made_by}
-
--- rows that change no name in storage
-abbrev changes_names : RowEffect → Bool
-changes_names row.StoresValue = true
-changes_names row.LoadsName = true
-changes_names row.DestroysPlace = true
-changes_names r = false
 
 longer : (xs : List Object) (x : Object) → length (xs ++ x ∷ []) ≡ suc (length xs)
 longer [] x = refl
@@ -124,35 +118,10 @@ module _ (facts : ValueId → Option Facts) (entries : List Entry) (ts : List Ta
 
   -- ---- numbers
 
-  stays_stored : (r : RowEffect) → changes_names r ≡ false → stored_by d shapes values m i r xs stored ≡ stored
-  stays_stored row.StoresValue e = cc
-  stays_stored row.LoadsName e = cc
-  stays_stored row.DestroysPlace e = cc
-  stays_stored row.NoEffect e = refl
-  stays_stored row.GivesLiteral e = refl
-  stays_stored row.GivesFunction e = refl
-  stays_stored row.Computes e = refl
-  stays_stored row.TrapsWhereSet e = refl
-  stays_stored row.MakesObject e = refl
-  stays_stored row.MakesSlot e = refl
-  stays_stored row.RemovesSlot e = refl
-  stays_stored row.GivesOperand e = refl
-  stays_stored row.CopiesOperand e = refl
-  stays_stored row.RetainsOperand e = refl
-  stays_stored row.DropsOperand e = refl
-  stays_stored row.LoadsValue e = refl
-  stays_stored row.Groups e = refl
-  stays_stored row.ChoosesCase e = refl
-  stays_stored row.GivesMember e = refl
-  stays_stored row.GivesMembers e = refl
-  stays_stored row.AddressesMember e = refl
-  stays_stored row.AddressesField e = refl
-  stays_stored row.CallsFunction e = refl
-
   stays_named : changes_names (effect_of i.op) ≡ false → (later : Memory)
       → ((how : Storage) → (how ≡ storage.Strong → ⊥) → (o : ObjectId) → in_memory (one_object o) how later ≡ in_memory (one_object o) how m)
       → AreNamesBehind m later stored (stored_behind d shapes values m i xs stored)
-  stays_named quiet later same = subst (λ b. AreNamesBehind m later stored b) (sym (stays_stored (effect_of i.op) quiet)) (names_stay m stored later same)
+  stays_named quiet later same = subst (λ b. AreNamesBehind m later stored b) (sym (stays_stored d shapes values m i xs stored (effect_of i.op) quiet)) (names_stay m stored later same)
 
   -- memory stays, and nothing is retained, dropped or made
   quiet : changes_names (effect_of i.op) ≡ false → (rs : List Datum) → ((weight : ObjectId → ℕ) → begun weight rs ≡ ended weight) → Counted (giving m rs)
@@ -284,31 +253,6 @@ module _ (facts : ValueId → Option Facts) (entries : List Entry) (ts : List Ta
 
   not_told : (r : RowEffect) → is_told (effect_of i.op) ≡ false → effect_of i.op ≡ r → is_told r ≡ true → ⊥
   not_told r told is true' = false≢true (sym told ∙ ap is_told is ∙ true')
-
-  untold_quiet : (r : RowEffect) → is_told r ≡ false → changes_names r ≡ false
-  untold_quiet row.StoresValue e = cc
-  untold_quiet row.LoadsName e = cc
-  untold_quiet row.DestroysPlace e = cc
-  untold_quiet row.NoEffect e = refl
-  untold_quiet row.GivesLiteral e = refl
-  untold_quiet row.GivesFunction e = refl
-  untold_quiet row.Computes e = refl
-  untold_quiet row.TrapsWhereSet e = refl
-  untold_quiet row.MakesObject e = refl
-  untold_quiet row.MakesSlot e = refl
-  untold_quiet row.RemovesSlot e = refl
-  untold_quiet row.GivesOperand e = refl
-  untold_quiet row.CopiesOperand e = refl
-  untold_quiet row.RetainsOperand e = refl
-  untold_quiet row.DropsOperand e = refl
-  untold_quiet row.LoadsValue e = refl
-  untold_quiet row.Groups e = refl
-  untold_quiet row.ChoosesCase e = refl
-  untold_quiet row.GivesMember e = refl
-  untold_quiet row.GivesMembers e = refl
-  untold_quiet row.AddressesMember e = refl
-  untold_quiet row.AddressesField e = refl
-  untold_quiet row.CallsFunction e = refl
 
   takes_none : (r : RowEffect) (c : Change) → is_told r ≡ false → IsChange c (exactly.effect_at d shapes values m i xs c r) → Owned r c.results → None
   takes_none row.NoEffect c told h owns = owns

@@ -45,7 +45,7 @@ tasks_stored s tasks stored same counts =
 
 -- ---- drops
 
-pub one_itself : (o : ObjectId) → one_object o o ≡ 1
+one_itself : (o : ObjectId) → one_object o o ≡ 1
 one_itself o = ap (λ b. cond b 1 0) (eq-eqb o.0 o.0 refl)
 
 pub drops_stored : (m : Module) (told : ModuleFacts) (bound : ℕ) → AreDropsStored m told bound
@@ -90,7 +90,8 @@ module _ (m : Module) (told : ModuleFacts) (bound : ℕ) where
         ∙ same_numbers
         (record {
           strong = strong_holders s p;
-          unowned = unowned_holders s.memory p - in_cells (one_object p) storage.Unowned cells;
+          unowned = unowned_holders s.memory p - in_cells
+              (one_object p) storage.Unowned cells;
           weak = weak_holders s.memory p - in_cells (one_object p) storage.Weak cells;
         })
         (holders_of (finished m told bound s o) p) (sym (finishes_counted m told bound (one_object p) s o alive)) (less storage.Unowned p) (less storage.Weak p);

@@ -1,6 +1,7 @@
 //! Stored numbers that are counts before a step are counts behind it, each law on a call that does nothing. The lemmas behind them are in `proofs/`.
 
 ghost use Rattle.holder_counts.specs.inner.Moving.{InEach};
+ghost use Rattle.stored_counts.specs.inner.Alike.{AreStoredAlike, AreUnnamedAlike};
 ghost use Rattle.stored_counts.specs.inner.FrameTurns.{
   AreCallsStored,
   AreDeinitCallsStored,
@@ -54,4 +55,10 @@ pub fn frames_are_stored()
     ensures returns { InEach AreReturnsStored }
     ensures deinit_returns { InEach AreDeinitReturnsStored }
     ensures left { InEach AreLeftStored }
+{}
+
+/// In memory that names the same, an instruction of lowered code makes the same of stored numbers, and so does an object that dies.
+pub fn alike_are_stored()
+    ensures unnamed { AreUnnamedAlike }
+    ensures stored { AreStoredAlike }
 {}

@@ -5,6 +5,6 @@
 mod laws;
 
 pub use laws::{
-    deinitialisations_are_stored, drops_are_stored, frames_are_stored, items_are_stored,
-    kept_counts_are_stored, rows_are_counted,
+    alike_are_stored, deinitialisations_are_stored, drops_are_stored, frames_are_stored,
+    items_are_stored, kept_counts_are_stored, rows_are_counted,
 };

@@ -119,8 +119,7 @@ module _ (m m' : Module) (told told' : ModuleFacts) (bound : ℕ) (First Second 
       pub stands : inst_at f' (stands_at f' trail') ≡ Some other
       pub taken : (ops : Operands) → takes told g f inst_here h.memory entries ≡ Ok ops
           → (ops' : Operands) × (takes told' g f' inst_there r.memory entries' ≡ Ok ops')
-          × AreEffectsAlike trail trail' inst_here inst_there ops.left ops'.left rest
-          (does m told g h.memory i ops.given) (does m' told' g r.memory other ops'.given)
+          × AreEffectsAlike trail trail' inst_here inst_there ops.left ops'.left rest (does m told g h.memory i ops.given) (does m' told' g r.memory other ops'.given)
 
     -- an edge of the block
     pub record AreCarriedAlike (e e' : EdgeId) (ops : Operands) (carried : List Datum) : Type 0 where
@@ -169,7 +168,9 @@ module _ (m m' : Module) (told told' : ModuleFacts) (bound : ℕ) (First Second 
         → (i : inst.Inst) → inst_at f (stands_at f trail) ≡ None → terminator_of f (stands_at f trail).block.0 ≡ Some i
         → AreEndsAlike h r trail trail' entries entries' rest i
     -- a frame takes what its callee returned
-    pub resume : (trail trail' : List Item) (entries entries' : List Entry) (x : Datum) → Like g trail entries trail' entries'
+    pub resume : (h : HolderState) (callee : Frame) (slots : List Place) (lent : List LentPlace) (trail trail' : List Item) (entries entries' : List Entry)
+        (rest : List (Task Frame)) (x : Datum) → First h → h.tasks ≡ Runs callee ∷ Runs (frame_at g slots lent trail entries) ∷ rest
+        → Like g trail entries trail' entries'
         → ArePutAlike Like g (call_at f trail ∷ trail) (call_at f' trail' ∷ trail') (puts told g f (call_at f trail) (x ∷ []) entries)
         (puts told' g f' (call_at f' trail') (x ∷ []) entries')
 

@@ -56,8 +56,7 @@ module _ (m m' : Module) (told told' : ModuleFacts) (bound : ℕ) where
   module _ (First Second : HolderState → Type 0) (Like : FuncId → List Item → List Entry → List Item → List Entry → Type 0)
       (Alone : FuncId → List Item → Type 0) where
     -- two states, and the frames of a function that go on in them
-    pub record AreFramesOn (h r : HolderState) (g : FuncId) (slots : List Place) (lent : List LentPlace) (trail trail' : List Item)
-        (entries entries' : List Entry)
+    pub record AreFramesOn (h r : HolderState) (g : FuncId) (slots : List Place) (lent : List LentPlace) (trail trail' : List Item) (entries entries' : List Entry)
         (rest rest' : List (Task Frame)) : Type 0 where
       pub first : First h
       pub second : Second r
@@ -74,13 +73,14 @@ module _ (m m' : Module) (told told' : ModuleFacts) (bound : ℕ) where
       pub begin : Like g (item.Entry ∷ []) (no_entries (value_count f)) (item.Entry ∷ []) (no_entries (value_count f'))
       pub enter : (args : List Datum) → ArePutAlike Like g (item.Entry ∷ []) (item.Entry ∷ []) (entered told g f args) (entered told' g f' args)
       -- a frame's step
-      pub step : (h r : HolderState) (slots : List Place) (lent : List LentPlace) (trail trail' : List Item)
-          (entries entries' : List Entry)
+      pub step : (h r : HolderState) (slots : List Place) (lent : List LentPlace) (trail trail' : List Item) (entries entries' : List Entry)
           (rest rest' : List (Task Frame)) → AreFramesOn h r g slots lent trail trail' entries entries' rest rest'
           → AreStepsAlike First Second (AreInStep Like Alone m told bound) (steps.runs m told bound h rest (frame_at g slots lent trail entries))
           (steps.runs m' told' bound r rest' (frame_at g slots lent trail' entries'))
       -- a frame takes what its callee returned
-      pub resume : (trail trail' : List Item) (entries entries' : List Entry) (x : Datum) → Like g trail entries trail' entries'
+      pub resume : (h : HolderState) (callee : Frame) (slots : List Place) (lent : List LentPlace) (trail trail' : List Item) (entries entries' : List Entry)
+          (rest : List (Task Frame)) (x : Datum) → First h → h.tasks ≡ Runs callee ∷ Runs (frame_at g slots lent trail entries) ∷ rest
+          → Like g trail entries trail' entries'
           → ArePutAlike Like g (call_at f trail ∷ trail) (call_at f' trail' ∷ trail') (puts told g f (call_at f trail) (x ∷ []) entries)
           (puts told' g f' (call_at f' trail') (x ∷ []) entries')
 

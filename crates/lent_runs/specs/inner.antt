@@ -1,0 +1,4 @@
+pub mod LentEntries
+pub mod Sparing
+pub mod Covering
+pub mod Laws

@@ -1,0 +1,52 @@
+-- A module in which a copy became a move runs as it did, as the states of both are right.
+use Rattle.std.specs.Prelude.{◌≡◌, ◌<◌, ℕ, true, false, Some, slice_get}
+use Rattle.std.specs.List.{list_any}
+use Rattle.sil_ast.specs.declared.function.Function.{Function}
+use Rattle.sil_ast.specs.declared.module.Module.{Module}
+use Rattle.sil_ast.specs.declared.place.PointId.{PointId}
+use Rattle.sil_ast.specs.declared.place.ValueId.{ValueId}
+use Rattle.sil_cfg.specs.Items.{point_at}
+use Rattle.sil_cfg.specs.declared.item.Item.TheVariants as item
+use Rattle.type_definitions.specs.Declarations.{declarations_of}
+use Rattle.ownership_chains.specs.Facts.{is_owned, known_or}
+use Rattle.ownership_marks.specs.Marks.{marks_of}
+use Rattle.accepted_modules.specs.inner.Checked.{IsVerified}
+use Rattle.accepted_runs.specs.inner.RightStates.{IsRightState}
+use Rattle.accepted_runs.proofs.RightRuns.{each_excluded, right_kept}
+use Rattle.copy_removal.specs.ownership_kinds.Facts.{facts_in}
+use Rattle.copy_removal.specs.Removable.{concerns}
+use Rattle.copy_removal.specs.Optimised.{moves}
+use Rattle.copy_removal.specs.Rewritten.{moved, with_function}
+use Rattle.rewriting_laws.specs.inner.Laws.{RewritingKeepsVerified}
+use Rattle.lockstep_runs.specs.inner.Agreeing.{RunsAsItDid}
+use Rattle.lockstep_runs.specs.inner.Laws.{HoldsOnRuns}
+use Rattle.moved_functions.proofs.Split.{IsSplit, split}
+use Rattle.moved_runs.specs.inner.Laws.{MovedRunsAsItDid}
+use Rattle.moved_runs.proofs.InRuns.{moved_as_it_did}
+use Rattle.moved_runs.proofs.KnownFrames.{known_frames}
+
+-- states of runs of an accepted module are right
+right_on_runs : (m : Module) → IsVerified m → HoldsOnRuns m (λ bound. IsRightState m)
+right_on_runs m verified = record {
+  begin = λ bound e f there may. right_kept.begin m e f verified there may;
+  kept = λ bound. record {
+    goes = λ s next is by. right_kept.goes m bound s next verified tt tt is by;
+    faultless = λ s last x is by. each_excluded x (right_kept.faults m bound s last x verified tt is by);
+  };
+}
+
+module _ (m : Module) (n : ℕ) (f : Function) (verified : IsVerified m) (there : slice_get m.functions n ≡ Some f) {p : PointId} {last : ℕ} {c v : ValueId} (s : IsSplit f p last c v)
+    (owned : is_owned (known_or (facts_in (declarations_of m) f) v).kind ≡ true)
+    (quiet : (k : ℕ) → p.index < k → k < last
+    → list_any (concerns c v) (marks_of (facts_in (declarations_of m) f) f (item.Inst (point_at p.block.0 k))) ≡ false)
+    (verified' : IsVerified (with_function n (moved p last) m)) where
+  split_as_it_did : RunsAsItDid m (with_function n (moved p last) m)
+  split_as_it_did =
+      moved_as_it_did m n f verified there s owned quiet (λ bound. IsRightState m) (λ bound. IsRightState (with_function n (moved p last) m))
+      (right_on_runs m verified) (right_on_runs (with_function n (moved p last) m) verified')
+      (λ bound. known_frames m n f verified there s owned (IsRightState m) (λ h is. is.typed) (λ h is. is.placed))
+
+pub moved_runs_as_it_did : RewritingKeepsVerified → MovedRunsAsItDid
+moved_runs_as_it_did keeps m n f p c v verified there copy never h =
+    split_as_it_did m n f verified there (split f p h.last c v copy h.next.behind h.next.destroyed) h.owned h.next.quiet
+    (keeps m n p (with_function n (moved p h.last) m) verified (moves f c v there copy never h)).verified

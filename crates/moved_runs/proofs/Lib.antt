@@ -1,0 +1,13 @@
+pub mod ClearedEntries
+pub mod MovedPoints
+pub mod Quiet
+pub mod SameTold
+pub mod DoMoved
+pub mod TheCopied
+pub mod CopyMoved
+pub mod EndsMoved
+pub mod Covered
+pub mod Together
+pub mod KnownFrames
+pub mod InRuns
+pub mod AsItDid

@@ -1,0 +1,2 @@
+pub mod MovedFrames
+pub mod Laws

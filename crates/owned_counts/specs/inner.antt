@@ -1,0 +1,5 @@
+pub mod Taken
+pub mod OwnedRows
+pub mod CountedInsts
+pub mod CountedReturns
+pub mod Handing

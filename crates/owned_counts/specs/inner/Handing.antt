@@ -1,0 +1,50 @@
+-- What is handed over along edges and to callees: what the operands hold that end is what the arguments hold that begin.
+use Rattle.std.specs.Prelude.{◌≡◌, List, Some, map}
+use Rattle.std.specs.List.{AllZip}
+use Rattle.argument_conventions.specs.Arguments.{Told}
+use Rattle.numbered_form.specs.Lists.{Each}
+use Rattle.sil_ast.specs.declared.function.BlockArg.{BlockArg}
+use Rattle.sil_ast.specs.declared.function.Function.{Function}
+use Rattle.sil_ast.specs.declared.module.Module.{Module}
+use Rattle.sil_ast.specs.declared.operands.Operand.{Operand}
+use Rattle.sil_ast.specs.declared.place.FuncId.{FuncId}
+use Rattle.sil_ast.specs.declared.place.ObjectId.{ObjectId}
+use Rattle.std.specs.Prelude.{ℕ}
+use Rattle.item_operands.specs.Items.{arg_value}
+use Rattle.item_operands.specs.Roles.{by_convention, consumed, taken_each}
+use Rattle.type_definitions.specs.Declarations.{Declarations, declarations_of}
+use Rattle.accepted_values.specs.accepted_modules.ownership_kinds.Facts.{facts_in}
+use Rattle.accepted_values.specs.inner.Handed.{IsHanded, IsToldOf, TakesOver}
+use Rattle.accepted_values.specs.inner.Known.{IsAcceptedBody, type_in}
+use Rattle.accepted_values.specs.run_typing.EndForms.{value_in}
+use Rattle.holder_counts.specs.holder_model.Calling.{as_argument}
+use Rattle.holder_counts.specs.holder_model.Data.{Datum}
+use Rattle.holder_counts.specs.holder_model.Frames.{Entry}
+use Rattle.holder_counts.specs.holder_model.Holders.{of_references}
+use Rattle.holder_counts.specs.inner.Taking.{references_begun, references_ended}
+use Rattle.typed_memory.specs.inner.Worlds.{World}
+use Rattle.typed_holders.proofs.Entries.{FitEach}
+use Rattle.owned_counts.specs.inner.Taken.{IsTakenAs}
+
+abbrev pub HasItsType : Declarations → Function → BlockArg → Type 0
+HasItsType d f a = type_in d f a.value ≡ Some a.ty
+
+-- along an edge of `br` or `cond_br`
+abbrev pub AreEdgesHanded : Type 0
+AreEdgesHanded = (m : Module) (g : FuncId) (f : Function) → IsAcceptedBody m g.0 f → (w : World) (entries : List Entry)
+    (os : List Operand) (args : List BlockArg) (xs : List Datum)
+    → AllZip (TakesOver (declarations_of m) f) os args → Each (HasItsType (declarations_of m) f) args
+    → AllZip (IsTakenAs (facts_in (declarations_of m) f) entries) (map consumed os) xs → FitEach m w f (map value_in os) xs
+    → (weight : ObjectId → ℕ) → of_references weight (references_ended (facts_in (declarations_of m) f) entries (map consumed os))
+    ≡ of_references weight (references_begun (facts_in (declarations_of m) f) (map arg_value args) xs)
+
+-- to a callee, by its signature
+abbrev pub AreArgumentsHanded : Type 0
+AreArgumentsHanded = (m : Module) (g h : FuncId) (f callee : Function) → IsAcceptedBody m h.0 callee → (w : World) (entries : List Entry)
+    (tolds : List Told) (os : List Operand) (args : List BlockArg) (xs : List Datum)
+    → AllZip (IsHanded (declarations_of m) f) tolds os → AllZip (IsToldOf (declarations_of m) callee) tolds args → Each (HasItsType (declarations_of m) callee) args
+    → AllZip (IsTakenAs (facts_in (declarations_of m) f) entries) (taken_each os (map by_convention (map (λ (a : Told). a.convention) tolds))) xs
+    → FitEach m w f (map value_in os) xs
+    → (weight : ObjectId → ℕ)
+    → of_references weight (references_ended (facts_in (declarations_of m) f) entries (taken_each os (map by_convention (map (λ (a : Told). a.convention) tolds))))
+    ≡ of_references weight (references_begun (facts_in (declarations_of m) callee) (map arg_value args) (map as_argument xs))

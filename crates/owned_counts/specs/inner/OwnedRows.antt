@@ -1,0 +1,91 @@
+-- In typed states of accepted modules each instruction has what its row needs so that its change is counted.
+use Rattle.std.specs.Prelude.{◌≡◌, List, [], ◌∷◌, true, false, length, map, Some, Ok}
+use Rattle.instruction_table.specs.Forms.{result_kind_of, roles_of}
+use Rattle.instruction_table.specs.declared.entries.ResultKind.TheVariants.{OwnedResult, ScopeResult}
+use Rattle.instruction_table.specs.declared.entries.Role.TheVariants as role
+use Rattle.sil_ast.specs.declared.decl.Storage.{Storage}
+use Rattle.sil_ast.specs.declared.decl.Storage.TheVariants as storage
+use Rattle.sil_ast.specs.declared.function.Function.{Function}
+use Rattle.sil_ast.specs.declared.inst.Inst.{Inst}
+use Rattle.sil_ast.specs.declared.module.Module.{Module}
+use Rattle.sil_ast.specs.declared.place.FuncId.{FuncId}
+use Rattle.sil_ast.specs.declared.place.PointId.{PointId}
+use Rattle.sil_cfg.specs.declared.item.Item.TheVariants as item
+use Rattle.item_operands.specs.Items.{item_defined, item_taken}
+use Rattle.item_operands.specs.Parts.{inst_at}
+use Rattle.type_definitions.specs.Declarations.{Declarations, declarations_of}
+use Rattle.run_values.specs.Memory.{Memory}
+use Rattle.run_values.specs.Places.{Place}
+use Rattle.run_values.specs.Shapes.{Shape, Stored}
+use Rattle.run_values.specs.Trivial.{is_trivial}
+use Rattle.value_parts.specs.inner.Storages.{holds_no_storage}
+use Rattle.accepted_values.specs.accepted_modules.ownership_kinds.Facts.{facts_in}
+use Rattle.accepted_values.specs.inner.Known.{IsAcceptedBody}
+use Rattle.accepted_values.specs.run_typing.EndForms.{value_in}
+use Rattle.accepted_values.specs.run_typing.Forms.{OfPlace, OfValue, forms_of}
+use Rattle.accepted_values.specs.run_typing.RowForms.{operation_done}
+use Rattle.accepted_values.specs.run_typing.StorageForms.{IsNamed}
+use Rattle.accepted_values.specs.run_typing.lowered_run.Operation.{Operation}
+use Rattle.holder_counts.specs.holder_model.Data.{AddressOf, Datum}
+use Rattle.holder_counts.specs.holder_model.Effects as effects
+use Rattle.holder_counts.specs.holder_model.Effects.{Change, effect_of}
+use Rattle.holder_counts.specs.holder_model.Frames.{Entry, Operands, operands_of, results_put}
+use Rattle.holder_counts.specs.holder_model.MemoryEffects.{copies_with, effect, takes}
+use Rattle.holder_counts.specs.holder_model.ModuleShapes.{shapes_in, shapes_of}
+use Rattle.holder_counts.specs.holder_model.Outcomes.{Numbers}
+use Rattle.holder_counts.specs.holder_model.declared.row_effect.RowEffect.TheVariants as row
+use Rattle.stored_counts.specs.inner.Rows.{Owns}
+use Rattle.typed_memory.specs.inner.Worlds.{IsWorldOf, MemoryIs, World}
+use Rattle.typed_holders.specs.inner.TypedStates.{EntriesAre}
+
+-- what a load does at its place, by its word: it takes or copies what its result then owns, reads what is trivial, or lends
+pub data LoadsBy (d : Declarations) (f : Function) (i : Inst) (o : Operation) (s : Shape) : Type 0 where
+  taking : takes o ≡ true → copies_with i.qualifier ≡ false → result_kind_of i.op ≡ OwnedResult → holds_no_storage s ≡ true → LoadsBy d f i o s
+  copying : takes o ≡ false → copies_with i.qualifier ≡ true → result_kind_of i.op ≡ OwnedResult → LoadsBy d f i o s
+  reading : (r : Shape) → takes o ≡ false → copies_with i.qualifier ≡ false → forms_of d f i.results ≡ OfValue r ∷ [] → is_trivial r ≡ true → LoadsBy d f i o s
+  lending : takes o ≡ false → copies_with i.qualifier ≡ false → result_kind_of i.op ≡ ScopeResult → LoadsBy d f i o s
+
+-- a store consumes what it writes strongly, and uses what weak or unowned storage is to name
+pub data StoresBy (d : Declarations) (f : Function) (i : Inst) : Type 0 where
+  strongly : (s : Shape) → roles_of i.op ≡ role.Consumed ∷ role.AddressRole ∷ [] → forms_of d f (map value_in i.operands) ≡ OfValue s ∷ OfPlace s ∷ []
+      → holds_no_storage s ≡ true → StoresBy d f i
+  weakly : (how : Storage) (s : Shape) → roles_of i.op ≡ role.Used ∷ role.AddressRole ∷ [] → forms_of d f (map value_in i.operands) ≡ OfValue s ∷ OfPlace (Stored how s) ∷ []
+      → IsNamed how s → StoresBy d f i
+
+-- weak or unowned storage
+pub record IsStorageOf (s : Shape) : Type 0 where
+  pub how : Storage
+  pub inner : Shape
+  pub is : s ≡ Stored how inner
+  pub other : how ≡ storage.Strong → ⊥
+
+-- the instruction has the words, and its operands the types, that its row asks for
+pub record HasItsWords (d : Declarations) (f : Function) (i : Inst) (xs : List Datum) : Type 0 where
+  pub loads : effect_of i.op ≡ row.LoadsValue → (o : Operation) (p : Place) → operation_done i ≡ Some o → xs ≡ AddressOf p ∷ [] → LoadsBy d f i o p.shape
+  pub names : effect_of i.op ≡ row.LoadsName → (p : Place) → xs ≡ AddressOf p ∷ [] → IsStorageOf p.shape
+  pub stores : effect_of i.op ≡ row.StoresValue → StoresBy d f i
+  pub destroys : effect_of i.op ≡ row.DestroysPlace → (o : Operation) → operation_done i ≡ Some o → takes o ≡ true
+
+-- an instruction of an accepted function whose operands were found, and whose results are put
+pub record IsDone (m : Module) (g : FuncId) (f : Function) (w : World) (memory : Memory) (entries : List Entry) (p : PointId) (i : Inst) (ops : Operands)
+    (c : Change) : Type 0 where
+  pub accepted : IsAcceptedBody m g.0 f
+  pub of : IsWorldOf m w
+  pub typed : MemoryIs m w memory
+  pub entries_are : EntriesAre m w f entries
+  pub here : inst_at f p ≡ Some i
+  pub found : operands_of (facts_in (declarations_of m) f) memory entries (item_taken f (item.Inst p)) ≡ Ok ops
+  pub makes : effect (declarations_of m) (shapes_of m) (shapes_in (shapes_of m) g) memory i ops.given ≡ effects.Makes c
+  pub behind : List Entry
+  pub put : results_put (facts_in (declarations_of m) f) (item_defined f (item.Inst p)) c.results ops.left ≡ Ok behind
+
+abbrev pub AreRowsOwned : Type 0
+AreRowsOwned = (m : Module) (g : FuncId) (f : Function) (w : World) (memory : Memory) (entries : List Entry) (p : PointId) (i : Inst) (ops : Operands) (c : Change)
+    (stored : List Numbers) → IsDone m g f w memory entries p i ops c → HasItsWords (declarations_of m) f i ops.given → length stored ≡ length memory.objects
+    → Owns (facts_in (declarations_of m) f) entries (item_taken f (item.Inst p)) (item_defined f (item.Inst p)) (declarations_of m) (shapes_of m)
+    (shapes_in (shapes_of m) g) memory i ops.given stored (effect_of i.op) c.results
+
+-- and it has its words
+abbrev pub HaveTheirWords : Type 0
+HaveTheirWords = (m : Module) (g : FuncId) (f : Function) (w : World) (memory : Memory) (entries : List Entry) (p : PointId) (i : Inst) (ops : Operands) (c : Change)
+    → IsDone m g f w memory entries p i ops c → HasItsWords (declarations_of m) f i ops.given

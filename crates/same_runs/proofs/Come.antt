@@ -1,0 +1,61 @@
+-- What a run begins with and each step keeps holds of each state that the run comes to.
+use Rattle.std.proofs.Common.{◌≡◌, ℕ, zero, suc, refl, sym, ap, ◌∙◌, subst}
+use Rattle.sil_ast.specs.declared.module.Module.{Module}
+use Rattle.accepted_values.specs.accepted_modules.inner.Checked.{IsVerified}
+use Rattle.accepted_runs.specs.inner.RightStates.{IsRightState}
+use Rattle.accepted_runs.proofs.RightRuns.{no_run_faults, states_are_right}
+use Rattle.lowered_run.specs.holder_model.Faults.{HolderFault}
+use Rattle.lowered_run.specs.holder_model.HolderStates.{HolderNext, HolderState}
+use Rattle.lowered_run.specs.holder_model.ModuleFacts.{facts_of}
+use Rattle.lowered_run.specs.holder_model.Outcomes.{begins, run}
+use Rattle.lowered_run.specs.holder_model.States.{Ends, Faulted, Goes, step_on}
+use Rattle.lowered_run.specs.holder_model.Steps as holder_run
+use Rattle.typed_holders.specs.inner.TypedStates.{IsTypedState}
+use Rattle.typed_holders.proofs.TypedSteps.{begin_typed, steps_typed}
+use Rattle.same_runs.specs.inner.Owed.{IsComeTo}
+use Rattle.same_runs.proofs.DeinitsCalled.{AreCalled, begin_called, steps_called}
+
+module _ (m : Module) (bound : ℕ) where
+  abbrev step : HolderState → HolderNext
+  step s = holder_run.step m (facts_of m) bound s
+
+  module _ (P : HolderState → Type 0) (keeps : (s t : HolderState) → P s → step s ≡ Goes t → P t) where
+    same_state : (s t : HolderState) (n : HolderNext) → Goes s ≡ n → n ≡ Goes t → P s → P t
+    same_state s t n e g is = let same : s ≡ t = cc in subst P same is
+
+    kept_on : (k : ℕ) (s t : HolderState) → P s → run step k s ≡ Goes t → P t
+    kept_on zero s t is ran = same_state s t (Goes s) refl ran is
+    kept_on (suc k) s t is ran = at (step s) refl (λ x. kept_on k x t)
+      where
+        at : (n : HolderNext) → step s ≡ n → ((x : HolderState) → P x → run step k x ≡ Goes t → P t) → P t
+        at (Goes x) e later = later x (keeps s x is e) (sym (ap (step_on (run step k)) e) ∙ ran)
+        at (Ends x y) e later = let other : Ends x y ≡ Goes t = sym (ap (step_on (run step k)) e) ∙ ran in absurd (cc)
+
+  pub comes_called : (s : HolderState) → IsVerified m → IsComeTo m bound s → AreCalled m s.tasks
+  comes_called s verified c =
+      (kept_on (λ t. IsTypedState m t × AreCalled m t.tasks)
+      (λ t u is e. (steps_typed m bound t u verified is.0 e, steps_called m bound t u is.0 is.1 e)) c.steps (begins c.e c.f) s
+      (begin_typed m c.e c.f verified c.there c.may, begin_called m c.e c.f) c.comes).1
+
+  -- so it is right, and no step from it ends in a fault
+  pub comes_right : (s : HolderState) → IsVerified m → IsComeTo m bound s → IsRightState m s
+  comes_right s verified c = states_are_right m c.e c.f bound verified c.there c.may c.steps s c.comes
+
+  ran_on : (k : ℕ) (s t : HolderState) (n : HolderNext) → run step k s ≡ Goes t → step t ≡ n → run step (suc k) s ≡ n
+  ran_on zero s t n ran is = one (step s) ∙ ap step (same s t (Goes s) refl ran) ∙ is
+    where
+      one : (n : HolderNext) → step_on (run step 0) n ≡ n
+      one (Goes x) = refl
+      one (Ends e x) = refl
+
+      same : (s t : HolderState) (n : HolderNext) → Goes s ≡ n → n ≡ Goes t → s ≡ t
+      same s t n e g = cc
+  ran_on (suc k) s t n ran is = at (step s) refl (λ x. ran_on k x t n)
+    where
+      at : (y : HolderNext) → step s ≡ y → ((x : HolderState) → run step k x ≡ Goes t → step t ≡ n → run step (suc k) x ≡ n) → run step (suc (suc k)) s ≡ n
+      at (Goes x) e later = ap (step_on (run step (suc k))) e ∙ later x (sym (ap (step_on (run step k)) e) ∙ ran) is
+      at (Ends x y) e later = let other : Ends x y ≡ Goes t = sym (ap (step_on (run step k)) e) ∙ ran in absurd (cc)
+
+  pub come_faults : (s : HolderState) → IsVerified m → IsComeTo m bound s → (last : HolderState) (x : HolderFault) → step s ≡ Ends (Faulted x) last → ⊥
+  come_faults s verified c last x is =
+      no_run_faults m c.e c.f bound verified c.there c.may (suc c.steps) last x (ran_on c.steps (begins c.e c.f) s (Ends (Faulted x) last) c.comes is)

@@ -1,0 +1,96 @@
+-- An instruction of a right state whose row finds what it needs: the lowered run goes along, or traps too.
+use Rattle.std.proofs.Common.{◌≡◌, ℕ, ◌∷◌, refl, sym, ◌∙◌, subst}
+use Rattle.std.proofs.lemmas.Option.{same_Some}
+use Rattle.sil_ast.specs.declared.module.Module.{Module}
+use Rattle.sil_cfg.specs.declared.item.Item.TheVariants as item
+use Rattle.accepted_trails.proofs.Unbroken.{are_accepted}
+use Rattle.accepted_trails.proofs.run_trails.RunPaths.{are_trails}
+use Rattle.accepted_trails.proofs.run_trails.TurnedTrails.{turned_item}
+use Rattle.accepted_trails.proofs.run_trails.WalkEdges.{are_next}
+use Rattle.accepted_trails.specs.run_trails.inner.RunTrails.{IsTurnedTrail}
+use Rattle.accepted_values.specs.inner.Known.{IsAcceptedBody}
+use Rattle.lowered_run.specs.holder_model.HolderStates.{HolderNext, HolderState}
+use Rattle.lowered_run.specs.holder_model.Outcomes.{outcome_at}
+use Rattle.lowered_run.specs.holder_model.Standing.{stands_at}
+use Rattle.lowered_run.specs.holder_model.States.{Ends, Runs, Trapped}
+use Rattle.lowered_run.specs.holder_model.declared.trap.Trap.{Trap}
+use Rattle.lowered_run.specs.LowOutcomes.{low_outcome_at}
+use Rattle.lowered_run.specs.LowStepParts.{LowNext, LowState}
+use Rattle.typed_holders.specs.inner.TypedStates.{FrameIs, TasksAre}
+use Rattle.typed_holders.proofs.GoesOn.{accepted_body, typed_module}
+use Rattle.stored_runs.specs.inner.Along.{IsNextAlong}
+use Rattle.stored_runs.specs.inner.FrameSteps.{StepsAlong}
+use Rattle.stored_runs.specs.inner.Lowering.{LowersSo}
+use Rattle.stored_runs.specs.inner.PlaceRows.{LowGoes, StandsAt}
+use Rattle.stored_runs.specs.inner.Runs.{IsOutcomeFor}
+use Rattle.stored_runs.specs.inner.TypedSteps.{IsTypedFor}
+use Rattle.stored_runs.proofs.FrameSteps as steps
+use Rattle.stored_runs.proofs.LoweredSo.{are_lowered_so}
+use Rattle.stored_runs.proofs.RowsAlong.{are_rows_along}
+use Rattle.stored_runs.proofs.SparesApart.{accepted_spares_apart}
+use Rattle.stored_runs.proofs.StayingSteps.{LowTop}
+use Rattle.stored_runs.proofs.TrapsAlong.{are_traps_along}
+use Rattle.same_runs.specs.inner.Followed.{EndsToo, low_next_of}
+use Rattle.same_runs.specs.inner.Owed.{AtInst, RowsAreRight, RowsGoAlong, RowsTrapAlong, TrapsAreRight}
+
+module _ (m : Module) (bound : ℕ) (s : HolderState) (l : LowState) (x : AtInst m s) (h : IsTypedFor m s l) where
+  tasks : TasksAre m h.typed.world (Runs x.frame ∷ x.rest)
+  tasks = subst (TasksAre m h.typed.world) x.is h.typed.tasks
+
+  pub frame_is : FrameIs m h.typed.world x.f x.frame
+  frame_is = subst (λ g. FrameIs m h.typed.world g x.frame) (same_Some tasks.0.0 x.f (sym tasks.0.1.is ∙ x.there)) tasks.0.1
+
+  pub accepted : IsAcceptedBody m x.frame.function.0 x.f
+  accepted = accepted_body m h.verified x.frame.function x.f x.there frame_is.bodied
+
+  lowers : LowersSo m x.frame.function x.f
+  lowers = are_lowered_so m x.frame.function x.f accepted
+
+  trail : IsTurnedTrail x.f (item.Inst (stands_at x.f x.frame.trail) ∷ x.frame.trail)
+  trail =
+      are_trails x.f (are_accepted m x.frame.function.0 x.f accepted.verified accepted.body).once (item.Inst (stands_at x.f x.frame.trail) ∷ x.frame.trail)
+      (are_next x.f x.frame.trail (item.Inst (stands_at x.f x.frame.trail)) frame_is.goes (refl, x.i, x.here), frame_is.trail)
+
+  top : LowTop m x.frame x.rest l
+  top = steps.top m bound s l x.frame x.rest x.f h.related x.is x.there lowers
+
+  pub stands : StandsAt m s l x.frame x.rest x.f x.i x.ops
+  unfolding top
+  stands = record {
+    totals = steps.totals m bound s l x.frame x.rest x.f h.related x.is x.there lowers;
+    memory = h.related.memory;
+    size = h.related.counts.size;
+    there = x.there;
+    lowers = lowers;
+    low = top.low;
+    lrest = top.others;
+    is_top = top.is_top;
+    frames = steps.frames m bound s l x.frame x.rest x.f h.related x.is x.there lowers;
+    rest_for = top.rest_for;
+    full = steps.full m bound s l x.frame x.rest x.f h.related x.is x.there lowers;
+    here = x.here;
+    is_item = turned_item x.f (item.Inst (stands_at x.f x.frame.trail)) x.frame.trail trail;
+    turned = trail;
+    found = x.found;
+    takes = (((typed_module m h.verified).functions x.frame.function.0 x.f x.there).insts (stands_at x.f x.frame.trail) x.i x.here).takes;
+  }
+
+  trapped : (t : Trap) → StepsAlong m bound l (Ends (Trapped t) s) → EndsToo m bound l (outcome_at (Trapped t) s)
+  trapped t d = at (Ends (Trapped t) s) d.low_next d.step d.for refl
+    where
+      at : (next : HolderNext) (low_next : LowNext) → low_next_of m bound l ≡ low_next → IsNextAlong m l.numbers next low_next → next ≡ Ends (Trapped t) s
+          → EndsToo m bound l (outcome_at (Trapped t) s)
+      at _ _ step (IsNextAlong.goes s' l' along numbers) e = absurd (cc)
+      at _ _ step (IsNextAlong.ends y s' z l' for) e =
+          let same : outcome_at y s' ≡ outcome_at (Trapped t) s = cc in
+          record { before = l; steps = LowGoes.there; ending = z; last = l'; ends = step; for = subst (λ o. IsOutcomeFor o (low_outcome_at z l')) same for }
+
+pub rows_go_along : RowsAreRight → RowsGoAlong
+rows_go_along rows m bound s verified right l x h other c slots entries leaves =
+    let found = rows m bound s verified right l x h other c slots entries leaves in
+    are_rows_along m bound s l x.frame x.rest x.f x.i x.ops c slots entries (stands m bound s l x h)
+    (accepted_spares_apart m x.frame.function x.f (accepted m bound s l x h)) found.0 found.1 leaves.slots_left leaves.put
+
+pub rows_trap_along : TrapsAreRight → RowsTrapAlong
+rows_trap_along traps m bound s verified right l x h other t is =
+    trapped m bound s l x h t (are_traps_along m bound s l x.frame x.rest x.f x.i x.ops t (stands m bound s l x h) (traps m bound s verified right l x h other t is))

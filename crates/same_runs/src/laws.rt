@@ -1,0 +1,24 @@
+//! Laws of lowered runs beside runs by holders, on calls that do nothing. The lemmas behind them are in `proofs/`.
+
+ghost use Rattle.same_runs.specs.inner.Laws.{AreRunsSameWhereOwed, AreStepsFollowed, BeginTypedFor};
+ghost use Rattle.same_runs.specs.inner.Owed.{TrapsAreRight};
+
+/// Each step of the run by holders is followed by the lowered run.
+pub fn steps_are_followed()
+    ensures { AreStepsFollowed }
+{}
+
+/// Both runs begin in states that go along.
+pub fn runs_begin_along()
+    ensures { BeginTypedFor }
+{}
+
+/// Where one of both runs ends, the other does so too, with the same outcome.
+pub fn runs_are_same()
+    ensures { AreRunsSameWhereOwed }
+{}
+
+/// What is owed of rows that trap.
+pub fn traps_find_what_they_need()
+    ensures { TrapsAreRight }
+{}

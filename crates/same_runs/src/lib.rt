@@ -1,0 +1,6 @@
+//! Laws: the run of lowered code by stored numbers is the run by holders, where rows and counts go along. It has no code that runs.
+#![tactic(auto)]
+
+mod laws;
+
+pub use laws::{runs_are_same, runs_begin_along, steps_are_followed, traps_find_what_they_need};

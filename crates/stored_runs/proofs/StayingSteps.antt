@@ -1,0 +1,322 @@
+-- The step of an instruction that is lowered to itself.
+use Rattle.std.proofs.Common.{◌≡◌, ℕ, suc, ◌+◌, ◌<◌, List, [], ◌∷◌, ◌++◌, map, length, arith, refl, sym, ap, ◌∙◌, subst, Bool, true, false, cond, Option, Some, None, Ok, Err}
+use Rattle.std.specs.Prelude.{find, slice_get}
+use Rattle.std.specs.List.{AllZip, flat_map, list_any}
+use Rattle.std.proofs.lemmas.Option.{none-some, same_Some}
+use Rattle.numbered_form.specs.Lists.{Each}
+use Rattle.sil_ast.specs.declared.function.Form.TheVariants as form
+use Rattle.sil_ast.specs.declared.function.Function.{Function}
+use Rattle.sil_ast.specs.declared.inst.Inst.{Inst}
+use Rattle.sil_ast.specs.declared.module.Module.{Module}
+use Rattle.sil_ast.specs.declared.place.ObjectId.{ObjectId}
+use Rattle.sil_ast.specs.declared.place.PointId.{PointId}
+use Rattle.sil_ast.specs.declared.place.ValueId.{ValueId}
+use Rattle.sil_cfg.specs.Items.{IsItem}
+use Rattle.sil_cfg.specs.declared.item.Item.TheVariants as item
+use Rattle.item_operands.specs.Items.{item_defined, item_taken}
+use Rattle.item_operands.specs.Parts.{inst_at}
+use Rattle.item_operands.specs.declared.taken.Taken.{Taken}
+use Rattle.ownership_chains.specs.declared.facts.Facts.{Facts}
+use Rattle.type_definitions.specs.Declarations.{Declarations, declarations_of}
+use Rattle.run_values.specs.Memory.{Memory, is_dead}
+use Rattle.run_values.specs.Places.{Place}
+use Rattle.run_values.specs.Shapes.{Shape}
+use Rattle.lowered_run.specs.holder_model.Data.{Datum, references_in}
+use Rattle.lowered_run.specs.holder_model.Effects as effects
+use Rattle.lowered_run.specs.holder_model.Effects.{Change, ClosesSlot, Makes, OpensSlot, SameSlots, SlotChange, effect_by, effect_of}
+use Rattle.lowered_run.specs.holder_model.Faults.{NotLastSlot}
+use Rattle.lowered_run.specs.holder_model.Frames.{Entry, Frame, Operands, operands_of, results_put}
+use Rattle.lowered_run.specs.holder_model.HolderStates.{HolderState}
+use Rattle.lowered_run.specs.holder_model.MemoryEffects as holder
+use Rattle.lowered_run.specs.holder_model.ModuleFacts.{facts_of, facts_told}
+use Rattle.lowered_run.specs.holder_model.ModuleShapes.{ModuleShapes, shapes_in, shapes_of}
+use Rattle.lowered_run.specs.holder_model.Outcomes.{Numbers}
+use Rattle.lowered_run.specs.holder_model.Standing.{is_slot, point_behind, stands_at}
+use Rattle.lowered_run.specs.holder_model.StepParts as parts
+use Rattle.lowered_run.specs.holder_model.States.{Goes, Runs, Task, dropping}
+use Rattle.lowered_run.specs.holder_model.declared.row_effect.RowEffect.{RowEffect}
+use Rattle.lowered_run.specs.holder_model.declared.row_effect.RowEffect.TheVariants as row
+use Rattle.lowered_run.specs.declared.low_fault.LowFault.TheVariants as fault
+use Rattle.lowered_run.specs.LowEffects as low_effects
+use Rattle.lowered_run.specs.LowEffects.{low_effect, stored_behind}
+use Rattle.lowered_run.specs.LowFrames.{LowFrame, put_all, read_all}
+use Rattle.lowered_run.specs.LowStepParts.{LowState, numbers_for, slots_behind, taken_value, values_taken}
+use Rattle.lowered_run.specs.LowSteps as steps
+use Rattle.lowered_run.specs.Stored.{changed, each_changed, one_more}
+use Rattle.lowering_laws.specs.lowering_model.LoweredInsts.{lowering_of}
+use Rattle.lowering_laws.specs.lowering_model.LoweredModules.{lowered, lowered_body, lowered_by, lowered_function}
+use Rattle.lowering_laws.specs.lowering_model.Numbers.{renumbered_inst}
+use Rattle.lowering_laws.specs.lowering_model.declared.lowering.Lowering.TheVariants as lowering
+use Rattle.lowering_laws.specs.ownership_origins.Renamings.{renames}
+use Rattle.accepted_trails.specs.run_trails.inner.RunTrails.{IsTurnedTrail}
+use Rattle.lowered_steps.specs.inner.LowWays.{Acts, GoesBehind, Performs, StepsBy, effect_in, moved, retained}
+use Rattle.lowered_steps.proofs.LowTaken.{told_taken}
+use Rattle.stored_runs.specs.inner.EffectsFor.{IsChangeFor, IsEffectFor}
+use Rattle.stored_runs.specs.inner.Frames.{AreTasksFor, IsFrameAt, IsFrameFor, IsTaskFor}
+use Rattle.stored_runs.specs.inner.Lowering.{IsOwnName, LowersSo}
+use Rattle.stored_runs.specs.inner.Memories.{IsMemoryFor}
+use Rattle.stored_runs.specs.inner.Names.{IsCurrent, IsOld, lowered_number}
+use Rattle.stored_runs.proofs.LoweredCode.{mapped_at}
+use Rattle.stored_runs.proofs.StandsStaying as standing
+use Rattle.stored_runs.proofs.StandsStaying.{behind_at, takes_same}
+use Rattle.stored_runs.proofs.Reading.{Like, behind_current, defines_there, like_itself}
+use Rattle.stored_runs.proofs.SameRows.{none_dead, row_for}
+use Rattle.stored_runs.proofs.ValuesFor.{AreLike, ArePut, AreTakenSo, IsGivenAlive, err-ok, like_same, ok-ok, operands_given, results_shown}
+
+-- ---- parts of steps
+
+-- references are made: the numbers and the total of retains are changed, and nothing else
+pub retained_so : (os : List ObjectId) (l : LowState) → retained os l ≡ record l { numbers = each_changed one_more os l.numbers; retains = l.retains + length os }
+retained_so [] l = ap (λ n. record l { retains = n }) (omega arith)
+retained_so (o ∷ os) l =
+    retained_so os (record l { numbers = changed one_more l.numbers o; retains = l.retains + 1 })
+    ∙ ap (λ n. record l { numbers = each_changed one_more os (changed one_more l.numbers o); retains = n }) (more (length os) l.retains)
+  where
+    more : (k n : ℕ) → n + 1 + k ≡ n + suc k
+    more k n = omega arith
+
+pub slots_for : (c : SlotChange) (slots out : List Place) → parts.slots_behind c slots ≡ Ok out → slots_behind c slots ≡ Ok out
+slots_for SameSlots slots out e = ap Ok (ok-ok slots out e)
+slots_for (OpensSlot p) slots out e = ap Ok (ok-ok (p ∷ slots) out e)
+slots_for (ClosesSlot p) [] out e = absurd (err-ok NotLastSlot out e)
+slots_for (ClosesSlot p) (slot ∷ slots) out e = at (is_slot p slot) e
+  where
+    at : (b : Bool) → cond b (Ok slots) (Err NotLastSlot) ≡ Ok out → cond b (Ok slots) (Err fault.Slot) ≡ Ok out
+    at true e = ap Ok (ok-ok slots out e)
+    at false e = absurd (err-ok NotLastSlot out e)
+
+-- of what a row operates on, nothing is dead
+pub operated_alive : (m low : Memory) → IsMemoryFor m low → (facts : ValueId → Option Facts) (entries : List Entry) (ts : List Taken) (xs : List Datum) → AllZip (IsGivenAlive facts m entries) ts xs
+    → find (is_dead low) (flat_map references_in xs) ≡ None
+operated_alive m low h facts entries [] [] given = refl
+operated_alive m low h facts entries [] (x ∷ xs) given = absurd given
+operated_alive m low h facts entries (t ∷ ts) [] given = absurd given
+operated_alive m low h facts entries (t ∷ ts) (x ∷ xs) given =
+    both (references_in x) (flat_map references_in xs) (none_dead m low h (references_in x) given.0.1) (operated_alive m low h facts entries ts xs given.1)
+  where
+    both : (os ps : List ObjectId) → find (is_dead low) os ≡ None → find (is_dead low) ps ≡ None → find (is_dead low) (os ++ ps) ≡ None
+    both [] ps e g = g
+    both (o ∷ os) ps e g = at (is_dead low o) e (both os ps)
+      where
+        at : (b : Bool) → cond b (Some o) (find (is_dead low) os) ≡ None → (find (is_dead low) os ≡ None → find (is_dead low) ps ≡ None → find (is_dead low) (os ++ ps) ≡ None)
+            → cond b (Some o) (find (is_dead low) (os ++ ps)) ≡ None
+        at true q more = absurd (none-some o (sym q))
+        at false q more = more q g
+
+-- the frame on top of both
+pub record LowTop (m : Module) (frame : Frame) (rest : List (Task Frame)) (l : LowState) : Type 0 where
+  pub low : LowFrame
+  pub others : List (Task LowFrame)
+  pub is_top : l.tasks ≡ Runs low ∷ others
+  pub of : IsFrameFor m frame low
+  pub rest_for : AreTasksFor m rest others
+
+pub low_frame : (m : Module) (frame : Frame) (x : Task LowFrame) → IsTaskFor m (Runs frame) x → (low : LowFrame) × (x ≡ Runs low) × IsFrameFor m frame low
+low_frame m _ _ (IsTaskFor.runs frame low h) = (low, refl, h)
+
+pub low_top : (m : Module) (frame : Frame) (rest : List (Task Frame)) (tasks : List (Task Frame)) (l : LowState) → AreTasksFor m tasks l.tasks → tasks ≡ Runs frame ∷ rest
+    → LowTop m frame rest l
+low_top m frame rest tasks l h is = at l.tasks refl (subst (λ ts. AreTasksFor m ts l.tasks) is h)
+  where
+    at : (ts : List (Task LowFrame)) → l.tasks ≡ ts → AreTasksFor m (Runs frame ∷ rest) ts → LowTop m frame rest l
+    at [] e k = absurd k
+    at (x ∷ ts) e k =
+        let top = low_frame m frame x k.0 in
+        record { low = top.0; others = ts; is_top = e ∙ ap (λ y. y ∷ ts) top.1; of = top.2; rest_for = k.1 }
+
+module _ (d : Declarations) (told : ModuleShapes) (values : List Shape) (low : Memory) (i : Inst) (xs : List Datum) where
+  pub operated_none : (r : RowEffect) → find (is_dead low) (flat_map references_in xs) ≡ None → find (is_dead low) (low_effects.operated_on d told values low i r xs) ≡ None
+  operated_none row.NoEffect e = refl
+  operated_none row.GivesLiteral e = refl
+  operated_none row.GivesFunction e = refl
+  operated_none row.Computes e = refl
+  operated_none row.TrapsWhereSet e = refl
+  operated_none row.MakesObject e = refl
+  operated_none row.MakesSlot e = refl
+  operated_none row.RemovesSlot e = refl
+  operated_none row.GivesOperand e = refl
+  operated_none row.CopiesOperand e = refl
+  operated_none row.RetainsOperand e = refl
+  operated_none row.DropsOperand e = refl
+  operated_none row.LoadsValue e = refl
+  operated_none row.StoresValue e = refl
+  operated_none row.DestroysPlace e = refl
+  operated_none row.LoadsName e = refl
+  operated_none row.Groups e = refl
+  operated_none row.ChoosesCase e = refl
+  operated_none row.GivesMember e = refl
+  operated_none row.GivesMembers e = refl
+  operated_none row.AddressesMember e = refl
+  operated_none row.AddressesField e = e
+  operated_none row.CallsFunction e = refl
+
+each_weaker : {A : Type 0} (P Q : A → Type 0) → ((x : A) → P x → Q x) → (xs : List A) → Each P xs → Each Q xs
+each_weaker P Q h [] e = tt
+each_weaker P Q h (x ∷ xs) e = (h x e.0, each_weaker P Q h xs e.1)
+
+pub dropping_for : (m : Module) (os : List ObjectId) (ts : List (Task Frame)) (us : List (Task LowFrame)) → AreTasksFor m ts us → AreTasksFor m (dropping os ts) (dropping os us)
+dropping_for m [] ts us h = h
+dropping_for m (o ∷ os) ts us h = (IsTaskFor.drops (o ∷ os), h)
+
+-- what the lowered step leads to, but for its numbers: those are told
+pub record GoesSo (m : Module) (bound : ℕ) (l : LowState) (tasks : List (Task Frame)) (memory : Memory) (retained : List ObjectId) (stored : List Numbers) : Type 0 where
+  pub l' : LowState
+  pub step : steps.low_step (lowered m) (shapes_of (lowered m)) bound l ≡ Goes l'
+  pub tasks_for : AreTasksFor m tasks l'.tasks
+  pub memory_for : IsMemoryFor memory l'.memory
+  pub numbers : l'.numbers ≡ numbers_for l'.memory (each_changed one_more retained stored)
+  pub events : l'.events ≡ l.events
+  pub turns : l'.turns ≡ l.turns
+  pub retains : l'.retains ≡ l.retains + length retained
+  pub releases : l'.releases ≡ l.releases
+
+-- ---- the step
+
+module _ (m : Module) (bound : ℕ) where
+  abbrev d : Declarations
+  d = declarations_of m
+
+  abbrev low_told : ModuleShapes
+  low_told = shapes_of (lowered m)
+
+  -- a function of the lowered module
+  pub function_there : (g : ℕ) (f : Function) → slice_get m.functions g ≡ Some f → f.form ≡ form.Ossa → slice_get (lowered m).functions g ≡ Some (lowered_body d f)
+  function_there g f e is = mapped_at (lowered_function d) m.functions g f e ∙ ap (λ x. Some (lowered_by x d f)) is
+
+  module _ (s : HolderState) (l : LowState) (memory : IsMemoryFor s.memory l.memory) (frame : Frame) (rest : List (Task Frame)) (f : Function)
+      (lowers : LowersSo m frame.function f) (there : slice_get m.functions frame.function.0 ≡ Some f) (top : LowTop m frame rest l)
+      (i : Inst) (here : inst_at f (stands_at f frame.trail) ≡ Some i) (stays : lowering_of i.op ≡ lowering.Stays) (keeps : renames i.op ≡ false)
+      (is_item : IsItem f (item.Inst (stands_at f frame.trail))) (turned : IsTurnedTrail f (item.Inst (stands_at f frame.trail) ∷ frame.trail)) where
+    abbrev p : PointId
+    p = stands_at f frame.trail
+
+    abbrev facts : ValueId → Option Facts
+    facts v = facts_told (facts_of m) frame.function v
+
+    abbrev number : ValueId → ValueId
+    number v = lowered_number d f v
+
+    abbrev j : Inst
+    j = renumbered_inst number i
+
+    abbrev lf : Function
+    lf = lowered_body d f
+
+    frames : IsFrameAt d f frame top.low
+    frames = subst (λ g. IsFrameAt d g frame top.low) (same_Some top.of.f f (sym top.of.there ∙ there)) top.of.frames
+
+    low_here : inst_at lf top.low.at ≡ Some j
+    low_here = standing.low_here d f p i here stays top.low.at frames.at
+
+    module _ (ops : Operands) (found : operands_of facts s.memory frame.entries (item_taken f (item.Inst p)) ≡ Ok ops)
+        (c : Change) (makes : holder.effect d (shapes_of m) (shapes_in (shapes_of m) frame.function) s.memory i ops.given ≡ Makes c)
+        (place : IsEffectFor (holder.at_places d (shapes_of m) (shapes_in (shapes_of m) frame.function) s.memory i (effect_of i.op) ops.given)
+        (low_effects.at_places d low_told (shapes_in low_told top.low.function) l.memory j (effect_of i.op) ops.given))
+        (shape : effects.result_shape d low_told (shapes_in low_told top.low.function) l.memory j ≡ effects.result_shape d (shapes_of m) (shapes_in (shapes_of m) frame.function) s.memory i)
+        (alive : list_any (is_dead s.memory) c.retained ≡ false)
+        (slots : List Place) (slots_left : parts.slots_behind c.slots frame.slots ≡ Ok slots)
+        (entries : List Entry) (put : results_put facts (item_defined f (item.Inst p)) c.results ops.left ≡ Ok entries)
+        (ys : List Datum) (reads : read_all top.low.values (map number (map taken_value (item_taken f (item.Inst p)))) ≡ Ok ys)
+        (alike : low_effect d low_told (shapes_in low_told top.low.function) l.memory j ys ≡ low_effect d low_told (shapes_in low_told top.low.function) l.memory j ops.given) where
+      taken_so : AreTakenSo facts s.memory frame.entries (item_taken f (item.Inst p)) ops
+      taken_so = operands_given facts s.memory frame.entries (item_taken f (item.Inst p)) ops found
+
+      low_read : read_all top.low.values (values_taken lf (item.Inst top.low.at)) ≡ Ok ys
+      low_read = ap (read_all top.low.values) (takes_same d f p i here stays top.low.at frames.at) ∙ reads
+
+      low_change : IsEffectFor (Makes c) (effect_by d low_told (shapes_in low_told top.low.function) l.memory j
+          (low_effects.at_places d low_told (shapes_in low_told top.low.function) l.memory j) (effect_of i.op) ops.given)
+      low_change =
+          subst (λ e. IsEffectFor e (effect_by d low_told (shapes_in low_told top.low.function) l.memory j
+          (low_effects.at_places d low_told (shapes_in low_told top.low.function) l.memory j) (effect_of i.op) ops.given)) makes
+          (row_for d (shapes_of m) low_told (shapes_in (shapes_of m) frame.function) (shapes_in low_told top.low.function) s.memory l.memory number i memory refl shape
+          (holder.at_places d (shapes_of m) (shapes_in (shapes_of m) frame.function) s.memory i)
+          (low_effects.at_places d low_told (shapes_in low_told top.low.function) l.memory j) (effect_of i.op) ops.given place)
+
+      abbrev c' : Change
+      c' = low_change.0
+
+      so : IsChangeFor c c'
+      so = low_change.2
+
+      low_makes : effect_in (lowered m) low_told bound l top.low j ys ≡ Makes c'
+      low_makes =
+          alike
+          ∙ ap (low_effects.dead_or d low_told (shapes_in low_told top.low.function) l.memory j (effect_by d low_told (shapes_in low_told top.low.function) l.memory j
+          (low_effects.at_places d low_told (shapes_in low_told top.low.function) l.memory j) (effect_of i.op) ops.given))
+          (operated_none d low_told (shapes_in low_told top.low.function) l.memory j ops.given (effect_of i.op)
+          (operated_alive s.memory l.memory memory facts frame.entries (item_taken f (item.Inst p)) ops.given taken_so.given))
+          ∙ low_change.1
+
+      own : Each (IsOwnName f) i.results
+      own = lowers.results p i here keeps
+
+      putting : ArePut number (Like d f lowers.named) facts i.results c'.results entries top.low.values (λ v. IsOld f v × IsCurrent f frame.trail v)
+      putting =
+          results_shown number (Like d f lowers.named) facts i.results c.results c'.results
+          (subst (AreLike number (Like d f lowers.named) i.results c.results) (sym so.results) (like_same number (Like d f lowers.named) (like_itself d f lowers.named) i.results c.results))
+          ops.left entries top.low.values (λ v. IsOld f v × IsCurrent f frame.trail v)
+          (each_weaker (IsOwnName f) (λ r. (number r).0 < length top.low.values)
+          (λ r o. subst (λ n. (number r).0 < n) (sym frames.size) (lowers.named.few r o.0)) i.results own)
+          (ap (λ rs. results_put facts rs c.results ops.left) (sym (defines_there f p i here)) ∙ put)
+          (λ v x e ok. frames.values v x (taken_so.stays v x e) ok)
+
+      abbrev named : LowState
+      named = steps.with_names (lowered m) low_told bound l top.low j ys
+
+      abbrev next : LowState
+      next = moved (lowered m) low_told bound (retained c'.retained named) top.others top.low lf (item.Inst top.low.at) c' slots putting.values'
+
+      goes : GoesBehind (lowered m) low_told bound named top.others top.low lf (item.Inst top.low.at) c' (Goes next)
+      goes =
+          GoesBehind.goes slots putting.values'
+          (ap (slots_behind c'.slots) frames.slots ∙ ap (λ x. slots_behind x frame.slots) so.slots ∙ slots_for c.slots frame.slots slots slots_left)
+          (ap (λ rs. put_all rs c'.results top.low.values) (defines_there lf top.low.at j low_here) ∙ putting.is)
+          (ap (find (is_dead l.memory)) so.retained ∙ none_dead s.memory l.memory memory c.retained alive)
+
+      way : StepsBy (lowered m) low_told bound l (Goes next)
+      way =
+          StepsBy.runs top.low top.others lf (Goes next) top.is_top
+          (ap (λ g. slice_get (lowered m).functions g.0) frames.function ∙ function_there frame.function.0 f there lowers.form)
+          (Acts.does j ys (Goes next) low_here low_read
+          (subst (λ e. Performs (lowered m) low_told bound named top.others top.low lf (item.Inst top.low.at) e (Goes next)) (sym low_makes)
+          (Performs.makes c' (Goes next) goes)))
+
+      frame_for : IsFrameFor m (record frame { trail = item.Inst p ∷ frame.trail; entries = entries; slots = slots; lent = [] })
+          (record top.low { at = point_behind top.low.at; values = putting.values'; slots = slots })
+      frame_for = record {
+        f = f;
+        there = there;
+        frames = record {
+          function = frames.function;
+          at = behind_at d f p i here stays top.low.at frames.at;
+          slots = refl;
+          size = putting.size ∙ frames.size;
+          values = behind_current d f lowers.named frame.trail (item.Inst p) i.results (defines_there f p i here) own entries putting.values' putting.shown;
+        };
+      }
+
+      tasks_so : AreTasksFor m (dropping c.dropped (Runs (record frame { trail = item.Inst p ∷ frame.trail; entries = entries; slots = slots; lent = [] }) ∷ rest)) next.tasks
+      tasks_so =
+          subst (λ os. AreTasksFor m (dropping c.dropped (Runs (record frame { trail = item.Inst p ∷ frame.trail; entries = entries; slots = slots; lent = [] }) ∷ rest))
+          (dropping os (Runs (record top.low { at = point_behind top.low.at; values = putting.values'; slots = slots }) ∷ top.others))) (sym so.dropped)
+          (dropping_for m c.dropped (Runs (record frame { trail = item.Inst p ∷ frame.trail; entries = entries; slots = slots; lent = [] }) ∷ rest)
+          (Runs (record top.low { at = point_behind top.low.at; values = putting.values'; slots = slots }) ∷ top.others) (IsTaskFor.runs _ _ frame_for, top.rest_for))
+
+      same_state : retained c'.retained named ≡ record named { numbers = each_changed one_more c'.retained named.numbers; retains = named.retains + length c'.retained }
+      same_state = retained_so c'.retained named
+
+      -- the lowered step
+      pub staying_step : GoesSo m bound l (dropping c.dropped (Runs (record frame { trail = item.Inst p ∷ frame.trail; entries = entries; slots = slots; lent = [] }) ∷ rest))
+          c.memory c.retained (stored_behind d low_told (shapes_in low_told top.low.function) l.memory j ys l.numbers)
+      staying_step = record {
+        l' = next;
+        step = told_taken (lowered m) low_told bound l (Goes next) way;
+        tasks_for = tasks_so;
+        memory_for = so.memory;
+        numbers = ap (numbers_for c'.memory) (ap (λ (x : LowState). x.numbers) same_state ∙ ap (λ os. each_changed one_more os named.numbers) so.retained);
+        events = ap (λ (x : LowState). x.events) same_state;
+        turns = ap (λ (x : LowState). x.turns) same_state;
+        retains = ap (λ (x : LowState). x.retains) same_state ∙ ap (λ os. l.retains + length os) so.retained;
+        releases = ap (λ (x : LowState). x.releases) same_state;
+      }

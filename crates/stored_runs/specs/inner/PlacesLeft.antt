@@ -1,0 +1,33 @@
+-- What is left of `PlacesTold` where written types have told the rest: that parts that frames were given keep their cells, and that a part isn't written for the first time.
+use Rattle.std.specs.Prelude.{◌≡◌, List, [], ◌∷◌, Some, false, is_some, true}
+use Rattle.sil_ast.specs.declared.function.Function.{Function}
+use Rattle.sil_ast.specs.declared.inst.Inst.{Inst}
+use Rattle.sil_ast.specs.declared.module.Module.{Module}
+use Rattle.run_values.specs.Places.{Place, emptied, removed}
+use Rattle.run_values.specs.Shapes.{storage_in}
+use Rattle.run_values.specs.Values.{Value}
+use Rattle.accepted_values.specs.inner.Known.{IsAcceptedBody}
+use Rattle.lowered_run.specs.holder_model.Data.{AddressOf, ValueOf}
+use Rattle.lowered_run.specs.holder_model.Effects.{effect_of}
+use Rattle.lowered_run.specs.holder_model.Frames.{Frame, Operands}
+use Rattle.lowered_run.specs.holder_model.HolderStates.{HolderState}
+use Rattle.lowered_run.specs.holder_model.States.{Task}
+use Rattle.lowered_run.specs.holder_model.declared.row_effect.RowEffect.TheVariants as row
+use Rattle.lowered_run.specs.holder_model.memory_accesses.declared.access.Operation.TheVariants as operation
+use Rattle.lowered_run.specs.LowStepParts.{LowState}
+use Rattle.typed_holders.specs.inner.TypedStates.{FrameIs}
+use Rattle.typed_holders.specs.typed_memory.inner.Worlds.{World}
+use Rattle.stored_runs.specs.inner.PlaceRows.{StandsAt}
+use Rattle.stored_runs.specs.inner.RowsRight.{ArePartsFull, operation_done}
+use Rattle.stored_runs.specs.inner.TypedRows.{PlacesTold}
+
+pub record PlacesLeft (m : Module) (s : HolderState) (l : LowState) (frame : Frame) (f : Function) (i : Inst) (ops : Operands) : Type 0 where
+  -- storage that is emptied, and a slot that goes, have no cell of a part that a frame was given
+  pub emptied : (y : Place) → ops.given ≡ AddressOf y ∷ [] → is_some (storage_in y.shape) ≡ true → ArePartsFull m s l frame f i ops (emptied l.memory y)
+  pub removed : (y : Place) → ops.given ≡ AddressOf y ∷ [] → effect_of i.op ≡ row.RemovesSlot → ArePartsFull m s l frame f i ops (removed l.memory y)
+  -- a part isn't written for the first time
+  pub whole : (w : Value) (y : Place) → ops.given ≡ ValueOf w ∷ AddressOf y ∷ [] → operation_done m s l frame f i ops ≡ Some operation.FirstWrite → y.is_part ≡ false
+
+abbrev pub ArePlacesTold : Type 0
+ArePlacesTold = (m : Module) (s : HolderState) (l : LowState) (w : World) (frame : Frame) (rest : List (Task Frame)) (f : Function) (i : Inst) (ops : Operands)
+    → IsAcceptedBody m frame.function.0 f → FrameIs m w f frame → StandsAt m s l frame rest f i ops → PlacesLeft m s l frame f i ops → PlacesTold m s l frame f i ops
