@@ -26,3 +26,4 @@ pub use Rattle.accepted_premises.proofs.owned_run_typing as owned_run_typing
 pub use Rattle.accepted_memory.proofs as accepted_memory
 pub use Rattle.accepted_premises.proofs.held_entries as held_entries
 pub use Rattle.accepted_premises.proofs as accepted_premises
+pub use Rattle.accepted_memory.proofs.accepted_trails as accepted_trails

@@ -9,7 +9,7 @@ use Rattle.type_definitions.specs.Rules.{AreDeclarationsOf}
 use Rattle.copy_removal.specs.Optimised.{HasNoRemovable, IsOptimised, Rewrites, RewritesFirst, done, more, text_key}
 use Rattle.sil_verifier.specs.accepted_modules.inner.Checked.{IsVerified}
 use Rattle.rewriting_order.specs.inner.Laws.{LaterOnesAreLeft}
-use Rattle.rewriting_laws.specs.inner.Laws.{RewritingKeepsVerified}
+use Rattle.optimised_runs.specs.rewriting_laws.inner.Laws.{RewritingKeepsVerified}
 use Rattle.copy_pairing.specs.inner.Passes.{ArePassed, NoneBefore, blocks_at, insts_at}
 use Rattle.copy_pairing.specs.inner.Turns.{Turned, stays, turns}
 use Rattle.copy_pairing.proofs.Keys.{behind, first_place, next_block, next_function, next_index, place}

@@ -11,7 +11,7 @@ ghost use Rattle.copy_pairing.specs.inner.Turns.{IsTurn, IsTurnThere, Turned};
 use crate::notes::{Notes, left_by_lending, left_by_move};
 use crate::turns::{Turn, turn_in};
 use copy_rewriting::{lend, move_copy};
-use rewriting_laws::rewriting_keeps_verified;
+use optimised_runs::rewriting_keeps_verified;
 use rewriting_order::{
     later_ones_are_left, lending_keeps_borrowable, lending_makes_no_copy, moving_keeps_borrowable,
     moving_keeps_values, moving_lets_none_borrow, moving_makes_no_copy,

@@ -42,3 +42,8 @@ pub use Rattle.held_places.proofs.tracked_frames as tracked_frames
 pub use Rattle.holder_counts.proofs as holder_counts
 pub use Rattle.held_places.proofs.scoped_addresses as scoped_addresses
 pub use Rattle.held_places.proofs as held_places
+pub use Rattle.held_places.proofs.accepted_values as accepted_values
+pub use Rattle.held_places.proofs.typed_memory as typed_memory
+pub use Rattle.held_places.proofs.accepted_premises as accepted_premises
+pub use Rattle.held_places.proofs.accepted_trails as accepted_trails
+pub use Rattle.held_places.proofs.owned_run_typing as owned_run_typing

@@ -32,3 +32,10 @@ pub mod GuardedSteps
 pub use Rattle.followed_objects.proofs.holder_counts as holder_counts
 pub use Rattle.followed_objects.proofs.held_places as held_places
 pub use Rattle.followed_objects.proofs as followed_objects
+pub use Rattle.followed_objects.proofs.accepted_values as accepted_values
+pub use Rattle.followed_objects.proofs.typed_holders as typed_holders
+pub use Rattle.followed_objects.proofs.typed_memory as typed_memory
+pub use Rattle.followed_objects.proofs.accepted_premises as accepted_premises
+pub use Rattle.followed_objects.proofs.accepted_trails as accepted_trails
+pub use Rattle.followed_objects.proofs.held_entries as held_entries
+pub use Rattle.followed_objects.proofs.owned_run_typing as owned_run_typing

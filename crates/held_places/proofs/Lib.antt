@@ -73,3 +73,6 @@ pub use Rattle.tracked_frames.proofs.placed_values.accepted_values as accepted_v
 pub use Rattle.tracked_frames.proofs.placed_values.held_entries as held_entries
 pub use Rattle.tracked_frames.proofs as tracked_frames
 pub use Rattle.tracked_frames.proofs.scoped_addresses as scoped_addresses
+pub use Rattle.tracked_frames.proofs.accepted_premises as accepted_premises
+pub use Rattle.tracked_frames.proofs.accepted_trails as accepted_trails
+pub use Rattle.tracked_frames.proofs.owned_run_typing as owned_run_typing

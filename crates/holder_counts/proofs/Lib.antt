@@ -7,3 +7,4 @@ pub mod Changes
 pub mod Most
 pub mod Alive
 pub mod Bounds
+pub use Rattle.holder_steps.proofs as holder_steps

@@ -10,11 +10,11 @@ use Rattle.sil_ast.specs.declared.place.PointId.{PointId}
 use Rattle.sil_ast.specs.declared.place.ValueId.{ValueId}
 use Rattle.sil_cfg.specs.declared.item.Item.{Item}
 use Rattle.type_definitions.specs.Declarations.{declarations_of}
-use Rattle.copy_removal.specs.Optimised.{lends}
-use Rattle.copy_removal.specs.Rewritten.{lent, with_function}
-use Rattle.holder_counts.specs.holder_model.Frames.{Entry}
-use Rattle.holder_counts.specs.holder_model.ModuleFacts.{facts_of}
-use Rattle.held_loans.specs.inner.Loans.{loans_of}
+use Rattle.rewriting_laws.specs.copy_removal.Optimised.{lends}
+use Rattle.rewriting_laws.specs.copy_removal.Rewritten.{lent, with_function}
+use Rattle.lockstep_runs.specs.holder_counts.holder_model.Frames.{Entry}
+use Rattle.lockstep_runs.specs.holder_counts.holder_model.ModuleFacts.{facts_of}
+use Rattle.accepted_runs.specs.held_loans.inner.Loans.{loans_of}
 use Rattle.accepted_runs.specs.inner.RightStates.{IsRightState}
 use Rattle.accepted_runs.proofs.RightRuns.{each_excluded, right_kept}
 use Rattle.rewriting_laws.specs.inner.Laws.{IsVerifiedAs, RewritingKeepsVerified}
@@ -22,10 +22,10 @@ use Rattle.lockstep_runs.specs.inner.Frames.{DoAlike, FrameParts}
 use Rattle.lockstep_runs.specs.inner.Laws.{HoldsOnRuns}
 use Rattle.lockstep_runs.proofs.AsTheyDid.{run_as_they_did}
 use Rattle.lockstep_runs.proofs.Unchanged.{unchanged_does_alike}
-use Rattle.lent_functions.specs.accepted_values.accepted_modules.inner.Checked.{IsVerified}
-use Rattle.lent_functions.proofs.accepted_values.Facts.{run_facts}
-use Rattle.lent_functions.proofs.Clean.{lent_ready}
-use Rattle.lent_functions.proofs.Ready.{Ready}
+use Rattle.rewriting_laws.specs.lent_functions.accepted_values.accepted_modules.inner.Checked.{IsVerified}
+use Rattle.rewriting_laws.proofs.lent_functions.accepted_values.Facts.{run_facts}
+use Rattle.rewriting_laws.proofs.lent_functions.Clean.{lent_ready}
+use Rattle.rewriting_laws.proofs.lent_functions.Ready.{Ready}
 use Rattle.lent_runs.specs.inner.Laws.{LentRunsAsItDid}
 use Rattle.lent_runs.specs.inner.LentEntries.{IsLentFrame, NeverAlone, lent_entries}
 use Rattle.lent_runs.proofs.Covered.{come_together, copies_spared, drops_covered, finishes_covered}

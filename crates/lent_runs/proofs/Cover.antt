@@ -16,28 +16,28 @@ use Rattle.sil_ast.specs.declared.place.PointId.{PointId}
 use Rattle.sil_ast.specs.declared.place.ValueId.{ValueId}
 use Rattle.sil_cfg.specs.declared.item.Item.{Item}
 use Rattle.type_definitions.specs.Declarations.{declarations_of}
-use Rattle.copy_removal.specs.ownership_kinds.Facts.{facts_in}
-use Rattle.copy_removal.specs.Rewritten.{lent}
-use Rattle.holder_counts.specs.holder_model.Data.{references_in}
-use Rattle.holder_counts.specs.holder_model.Frames.{Entry, Frame, Lent, LentPlace, entry_at}
-use Rattle.holder_counts.specs.holder_model.Holders.{of_references, one_object}
-use Rattle.holder_counts.specs.holder_model.HolderStates.{in_entry, in_task}
-use Rattle.holder_counts.specs.holder_model.States.{Drops, Finishes, Runs, Task}
-use Rattle.holder_counts.specs.inner.Moving.{in_tasks}
-use Rattle.holder_counts.specs.inner.Taking.{in_entries}
-use Rattle.holder_counts.proofs.Sums.{total_cons}
-use Rattle.held_loans.specs.guarded_entries.inner.GuardedStates.{BelowIsGuarded, IsGuardedFrame, IsGuardedIn, Loans, TasksAreGuarded, finishes_of}
-use Rattle.held_loans.specs.guarded_entries.inner.Guards.{AreLentGuarded, IsCurrent, IsNamed, IsThere}
-use Rattle.held_loans.specs.followed_objects.held_entries.accepted_trails.inner.Bases.{IsBaseOf}
-use Rattle.held_loans.specs.followed_objects.held_entries.accepted_trails.inner.Defined.{makes}
-use Rattle.held_loans.specs.followed_objects.held_entries.accepted_trails.run_trails.inner.Since.{is_none_since}
-use Rattle.held_loans.proofs.guarded_entries.Behind.{lent_there}
-use Rattle.held_loans.proofs.guarded_entries.Guards.{guarded_in, kept_holders}
+use Rattle.rewriting_laws.specs.copy_removal.ownership_kinds.Facts.{facts_in}
+use Rattle.rewriting_laws.specs.copy_removal.Rewritten.{lent}
+use Rattle.lockstep_runs.specs.holder_counts.holder_model.Data.{references_in}
+use Rattle.lockstep_runs.specs.holder_counts.holder_model.Frames.{Entry, Frame, Lent, LentPlace, entry_at}
+use Rattle.lockstep_runs.specs.holder_counts.holder_model.Holders.{of_references, one_object}
+use Rattle.lockstep_runs.specs.holder_counts.holder_model.HolderStates.{in_entry, in_task}
+use Rattle.lockstep_runs.specs.holder_counts.holder_model.States.{Drops, Finishes, Runs, Task}
+use Rattle.lockstep_runs.specs.holder_counts.inner.Moving.{in_tasks}
+use Rattle.lockstep_runs.specs.holder_counts.inner.Taking.{in_entries}
+use Rattle.lockstep_runs.proofs.holder_counts.Sums.{total_cons}
+use Rattle.accepted_runs.specs.held_loans.guarded_entries.inner.GuardedStates.{BelowIsGuarded, IsGuardedFrame, IsGuardedIn, Loans, TasksAreGuarded, finishes_of}
+use Rattle.accepted_runs.specs.held_loans.guarded_entries.inner.Guards.{AreLentGuarded, IsCurrent, IsNamed, IsThere}
+use Rattle.accepted_runs.specs.held_loans.followed_objects.held_entries.accepted_trails.inner.Bases.{IsBaseOf}
+use Rattle.accepted_runs.specs.held_loans.followed_objects.held_entries.accepted_trails.inner.Defined.{makes}
+use Rattle.accepted_runs.specs.held_loans.followed_objects.held_entries.accepted_trails.run_trails.inner.Since.{is_none_since}
+use Rattle.accepted_runs.proofs.held_loans.guarded_entries.Behind.{lent_there}
+use Rattle.accepted_runs.proofs.held_loans.guarded_entries.Guards.{guarded_in, kept_holders}
 use Rattle.lockstep_runs.specs.inner.Lockstep.{AreTasksLike, frame_at}
-use Rattle.lent_functions.proofs.Parts.{defined_lent}
-use Rattle.lent_functions.proofs.Ready.{Ready}
-use Rattle.lent_functions.proofs.Tables.{known_lent}
-use Rattle.lent_functions.proofs.ValueRows.{same_value}
+use Rattle.rewriting_laws.proofs.lent_functions.Parts.{defined_lent}
+use Rattle.rewriting_laws.proofs.lent_functions.Ready.{Ready}
+use Rattle.rewriting_laws.proofs.lent_functions.Tables.{known_lent}
+use Rattle.rewriting_laws.proofs.lent_functions.ValueRows.{same_value}
 use Rattle.lent_runs.specs.inner.Covering.{IsCovered, IsGuardedStack, lent_count}
 use Rattle.lent_runs.specs.inner.LentEntries.{IsGoneOrMade, IsLentFrame, IsMadeHeld, lent_entries, lent_entry, makes_copy}
 use Rattle.lent_runs.proofs.Entries.{entry_copy, lent_holds}

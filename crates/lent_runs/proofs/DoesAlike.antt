@@ -30,31 +30,31 @@ use Rattle.sil_cfg.specs.declared.item.Item.{Item}
 use Rattle.sil_cfg.specs.declared.item.Item.TheVariants as item
 use Rattle.type_definitions.specs.Declarations.{Declarations, declarations_of}
 use Rattle.type_definitions.specs.declared.kind.Kind.TheVariants as kind
-use Rattle.copy_removal.specs.Rewritten.{lent, lent_inst, with_op}
-use Rattle.copy_removal.specs.ownership_kinds.Facts.{facts_in}
-use Rattle.holder_counts.specs.holder_model.Calling.{argument_data, given_places, lent_places, places_given, value_count}
-use Rattle.holder_counts.specs.holder_model.Data.{Datum, references_in}
-use Rattle.holder_counts.specs.holder_model.Edges.{edge_of}
-use Rattle.holder_counts.specs.holder_model.Effects as effects
-use Rattle.holder_counts.specs.holder_model.Effects.{Effect, effect_by, effect_of, only, unchanged, with_some}
-use Rattle.holder_counts.specs.holder_model.Faults.{HolderFault}
-use Rattle.holder_counts.specs.holder_model.Frames.{Entry, Frame, Gone, Held, Operands, entry_at, no_entries, operands_of, results_put}
-use Rattle.holder_counts.specs.holder_model.HolderStates.{HolderState}
-use Rattle.holder_counts.specs.holder_model.MemoryEffects.{at_places, effect}
-use Rattle.holder_counts.specs.holder_model.ModuleFacts.{ModuleFacts, facts_told}
-use Rattle.holder_counts.specs.holder_model.ModuleShapes.{shapes_in}
-use Rattle.holder_counts.specs.holder_model.Standing.{stands_at}
-use Rattle.holder_counts.specs.holder_model.States.{Runs, Task}
+use Rattle.rewriting_laws.specs.copy_removal.Rewritten.{lent, lent_inst, with_op}
+use Rattle.rewriting_laws.specs.copy_removal.ownership_kinds.Facts.{facts_in}
+use Rattle.lockstep_runs.specs.holder_counts.holder_model.Calling.{argument_data, given_places, lent_places, places_given, value_count}
+use Rattle.lockstep_runs.specs.holder_counts.holder_model.Data.{Datum, references_in}
+use Rattle.lockstep_runs.specs.holder_counts.holder_model.Edges.{edge_of}
+use Rattle.lockstep_runs.specs.holder_counts.holder_model.Effects as effects
+use Rattle.lockstep_runs.specs.holder_counts.holder_model.Effects.{Effect, effect_by, effect_of, only, unchanged, with_some}
+use Rattle.lockstep_runs.specs.holder_counts.holder_model.Faults.{HolderFault}
+use Rattle.lockstep_runs.specs.holder_counts.holder_model.Frames.{Entry, Frame, Gone, Held, Operands, entry_at, no_entries, operands_of, results_put}
+use Rattle.lockstep_runs.specs.holder_counts.holder_model.HolderStates.{HolderState}
+use Rattle.lockstep_runs.specs.holder_counts.holder_model.MemoryEffects.{at_places, effect}
+use Rattle.lockstep_runs.specs.holder_counts.holder_model.ModuleFacts.{ModuleFacts, facts_told}
+use Rattle.lockstep_runs.specs.holder_counts.holder_model.ModuleShapes.{shapes_in}
+use Rattle.lockstep_runs.specs.holder_counts.holder_model.Standing.{stands_at}
+use Rattle.lockstep_runs.specs.holder_counts.holder_model.States.{Runs, Task}
 use Rattle.lockstep_runs.specs.inner.Frames.{AreDropsAlike, AreEdgesAlike, AreEffectsAlike, AreEndsAlike, AreInstsAlike, AreSpared, DoAlike, does, takes}
 use Rattle.lockstep_runs.specs.inner.Lockstep.{ArePutAlike, frame_at}
 use Rattle.lockstep_runs.specs.inner.Parts.{call_at, puts}
-use Rattle.lent_functions.proofs.Facts.{copy_facts, other_facts}
-use Rattle.lent_functions.proofs.Insts.{Becomes, becomes, borrows, ends, stays}
-use Rattle.lent_functions.proofs.Marks.{first, not_destroy, one_operand, stands}
-use Rattle.lent_functions.proofs.Parts.{defined_lent, inst_at_lent, terminator_lent}
-use Rattle.lent_functions.proofs.Ready.{Ready}
-use Rattle.lent_functions.proofs.Roles.{IsGentle}
-use Rattle.lent_functions.proofs.ValueRows.{same_value}
+use Rattle.rewriting_laws.proofs.lent_functions.Facts.{copy_facts, other_facts}
+use Rattle.rewriting_laws.proofs.lent_functions.Insts.{Becomes, becomes, borrows, ends, stays}
+use Rattle.rewriting_laws.proofs.lent_functions.Marks.{first, not_destroy, one_operand, stands}
+use Rattle.rewriting_laws.proofs.lent_functions.Parts.{defined_lent, inst_at_lent, terminator_lent}
+use Rattle.rewriting_laws.proofs.lent_functions.Ready.{Ready}
+use Rattle.rewriting_laws.proofs.lent_functions.Roles.{IsGentle}
+use Rattle.rewriting_laws.proofs.lent_functions.ValueRows.{same_value}
 use Rattle.lent_runs.specs.inner.LentEntries.{IsGoneOrMade, IsLentFrame, NeverAlone, lent_entries, lent_in, makes_copy}
 use Rattle.lent_runs.specs.inner.Sparing.{AreCopiesSpared, IsCopySpared}
 use Rattle.lent_runs.proofs.Entries.{datum_lent, holds_nothing, no_entries_lent, none_there}

@@ -20,17 +20,17 @@ use Rattle.sil_ast.specs.declared.place.ValueId.{ValueId}
 use Rattle.sil_cfg.specs.declared.item.Item.{Item}
 use Rattle.sil_cfg.specs.declared.item.Item.TheVariants as item
 use Rattle.type_definitions.specs.Declarations.{Declarations}
-use Rattle.copy_removal.specs.Copies.{is_op}
-use Rattle.copy_removal.specs.Rewritten.{lent, takes}
-use Rattle.holder_counts.specs.holder_model.Data.{Datum}
-use Rattle.holder_counts.specs.holder_model.Edges.{carried_along, carried_by, first_value_of, switched_data}
-use Rattle.holder_counts.specs.holder_model.Standing.{behind, first_point, stands_at, target_of}
-use Rattle.lent_functions.proofs.Graph.{args_lent}
-use Rattle.lent_functions.proofs.Lists.{each_append, each_behind, each_front, each_got, each_unflat}
-use Rattle.lent_functions.proofs.Marks.{end_calm, ends_at, stands}
-use Rattle.lent_functions.proofs.Parts.{edge_lent, operands_lent, terminator_lent}
-use Rattle.lent_functions.proofs.Ready.{Ready}
-use Rattle.lent_functions.proofs.Roles.{IsGentle, gentle_at}
+use Rattle.rewriting_laws.specs.copy_removal.Copies.{is_op}
+use Rattle.rewriting_laws.specs.copy_removal.Rewritten.{lent, takes}
+use Rattle.lockstep_runs.specs.holder_counts.holder_model.Data.{Datum}
+use Rattle.lockstep_runs.specs.holder_counts.holder_model.Edges.{carried_along, carried_by, first_value_of, switched_data}
+use Rattle.lockstep_runs.specs.holder_counts.holder_model.Standing.{behind, first_point, stands_at, target_of}
+use Rattle.rewriting_laws.proofs.lent_functions.Graph.{args_lent}
+use Rattle.rewriting_laws.proofs.lent_functions.Lists.{each_append, each_behind, each_front, each_got, each_unflat}
+use Rattle.rewriting_laws.proofs.lent_functions.Marks.{end_calm, ends_at, stands}
+use Rattle.rewriting_laws.proofs.lent_functions.Parts.{edge_lent, operands_lent, terminator_lent}
+use Rattle.rewriting_laws.proofs.lent_functions.Ready.{Ready}
+use Rattle.rewriting_laws.proofs.lent_functions.Roles.{IsGentle, gentle_at}
 
 module _ (c : ValueId) (f : Function) where
   -- ---- where frames stand

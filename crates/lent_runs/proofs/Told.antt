@@ -12,20 +12,20 @@ use Rattle.sil_ast.specs.declared.module.Module.{Module}
 use Rattle.sil_ast.specs.declared.place.FuncId.{FuncId}
 use Rattle.sil_ast.specs.declared.place.ValueId.{ValueId}
 use Rattle.type_definitions.specs.Declarations.{Declarations, declarations_of}
-use Rattle.copy_removal.specs.ownership_kinds.Facts.{facts_in}
-use Rattle.copy_removal.specs.sil_types.Typing.RowTypes.{given_by}
-use Rattle.copy_removal.specs.sil_types.Typing.Values.{arg_functions, arg_types, result_functions, result_types}
-use Rattle.copy_removal.specs.Rewritten.{changed_at, lent, lent_block, lent_inst, with_function}
-use Rattle.holder_counts.specs.holder_model.Calling.{value_count}
-use Rattle.holder_counts.specs.holder_model.Dropping.{deinits_of}
-use Rattle.holder_counts.specs.holder_model.Frames.{has_any}
-use Rattle.holder_counts.specs.holder_model.ModuleFacts.{facts_of, facts_told, function_facts}
-use Rattle.holder_counts.specs.holder_model.ModuleShapes.{class_shape, function_shapes, shapes_by, value_shape}
+use Rattle.rewriting_laws.specs.copy_removal.ownership_kinds.Facts.{facts_in}
+use Rattle.rewriting_laws.specs.copy_removal.sil_types.Typing.RowTypes.{given_by}
+use Rattle.rewriting_laws.specs.copy_removal.sil_types.Typing.Values.{arg_functions, arg_types, result_functions, result_types}
+use Rattle.rewriting_laws.specs.copy_removal.Rewritten.{changed_at, lent, lent_block, lent_inst, with_function}
+use Rattle.lockstep_runs.specs.holder_counts.holder_model.Calling.{value_count}
+use Rattle.lockstep_runs.specs.holder_counts.holder_model.Dropping.{deinits_of}
+use Rattle.lockstep_runs.specs.holder_counts.holder_model.Frames.{has_any}
+use Rattle.lockstep_runs.specs.holder_counts.holder_model.ModuleFacts.{facts_of, facts_told, function_facts}
+use Rattle.lockstep_runs.specs.holder_counts.holder_model.ModuleShapes.{class_shape, function_shapes, shapes_by, value_shape}
 use Rattle.lockstep_runs.specs.inner.Parts.{HasFunctions}
 use Rattle.lockstep_runs.proofs.Unchanged.{told_of}
-use Rattle.lent_functions.proofs.Insts.{Becomes, becomes, borrows, ends, part_kept, stays}
-use Rattle.lent_functions.proofs.Rows.{rows_same}
-use Rattle.lent_functions.proofs.accepted_values.Facts.{run_facts}
+use Rattle.rewriting_laws.proofs.lent_functions.Insts.{Becomes, becomes, borrows, ends, part_kept, stays}
+use Rattle.rewriting_laws.proofs.lent_functions.Rows.{rows_same}
+use Rattle.rewriting_laws.proofs.lent_functions.accepted_values.Facts.{run_facts}
 
 -- ---- lists of which one element is changed
 

@@ -4,3 +4,4 @@
 mod laws;
 
 pub use laws::lent_runs_as_it_did;
+pub use rewriting_laws::rewriting_keeps_verified;

@@ -8,3 +8,4 @@ pub mod Functions
 pub mod Members
 pub mod Modules
 pub mod Types
+pub use Rattle.lowering_laws.proofs as lowering_laws

@@ -10,17 +10,17 @@ use Rattle.sil_cfg.specs.declared.item.Item.TheVariants as item
 use Rattle.type_definitions.specs.Declarations.{declarations_of}
 use Rattle.ownership_chains.specs.Facts.{is_owned, known_or}
 use Rattle.ownership_marks.specs.Marks.{marks_of}
-use Rattle.accepted_modules.specs.inner.Checked.{IsVerified}
-use Rattle.accepted_runs.specs.inner.RightStates.{IsRightState}
-use Rattle.accepted_runs.proofs.RightRuns.{each_excluded, right_kept}
-use Rattle.copy_removal.specs.ownership_kinds.Facts.{facts_in}
-use Rattle.copy_removal.specs.Removable.{concerns}
-use Rattle.copy_removal.specs.Optimised.{moves}
-use Rattle.copy_removal.specs.Rewritten.{moved, with_function}
-use Rattle.rewriting_laws.specs.inner.Laws.{RewritingKeepsVerified}
-use Rattle.lockstep_runs.specs.inner.Agreeing.{RunsAsItDid}
-use Rattle.lockstep_runs.specs.inner.Laws.{HoldsOnRuns}
-use Rattle.moved_functions.proofs.Split.{IsSplit, split}
+use Rattle.lent_runs.specs.accepted_modules.inner.Checked.{IsVerified}
+use Rattle.lent_runs.specs.accepted_runs.inner.RightStates.{IsRightState}
+use Rattle.lent_runs.proofs.accepted_runs.RightRuns.{each_excluded, right_kept}
+use Rattle.lent_runs.specs.copy_removal.ownership_kinds.Facts.{facts_in}
+use Rattle.lent_runs.specs.copy_removal.Removable.{concerns}
+use Rattle.lent_runs.specs.copy_removal.Optimised.{moves}
+use Rattle.lent_runs.specs.copy_removal.Rewritten.{moved, with_function}
+use Rattle.lent_runs.specs.rewriting_laws.inner.Laws.{RewritingKeepsVerified}
+use Rattle.lent_runs.specs.lockstep_runs.inner.Agreeing.{RunsAsItDid}
+use Rattle.lent_runs.specs.lockstep_runs.inner.Laws.{HoldsOnRuns}
+use Rattle.lent_runs.proofs.moved_functions.Split.{IsSplit, split}
 use Rattle.moved_runs.specs.inner.Laws.{MovedRunsAsItDid}
 use Rattle.moved_runs.proofs.InRuns.{moved_as_it_did}
 use Rattle.moved_runs.proofs.KnownFrames.{known_frames}

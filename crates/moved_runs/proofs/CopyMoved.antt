@@ -3,10 +3,10 @@ use Rattle.std.proofs.Common.{◌≡◌, ◌⊎◌, ℕ, ◌<◌, List, [], ◌�
 use Rattle.std.specs.Prelude.{slice_get}
 use Rattle.std.specs.List.{list_any}
 use Rattle.std.proofs.lemmas.Option.{same_Some}
-use Rattle.accepted_modules.specs.inner.Checked.{IsVerified}
-use Rattle.copy_removal.specs.ownership_kinds.Facts.{facts_in}
-use Rattle.copy_removal.specs.Removable.{concerns}
-use Rattle.copy_removal.specs.Rewritten.{moved, with_function}
+use Rattle.lent_runs.specs.accepted_modules.inner.Checked.{IsVerified}
+use Rattle.lent_runs.specs.copy_removal.ownership_kinds.Facts.{facts_in}
+use Rattle.lent_runs.specs.copy_removal.Removable.{concerns}
+use Rattle.lent_runs.specs.copy_removal.Rewritten.{moved, with_function}
 use Rattle.instruction_table.specs.declared.entries.Role.TheVariants as role
 use Rattle.item_operands.specs.Items.{item_defined, item_taken}
 use Rattle.item_operands.specs.Parts.{inst_at}
@@ -26,29 +26,29 @@ use Rattle.sil_cfg.specs.declared.item.Item.{Item}
 use Rattle.sil_cfg.specs.declared.item.Item.TheVariants as item
 use Rattle.type_definitions.specs.Declarations.{declarations_of}
 use Rattle.type_definitions.specs.declared.kind.Kind.TheVariants as kind
-use Rattle.holder_counts.specs.holder_model.Data.{Datum, references_in}
-use Rattle.holder_counts.specs.holder_model.Faults.{NamesDead}
-use Rattle.holder_counts.specs.holder_model.Frames.{Entry, Frame, Gone, Held, entry_at, operands_of, results_put}
-use Rattle.holder_counts.specs.holder_model.HolderStates.{HolderState}
-use Rattle.holder_counts.specs.holder_model.ModuleFacts.{ModuleFacts, facts_of, facts_told}
-use Rattle.holder_counts.specs.holder_model.ModuleShapes.{shapes_in}
-use Rattle.holder_counts.specs.holder_model.Standing.{point_behind, stands_at}
-use Rattle.holder_counts.specs.holder_model.States.{Task}
-use Rattle.lockstep_runs.specs.inner.Frames.{AreDropsAlike, AreEffectsAlike, AreInstsAlike, does}
-use Rattle.lockstep_runs.specs.inner.Lockstep.{ArePutAlike}
-use Rattle.lockstep_runs.specs.inner.Parts.{puts}
-use Rattle.moved_functions.proofs.Marks.{copy_takes, move_takes}
-use Rattle.moved_functions.proofs.Places.{after}
-use Rattle.moved_functions.proofs.Split.{IsSplit}
+use Rattle.lent_runs.specs.holder_counts.holder_model.Data.{Datum, references_in}
+use Rattle.lent_runs.specs.holder_counts.holder_model.Faults.{NamesDead}
+use Rattle.lent_runs.specs.holder_counts.holder_model.Frames.{Entry, Frame, Gone, Held, entry_at, operands_of, results_put}
+use Rattle.lent_runs.specs.holder_counts.holder_model.HolderStates.{HolderState}
+use Rattle.lent_runs.specs.holder_counts.holder_model.ModuleFacts.{ModuleFacts, facts_of, facts_told}
+use Rattle.lent_runs.specs.holder_counts.holder_model.ModuleShapes.{shapes_in}
+use Rattle.lent_runs.specs.holder_counts.holder_model.Standing.{point_behind, stands_at}
+use Rattle.lent_runs.specs.holder_counts.holder_model.States.{Task}
+use Rattle.lent_runs.specs.lockstep_runs.inner.Frames.{AreDropsAlike, AreEffectsAlike, AreInstsAlike, does}
+use Rattle.lent_runs.specs.lockstep_runs.inner.Lockstep.{ArePutAlike}
+use Rattle.lent_runs.specs.lockstep_runs.inner.Parts.{puts}
+use Rattle.lent_runs.proofs.moved_functions.Marks.{copy_takes, move_takes}
+use Rattle.lent_runs.proofs.moved_functions.Places.{after}
+use Rattle.lent_runs.proofs.moved_functions.Split.{IsSplit}
 use Rattle.moved_runs.specs.inner.MovedFrames.{AreAt, IsAlone, IsLike, Lags}
 use Rattle.moved_runs.proofs.ClearedEntries.{held_behind, put_cleared}
-use Rattle.holder_counts.specs.holder_model.Frames.{any_dead, made_entry, unless_dead}
-use Rattle.holder_counts.specs.holder_model.Effects.{Makes, unchanged}
-use Rattle.held_entries.proofs.EntriesEnded.{entry_set_same}
-use Rattle.moved_functions.proofs.Marks.{copy_defines, move_defines}
-use Rattle.moved_functions.proofs.Places.{copy_stood, inst_there}
-use Rattle.moved_functions.proofs.Split.{move_of}
-use Rattle.moved_functions.proofs.TheCopy.{copy_op}
+use Rattle.lent_runs.specs.holder_counts.holder_model.Frames.{any_dead, made_entry, unless_dead}
+use Rattle.lent_runs.specs.holder_counts.holder_model.Effects.{Makes, unchanged}
+use Rattle.lent_runs.proofs.held_entries.EntriesEnded.{entry_set_same}
+use Rattle.lent_runs.proofs.moved_functions.Marks.{copy_defines, move_defines}
+use Rattle.lent_runs.proofs.moved_functions.Places.{copy_stood, inst_there}
+use Rattle.lent_runs.proofs.moved_functions.Split.{move_of}
+use Rattle.lent_runs.proofs.moved_functions.TheCopy.{copy_op}
 use Rattle.moved_runs.proofs.ClearedEntries.{puts_first, same_ok}
 use Rattle.moved_runs.proofs.DoMoved as kinds
 use Rattle.moved_runs.proofs.MovedPoints.{lags_behind_copy}

@@ -10,19 +10,19 @@ use Rattle.sil_ast.specs.declared.place.ObjectId.{ObjectId}
 use Rattle.sil_ast.specs.declared.place.PointId.{PointId}
 use Rattle.sil_ast.specs.declared.place.ValueId.{ValueId}
 use Rattle.sil_cfg.specs.declared.item.Item.{Item}
-use Rattle.holder_counts.specs.holder_model.Frames.{Entry, Frame, Gone, Held, entry_at}
-use Rattle.holder_counts.specs.holder_model.HolderStates.{HolderState, in_entry, in_task, strong_holders}
-use Rattle.holder_counts.specs.holder_model.Holders.{in_memory, of_references, one_object}
-use Rattle.holder_counts.specs.holder_model.ModuleFacts.{ModuleFacts}
-use Rattle.holder_counts.specs.holder_model.Standing.{stands_at}
-use Rattle.holder_counts.specs.holder_model.States.{Drops, Finishes, Runs, Task}
-use Rattle.holder_counts.specs.inner.Moving.{in_tasks}
-use Rattle.holder_counts.specs.inner.Taking.{in_entries}
-use Rattle.holder_counts.proofs.Entries.{entry_within}
-use Rattle.holder_counts.proofs.Moves.{first_task}
-use Rattle.holder_counts.proofs.Sums.{total_set}
-use Rattle.lockstep_runs.specs.inner.Lockstep.{AreLevel, AreTasksLike, Excess, frame_at}
-use Rattle.lockstep_runs.specs.inner.Parts.{AreDropsCovered, AreFinishesCovered, with_tasks}
+use Rattle.lent_runs.specs.holder_counts.holder_model.Frames.{Entry, Frame, Gone, Held, entry_at}
+use Rattle.lent_runs.specs.holder_counts.holder_model.HolderStates.{HolderState, in_entry, in_task, strong_holders}
+use Rattle.lent_runs.specs.holder_counts.holder_model.Holders.{in_memory, of_references, one_object}
+use Rattle.lent_runs.specs.holder_counts.holder_model.ModuleFacts.{ModuleFacts}
+use Rattle.lent_runs.specs.holder_counts.holder_model.Standing.{stands_at}
+use Rattle.lent_runs.specs.holder_counts.holder_model.States.{Drops, Finishes, Runs, Task}
+use Rattle.lent_runs.specs.holder_counts.inner.Moving.{in_tasks}
+use Rattle.lent_runs.specs.holder_counts.inner.Taking.{in_entries}
+use Rattle.lent_runs.proofs.holder_counts.Entries.{entry_within}
+use Rattle.lent_runs.proofs.holder_counts.Moves.{first_task}
+use Rattle.lent_runs.proofs.holder_counts.Sums.{total_set}
+use Rattle.lent_runs.specs.lockstep_runs.inner.Lockstep.{AreLevel, AreTasksLike, Excess, frame_at}
+use Rattle.lent_runs.specs.lockstep_runs.inner.Parts.{AreDropsCovered, AreFinishesCovered, with_tasks}
 use Rattle.moved_runs.specs.inner.MovedFrames.{AreAt, IsAlone, IsCleared, IsLike}
 use Rattle.moved_runs.proofs.ClearedEntries.{stays}
 

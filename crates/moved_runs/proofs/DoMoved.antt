@@ -2,11 +2,11 @@
 use Rattle.std.proofs.Common.{◌≡◌, ℕ, ◌<◌, List, [], ◌∷◌, drop, set, refl, sym, ap, ap₂, ◌∙◌, subst, arith, true, false, Option, Some}
 use Rattle.std.specs.Prelude.{slice_get}
 use Rattle.std.specs.List.{list_any}
-use Rattle.accepted_values.proofs.Facts.{run_facts}
-use Rattle.accepted_modules.specs.inner.Checked.{IsVerified}
-use Rattle.copy_removal.specs.ownership_kinds.Facts.{facts_in}
-use Rattle.copy_removal.specs.Removable.{concerns}
-use Rattle.copy_removal.specs.Rewritten.{moved, with_function}
+use Rattle.lent_runs.proofs.accepted_values.Facts.{run_facts}
+use Rattle.lent_runs.specs.accepted_modules.inner.Checked.{IsVerified}
+use Rattle.lent_runs.specs.copy_removal.ownership_kinds.Facts.{facts_in}
+use Rattle.lent_runs.specs.copy_removal.Removable.{concerns}
+use Rattle.lent_runs.specs.copy_removal.Rewritten.{moved, with_function}
 use Rattle.item_operands.specs.Items.{item_defined, item_taken}
 use Rattle.item_operands.specs.Parts.{inst_at}
 use Rattle.ownership_chains.specs.Facts.{facts_with, is_owned, known_or}
@@ -23,23 +23,23 @@ use Rattle.sil_cfg.specs.declared.item.Item.{Item}
 use Rattle.sil_cfg.specs.declared.item.Item.TheVariants as item
 use Rattle.type_definitions.specs.Declarations.{declarations_of}
 use Rattle.type_definitions.specs.declared.kind.Kind.TheVariants as kind
-use Rattle.holder_counts.specs.holder_model.Calling.{lent_places}
-use Rattle.holder_counts.specs.holder_model.Data.{Datum}
-use Rattle.holder_counts.specs.holder_model.Effects as effects
-use Rattle.holder_counts.specs.holder_model.Effects.{Effect}
-use Rattle.holder_counts.specs.holder_model.Faults.{HolderFault}
-use Rattle.holder_counts.specs.holder_model.Frames.{Entry, Frame, Gone, operands_of, results_put}
-use Rattle.holder_counts.specs.holder_model.HolderStates.{HolderState}
-use Rattle.holder_counts.specs.holder_model.ModuleFacts.{ModuleFacts, facts_of, facts_told}
-use Rattle.holder_counts.specs.holder_model.Standing.{point_behind, stands_at}
-use Rattle.holder_counts.specs.holder_model.States.{Task}
-use Rattle.lockstep_runs.specs.inner.Frames.{AreDropsAlike, AreEffectsAlike, AreInstsAlike, does}
-use Rattle.lockstep_runs.specs.inner.Lockstep.{ArePutAlike}
-use Rattle.lockstep_runs.specs.inner.Parts.{puts}
-use Rattle.moved_functions.specs.inner.Structure.{old_point}
-use Rattle.moved_functions.proofs.Places.{after, same_defined, same_taken}
-use Rattle.moved_functions.proofs.SameFacts.{copy_owned}
-use Rattle.moved_functions.proofs.Split.{IsSplit}
+use Rattle.lent_runs.specs.holder_counts.holder_model.Calling.{lent_places}
+use Rattle.lent_runs.specs.holder_counts.holder_model.Data.{Datum}
+use Rattle.lent_runs.specs.holder_counts.holder_model.Effects as effects
+use Rattle.lent_runs.specs.holder_counts.holder_model.Effects.{Effect}
+use Rattle.lent_runs.specs.holder_counts.holder_model.Faults.{HolderFault}
+use Rattle.lent_runs.specs.holder_counts.holder_model.Frames.{Entry, Frame, Gone, operands_of, results_put}
+use Rattle.lent_runs.specs.holder_counts.holder_model.HolderStates.{HolderState}
+use Rattle.lent_runs.specs.holder_counts.holder_model.ModuleFacts.{ModuleFacts, facts_of, facts_told}
+use Rattle.lent_runs.specs.holder_counts.holder_model.Standing.{point_behind, stands_at}
+use Rattle.lent_runs.specs.holder_counts.holder_model.States.{Task}
+use Rattle.lent_runs.specs.lockstep_runs.inner.Frames.{AreDropsAlike, AreEffectsAlike, AreInstsAlike, does}
+use Rattle.lent_runs.specs.lockstep_runs.inner.Lockstep.{ArePutAlike}
+use Rattle.lent_runs.specs.lockstep_runs.inner.Parts.{puts}
+use Rattle.lent_runs.specs.moved_functions.inner.Structure.{old_point}
+use Rattle.lent_runs.proofs.moved_functions.Places.{after, same_defined, same_taken}
+use Rattle.lent_runs.proofs.moved_functions.SameFacts.{copy_owned}
+use Rattle.lent_runs.proofs.moved_functions.Split.{IsSplit}
 use Rattle.moved_runs.specs.inner.MovedFrames.{AreAt, IsAlone, IsCleared, IsLike, Lags}
 use Rattle.moved_runs.proofs.ClearedEntries.{held_behind, left_kept, others_end_not, put_cleared, taken_by, taken_cleared}
 use Rattle.moved_runs.proofs.MovedPoints.{lags_behind, level_behind, old_before, old_copy}

@@ -5,10 +5,10 @@ use Rattle.std.specs.Prelude.{option_and_then, option_map, slice_get}
 use Rattle.std.specs.List.{list_any}
 use Rattle.std.proofs.lemmas.Bool.{cases_eq}
 use Rattle.std.proofs.lemmas.Option.{none-some}
-use Rattle.accepted_modules.specs.inner.Checked.{IsVerified}
-use Rattle.copy_removal.specs.ownership_kinds.Facts.{facts_in}
-use Rattle.copy_removal.specs.Removable.{concerns}
-use Rattle.copy_removal.specs.Rewritten.{moved, with_function}
+use Rattle.lent_runs.specs.accepted_modules.inner.Checked.{IsVerified}
+use Rattle.lent_runs.specs.copy_removal.ownership_kinds.Facts.{facts_in}
+use Rattle.lent_runs.specs.copy_removal.Removable.{concerns}
+use Rattle.lent_runs.specs.copy_removal.Rewritten.{moved, with_function}
 use Rattle.instruction_table.specs.Forms.{ending_of}
 use Rattle.instruction_table.specs.declared.entries.Ending.TheVariants as ending
 use Rattle.item_operands.specs.Items.{item_defined, item_taken}
@@ -29,32 +29,32 @@ use Rattle.sil_cfg.specs.Items.{point_at}
 use Rattle.sil_cfg.specs.declared.item.Item.{Item}
 use Rattle.sil_cfg.specs.declared.item.Item.TheVariants as item
 use Rattle.type_definitions.specs.Declarations.{declarations_of}
-use Rattle.holder_counts.specs.holder_model.Data.{Datum}
-use Rattle.holder_counts.specs.holder_model.Frames.{Entry, Frame, LentPlace, entry_at, datum_in, no_entries, operands_of, results_put}
-use Rattle.holder_counts.specs.holder_model.HolderStates.{HolderState}
-use Rattle.holder_counts.specs.holder_model.ModuleFacts.{ModuleFacts, facts_of, facts_told}
-use Rattle.holder_counts.specs.holder_model.Standing.{stands_at}
-use Rattle.holder_counts.specs.holder_model.States.{Runs, Task}
-use Rattle.lockstep_runs.specs.inner.Frames.{AreInstsAlike}
-use Rattle.lockstep_runs.specs.inner.Lockstep.{ArePutAlike, frame_at}
-use Rattle.lockstep_runs.specs.inner.Parts.{puts}
-use Rattle.moved_functions.specs.inner.Structure.{old_point}
-use Rattle.moved_functions.proofs.Marks.{destroy_defines}
-use Rattle.moved_functions.proofs.Places.{after, same_defined, same_taken}
-use Rattle.moved_functions.proofs.SameFacts.{destroy_makes_none}
-use Rattle.moved_functions.proofs.Split.{IsSplit}
+use Rattle.lent_runs.specs.holder_counts.holder_model.Data.{Datum}
+use Rattle.lent_runs.specs.holder_counts.holder_model.Frames.{Entry, Frame, LentPlace, entry_at, datum_in, no_entries, operands_of, results_put}
+use Rattle.lent_runs.specs.holder_counts.holder_model.HolderStates.{HolderState}
+use Rattle.lent_runs.specs.holder_counts.holder_model.ModuleFacts.{ModuleFacts, facts_of, facts_told}
+use Rattle.lent_runs.specs.holder_counts.holder_model.Standing.{stands_at}
+use Rattle.lent_runs.specs.holder_counts.holder_model.States.{Runs, Task}
+use Rattle.lent_runs.specs.lockstep_runs.inner.Frames.{AreInstsAlike}
+use Rattle.lent_runs.specs.lockstep_runs.inner.Lockstep.{ArePutAlike, frame_at}
+use Rattle.lent_runs.specs.lockstep_runs.inner.Parts.{puts}
+use Rattle.lent_runs.specs.moved_functions.inner.Structure.{old_point}
+use Rattle.lent_runs.proofs.moved_functions.Marks.{destroy_defines}
+use Rattle.lent_runs.proofs.moved_functions.Places.{after, same_defined, same_taken}
+use Rattle.lent_runs.proofs.moved_functions.SameFacts.{destroy_makes_none}
+use Rattle.lent_runs.proofs.moved_functions.Split.{IsSplit}
 use Rattle.moved_runs.specs.inner.MovedFrames.{AreAt, IsAlone, IsCleared, IsLike, Lags}
 use Rattle.moved_runs.proofs.MovedPoints.{old_copy}
-use Rattle.holder_counts.specs.holder_model.Edges.{carried_along, carried_by, edge_of, first_value_of, switched_data}
-use Rattle.holder_counts.specs.holder_model.Calling.{given_places, argument_data}
-use Rattle.holder_counts.specs.holder_model.Standing.{first_point, target_of}
+use Rattle.lent_runs.specs.holder_counts.holder_model.Edges.{carried_along, carried_by, edge_of, first_value_of, switched_data}
+use Rattle.lent_runs.specs.holder_counts.holder_model.Calling.{given_places, argument_data}
+use Rattle.lent_runs.specs.holder_counts.holder_model.Standing.{first_point, target_of}
 use Rattle.argument_conventions.specs.Arguments.{arguments_of}
 use Rattle.instruction_table.specs.declared.entries.Ending.{Ending}
 use Rattle.item_operands.specs.Parts.{edge_at}
 use Rattle.sil_ast.specs.declared.inst.Edge as edge
-use Rattle.lockstep_runs.specs.inner.Frames.{AreEdgesAlike, AreEndsAlike, DoAlike}
-use Rattle.lockstep_runs.specs.inner.Parts.{AreFramesOn, call_at}
-use Rattle.moved_functions.proofs.Places.{copy_stood, destroy_stood, inst_elsewhere, old_block, same_args, same_edge, same_operands, same_terminator}
+use Rattle.lent_runs.specs.lockstep_runs.inner.Frames.{AreEdgesAlike, AreEndsAlike, DoAlike}
+use Rattle.lent_runs.specs.lockstep_runs.inner.Parts.{AreFramesOn, call_at}
+use Rattle.lent_runs.proofs.moved_functions.Places.{copy_stood, destroy_stood, inst_elsewhere, old_block, same_args, same_edge, same_operands, same_terminator}
 use Rattle.moved_runs.specs.inner.MovedFrames.{KnowsFrames}
 use Rattle.moved_runs.proofs.CopyMoved.{copy_inst}
 use Rattle.moved_runs.proofs.DoMoved.{lag_inst, lag_put, level_inst, level_put, old_lag}

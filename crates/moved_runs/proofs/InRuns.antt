@@ -4,10 +4,10 @@ use Rattle.std.specs.Prelude.{option_map, slice_get}
 use Rattle.std.specs.List.{list_any}
 use Rattle.std.proofs.lemmas.Bool.{cases_eq}
 use Rattle.std.proofs.lemmas.Option.{same_Some}
-use Rattle.accepted_modules.specs.inner.Checked.{IsVerified}
-use Rattle.copy_removal.specs.ownership_kinds.Facts.{facts_in}
-use Rattle.copy_removal.specs.Removable.{concerns}
-use Rattle.copy_removal.specs.Rewritten.{changed_at, moved, moved_block, with_function}
+use Rattle.lent_runs.specs.accepted_modules.inner.Checked.{IsVerified}
+use Rattle.lent_runs.specs.copy_removal.ownership_kinds.Facts.{facts_in}
+use Rattle.lent_runs.specs.copy_removal.Removable.{concerns}
+use Rattle.lent_runs.specs.copy_removal.Rewritten.{changed_at, moved, moved_block, with_function}
 use Rattle.ownership_chains.specs.Facts.{is_owned, known_or}
 use Rattle.ownership_marks.specs.Marks.{marks_of}
 use Rattle.sil_ast.specs.declared.function.Function.{Function}
@@ -19,20 +19,20 @@ use Rattle.sil_cfg.specs.Items.{point_at}
 use Rattle.sil_cfg.specs.declared.item.Item.{Item}
 use Rattle.sil_cfg.specs.declared.item.Item.TheVariants as item
 use Rattle.type_definitions.specs.Declarations.{declarations_of}
-use Rattle.holder_counts.specs.holder_model.Frames.{Entry, has_any}
-use Rattle.holder_counts.specs.holder_model.HolderStates.{HolderState}
-use Rattle.holder_counts.specs.holder_model.ModuleFacts.{ModuleFacts, facts_of}
-use Rattle.lockstep_runs.specs.inner.Agreeing.{RunsAsItDid}
-use Rattle.lockstep_runs.specs.inner.Frames.{DoAlike, FrameParts}
-use Rattle.lockstep_runs.specs.inner.Laws.{HoldsOnRuns}
-use Rattle.lockstep_runs.specs.inner.Lockstep.{IsKeptBy}
-use Rattle.lockstep_runs.specs.inner.Parts.{HasFunctions, StandsFor}
-use Rattle.lockstep_runs.proofs.AsTheyDid.{run_as_they_did}
-use Rattle.lockstep_runs.proofs.Unchanged.{unchanged_does_alike}
-use Rattle.moved_functions.proofs.Lists.{changed_elsewhere, changed_there}
-use Rattle.moved_functions.proofs.Places.{after}
-use Rattle.moved_functions.proofs.SameFacts.{copy_apart, destroy_makes_none}
-use Rattle.moved_functions.proofs.Split.{IsSplit}
+use Rattle.lent_runs.specs.holder_counts.holder_model.Frames.{Entry, has_any}
+use Rattle.lent_runs.specs.holder_counts.holder_model.HolderStates.{HolderState}
+use Rattle.lent_runs.specs.holder_counts.holder_model.ModuleFacts.{ModuleFacts, facts_of}
+use Rattle.lent_runs.specs.lockstep_runs.inner.Agreeing.{RunsAsItDid}
+use Rattle.lent_runs.specs.lockstep_runs.inner.Frames.{DoAlike, FrameParts}
+use Rattle.lent_runs.specs.lockstep_runs.inner.Laws.{HoldsOnRuns}
+use Rattle.lent_runs.specs.lockstep_runs.inner.Lockstep.{IsKeptBy}
+use Rattle.lent_runs.specs.lockstep_runs.inner.Parts.{HasFunctions, StandsFor}
+use Rattle.lent_runs.proofs.lockstep_runs.AsTheyDid.{run_as_they_did}
+use Rattle.lent_runs.proofs.lockstep_runs.Unchanged.{unchanged_does_alike}
+use Rattle.lent_runs.proofs.moved_functions.Lists.{changed_elsewhere, changed_there}
+use Rattle.lent_runs.proofs.moved_functions.Places.{after}
+use Rattle.lent_runs.proofs.moved_functions.SameFacts.{copy_apart, destroy_makes_none}
+use Rattle.lent_runs.proofs.moved_functions.Split.{IsSplit}
 use Rattle.moved_runs.specs.inner.MovedFrames.{IsAlone, IsLike, KnowsFrames}
 use Rattle.moved_runs.proofs.Covered.{drops_covered, finishes_covered}
 use Rattle.moved_runs.proofs.DoMoved.{v_is_owned}

@@ -3,11 +3,11 @@ use Rattle.std.proofs.Common.{◌≡◌, ◌⊎◌, inl, inr, ℕ, ◌<◌, ◌�
 use Rattle.std.specs.Prelude.{slice_get, unwrap_or}
 use Rattle.std.proofs.lemmas.Bool.{cases_lt}
 use Rattle.std.proofs.lemmas.Option.{same_Some, slice_get_past}
-use Rattle.accepted_values.specs.inner.Known.{facts_at, kind_at}
-use Rattle.accepted_values.proofs.Facts.{value_or_none}
-use Rattle.accepted_values.specs.run_typing.Forms.{Form, form_of}
-use Rattle.accepted_modules.specs.inner.Checked.{IsVerified}
-use Rattle.copy_removal.specs.ownership_kinds.Facts.{facts_in}
+use Rattle.lent_runs.specs.accepted_values.inner.Known.{facts_at, kind_at}
+use Rattle.lent_runs.proofs.accepted_values.Facts.{value_or_none}
+use Rattle.lent_runs.specs.accepted_values.run_typing.Forms.{Form, form_of}
+use Rattle.lent_runs.specs.accepted_modules.inner.Checked.{IsVerified}
+use Rattle.lent_runs.specs.copy_removal.ownership_kinds.Facts.{facts_in}
 use Rattle.instruction_table.specs.declared.op.Op.TheVariants as op
 use Rattle.item_operands.specs.Parts.{inst_at}
 use Rattle.numbered_form.specs.Numbering.{values_of}
@@ -24,24 +24,24 @@ use Rattle.sil_cfg.specs.declared.item.Item.{Item}
 use Rattle.type_definitions.specs.Declarations.{declarations_of}
 use Rattle.type_definitions.specs.declared.kind.Kind.{Kind}
 use Rattle.type_definitions.specs.declared.kind.Kind.TheVariants as kind
-use Rattle.holder_counts.specs.holder_model.declared.row_effect.RowEffect.TheVariants.{CallsFunction, CopiesOperand}
-use Rattle.holder_counts.specs.holder_model.Calling.{value_count}
-use Rattle.holder_counts.specs.holder_model.Data.{Datum}
-use Rattle.holder_counts.specs.holder_model.Effects.{effect_of}
-use Rattle.holder_counts.specs.holder_model.Frames.{Entry, Frame, Gone, Held, LentPlace, entry_at, made_entry}
-use Rattle.holder_counts.specs.holder_model.HolderStates.{HolderState}
-use Rattle.holder_counts.specs.holder_model.Standing.{stands_at}
-use Rattle.holder_counts.specs.holder_model.States.{Runs, Task}
-use Rattle.held_places.specs.inner.PlaceStates.{AreSlotsRight, TasksPlaced}
-use Rattle.lockstep_runs.specs.inner.Lockstep.{frame_at}
-use Rattle.owned_run_typing.proofs.run_typing_laws.ItemFacts.{values_counted}
-use Rattle.typed_holders.specs.inner.TypedStates.{EntryIs, IsTypedState, TasksAre}
-use Rattle.typed_memory.specs.inner.Worlds.{World}
-use Rattle.moved_functions.proofs.Marks.{known}
-use Rattle.moved_functions.proofs.Places.{after, copy_stood}
-use Rattle.moved_functions.proofs.SameFacts.{copy_owned}
-use Rattle.moved_functions.proofs.Split.{IsSplit}
-use Rattle.moved_functions.proofs.TheCopy.{copy_op}
+use Rattle.lent_runs.specs.holder_counts.holder_model.declared.row_effect.RowEffect.TheVariants.{CallsFunction, CopiesOperand}
+use Rattle.lent_runs.specs.holder_counts.holder_model.Calling.{value_count}
+use Rattle.lent_runs.specs.holder_counts.holder_model.Data.{Datum}
+use Rattle.lent_runs.specs.holder_counts.holder_model.Effects.{effect_of}
+use Rattle.lent_runs.specs.holder_counts.holder_model.Frames.{Entry, Frame, Gone, Held, LentPlace, entry_at, made_entry}
+use Rattle.lent_runs.specs.holder_counts.holder_model.HolderStates.{HolderState}
+use Rattle.lent_runs.specs.holder_counts.holder_model.Standing.{stands_at}
+use Rattle.lent_runs.specs.holder_counts.holder_model.States.{Runs, Task}
+use Rattle.lent_runs.specs.held_places.inner.PlaceStates.{AreSlotsRight, TasksPlaced}
+use Rattle.lent_runs.specs.lockstep_runs.inner.Lockstep.{frame_at}
+use Rattle.lent_runs.proofs.owned_run_typing.run_typing_laws.ItemFacts.{values_counted}
+use Rattle.lent_runs.specs.typed_holders.inner.TypedStates.{EntryIs, IsTypedState, TasksAre}
+use Rattle.lent_runs.specs.typed_memory.inner.Worlds.{World}
+use Rattle.lent_runs.proofs.moved_functions.Marks.{known}
+use Rattle.lent_runs.proofs.moved_functions.Places.{after, copy_stood}
+use Rattle.lent_runs.proofs.moved_functions.SameFacts.{copy_owned}
+use Rattle.lent_runs.proofs.moved_functions.Split.{IsSplit}
+use Rattle.lent_runs.proofs.moved_functions.TheCopy.{copy_op}
 use Rattle.moved_runs.specs.inner.MovedFrames.{KnowsFrames}
 use Rattle.moved_runs.proofs.ClearedEntries.{same_ok}
 

@@ -5,11 +5,11 @@ use Rattle.sil_ast.specs.declared.function.Function.{Function}
 use Rattle.sil_ast.specs.declared.place.PointId.{PointId}
 use Rattle.sil_ast.specs.declared.place.ValueId.{ValueId}
 use Rattle.sil_cfg.specs.Items.{point_at}
-use Rattle.holder_counts.specs.holder_model.Standing.{first_point, point_behind}
-use Rattle.moved_functions.specs.inner.Structure.{old_point}
-use Rattle.moved_functions.proofs.Lists.{stood_before, stood_behind}
-use Rattle.moved_functions.proofs.Places.{old_block, old_elsewhere, old_here}
-use Rattle.moved_functions.proofs.Split.{IsSplit}
+use Rattle.lent_runs.specs.holder_counts.holder_model.Standing.{first_point, point_behind}
+use Rattle.lent_runs.specs.moved_functions.inner.Structure.{old_point}
+use Rattle.lent_runs.proofs.moved_functions.Lists.{stood_before, stood_behind}
+use Rattle.lent_runs.proofs.moved_functions.Places.{old_block, old_elsewhere, old_here}
+use Rattle.lent_runs.proofs.moved_functions.Split.{IsSplit}
 use Rattle.moved_runs.specs.inner.MovedFrames.{Lags}
 
 module _ {f : Function} {p : PointId} {last : ℕ} {c v : ValueId} (s : IsSplit f p last c v) where

@@ -3,7 +3,7 @@ use Rattle.std.proofs.Common.{◌≡◌, List, [], ◌∷◌, ◌++◌, refl, sy
 use Rattle.std.specs.Prelude.{◌||◌, ◌&&◌, ◌==◌}
 use Rattle.std.specs.List.{flat_map, list_any}
 use Rattle.std.proofs.lemmas.Bool.{eq-eqb, true≢false}
-use Rattle.copy_removal.specs.Removable.{concerns, is_mark}
+use Rattle.lent_runs.specs.copy_removal.Removable.{concerns, is_mark}
 use Rattle.item_operands.specs.declared.taken.Taken.{Taken}
 use Rattle.ownership_chains.specs.Facts.{facts_with, is_owned, known_or}
 use Rattle.ownership_chains.specs.declared.facts.Facts.{Facts}
@@ -12,9 +12,9 @@ use Rattle.ownership_marks.specs.declared.mark.Mark.{Mark}
 use Rattle.ownership_marks.specs.declared.mark.MarkSort.TheVariants.{End}
 use Rattle.sil_ast.specs.declared.place.ValueId.{ValueId}
 use Rattle.type_definitions.specs.declared.kind.Kind.TheVariants as kind
-use Rattle.holder_counts.specs.holder_model.Frames.{ends, has_any}
-use Rattle.lent_functions.proofs.Lists.{any_parts}
-use Rattle.moved_functions.proofs.Marks.{known}
+use Rattle.lent_runs.specs.holder_counts.holder_model.Frames.{ends, has_any}
+use Rattle.lent_runs.proofs.lent_functions.Lists.{any_parts}
+use Rattle.lent_runs.proofs.moved_functions.Marks.{known}
 use Rattle.moved_runs.proofs.ClearedEntries.{AreOthers, EndNot}
 
 module _ (facts : ValueId → Option Facts) (c v : ValueId) (owned : is_owned (known_or facts v).kind ≡ true) (copy : facts c ≡ Some (facts_with kind.Owned (c ∷ []))) where

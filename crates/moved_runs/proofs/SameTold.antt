@@ -2,26 +2,26 @@
 use Rattle.std.proofs.Common.{◌≡◌, ℕ, zero, suc, List, [], ◌∷◌, length, map, refl, sym, ap, ap₂, ◌∙◌, Some}
 use Rattle.std.specs.List.{range_with_len, slice_get}
 use Rattle.std.proofs.lemmas.Option.{same_Some}
-use Rattle.copy_removal.specs.Rewritten.{changed_at, moved, with_function}
+use Rattle.lent_runs.specs.copy_removal.Rewritten.{changed_at, moved, with_function}
 use Rattle.sil_ast.specs.declared.function.Function.{Function}
 use Rattle.sil_ast.specs.declared.module.Module.{Module}
 use Rattle.sil_ast.specs.declared.place.PointId.{PointId}
 use Rattle.sil_ast.specs.declared.place.ValueId.{ValueId}
 use Rattle.type_definitions.specs.Declarations.{Declarations, declarations_of}
-use Rattle.accepted_modules.specs.sil_types.Typing.Values.{arg_functions, arg_types, functions_by, result_functions, result_types, value_functions, value_types}
-use Rattle.accepted_modules.specs.sil_types.Typing.RowTypes.{made_types}
-use Rattle.copy_removal.specs.ownership_kinds.Facts.{facts_in}
-use Rattle.accepted_modules.specs.inner.Checked.{IsVerified}
+use Rattle.lent_runs.specs.accepted_modules.sil_types.Typing.Values.{arg_functions, arg_types, functions_by, result_functions, result_types, value_functions, value_types}
+use Rattle.lent_runs.specs.accepted_modules.sil_types.Typing.RowTypes.{made_types}
+use Rattle.lent_runs.specs.copy_removal.ownership_kinds.Facts.{facts_in}
+use Rattle.lent_runs.specs.accepted_modules.inner.Checked.{IsVerified}
 use Rattle.ownership_chains.specs.Facts.{value_of}
-use Rattle.holder_counts.specs.holder_model.Calling.{value_count}
-use Rattle.holder_counts.specs.holder_model.ModuleFacts.{ModuleFacts, facts_of, function_facts}
-use Rattle.holder_counts.specs.holder_model.ModuleShapes.{function_shapes, value_shape}
-use Rattle.moved_functions.proofs.InModule.{row_kept}
-use Rattle.moved_functions.proofs.Places.{after}
-use Rattle.moved_functions.proofs.SameFacts.{destroy_makes_none, facts_are}
-use Rattle.moved_functions.proofs.Split.{IsSplit}
-use Rattle.moved_functions.proofs.TheCopy.{copy_at, copy_makes, move_makes}
-use Rattle.moved_functions.proofs.ValueRows.{rows_same}
+use Rattle.lent_runs.specs.holder_counts.holder_model.Calling.{value_count}
+use Rattle.lent_runs.specs.holder_counts.holder_model.ModuleFacts.{ModuleFacts, facts_of, function_facts}
+use Rattle.lent_runs.specs.holder_counts.holder_model.ModuleShapes.{function_shapes, value_shape}
+use Rattle.lent_runs.proofs.moved_functions.InModule.{row_kept}
+use Rattle.lent_runs.proofs.moved_functions.Places.{after}
+use Rattle.lent_runs.proofs.moved_functions.SameFacts.{destroy_makes_none, facts_are}
+use Rattle.lent_runs.proofs.moved_functions.Split.{IsSplit}
+use Rattle.lent_runs.proofs.moved_functions.TheCopy.{copy_at, copy_makes, move_makes}
+use Rattle.lent_runs.proofs.moved_functions.ValueRows.{rows_same}
 
 same_map : {A B : Type 0} (tell : A → B) (change : A → A) (n : ℕ) (xs : List A) (x : A) → slice_get xs n ≡ Some x → tell (change x) ≡ tell x
     → map tell (changed_at n change xs) ≡ map tell xs

@@ -17,28 +17,28 @@ use Rattle.sil_cfg.specs.Items.{point_at}
 use Rattle.sil_cfg.specs.declared.item.Item.{Item}
 use Rattle.sil_cfg.specs.declared.item.Item.TheVariants as item
 use Rattle.type_definitions.specs.Declarations.{declarations_of}
-use Rattle.holder_counts.specs.holder_model.Data.{references_in}
-use Rattle.holder_counts.specs.holder_model.Faults.{NamesDead}
-use Rattle.holder_counts.specs.holder_model.Frames.{Entry, Frame, Gone, Held, Operands, any_dead, operands_of, results_put}
-use Rattle.holder_counts.specs.holder_model.HolderStates.{HolderNext, HolderState}
-use Rattle.holder_counts.specs.holder_model.Holders.{one_object}
-use Rattle.holder_counts.specs.holder_model.ModuleFacts.{ModuleFacts, facts_told}
-use Rattle.holder_counts.specs.holder_model.ModuleShapes.{shapes_in}
-use Rattle.holder_counts.specs.holder_model.Outcomes.{run}
-use Rattle.holder_counts.specs.holder_model.Standing.{point_behind, stands_at}
-use Rattle.holder_counts.specs.holder_model.StepParts.{on_ok, on_some}
-use Rattle.holder_counts.specs.holder_model.States.{Drops, Finishes, Goes, Runs, Task, dropping, step_on}
-use Rattle.holder_counts.specs.holder_model.Steps as steps
-use Rattle.holder_counts.proofs.Moves.{first_task}
-use Rattle.lockstep_runs.specs.inner.Frames.{AreSpared}
-use Rattle.lockstep_runs.specs.inner.Lockstep.{AreAtRest, AreInStep, AreLevel, AreTasksLike, IsKeptBy, frame_at}
-use Rattle.lockstep_runs.specs.inner.Parts.{ComeTogether}
-use Rattle.lockstep_runs.proofs.Drained.{drained}
-use Rattle.moved_functions.specs.inner.Structure.{old_point}
-use Rattle.moved_functions.proofs.Marks.{destroy_defines, destroy_takes}
-use Rattle.moved_functions.proofs.Places.{after, destroy_stood}
-use Rattle.moved_functions.proofs.Split.{IsSplit}
-use Rattle.moved_functions.proofs.TheCopy.{destroy_op}
+use Rattle.lent_runs.specs.holder_counts.holder_model.Data.{references_in}
+use Rattle.lent_runs.specs.holder_counts.holder_model.Faults.{NamesDead}
+use Rattle.lent_runs.specs.holder_counts.holder_model.Frames.{Entry, Frame, Gone, Held, Operands, any_dead, operands_of, results_put}
+use Rattle.lent_runs.specs.holder_counts.holder_model.HolderStates.{HolderNext, HolderState}
+use Rattle.lent_runs.specs.holder_counts.holder_model.Holders.{one_object}
+use Rattle.lent_runs.specs.holder_counts.holder_model.ModuleFacts.{ModuleFacts, facts_told}
+use Rattle.lent_runs.specs.holder_counts.holder_model.ModuleShapes.{shapes_in}
+use Rattle.lent_runs.specs.holder_counts.holder_model.Outcomes.{run}
+use Rattle.lent_runs.specs.holder_counts.holder_model.Standing.{point_behind, stands_at}
+use Rattle.lent_runs.specs.holder_counts.holder_model.StepParts.{on_ok, on_some}
+use Rattle.lent_runs.specs.holder_counts.holder_model.States.{Drops, Finishes, Goes, Runs, Task, dropping, step_on}
+use Rattle.lent_runs.specs.holder_counts.holder_model.Steps as steps
+use Rattle.lent_runs.proofs.holder_counts.Moves.{first_task}
+use Rattle.lent_runs.specs.lockstep_runs.inner.Frames.{AreSpared}
+use Rattle.lent_runs.specs.lockstep_runs.inner.Lockstep.{AreAtRest, AreInStep, AreLevel, AreTasksLike, IsKeptBy, frame_at}
+use Rattle.lent_runs.specs.lockstep_runs.inner.Parts.{ComeTogether}
+use Rattle.lent_runs.proofs.lockstep_runs.Drained.{drained}
+use Rattle.lent_runs.specs.moved_functions.inner.Structure.{old_point}
+use Rattle.lent_runs.proofs.moved_functions.Marks.{destroy_defines, destroy_takes}
+use Rattle.lent_runs.proofs.moved_functions.Places.{after, destroy_stood}
+use Rattle.lent_runs.proofs.moved_functions.Split.{IsSplit}
+use Rattle.lent_runs.proofs.moved_functions.TheCopy.{destroy_op}
 use Rattle.moved_runs.specs.inner.MovedFrames.{AreAt, IsAlone, IsCleared, IsLike, KnowsFrames, Lags}
 use Rattle.moved_runs.proofs.ClearedEntries.{stays}
 use Rattle.moved_runs.proofs.Covered.{total_cleared}

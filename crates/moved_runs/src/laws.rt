@@ -2,7 +2,7 @@
 
 ghost use Rattle.moved_runs.specs.inner.Laws.{MovedRunsAsItDid};
 
-use rewriting_laws::rewriting_keeps_verified;
+use lent_runs::rewriting_keeps_verified;
 
 /// Where a copy of an accepted module can be a move, the module in which it is one runs as it did.
 pub fn moved_runs_as_it_did()

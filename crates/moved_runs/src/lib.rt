@@ -4,3 +4,4 @@
 mod laws;
 
 pub use laws::moved_runs_as_it_did;
+pub use lent_runs::{lent_runs_as_it_did, rewriting_keeps_verified};

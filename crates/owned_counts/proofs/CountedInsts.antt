@@ -17,38 +17,38 @@ use Rattle.run_values.specs.Memory.{Memory}
 use Rattle.run_values.specs.Places.{Place, value_at}
 use Rattle.run_values.specs.Shapes.{Shape}
 use Rattle.run_values.specs.Values.{Value, references_of}
-use Rattle.accepted_values.specs.accepted_modules.ownership_kinds.Facts.{facts_in}
-use Rattle.accepted_values.specs.run_typing.CallForms.{IsOf}
-use Rattle.accepted_values.specs.run_typing.EndForms.{value_in}
-use Rattle.accepted_values.specs.run_typing.Forms.{Form, forms_of}
-use Rattle.accepted_values.proofs.Facts.{run_facts}
-use Rattle.holder_counts.specs.holder_model.Data.{AddressOf, Datum, references_in}
-use Rattle.holder_counts.specs.holder_model.Effects.{Change}
-use Rattle.holder_counts.specs.holder_model.Frames.{Entry, Frame, Operands, operands_of, results_put}
-use Rattle.holder_counts.specs.holder_model.HolderStates.{HolderState}
-use Rattle.holder_counts.specs.holder_model.Holders.{one_object}
-use Rattle.holder_counts.specs.holder_model.MemoryEffects.{copies_with}
-use Rattle.holder_counts.specs.holder_model.ModuleFacts.{facts_of, facts_told}
-use Rattle.holder_counts.specs.holder_model.ModuleShapes.{ModuleShapes, shapes_in, shapes_of}
-use Rattle.holder_counts.specs.holder_model.Outcomes.{Numbers}
-use Rattle.holder_counts.specs.holder_model.Standing.{stands_at}
-use Rattle.holder_counts.specs.holder_model.States.{Runs, Task}
-use Rattle.holder_counts.specs.inner.Doing as doing
-use Rattle.holder_counts.specs.inner.Doing.{Leaves}
-use Rattle.holder_counts.specs.inner.Taking.{IsBelow}
-use Rattle.holder_counts.proofs.Changes.{changes_told}
+use Rattle.accepted_runs.specs.accepted_values.accepted_modules.ownership_kinds.Facts.{facts_in}
+use Rattle.accepted_runs.specs.accepted_values.run_typing.CallForms.{IsOf}
+use Rattle.accepted_runs.specs.accepted_values.run_typing.EndForms.{value_in}
+use Rattle.accepted_runs.specs.accepted_values.run_typing.Forms.{Form, forms_of}
+use Rattle.accepted_runs.proofs.accepted_values.Facts.{run_facts}
+use Rattle.stored_counts.specs.holder_counts.holder_model.Data.{AddressOf, Datum, references_in}
+use Rattle.stored_counts.specs.holder_counts.holder_model.Effects.{Change}
+use Rattle.stored_counts.specs.holder_counts.holder_model.Frames.{Entry, Frame, Operands, operands_of, results_put}
+use Rattle.stored_counts.specs.holder_counts.holder_model.HolderStates.{HolderState}
+use Rattle.stored_counts.specs.holder_counts.holder_model.Holders.{one_object}
+use Rattle.stored_counts.specs.holder_counts.holder_model.MemoryEffects.{copies_with}
+use Rattle.stored_counts.specs.holder_counts.holder_model.ModuleFacts.{facts_of, facts_told}
+use Rattle.stored_counts.specs.holder_counts.holder_model.ModuleShapes.{ModuleShapes, shapes_in, shapes_of}
+use Rattle.stored_counts.specs.holder_counts.holder_model.Outcomes.{Numbers}
+use Rattle.stored_counts.specs.holder_counts.holder_model.Standing.{stands_at}
+use Rattle.stored_counts.specs.holder_counts.holder_model.States.{Runs, Task}
+use Rattle.stored_counts.specs.holder_counts.inner.Doing as doing
+use Rattle.stored_counts.specs.holder_counts.inner.Doing.{Leaves}
+use Rattle.stored_counts.specs.holder_counts.inner.Taking.{IsBelow}
+use Rattle.stored_counts.proofs.holder_counts.Changes.{changes_told}
 use Rattle.stored_counts.specs.inner.Numbers.{AreCounts, IsStoredOf}
 use Rattle.stored_counts.specs.inner.Rows.{IsRowCounted}
 use Rattle.stored_counts.proofs.Items.{items_stored}
 use Rattle.stored_counts.proofs.RowBalance.{rows_counted}
-use Rattle.typed_memory.specs.inner.Worlds.{IsWorldOf, MemoryIs, World}
-use Rattle.typed_memory.proofs.Homes.{place_read}
-use Rattle.typed_memory.proofs.Referring.{WasMade, data_made, references_made}
-use Rattle.typed_holders.specs.inner.TypedStates.{FrameIs, IsTypedState, TasksAre}
-use Rattle.typed_holders.proofs.Data.{DataAre}
-use Rattle.typed_holders.proofs.Entries.{left_typed}
-use Rattle.typed_holders.proofs.GoesOn.{accepted_body, typed_module}
-use Rattle.typed_holders.proofs.Operands.{operands_read}
+use Rattle.accepted_runs.specs.typed_memory.inner.Worlds.{IsWorldOf, MemoryIs, World}
+use Rattle.accepted_runs.proofs.typed_memory.Homes.{place_read}
+use Rattle.accepted_runs.proofs.typed_memory.Referring.{WasMade, data_made, references_made}
+use Rattle.accepted_runs.specs.typed_holders.inner.TypedStates.{FrameIs, IsTypedState, TasksAre}
+use Rattle.accepted_runs.proofs.typed_holders.Data.{DataAre}
+use Rattle.accepted_runs.proofs.typed_holders.Entries.{left_typed}
+use Rattle.accepted_runs.proofs.typed_holders.GoesOn.{accepted_body, typed_module}
+use Rattle.accepted_runs.proofs.typed_holders.Operands.{operands_read}
 use Rattle.owned_counts.specs.inner.CountedInsts.{AreInstsCounted, MakesChange}
 use Rattle.owned_counts.specs.inner.OwnedRows.{IsDone}
 use Rattle.owned_counts.proofs.OwnedInsts as inst

@@ -22,39 +22,39 @@ use Rattle.type_definitions.specs.Declarations.{Declarations, declarations_of}
 use Rattle.type_definitions.specs.declared.kind.Kind.TheVariants as kind
 use Rattle.run_values.specs.Trivial.{is_trivial}
 use Rattle.run_values.specs.Values.{references_of}
-use Rattle.accepted_values.specs.accepted_modules.ownership_kinds.Facts.{facts_in}
-use Rattle.accepted_values.specs.inner.Known.{IsAcceptedBody, kind_at}
-use Rattle.accepted_values.specs.inner.Operands.{SuitsRole}
-use Rattle.accepted_values.specs.run_typing.CallForms.{IsOf}
-use Rattle.accepted_values.specs.run_typing.Forms.{given_shape}
-use Rattle.accepted_values.proofs.Facts.{run_facts}
-use Rattle.accepted_values.proofs.Suited.{suited}
-use Rattle.accepted_values.proofs.lowering_laws.Lowerable.{contained}
-use Rattle.accepted_values.proofs.run_typing_laws.Declared.{each_from}
-use Rattle.holder_counts.specs.holder_model.Data.{AddressOf, Datum, FunctionOf, ValueOf, as_value}
-use Rattle.holder_counts.specs.holder_model.Effects.{only}
-use Rattle.holder_counts.specs.holder_model.Frames.{Frame, Operands, operands_of, results_put}
-use Rattle.holder_counts.specs.holder_model.HolderStates.{HolderState}
-use Rattle.holder_counts.specs.holder_model.Holders.{of_references, one_object}
-use Rattle.holder_counts.specs.holder_model.ModuleFacts.{facts_of, facts_told}
-use Rattle.holder_counts.specs.holder_model.Standing.{stands_at}
-use Rattle.holder_counts.specs.holder_model.States.{Runs, Task}
-use Rattle.holder_counts.specs.inner.Naming.{in_data, in_datum}
-use Rattle.holder_counts.specs.inner.Taking.{IsBelow, references_begun, references_ended}
-use Rattle.holder_counts.proofs.Sums.{total_cons}
+use Rattle.accepted_runs.specs.accepted_values.accepted_modules.ownership_kinds.Facts.{facts_in}
+use Rattle.accepted_runs.specs.accepted_values.inner.Known.{IsAcceptedBody, kind_at}
+use Rattle.accepted_runs.specs.accepted_values.inner.Operands.{SuitsRole}
+use Rattle.accepted_runs.specs.accepted_values.run_typing.CallForms.{IsOf}
+use Rattle.accepted_runs.specs.accepted_values.run_typing.Forms.{given_shape}
+use Rattle.accepted_runs.proofs.accepted_values.Facts.{run_facts}
+use Rattle.accepted_runs.proofs.accepted_values.Suited.{suited}
+use Rattle.accepted_runs.proofs.accepted_values.lowering_laws.Lowerable.{contained}
+use Rattle.accepted_runs.proofs.accepted_values.run_typing_laws.Declared.{each_from}
+use Rattle.stored_counts.specs.holder_counts.holder_model.Data.{AddressOf, Datum, FunctionOf, ValueOf, as_value}
+use Rattle.stored_counts.specs.holder_counts.holder_model.Effects.{only}
+use Rattle.stored_counts.specs.holder_counts.holder_model.Frames.{Frame, Operands, operands_of, results_put}
+use Rattle.stored_counts.specs.holder_counts.holder_model.HolderStates.{HolderState}
+use Rattle.stored_counts.specs.holder_counts.holder_model.Holders.{of_references, one_object}
+use Rattle.stored_counts.specs.holder_counts.holder_model.ModuleFacts.{facts_of, facts_told}
+use Rattle.stored_counts.specs.holder_counts.holder_model.Standing.{stands_at}
+use Rattle.stored_counts.specs.holder_counts.holder_model.States.{Runs, Task}
+use Rattle.stored_counts.specs.holder_counts.inner.Naming.{in_data, in_datum}
+use Rattle.stored_counts.specs.holder_counts.inner.Taking.{IsBelow, references_begun, references_ended}
+use Rattle.stored_counts.proofs.holder_counts.Sums.{total_cons}
 use Rattle.stored_counts.specs.inner.FrameTurns.{LeavesNothing}
 use Rattle.stored_counts.proofs.FrameTurns.{left_stored, returns_stored}
-use Rattle.typed_holders.specs.inner.TypedStates.{EntriesAre, FrameIs, TasksAre, WaitsTyped}
-use Rattle.typed_holders.proofs.Data.{read_value}
-use Rattle.typed_holders.proofs.GoesOn.{Running, accepted_body, typed_module}
-use Rattle.typed_holders.proofs.Performs.{defines_results}
-use Rattle.typed_holders.proofs.Returns.{returned}
+use Rattle.accepted_runs.specs.typed_holders.inner.TypedStates.{EntriesAre, FrameIs, TasksAre, WaitsTyped}
+use Rattle.accepted_runs.proofs.typed_holders.Data.{read_value}
+use Rattle.accepted_runs.proofs.typed_holders.GoesOn.{Running, accepted_body, typed_module}
+use Rattle.accepted_runs.proofs.typed_holders.Performs.{defines_results}
+use Rattle.accepted_runs.proofs.typed_holders.Returns.{returned}
 use Rattle.owned_counts.specs.inner.CountedReturns.{AreLeftCounted, AreReturnsCounted, ReturnsFrom}
 use Rattle.owned_counts.proofs.BroughtOwned.{MayHold, brings_all}
 use Rattle.owned_counts.proofs.GivenOwned.{given_as}
 use Rattle.owned_counts.proofs.OwnedInsts.{each_weaker}
 use Rattle.owned_counts.proofs.RowTables.{all_roles, consumed_role, each_role, is_consumed_role}
-use Rattle.owned_counts.specs.inner.Taken.{IsTakenAs}
+use Rattle.owned_counts.proofs.Taken.{IsTakenAs}
 use Rattle.owned_counts.proofs.TakenOwned.{GivesUp, IsValue, MayEndBy, takes_all}
 
 return_roles : (o : Op) → ending_of o ≡ ending.Return → all_roles is_consumed_role (roles_of o) ≡ true

@@ -12,20 +12,20 @@ use Rattle.ownership_chains.specs.declared.facts.Facts.{Facts}
 use Rattle.type_definitions.specs.Declarations.{declarations_of}
 use Rattle.type_definitions.specs.declared.kind.Kind.{Kind}
 use Rattle.run_values.specs.Memory.{Memory}
-use Rattle.accepted_values.specs.accepted_modules.ownership_kinds.Facts.{facts_in}
-use Rattle.accepted_values.specs.inner.Known.{kind_at}
-use Rattle.accepted_values.specs.run_typing.CallForms.{IsOf}
-use Rattle.accepted_values.specs.run_typing.Forms.{Form, form_of}
-use Rattle.accepted_values.specs.run_typing.lowered_run.LowStepParts.{taken_value}
-use Rattle.holder_counts.specs.holder_model.Data.{Datum}
-use Rattle.holder_counts.specs.holder_model.Faults.{HolderFault}
-use Rattle.holder_counts.specs.holder_model.Frames.{Entry, Operands, and_more, datum_in, ends, entry_at, made_entry, operand, operand_data, operands_of}
-use Rattle.holder_counts.proofs.Entries.{IsLeftOf, left_of, ok_through, was_there}
-use Rattle.typed_holders.specs.typed_memory.inner.Worlds.{World}
-use Rattle.typed_holders.specs.inner.TypedStates.{EntriesAre, EntryIs}
-use Rattle.typed_holders.proofs.Entries.{entry_fits}
-use Rattle.typed_holders.proofs.Operands.{operand_there, operands_read}
-use Rattle.owned_counts.specs.inner.Taken.{IsTakenAs}
+use Rattle.accepted_runs.specs.accepted_values.accepted_modules.ownership_kinds.Facts.{facts_in}
+use Rattle.accepted_runs.specs.accepted_values.inner.Known.{kind_at}
+use Rattle.accepted_runs.specs.accepted_values.run_typing.CallForms.{IsOf}
+use Rattle.accepted_runs.specs.accepted_values.run_typing.Forms.{Form, form_of}
+use Rattle.accepted_runs.specs.accepted_values.run_typing.lowered_run.LowStepParts.{taken_value}
+use Rattle.stored_counts.specs.holder_counts.holder_model.Data.{Datum}
+use Rattle.stored_counts.specs.holder_counts.holder_model.Faults.{HolderFault}
+use Rattle.stored_counts.specs.holder_counts.holder_model.Frames.{Entry, Operands, and_more, datum_in, ends, entry_at, made_entry, operand, operand_data, operands_of}
+use Rattle.stored_counts.proofs.holder_counts.Entries.{IsLeftOf, left_of, ok_through, was_there}
+use Rattle.accepted_runs.specs.typed_holders.typed_memory.inner.Worlds.{World}
+use Rattle.accepted_runs.specs.typed_holders.inner.TypedStates.{EntriesAre, EntryIs}
+use Rattle.accepted_runs.proofs.typed_holders.Entries.{entry_fits}
+use Rattle.accepted_runs.proofs.typed_holders.Operands.{operand_there, operands_read}
+use Rattle.owned_counts.proofs.Taken.{IsTakenAs}
 
 module _ (m : Module) (w : World) (f : Function) (entries : List Entry) (typed : EntriesAre m w f entries) where
   abbrev facts : ValueId → Option Facts

@@ -21,27 +21,27 @@ use Rattle.ownership_marks.specs.Marks.{ends_owned}
 use Rattle.type_definitions.specs.Declarations.{Declarations, declarations_of}
 use Rattle.type_definitions.specs.declared.kind.Kind.TheVariants as kind
 use Rattle.run_values.specs.Shapes.{shape_of}
-use Rattle.accepted_values.specs.accepted_modules.ownership_kinds.Facts.{facts_in}
-use Rattle.accepted_values.specs.accepted_modules.sil_types.Typing.Shapes.{target}
-use Rattle.accepted_values.specs.inner.Handed.{Becomes, Hands, IsHanded, IsToldOf, TakesOver, kind_told}
-use Rattle.accepted_values.specs.inner.Known.{IsAcceptedBody, kind_at, type_in}
-use Rattle.accepted_values.specs.inner.Operands.{MayEnd}
-use Rattle.accepted_values.specs.run_typing.EndForms.{value_in}
-use Rattle.accepted_values.specs.run_typing.Forms.{OfValue, form_by, form_of, form_with}
-use Rattle.accepted_values.specs.accepted_modules.sil_types.Typing.Values.{function_at, value_functions}
-use Rattle.accepted_values.proofs.Addresses.{addresses_plain}
-use Rattle.holder_counts.specs.holder_model.Calling.{as_argument}
-use Rattle.holder_counts.specs.holder_model.Data.{AddressOf, Datum, FunctionOf, ValueOf}
-use Rattle.holder_counts.specs.holder_model.Frames.{Entry}
-use Rattle.holder_counts.specs.holder_model.Holders.{of_references}
-use Rattle.holder_counts.specs.inner.Naming.{in_datum}
-use Rattle.holder_counts.specs.inner.Taking.{owned_references, references_begun, references_ended, references_ended_by}
-use Rattle.holder_counts.proofs.Sums.{total_append}
-use Rattle.typed_memory.specs.inner.Worlds.{World}
-use Rattle.typed_holders.proofs.Data.{IsBare, read_value}
-use Rattle.typed_holders.proofs.Entries.{FitEach, Fits}
-use Rattle.owned_counts.specs.inner.Handing.{AreArgumentsHanded, AreEdgesHanded, HasItsType}
-use Rattle.owned_counts.specs.inner.Taken.{IsTakenAs}
+use Rattle.accepted_runs.specs.accepted_values.accepted_modules.ownership_kinds.Facts.{facts_in}
+use Rattle.accepted_runs.specs.accepted_values.accepted_modules.sil_types.Typing.Shapes.{target}
+use Rattle.accepted_runs.specs.accepted_values.inner.Handed.{Becomes, Hands, IsHanded, IsToldOf, TakesOver, kind_told}
+use Rattle.accepted_runs.specs.accepted_values.inner.Known.{IsAcceptedBody, kind_at, type_in}
+use Rattle.accepted_runs.specs.accepted_values.inner.Operands.{MayEnd}
+use Rattle.accepted_runs.specs.accepted_values.run_typing.EndForms.{value_in}
+use Rattle.accepted_runs.specs.accepted_values.run_typing.Forms.{OfValue, form_by, form_of, form_with}
+use Rattle.accepted_runs.specs.accepted_values.accepted_modules.sil_types.Typing.Values.{function_at, value_functions}
+use Rattle.accepted_runs.proofs.accepted_values.Addresses.{addresses_plain}
+use Rattle.stored_counts.specs.holder_counts.holder_model.Calling.{as_argument}
+use Rattle.stored_counts.specs.holder_counts.holder_model.Data.{AddressOf, Datum, FunctionOf, ValueOf}
+use Rattle.stored_counts.specs.holder_counts.holder_model.Frames.{Entry}
+use Rattle.stored_counts.specs.holder_counts.holder_model.Holders.{of_references}
+use Rattle.stored_counts.specs.holder_counts.inner.Naming.{in_datum}
+use Rattle.stored_counts.specs.holder_counts.inner.Taking.{owned_references, references_begun, references_ended, references_ended_by}
+use Rattle.stored_counts.proofs.holder_counts.Sums.{total_append}
+use Rattle.accepted_runs.specs.typed_memory.inner.Worlds.{World}
+use Rattle.accepted_runs.proofs.typed_holders.Data.{IsBare, read_value}
+use Rattle.accepted_runs.proofs.typed_holders.Entries.{FitEach, Fits}
+use Rattle.owned_counts.proofs.HandedOver.{AreArgumentsHanded, AreEdgesHanded, HasItsType}
+use Rattle.owned_counts.proofs.Taken.{IsTakenAs}
 use Rattle.owned_counts.proofs.TakenOwned.{ends_kind, keeps_one, taken_total}
 
 -- an owned value is no address

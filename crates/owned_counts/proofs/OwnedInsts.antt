@@ -26,44 +26,44 @@ use Rattle.type_definitions.specs.Declarations.{Declarations, declarations_of}
 use Rattle.type_definitions.specs.declared.kind.Kind.{Kind}
 use Rattle.type_definitions.specs.declared.kind.Kind.TheVariants as kind
 use Rattle.run_values.specs.Memory.{Memory}
-use Rattle.accepted_values.specs.accepted_modules.ownership_kinds.Facts.{facts_in}
-use Rattle.accepted_values.specs.accepted_modules.sil_types.Typing.FormRules.{may_stand_owned}
-use Rattle.accepted_values.specs.inner.Known.{facts_at, kind_at, type_in}
-use Rattle.accepted_values.specs.inner.Operands.{Forwards, MayEnd, MayLend, SuitsRole, kind_by_row, kind_together}
-use Rattle.accepted_values.specs.accepted_modules.ownership_kinds.Statics.{forwards_by}
-use Rattle.accepted_values.specs.owned_run_typing.inner.OwnedTyped.{OwnedInst}
-use Rattle.accepted_values.specs.owned_run_typing.ownership_origins.Origins.{is_trivial_or_untyped}
-use Rattle.accepted_values.specs.run_typing.EndForms.{value_in}
-use Rattle.accepted_values.specs.run_typing.Forms.{forms_of}
-use Rattle.accepted_values.specs.run_typing.lowered_run.LowStepParts.{taken_value}
-use Rattle.accepted_values.proofs.Accepted.{in_ownership_form, well_typed}
-use Rattle.accepted_values.proofs.Suited.{forwarded_kinds, results_of_kinds, suited}
-use Rattle.accepted_values.proofs.lowering_laws.Lowerable.{contained}
-use Rattle.accepted_values.proofs.run_typing_laws.Declared.{each_from}
-use Rattle.accepted_values.proofs.run_typing_laws.Rows.Known.{Known, in_owned, known}
-use Rattle.accepted_values.proofs.run_typing_laws.Rows.Points.{is_at}
-use Rattle.holder_counts.specs.holder_model.Data.{Datum}
-use Rattle.holder_counts.specs.holder_model.Effects as effects
-use Rattle.holder_counts.specs.holder_model.Effects.{Change, Effect, effect_of}
-use Rattle.holder_counts.specs.holder_model.Frames.{Entry, Operands}
-use Rattle.holder_counts.specs.holder_model.ModuleShapes.{shapes_in, shapes_of}
-use Rattle.holder_counts.specs.holder_model.declared.row_effect.RowEffect.{RowEffect}
+use Rattle.accepted_runs.specs.accepted_values.accepted_modules.ownership_kinds.Facts.{facts_in}
+use Rattle.accepted_runs.specs.accepted_values.accepted_modules.sil_types.Typing.FormRules.{may_stand_owned}
+use Rattle.accepted_runs.specs.accepted_values.inner.Known.{facts_at, kind_at, type_in}
+use Rattle.accepted_runs.specs.accepted_values.inner.Operands.{Forwards, MayEnd, MayLend, SuitsRole, kind_by_row, kind_together}
+use Rattle.accepted_runs.specs.accepted_values.accepted_modules.ownership_kinds.Statics.{forwards_by}
+use Rattle.accepted_runs.specs.accepted_values.owned_run_typing.inner.OwnedTyped.{OwnedInst}
+use Rattle.accepted_runs.specs.accepted_values.owned_run_typing.ownership_origins.Origins.{is_trivial_or_untyped}
+use Rattle.accepted_runs.specs.accepted_values.run_typing.EndForms.{value_in}
+use Rattle.accepted_runs.specs.accepted_values.run_typing.Forms.{forms_of}
+use Rattle.accepted_runs.specs.accepted_values.run_typing.lowered_run.LowStepParts.{taken_value}
+use Rattle.accepted_runs.proofs.accepted_values.Accepted.{in_ownership_form, well_typed}
+use Rattle.accepted_runs.proofs.accepted_values.Suited.{forwarded_kinds, results_of_kinds, suited}
+use Rattle.accepted_runs.proofs.accepted_values.lowering_laws.Lowerable.{contained}
+use Rattle.accepted_runs.proofs.accepted_values.run_typing_laws.Declared.{each_from}
+use Rattle.accepted_runs.proofs.accepted_values.run_typing_laws.Rows.Known.{Known, in_owned, known}
+use Rattle.accepted_runs.proofs.accepted_values.run_typing_laws.Rows.Points.{is_at}
+use Rattle.stored_counts.specs.holder_counts.holder_model.Data.{Datum}
+use Rattle.stored_counts.specs.holder_counts.holder_model.Effects as effects
+use Rattle.stored_counts.specs.holder_counts.holder_model.Effects.{Change, Effect, effect_of}
+use Rattle.stored_counts.specs.holder_counts.holder_model.Frames.{Entry, Operands}
+use Rattle.stored_counts.specs.holder_counts.holder_model.ModuleShapes.{shapes_in, shapes_of}
+use Rattle.stored_counts.specs.holder_counts.holder_model.declared.row_effect.RowEffect.{RowEffect}
 use Rattle.stored_counts.specs.inner.Rows.{BringsAll, BringsNone, HandsOn, TakesAll, TakesNone}
-use Rattle.typed_memory.specs.inner.Worlds.{World}
-use Rattle.typed_holders.proofs.Data.{DataAre}
-use Rattle.typed_holders.proofs.Effects.{Changed, EffectFits}
-use Rattle.typed_holders.proofs.Entries.{fit_data, operands_fit}
-use Rattle.typed_holders.proofs.GoesOn.{typed_module}
-use Rattle.typed_holders.proofs.Performs.{defines_results}
-use Rattle.typed_holders.proofs.RowForms.{row_fits}
-use Rattle.typed_holders.proofs.ShapesTold.{result_told}
+use Rattle.accepted_runs.specs.typed_memory.inner.Worlds.{World}
+use Rattle.accepted_runs.proofs.typed_holders.Data.{DataAre}
+use Rattle.accepted_runs.proofs.typed_holders.Effects.{Changed, EffectFits}
+use Rattle.accepted_runs.proofs.typed_holders.Entries.{fit_data, operands_fit}
+use Rattle.accepted_runs.proofs.typed_holders.GoesOn.{typed_module}
+use Rattle.accepted_runs.proofs.typed_holders.Performs.{defines_results}
+use Rattle.accepted_runs.proofs.typed_holders.RowForms.{row_fits}
+use Rattle.accepted_runs.proofs.typed_holders.ShapesTold.{result_told}
 use Rattle.owned_counts.specs.inner.OwnedRows.{IsDone}
 use Rattle.owned_counts.proofs.BroughtOwned.{brings_all, brings_none}
 use Rattle.owned_counts.proofs.GivenOwned.{given_as}
 use Rattle.owned_counts.proofs.RowTables.{all_roles, consumed_role, each_role, forwarded_is, forwarded_role, is_consumed_role, is_forwarded, is_forwarded_role}
 use Rattle.owned_counts.proofs.RowTables.{is_lent, is_lent_role, lent_is, lent_role, row_suits, stays, staying_role, suits}
 use Rattle.owned_counts.proofs.ValueForms.{asks_values, forms_in, forms_out, gives_values, values_of_forms}
-use Rattle.owned_counts.specs.inner.Taken.{IsTakenAs, kind_in}
+use Rattle.owned_counts.proofs.Taken.{IsTakenAs, kind_in}
 use Rattle.owned_counts.proofs.TakenOwned.{GivesUp, IsValue, MayEndBy, takes_all, takes_none}
 
 pub each_weaker : {A : Type 0} (P Q : A → Type 0) → ((x : A) → P x → Q x) → (xs : List A) → Each P xs → Each Q xs

@@ -32,49 +32,49 @@ use Rattle.run_values.specs.Places.{Place, cells_at, filled, is_there_at}
 use Rattle.run_values.specs.Shapes.{Shape, Stored}
 use Rattle.run_values.specs.Trivial.{is_trivial}
 use Rattle.run_values.specs.Values.{Value, references_of}
-use Rattle.accepted_values.specs.accepted_modules.ownership_kinds.Facts.{facts_in}
-use Rattle.accepted_values.specs.inner.Operands.{SuitsRole}
-use Rattle.accepted_values.specs.run_typing.EndForms.{value_in}
-use Rattle.accepted_values.specs.run_typing.Forms.{Form, OfPlace, OfValue, forms_of}
-use Rattle.accepted_values.specs.run_typing.RowForms.{operation_done}
-use Rattle.accepted_values.specs.run_typing.StorageForms.{IsNamed}
-use Rattle.accepted_values.specs.run_typing.lowered_run.LowEffects.{is_first_write}
-use Rattle.accepted_values.specs.run_typing.lowered_run.Operation.{Operation}
-use Rattle.accepted_values.specs.run_typing.lowered_run.Operation.TheVariants as operation
-use Rattle.holder_counts.specs.holder_model.Data.{AddressOf, Datum, ValueOf, references_in}
-use Rattle.holder_counts.specs.holder_model.Effects as effects
-use Rattle.holder_counts.specs.holder_model.Effects.{Change, Effect, Faults, effect_by, effect_of, unchanged}
-use Rattle.holder_counts.specs.holder_model.Faults.{HolderFault, NamesDead, NotLastSlot}
-use Rattle.holder_counts.specs.holder_model.Frames.{Entry, Operands, and_more, any_dead, datum_in, datum_or_fault, ends, entry_at, operand, operand_data, operands_of, unless_dead, used_datum, with_ok}
-use Rattle.holder_counts.specs.holder_model.Holders.{in_cells, of_references}
-use Rattle.holder_counts.specs.holder_model.MemoryEffects as memory_effects
-use Rattle.holder_counts.specs.holder_model.MemoryEffects.{asked_before, at_places, fault_of, holds, references_at, takes, where_held}
-use Rattle.holder_counts.specs.holder_model.ModuleShapes.{shapes_in, shapes_of}
-use Rattle.holder_counts.specs.holder_model.Outcomes.{Numbers}
-use Rattle.holder_counts.specs.holder_model.declared.row_effect.RowEffect.{RowEffect}
-use Rattle.holder_counts.specs.holder_model.declared.row_effect.RowEffect.TheVariants as row
-use Rattle.holder_counts.specs.inner.Keeping.{IsAliveAt, IsWithin}
-use Rattle.holder_counts.specs.inner.Naming.{IsAlive}
-use Rattle.holder_counts.specs.inner.Taking.{references_ended, references_ended_by}
-use Rattle.holder_counts.proofs.Alive.{alive_home}
-use Rattle.holder_counts.proofs.Entries.{chosen_ok, ok_through}
-use Rattle.holder_counts.proofs.Sums.{total_append}
+use Rattle.accepted_runs.specs.accepted_values.accepted_modules.ownership_kinds.Facts.{facts_in}
+use Rattle.accepted_runs.specs.accepted_values.inner.Operands.{SuitsRole}
+use Rattle.accepted_runs.specs.accepted_values.run_typing.EndForms.{value_in}
+use Rattle.accepted_runs.specs.accepted_values.run_typing.Forms.{Form, OfPlace, OfValue, forms_of}
+use Rattle.accepted_runs.specs.accepted_values.run_typing.RowForms.{operation_done}
+use Rattle.accepted_runs.specs.accepted_values.run_typing.StorageForms.{IsNamed}
+use Rattle.accepted_runs.specs.accepted_values.run_typing.lowered_run.LowEffects.{is_first_write}
+use Rattle.accepted_runs.specs.accepted_values.run_typing.lowered_run.Operation.{Operation}
+use Rattle.accepted_runs.specs.accepted_values.run_typing.lowered_run.Operation.TheVariants as operation
+use Rattle.stored_counts.specs.holder_counts.holder_model.Data.{AddressOf, Datum, ValueOf, references_in}
+use Rattle.stored_counts.specs.holder_counts.holder_model.Effects as effects
+use Rattle.stored_counts.specs.holder_counts.holder_model.Effects.{Change, Effect, Faults, effect_by, effect_of, unchanged}
+use Rattle.stored_counts.specs.holder_counts.holder_model.Faults.{HolderFault, NamesDead, NotLastSlot}
+use Rattle.stored_counts.specs.holder_counts.holder_model.Frames.{Entry, Operands, and_more, any_dead, datum_in, datum_or_fault, ends, entry_at, operand, operand_data, operands_of, unless_dead, used_datum, with_ok}
+use Rattle.stored_counts.specs.holder_counts.holder_model.Holders.{in_cells, of_references}
+use Rattle.stored_counts.specs.holder_counts.holder_model.MemoryEffects as memory_effects
+use Rattle.stored_counts.specs.holder_counts.holder_model.MemoryEffects.{asked_before, at_places, fault_of, holds, references_at, takes, where_held}
+use Rattle.stored_counts.specs.holder_counts.holder_model.ModuleShapes.{shapes_in, shapes_of}
+use Rattle.stored_counts.specs.holder_counts.holder_model.Outcomes.{Numbers}
+use Rattle.stored_counts.specs.holder_counts.holder_model.declared.row_effect.RowEffect.{RowEffect}
+use Rattle.stored_counts.specs.holder_counts.holder_model.declared.row_effect.RowEffect.TheVariants as row
+use Rattle.stored_counts.specs.holder_counts.inner.Keeping.{IsAliveAt, IsWithin}
+use Rattle.stored_counts.specs.holder_counts.inner.Naming.{IsAlive}
+use Rattle.stored_counts.specs.holder_counts.inner.Taking.{references_ended, references_ended_by}
+use Rattle.stored_counts.proofs.holder_counts.Alive.{alive_home}
+use Rattle.stored_counts.proofs.holder_counts.Entries.{chosen_ok, ok_through}
+use Rattle.stored_counts.proofs.holder_counts.Sums.{total_append}
 use Rattle.stored_counts.specs.inner.Numbers.{AreNamesStored}
 use Rattle.stored_counts.specs.inner.Rows.{BringsAll, BringsNone, HandsOn, IsRemoved, IsTaken, KeepNone, Loads, Owns, Stores, TakesNone}
 use Rattle.stored_counts.proofs.RowsMade.{IsChange}
-use Rattle.typed_memory.specs.inner.Worlds.{DatumIs, PlaceIs, Suits, World, names}
-use Rattle.typed_memory.proofs.Homes.{PlaceCells, place_cells}
-use Rattle.typed_memory.proofs.StoredValues.{named_suits_storage}
-use Rattle.typed_memory.proofs.Trivials.{no_references}
-use Rattle.typed_holders.proofs.Data.{DataAre, read_place, read_value}
-use Rattle.typed_holders.proofs.Operands.{operands_read}
+use Rattle.accepted_runs.specs.typed_memory.inner.Worlds.{DatumIs, PlaceIs, Suits, World, names}
+use Rattle.accepted_runs.proofs.typed_memory.Homes.{PlaceCells, place_cells}
+use Rattle.accepted_runs.proofs.typed_memory.StoredValues.{named_suits_storage}
+use Rattle.accepted_runs.proofs.typed_memory.Trivials.{no_references}
+use Rattle.accepted_runs.proofs.typed_holders.Data.{DataAre, read_place, read_value}
+use Rattle.accepted_runs.proofs.typed_holders.Operands.{operands_read}
 use Rattle.owned_counts.specs.inner.OwnedRows.{AreRowsOwned, HasItsWords, IsDone, LoadsBy, StoresBy}
 use Rattle.owned_counts.proofs.BroughtOwned.{brings_bare}
 use Rattle.owned_counts.proofs.OwnedInsts as inst
 use Rattle.owned_counts.proofs.OwnedInsts.{each_weaker}
 use Rattle.owned_counts.proofs.RowTables.{address_is, all_roles, each_role, is_address, is_consumed_role, is_forwarded, is_forwarded_role}
 use Rattle.owned_counts.proofs.RowTables.{is_owned, is_scope, owned_is, scope_is, stays, staying_role, suits}
-use Rattle.owned_counts.specs.inner.Taken.{IsTakenAs}
+use Rattle.owned_counts.proofs.Taken.{IsTakenAs}
 use Rattle.owned_counts.proofs.TakenOwned.{IsValue, gives_one, takes_none}
 use Rattle.owned_counts.proofs.TypedCells.{empty_place, kept_strongly, stored_none, written_length, written_strongly, written_weakly}
 use Rattle.owned_counts.proofs.TypedPlaces.{place_stored, typed_within, written_stored}

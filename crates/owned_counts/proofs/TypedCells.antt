@@ -18,15 +18,15 @@ use Rattle.value_parts.specs.inner.Storages.{holds_no_storage, no_storage_layer}
 use Rattle.value_parts.proofs.Inductions.{InParts, by_parts}
 use Rattle.value_parts.proofs.Cells.{cells_back, cells_length}
 use Rattle.value_parts.proofs.Suiting.{suits_fits}
-use Rattle.holder_counts.specs.holder_model.Holders.{in_cell, in_cells, of_references, same_storage}
-use Rattle.holder_counts.specs.inner.Keeping.{KeepsStrongly}
-use Rattle.holder_counts.proofs.Sums.{total_cons}
-use Rattle.holder_counts.proofs.Values.{read_counted}
+use Rattle.stored_counts.specs.holder_counts.holder_model.Holders.{in_cell, in_cells, of_references, same_storage}
+use Rattle.stored_counts.specs.holder_counts.inner.Keeping.{KeepsStrongly}
+use Rattle.stored_counts.proofs.holder_counts.Sums.{total_cons}
+use Rattle.stored_counts.proofs.holder_counts.Values.{read_counted}
 use Rattle.stored_counts.specs.inner.Rows.{KeepNone}
-use Rattle.typed_memory.specs.inner.Worlds.{CellIs, Suits, World, cell_shapes, each_cell_shapes, names}
-use Rattle.typed_memory.proofs.CellsTyped.{cells_typed}
-use Rattle.typed_memory.proofs.Homes.{PlaceCells}
-use Rattle.typed_memory.proofs.Trivials.{no_references}
+use Rattle.accepted_runs.specs.typed_memory.inner.Worlds.{CellIs, Suits, World, cell_shapes, each_cell_shapes, names}
+use Rattle.accepted_runs.proofs.typed_memory.CellsTyped.{cells_typed}
+use Rattle.accepted_runs.proofs.typed_memory.Homes.{PlaceCells}
+use Rattle.accepted_runs.proofs.typed_memory.Trivials.{no_references}
 
 each_both : {A : Type 0} (P : A → Type 0) (xs ys : List A) → Each P xs → Each P ys → Each P (xs ++ ys)
 each_both P [] ys h k = k

@@ -14,15 +14,15 @@ use Rattle.run_values.specs.Memory.{Memory, object_at}
 use Rattle.run_values.specs.Places.{Place, cells_at, home_cells}
 use Rattle.run_values.specs.Shapes.{Shape}
 use Rattle.run_values.specs.Values.{Value, references_of}
-use Rattle.holder_counts.specs.holder_model.Outcomes.{Numbers}
-use Rattle.holder_counts.specs.inner.Keeping.{IsAliveAt, IsWithin}
+use Rattle.stored_counts.specs.holder_counts.holder_model.Outcomes.{Numbers}
+use Rattle.stored_counts.specs.holder_counts.inner.Keeping.{IsAliveAt, IsWithin}
 use Rattle.stored_counts.specs.inner.Numbers.{AreNamesStored, IsStoredOf}
-use Rattle.typed_memory.specs.inner.Worlds.{CellIs, CellsAre, IsIn, MemoryIs, ObjectIs, PlaceIs, Suits, World, cell_shapes, fields_of_class}
-use Rattle.typed_memory.proofs.CellShapes.{place_within, shape_count}
-use Rattle.typed_memory.proofs.CellsTyped.{cells_typed}
-use Rattle.typed_memory.proofs.Homes.{object_is}
-use Rattle.typed_memory.proofs.Referring.{WasMade, cells_made, object_references_made, place_references_made, references_made}
-use Rattle.typed_memory.proofs.Zips.{Within}
+use Rattle.accepted_runs.specs.typed_memory.inner.Worlds.{CellIs, CellsAre, IsIn, MemoryIs, ObjectIs, PlaceIs, Suits, World, cell_shapes, fields_of_class}
+use Rattle.accepted_runs.proofs.typed_memory.CellShapes.{place_within, shape_count}
+use Rattle.accepted_runs.proofs.typed_memory.CellsTyped.{cells_typed}
+use Rattle.accepted_runs.proofs.typed_memory.Homes.{object_is}
+use Rattle.accepted_runs.proofs.typed_memory.Referring.{WasMade, cells_made, object_references_made, place_references_made, references_made}
+use Rattle.accepted_runs.proofs.typed_memory.Zips.{Within}
 
 each_weaker : {A : Type 0} (P Q : A → Type 0) → ((x : A) → P x → Q x) → (xs : List A) → Each P xs → Each Q xs
 each_weaker P Q h [] e = tt

@@ -5,17 +5,17 @@ use Rattle.numbered_form.specs.Lists.{Each}
 use Rattle.sil_ast.specs.declared.inst.Inst.{Inst}
 use Rattle.sil_ast.specs.declared.module.Module.{Module}
 use Rattle.run_values.specs.Shapes.{Shape}
-use Rattle.accepted_values.specs.owned_run_typing.inner.OwnedRows as owned
-use Rattle.accepted_values.specs.owned_run_typing.inner.OwnedRows.{OwnedRowForms}
-use Rattle.accepted_values.specs.run_typing.Forms.{Form, OfValue}
-use Rattle.accepted_values.specs.run_typing.RowForms as lowered
-use Rattle.accepted_values.specs.run_typing.RowForms.{RowForms}
-use Rattle.holder_counts.specs.holder_model.Data.{Datum}
-use Rattle.holder_counts.specs.holder_model.Effects.{effect_of}
-use Rattle.holder_counts.specs.holder_model.declared.row_effect.RowEffect.{RowEffect}
-use Rattle.holder_counts.specs.holder_model.declared.row_effect.RowEffect.TheVariants as row
-use Rattle.typed_memory.specs.inner.Worlds.{World}
-use Rattle.typed_holders.proofs.Data.{DataAre, read_value}
+use Rattle.accepted_runs.specs.accepted_values.owned_run_typing.inner.OwnedRows as owned
+use Rattle.accepted_runs.specs.accepted_values.owned_run_typing.inner.OwnedRows.{OwnedRowForms}
+use Rattle.accepted_runs.specs.accepted_values.run_typing.Forms.{Form, OfValue}
+use Rattle.accepted_runs.specs.accepted_values.run_typing.RowForms as lowered
+use Rattle.accepted_runs.specs.accepted_values.run_typing.RowForms.{RowForms}
+use Rattle.stored_counts.specs.holder_counts.holder_model.Data.{Datum}
+use Rattle.stored_counts.specs.holder_counts.holder_model.Effects.{effect_of}
+use Rattle.stored_counts.specs.holder_counts.holder_model.declared.row_effect.RowEffect.{RowEffect}
+use Rattle.stored_counts.specs.holder_counts.holder_model.declared.row_effect.RowEffect.TheVariants as row
+use Rattle.accepted_runs.specs.typed_memory.inner.Worlds.{World}
+use Rattle.accepted_runs.proofs.typed_holders.Data.{DataAre, read_value}
 use Rattle.owned_counts.proofs.TakenOwned.{IsValue}
 
 abbrev pub IsValueForm : Form → Type 0

@@ -26,41 +26,41 @@ use Rattle.run_values.specs.Memory.{Memory}
 use Rattle.run_values.specs.Places.{Place}
 use Rattle.run_values.specs.Shapes.{Shape, Stored, shape_of}
 use Rattle.value_parts.specs.inner.Storages.{holds_no_storage}
-use Rattle.accepted_values.specs.accepted_modules.sil_types.Typing.FormRules.{has_word_by, has_wrong_qualifier, is_owned_form, is_read_word}
-use Rattle.accepted_values.specs.accepted_modules.sil_types.Typing.RowTypes.{written}
-use Rattle.accepted_values.specs.accepted_modules.sil_types.Typing.Shapes.{in_unowned, in_weak, is_object, target, unowned_at, weak_at}
-use Rattle.accepted_values.specs.accepted_modules.sil_types.Typing.OperandTypes.{has_type}
-use Rattle.accepted_values.specs.accepted_modules.sil_types.Typing.Same.{all_pairs}
-use Rattle.accepted_values.specs.accepted_modules.sil_types.Typing.Values.{value_types}
-use Rattle.accepted_values.specs.accepted_modules.sil_types.Typing.Typed.{BreaksAtPoint, at_point, point}
-use Rattle.accepted_values.specs.owned_run_typing.inner.OwnedRows as owned
-use Rattle.accepted_values.specs.owned_run_typing.inner.OwnedRows.{OwnedRowForms}
-use Rattle.accepted_values.specs.run_typing.EndForms.{operand_forms}
-use Rattle.accepted_values.specs.run_typing.Forms.{Form, OfPlace, OfValue, forms_of}
-use Rattle.accepted_values.specs.run_typing.RowForms as lowered
-use Rattle.accepted_values.specs.run_typing.RowForms.{RowForms, operation_done}
-use Rattle.accepted_values.specs.run_typing.StorageForms.{IsNamed}
-use Rattle.accepted_values.specs.run_typing.lowered_run.Operation.{Operation}
-use Rattle.accepted_values.specs.run_typing.lowered_run.Operation.TheVariants as operation
-use Rattle.accepted_values.specs.run_typing.lowered_run.Operations.{access_kind_of, load_operation, operation_by}
-use Rattle.accepted_values.proofs.Accepted.{in_ownership_form, well_typed}
-use Rattle.accepted_values.proofs.run_typing_laws.ShapeFacts.{unowned_shape, weak_shape}
-use Rattle.accepted_values.proofs.run_typing_laws.Rows.Finding.{found_behind, never_passes, passed}
-use Rattle.accepted_values.proofs.run_typing_laws.Rows.Layers.{unowned_type, weak_type}
-use Rattle.accepted_values.proofs.run_typing_laws.Rows.Forms.{place_form, typed_form}
-use Rattle.accepted_values.proofs.run_typing_laws.Rows.Known.{Known}
-use Rattle.accepted_values.proofs.run_typing_laws.Rows.Memory.{loaded, stored}
-use Rattle.accepted_values.proofs.run_typing_laws.Rows.Points.{is_at}
-use Rattle.accepted_values.proofs.run_typing_laws.Rows.Shares.{of_parts, one_operand, taken_from, two_operands}
-use Rattle.holder_counts.specs.holder_model.Data.{AddressOf, Datum}
-use Rattle.holder_counts.specs.holder_model.Effects.{Change, effect_of}
-use Rattle.holder_counts.specs.holder_model.Frames.{Entry, Operands}
-use Rattle.holder_counts.specs.holder_model.MemoryEffects.{copies_with, takes}
-use Rattle.holder_counts.specs.holder_model.declared.row_effect.RowEffect.{RowEffect}
-use Rattle.holder_counts.specs.holder_model.declared.row_effect.RowEffect.TheVariants as row
-use Rattle.typed_memory.specs.inner.Worlds.{World}
-use Rattle.typed_holders.proofs.Data.{DataAre, read_place}
-use Rattle.typed_holders.proofs.TrivialShapes.{trivial_shape}
+use Rattle.accepted_runs.specs.accepted_values.accepted_modules.sil_types.Typing.FormRules.{has_word_by, has_wrong_qualifier, is_owned_form, is_read_word}
+use Rattle.accepted_runs.specs.accepted_values.accepted_modules.sil_types.Typing.RowTypes.{written}
+use Rattle.accepted_runs.specs.accepted_values.accepted_modules.sil_types.Typing.Shapes.{in_unowned, in_weak, is_object, target, unowned_at, weak_at}
+use Rattle.accepted_runs.specs.accepted_values.accepted_modules.sil_types.Typing.OperandTypes.{has_type}
+use Rattle.accepted_runs.specs.accepted_values.accepted_modules.sil_types.Typing.Same.{all_pairs}
+use Rattle.accepted_runs.specs.accepted_values.accepted_modules.sil_types.Typing.Values.{value_types}
+use Rattle.accepted_runs.specs.accepted_values.accepted_modules.sil_types.Typing.Typed.{BreaksAtPoint, at_point, point}
+use Rattle.accepted_runs.specs.accepted_values.owned_run_typing.inner.OwnedRows as owned
+use Rattle.accepted_runs.specs.accepted_values.owned_run_typing.inner.OwnedRows.{OwnedRowForms}
+use Rattle.accepted_runs.specs.accepted_values.run_typing.EndForms.{operand_forms}
+use Rattle.accepted_runs.specs.accepted_values.run_typing.Forms.{Form, OfPlace, OfValue, forms_of}
+use Rattle.accepted_runs.specs.accepted_values.run_typing.RowForms as lowered
+use Rattle.accepted_runs.specs.accepted_values.run_typing.RowForms.{RowForms, operation_done}
+use Rattle.accepted_runs.specs.accepted_values.run_typing.StorageForms.{IsNamed}
+use Rattle.accepted_runs.specs.accepted_values.run_typing.lowered_run.Operation.{Operation}
+use Rattle.accepted_runs.specs.accepted_values.run_typing.lowered_run.Operation.TheVariants as operation
+use Rattle.accepted_runs.specs.accepted_values.run_typing.lowered_run.Operations.{access_kind_of, load_operation, operation_by}
+use Rattle.accepted_runs.proofs.accepted_values.Accepted.{in_ownership_form, well_typed}
+use Rattle.accepted_runs.proofs.accepted_values.run_typing_laws.ShapeFacts.{unowned_shape, weak_shape}
+use Rattle.accepted_runs.proofs.accepted_values.run_typing_laws.Rows.Finding.{found_behind, never_passes, passed}
+use Rattle.accepted_runs.proofs.accepted_values.run_typing_laws.Rows.Layers.{unowned_type, weak_type}
+use Rattle.accepted_runs.proofs.accepted_values.run_typing_laws.Rows.Forms.{place_form, typed_form}
+use Rattle.accepted_runs.proofs.accepted_values.run_typing_laws.Rows.Known.{Known}
+use Rattle.accepted_runs.proofs.accepted_values.run_typing_laws.Rows.Memory.{loaded, stored}
+use Rattle.accepted_runs.proofs.accepted_values.run_typing_laws.Rows.Points.{is_at}
+use Rattle.accepted_runs.proofs.accepted_values.run_typing_laws.Rows.Shares.{of_parts, one_operand, taken_from, two_operands}
+use Rattle.stored_counts.specs.holder_counts.holder_model.Data.{AddressOf, Datum}
+use Rattle.stored_counts.specs.holder_counts.holder_model.Effects.{Change, effect_of}
+use Rattle.stored_counts.specs.holder_counts.holder_model.Frames.{Entry, Operands}
+use Rattle.stored_counts.specs.holder_counts.holder_model.MemoryEffects.{copies_with, takes}
+use Rattle.stored_counts.specs.holder_counts.holder_model.declared.row_effect.RowEffect.{RowEffect}
+use Rattle.stored_counts.specs.holder_counts.holder_model.declared.row_effect.RowEffect.TheVariants as row
+use Rattle.accepted_runs.specs.typed_memory.inner.Worlds.{World}
+use Rattle.accepted_runs.proofs.typed_holders.Data.{DataAre, read_place}
+use Rattle.accepted_runs.proofs.typed_holders.TrivialShapes.{trivial_shape}
 use Rattle.owned_counts.specs.inner.OwnedRows.{HasItsWords, IsDone, IsStorageOf, LoadsBy, StoresBy}
 use Rattle.owned_counts.proofs.OwnedInsts as inst
 

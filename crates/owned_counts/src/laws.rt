@@ -2,7 +2,6 @@
 
 ghost use Rattle.owned_counts.specs.inner.CountedInsts.{AreInstsCounted};
 ghost use Rattle.owned_counts.specs.inner.CountedReturns.{AreLeftCounted, AreReturnsCounted};
-ghost use Rattle.owned_counts.specs.inner.Handing.{AreArgumentsHanded, AreEdgesHanded};
 ghost use Rattle.owned_counts.specs.inner.OwnedRows.{AreRowsOwned, HaveTheirWords};
 
 /// In typed states of accepted modules each instruction has its words, and by these what its row needs so that its change is counted.
@@ -20,10 +19,4 @@ pub fn insts_are_counted()
 pub fn returns_are_counted()
     ensures returns { AreReturnsCounted }
     ensures left { AreLeftCounted }
-{}
-
-/// What an edge hands over, and what a call hands to its callee, holds as much where it begins as where it ended.
-pub fn handed_are_counted()
-    ensures edges { AreEdgesHanded }
-    ensures arguments { AreArgumentsHanded }
 {}

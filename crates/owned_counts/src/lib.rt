@@ -3,4 +3,4 @@
 
 mod laws;
 
-pub use laws::{handed_are_counted, insts_are_counted, returns_are_counted, rows_are_owned};
+pub use laws::{insts_are_counted, returns_are_counted, rows_are_owned};

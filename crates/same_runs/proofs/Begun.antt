@@ -4,29 +4,29 @@ use Rattle.std.specs.Prelude.{slice_get}
 use Rattle.std.proofs.lemmas.List.{length-replicate}
 use Rattle.std.proofs.lemmas.Bool.{and_parts}
 use Rattle.std.proofs.lemmas.Option.{none-some}
-use Rattle.accepted_values.proofs.run_typing_laws.ItemFacts.{values_counted}
+use Rattle.stored_runs.proofs.accepted_values.run_typing_laws.ItemFacts.{values_counted}
 use Rattle.sil_ast.specs.declared.function.Function.{Function}
 use Rattle.sil_ast.specs.declared.module.Module.{Module}
 use Rattle.sil_ast.specs.declared.place.FuncId.{FuncId}
 use Rattle.sil_ast.specs.declared.place.ObjectId.{ObjectId}
 use Rattle.type_definitions.specs.Declarations.{Declarations, declarations_of}
-use Rattle.accepted_values.specs.accepted_modules.inner.Checked.{IsVerified}
-use Rattle.accepted_values.specs.inner.Known.{IsAcceptedBody}
-use Rattle.lowered_run.specs.holder_model.Calling.{value_count}
-use Rattle.lowered_run.specs.holder_model.Frames.{Frame, Gone, datum_in, has_any, no_entries}
-use Rattle.lowered_run.specs.holder_model.HolderStates.{in_entry, strong_holders}
-use Rattle.lowered_run.specs.holder_model.Holders.{one_object}
-use Rattle.lowered_run.specs.holder_model.Outcomes.{begins, may_start}
-use Rattle.lowered_run.specs.holder_model.StepParts as parts
-use Rattle.lowered_run.specs.LowFrames.{LowFrame, no_values}
-use Rattle.lowered_run.specs.LowOutcomes.{low_begins}
-use Rattle.lowered_run.specs.LowStepParts.{new_frame}
-use Rattle.lowering_laws.specs.lowering_model.LoweredModules.{lowered_body}
-use Rattle.holder_counts.proofs.Sums.{total_none}
-use Rattle.stored_counts.specs.inner.Numbers.{AreCounts, holders_of}
-use Rattle.stored_counts.proofs.Turns.{same_numbers}
-use Rattle.typed_holders.proofs.GoesOn.{accepted_body}
-use Rattle.typed_holders.proofs.TypedSteps.{begin_typed}
+use Rattle.stored_runs.specs.accepted_values.accepted_modules.inner.Checked.{IsVerified}
+use Rattle.stored_runs.specs.accepted_values.inner.Known.{IsAcceptedBody}
+use Rattle.stored_runs.specs.lowered_run.holder_model.Calling.{value_count}
+use Rattle.stored_runs.specs.lowered_run.holder_model.Frames.{Frame, Gone, datum_in, has_any, no_entries}
+use Rattle.stored_runs.specs.lowered_run.holder_model.HolderStates.{in_entry, strong_holders}
+use Rattle.stored_runs.specs.lowered_run.holder_model.Holders.{one_object}
+use Rattle.stored_runs.specs.lowered_run.holder_model.Outcomes.{begins, may_start}
+use Rattle.stored_runs.specs.lowered_run.holder_model.StepParts as parts
+use Rattle.stored_runs.specs.lowered_run.LowFrames.{LowFrame, no_values}
+use Rattle.stored_runs.specs.lowered_run.LowOutcomes.{low_begins}
+use Rattle.stored_runs.specs.lowered_run.LowStepParts.{new_frame}
+use Rattle.stored_runs.specs.lowering_laws.lowering_model.LoweredModules.{lowered_body}
+use Rattle.stored_runs.proofs.holder_counts.Sums.{total_none}
+use Rattle.stored_runs.specs.stored_counts.inner.Numbers.{AreCounts, holders_of}
+use Rattle.stored_runs.proofs.stored_counts.Turns.{same_numbers}
+use Rattle.stored_runs.proofs.typed_holders.GoesOn.{accepted_body}
+use Rattle.stored_runs.proofs.typed_holders.TypedSteps.{begin_typed}
 use Rattle.stored_runs.specs.inner.Frames.{IsFrameFor, IsTaskFor}
 use Rattle.stored_runs.specs.inner.Lowering.{LowersSo}
 use Rattle.stored_runs.specs.inner.Names.{lowered_number}

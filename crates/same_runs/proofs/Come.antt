@@ -1,17 +1,17 @@
 -- What a run begins with and each step keeps holds of each state that the run comes to.
 use Rattle.std.proofs.Common.{◌≡◌, ℕ, zero, suc, refl, sym, ap, ◌∙◌, subst}
 use Rattle.sil_ast.specs.declared.module.Module.{Module}
-use Rattle.accepted_values.specs.accepted_modules.inner.Checked.{IsVerified}
-use Rattle.accepted_runs.specs.inner.RightStates.{IsRightState}
-use Rattle.accepted_runs.proofs.RightRuns.{no_run_faults, states_are_right}
-use Rattle.lowered_run.specs.holder_model.Faults.{HolderFault}
-use Rattle.lowered_run.specs.holder_model.HolderStates.{HolderNext, HolderState}
-use Rattle.lowered_run.specs.holder_model.ModuleFacts.{facts_of}
-use Rattle.lowered_run.specs.holder_model.Outcomes.{begins, run}
-use Rattle.lowered_run.specs.holder_model.States.{Ends, Faulted, Goes, step_on}
-use Rattle.lowered_run.specs.holder_model.Steps as holder_run
-use Rattle.typed_holders.specs.inner.TypedStates.{IsTypedState}
-use Rattle.typed_holders.proofs.TypedSteps.{begin_typed, steps_typed}
+use Rattle.stored_runs.specs.accepted_values.accepted_modules.inner.Checked.{IsVerified}
+use Rattle.stored_runs.specs.accepted_runs.inner.RightStates.{IsRightState}
+use Rattle.stored_runs.proofs.accepted_runs.RightRuns.{no_run_faults, states_are_right}
+use Rattle.stored_runs.specs.lowered_run.holder_model.Faults.{HolderFault}
+use Rattle.stored_runs.specs.lowered_run.holder_model.HolderStates.{HolderNext, HolderState}
+use Rattle.stored_runs.specs.lowered_run.holder_model.ModuleFacts.{facts_of}
+use Rattle.stored_runs.specs.lowered_run.holder_model.Outcomes.{begins, run}
+use Rattle.stored_runs.specs.lowered_run.holder_model.States.{Ends, Faulted, Goes, step_on}
+use Rattle.stored_runs.specs.lowered_run.holder_model.Steps as holder_run
+use Rattle.stored_runs.specs.typed_holders.inner.TypedStates.{IsTypedState}
+use Rattle.stored_runs.proofs.typed_holders.TypedSteps.{begin_typed, steps_typed}
 use Rattle.same_runs.specs.inner.Owed.{IsComeTo}
 use Rattle.same_runs.proofs.DeinitsCalled.{AreCalled, begin_called, steps_called}
 

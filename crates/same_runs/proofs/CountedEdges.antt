@@ -30,32 +30,32 @@ use Rattle.ownership_chains.specs.declared.facts.Facts.{Facts}
 use Rattle.type_definitions.specs.Declarations.{Declarations, declarations_of}
 use Rattle.type_definitions.specs.declared.kind.Kind.{Kind}
 use Rattle.type_definitions.specs.declared.kind.Kind.TheVariants as kind
-use Rattle.accepted_values.specs.accepted_modules.inner.Checked.{IsVerified}
-use Rattle.accepted_values.specs.accepted_modules.ownership_kinds.Facts.{facts_in}
-use Rattle.accepted_values.specs.inner.Handed.{Becomes, TakenBy, Takes, TakesOver}
-use Rattle.accepted_values.specs.inner.Known.{IsAcceptedBody, kind_at}
-use Rattle.accepted_values.specs.inner.Operands.{MayEnd}
-use Rattle.accepted_values.proofs.Branches.{taken_over}
-use Rattle.accepted_values.proofs.Facts.{run_facts}
-use Rattle.accepted_values.proofs.Made.{items_of}
-use Rattle.accepted_values.proofs.Switches.{switched}
-use Rattle.lowered_run.specs.holder_model.Data.{Datum, ValueOf}
-use Rattle.lowered_run.specs.holder_model.Edges.{carried_along, carried_by, edge_of, first_value_of, payload_data, switched_data}
-use Rattle.lowered_run.specs.holder_model.Frames.{Entry, Frame, Operands, operands_of, results_put}
-use Rattle.lowered_run.specs.holder_model.HolderStates.{HolderState}
-use Rattle.lowered_run.specs.holder_model.Holders.{of_references}
-use Rattle.lowered_run.specs.holder_model.ModuleFacts.{facts_of, facts_told}
-use Rattle.lowered_run.specs.holder_model.Standing.{stands_at}
-use Rattle.lowered_run.specs.holder_model.States.{Task}
-use Rattle.holder_counts.specs.inner.Naming.{in_data, in_datum}
-use Rattle.holder_counts.specs.inner.Taking.{references_begun, references_ended, references_ended_by}
-use Rattle.holder_counts.proofs.Sums.{total_append, total_cons}
-use Rattle.holder_steps.specs.inner.Ways as ways
-use Rattle.holder_steps.specs.inner.Ways.{StandsAtEnd}
-use Rattle.owned_counts.proofs.BroughtOwned.{HoldsNothing, MayHold, brings_all, brings_none}
-use Rattle.owned_counts.proofs.GivenOwned.{given_as}
-use Rattle.owned_counts.proofs.TakenOwned.{GivesUp, IsTakenAs, IsValue, Keeps, gives_one, keeps_one, takes_all}
-use Rattle.typed_holders.proofs.GoesOn.{Running, accepted_body}
+use Rattle.stored_runs.specs.accepted_values.accepted_modules.inner.Checked.{IsVerified}
+use Rattle.stored_runs.specs.accepted_values.accepted_modules.ownership_kinds.Facts.{facts_in}
+use Rattle.stored_runs.specs.accepted_values.inner.Handed.{Becomes, TakenBy, Takes, TakesOver}
+use Rattle.stored_runs.specs.accepted_values.inner.Known.{IsAcceptedBody, kind_at}
+use Rattle.stored_runs.specs.accepted_values.inner.Operands.{MayEnd}
+use Rattle.stored_runs.proofs.accepted_values.Branches.{taken_over}
+use Rattle.stored_runs.proofs.accepted_values.Facts.{run_facts}
+use Rattle.stored_runs.proofs.accepted_values.Made.{items_of}
+use Rattle.stored_runs.proofs.accepted_values.Switches.{switched}
+use Rattle.stored_runs.specs.lowered_run.holder_model.Data.{Datum, ValueOf}
+use Rattle.stored_runs.specs.lowered_run.holder_model.Edges.{carried_along, carried_by, edge_of, first_value_of, payload_data, switched_data}
+use Rattle.stored_runs.specs.lowered_run.holder_model.Frames.{Entry, Frame, Operands, operands_of, results_put}
+use Rattle.stored_runs.specs.lowered_run.holder_model.HolderStates.{HolderState}
+use Rattle.stored_runs.specs.lowered_run.holder_model.Holders.{of_references}
+use Rattle.stored_runs.specs.lowered_run.holder_model.ModuleFacts.{facts_of, facts_told}
+use Rattle.stored_runs.specs.lowered_run.holder_model.Standing.{stands_at}
+use Rattle.stored_runs.specs.lowered_run.holder_model.States.{Task}
+use Rattle.stored_runs.specs.holder_counts.inner.Naming.{in_data, in_datum}
+use Rattle.stored_runs.specs.holder_counts.inner.Taking.{references_begun, references_ended, references_ended_by}
+use Rattle.stored_runs.proofs.holder_counts.Sums.{total_append, total_cons}
+use Rattle.stored_runs.specs.holder_steps.inner.Ways as ways
+use Rattle.stored_runs.specs.holder_steps.inner.Ways.{StandsAtEnd}
+use Rattle.stored_runs.proofs.owned_counts.BroughtOwned.{HoldsNothing, MayHold, brings_all, brings_none}
+use Rattle.stored_runs.proofs.owned_counts.GivenOwned.{given_as}
+use Rattle.stored_runs.proofs.owned_counts.TakenOwned.{GivesUp, IsTakenAs, IsValue, Keeps, gives_one, keeps_one, takes_all}
+use Rattle.stored_runs.proofs.typed_holders.GoesOn.{Running, accepted_body}
 
 -- ---- lists
 

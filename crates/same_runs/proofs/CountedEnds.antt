@@ -26,39 +26,39 @@ use Rattle.item_operands.specs.Roles.{by_row, consumed, conventions_in, roles_fo
 use Rattle.item_operands.specs.declared.taken.Taken.{Taken}
 use Rattle.ownership_chains.specs.declared.facts.Facts.{Facts}
 use Rattle.type_definitions.specs.Declarations.{Declarations, declarations_of}
-use Rattle.accepted_values.specs.accepted_modules.inner.Checked.{IsVerified}
-use Rattle.accepted_values.specs.accepted_modules.ownership_kinds.Facts.{facts_in}
-use Rattle.accepted_values.specs.inner.Known.{IsAcceptedBody}
-use Rattle.accepted_values.specs.owned_run_typing.inner.OwnedEnds.{OwnedEndForms}
-use Rattle.accepted_values.specs.run_typing.EndForms.{EndForms}
-use Rattle.accepted_values.specs.run_typing.Forms.{OfValue, form_of}
-use Rattle.accepted_values.specs.run_typing.RowForms.{IsEnum}
-use Rattle.accepted_values.proofs.Made.{items_of}
-use Rattle.accepted_trails.specs.run_trails.inner.RunTrails.{ComesAt}
+use Rattle.stored_runs.specs.accepted_values.accepted_modules.inner.Checked.{IsVerified}
+use Rattle.stored_runs.specs.accepted_values.accepted_modules.ownership_kinds.Facts.{facts_in}
+use Rattle.stored_runs.specs.accepted_values.inner.Known.{IsAcceptedBody}
+use Rattle.stored_runs.specs.accepted_values.owned_run_typing.inner.OwnedEnds.{OwnedEndForms}
+use Rattle.stored_runs.specs.accepted_values.run_typing.EndForms.{EndForms}
+use Rattle.stored_runs.specs.accepted_values.run_typing.Forms.{OfValue, form_of}
+use Rattle.stored_runs.specs.accepted_values.run_typing.RowForms.{IsEnum}
+use Rattle.stored_runs.proofs.accepted_values.Made.{items_of}
+use Rattle.stored_runs.specs.accepted_trails.run_trails.inner.RunTrails.{ComesAt}
 use Rattle.run_values.specs.Shapes.{Shape, case_shapes}
 use Rattle.run_values.specs.Values.{Value}
-use Rattle.lowered_run.specs.holder_model.Data.{Datum, ValueOf}
-use Rattle.lowered_run.specs.holder_model.Edges.{carried_along, carried_by, edge_of}
-use Rattle.lowered_run.specs.holder_model.Effects.{unchanged}
-use Rattle.lowered_run.specs.holder_model.Frames.{Entry, Frame, Operands, results_put}
-use Rattle.lowered_run.specs.holder_model.Holders.{of_references}
-use Rattle.lowered_run.specs.holder_model.HolderStates.{HolderNext, HolderState}
-use Rattle.lowered_run.specs.holder_model.ModuleFacts.{facts_of, facts_told}
-use Rattle.lowered_run.specs.holder_model.Outcomes.{Numbers}
-use Rattle.lowered_run.specs.holder_model.Standing.{stands_at}
-use Rattle.lowered_run.specs.holder_model.States.{Ends, Goes, Runs, Task}
-use Rattle.lowered_run.specs.LowStepParts.{taken_value}
-use Rattle.holder_counts.specs.inner.Taking.{IsBelow, references_begun, references_ended}
-use Rattle.holder_steps.specs.inner.Ways.{Chooses, GoesBehind, StandsAtEnd, TakesEdge, left_with, operands_in, turned}
-use Rattle.stored_counts.specs.inner.Numbers.{AreCounts}
-use Rattle.stored_counts.proofs.Turns.{kept_stored}
-use Rattle.owned_counts.proofs.TakenOwned.{IsValue, Keeps}
-use Rattle.typed_memory.proofs.Grouped.{enum_choice}
-use Rattle.typed_holders.specs.typed_memory.inner.Worlds.{Suits, World, names}
-use Rattle.typed_holders.proofs.Data.{read_value}
-use Rattle.typed_holders.proofs.Edges.{end_forms, one_operand}
-use Rattle.typed_holders.proofs.Entries.{FitEach, operands_fit}
-use Rattle.typed_holders.proofs.GoesOn.{Running, accepted_body}
+use Rattle.stored_runs.specs.lowered_run.holder_model.Data.{Datum, ValueOf}
+use Rattle.stored_runs.specs.lowered_run.holder_model.Edges.{carried_along, carried_by, edge_of}
+use Rattle.stored_runs.specs.lowered_run.holder_model.Effects.{unchanged}
+use Rattle.stored_runs.specs.lowered_run.holder_model.Frames.{Entry, Frame, Operands, results_put}
+use Rattle.stored_runs.specs.lowered_run.holder_model.Holders.{of_references}
+use Rattle.stored_runs.specs.lowered_run.holder_model.HolderStates.{HolderNext, HolderState}
+use Rattle.stored_runs.specs.lowered_run.holder_model.ModuleFacts.{facts_of, facts_told}
+use Rattle.stored_runs.specs.lowered_run.holder_model.Outcomes.{Numbers}
+use Rattle.stored_runs.specs.lowered_run.holder_model.Standing.{stands_at}
+use Rattle.stored_runs.specs.lowered_run.holder_model.States.{Ends, Goes, Runs, Task}
+use Rattle.stored_runs.specs.lowered_run.LowStepParts.{taken_value}
+use Rattle.stored_runs.specs.holder_counts.inner.Taking.{IsBelow, references_begun, references_ended}
+use Rattle.stored_runs.specs.holder_steps.inner.Ways.{Chooses, GoesBehind, StandsAtEnd, TakesEdge, left_with, operands_in, turned}
+use Rattle.stored_runs.specs.stored_counts.inner.Numbers.{AreCounts}
+use Rattle.stored_runs.proofs.stored_counts.Turns.{kept_stored}
+use Rattle.stored_runs.proofs.owned_counts.TakenOwned.{IsValue, Keeps}
+use Rattle.stored_runs.proofs.typed_memory.Grouped.{enum_choice}
+use Rattle.stored_runs.specs.typed_holders.typed_memory.inner.Worlds.{Suits, World, names}
+use Rattle.stored_runs.proofs.typed_holders.Data.{read_value}
+use Rattle.stored_runs.proofs.typed_holders.Edges.{end_forms, one_operand}
+use Rattle.stored_runs.proofs.typed_holders.Entries.{FitEach, operands_fit}
+use Rattle.stored_runs.proofs.typed_holders.GoesOn.{Running, accepted_body}
 use Rattle.value_parts.specs.inner.Choices.{IsChoice}
 use Rattle.stored_runs.proofs.TypedEnds.{IsOfValue, case_bare, edges_by, takes_values}
 use Rattle.same_runs.proofs.CountedEdges.{Balances, IsCase, branch_balances, cond_op, br_op, one_by, switch_balances, switch_op}

@@ -9,20 +9,20 @@ use Rattle.sil_ast.specs.declared.place.ObjectId.{ObjectId}
 use Rattle.sil_cfg.specs.declared.item.Item.{Item}
 use Rattle.item_operands.specs.Items.{item_defined, item_taken}
 use Rattle.run_values.specs.Places.{Place}
-use Rattle.lowered_run.specs.holder_model.Data.{Datum}
-use Rattle.lowered_run.specs.holder_model.Effects.{Change, unchanged}
-use Rattle.lowered_run.specs.holder_model.Frames.{Entry, Frame, Gone, Held, Lent, Operands, Plain, is_held, results_put}
-use Rattle.lowered_run.specs.holder_model.HolderStates.{HolderState, in_entry, in_state}
-use Rattle.lowered_run.specs.holder_model.Holders.{of_references, one_object}
-use Rattle.lowered_run.specs.holder_model.ModuleFacts.{facts_of, facts_told}
-use Rattle.lowered_run.specs.holder_model.Outcomes.{Numbers}
-use Rattle.lowered_run.specs.holder_model.States.{Runs, Task}
-use Rattle.holder_counts.specs.inner.Taking.{IsBelow, in_entries, references_begun, references_ended}
-use Rattle.holder_counts.proofs.Moves.{items_counted}
-use Rattle.holder_counts.proofs.Sums.{total_cons}
-use Rattle.holder_steps.specs.inner.Ways.{left_with, moved, operands_in}
-use Rattle.stored_counts.specs.inner.Numbers.{AreCounts}
-use Rattle.stored_counts.proofs.Turns.{kept_stored}
+use Rattle.stored_runs.specs.lowered_run.holder_model.Data.{Datum}
+use Rattle.stored_runs.specs.lowered_run.holder_model.Effects.{Change, unchanged}
+use Rattle.stored_runs.specs.lowered_run.holder_model.Frames.{Entry, Frame, Gone, Held, Lent, Operands, Plain, is_held, results_put}
+use Rattle.stored_runs.specs.lowered_run.holder_model.HolderStates.{HolderState, in_entry, in_state}
+use Rattle.stored_runs.specs.lowered_run.holder_model.Holders.{of_references, one_object}
+use Rattle.stored_runs.specs.lowered_run.holder_model.ModuleFacts.{facts_of, facts_told}
+use Rattle.stored_runs.specs.lowered_run.holder_model.Outcomes.{Numbers}
+use Rattle.stored_runs.specs.lowered_run.holder_model.States.{Runs, Task}
+use Rattle.stored_runs.specs.holder_counts.inner.Taking.{IsBelow, in_entries, references_begun, references_ended}
+use Rattle.stored_runs.proofs.holder_counts.Moves.{items_counted}
+use Rattle.stored_runs.proofs.holder_counts.Sums.{total_cons}
+use Rattle.stored_runs.specs.holder_steps.inner.Ways.{left_with, moved, operands_in}
+use Rattle.stored_runs.specs.stored_counts.inner.Numbers.{AreCounts}
+use Rattle.stored_runs.proofs.stored_counts.Turns.{kept_stored}
 
 -- entries of which none is held hold nothing
 pub none_held : (weight : ObjectId → ℕ) (entries : List Entry) → list_any is_held entries ≡ false → in_entries weight entries ≡ 0

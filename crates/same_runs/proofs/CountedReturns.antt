@@ -6,20 +6,20 @@ use Rattle.sil_ast.specs.declared.module.Module.{Module}
 use Rattle.sil_ast.specs.declared.place.ObjectId.{ObjectId}
 use Rattle.sil_cfg.specs.declared.item.Item.TheVariants as item
 use Rattle.item_operands.specs.Items.{item_taken}
-use Rattle.lowered_run.specs.holder_model.Data.{Datum}
-use Rattle.lowered_run.specs.holder_model.Frames.{Frame, Operands}
-use Rattle.lowered_run.specs.holder_model.HolderStates.{HolderState}
-use Rattle.lowered_run.specs.holder_model.Holders.{one_object}
-use Rattle.lowered_run.specs.holder_model.ModuleFacts.{facts_of, facts_told}
-use Rattle.lowered_run.specs.holder_model.Standing.{stands_at}
-use Rattle.lowered_run.specs.holder_model.States.{Task}
-use Rattle.holder_counts.specs.inner.Naming.{in_data, in_datum}
-use Rattle.holder_counts.specs.inner.Taking.{in_entries}
-use Rattle.holder_counts.proofs.Entries.{ends_counted}
-use Rattle.holder_counts.proofs.Moves.{operands_are}
-use Rattle.holder_counts.proofs.Sums.{total_cons}
-use Rattle.owned_counts.specs.inner.CountedReturns.{ReturnsFrom}
-use Rattle.owned_counts.proofs.CountedReturns.{ended}
+use Rattle.stored_runs.specs.lowered_run.holder_model.Data.{Datum}
+use Rattle.stored_runs.specs.lowered_run.holder_model.Frames.{Frame, Operands}
+use Rattle.stored_runs.specs.lowered_run.holder_model.HolderStates.{HolderState}
+use Rattle.stored_runs.specs.lowered_run.holder_model.Holders.{one_object}
+use Rattle.stored_runs.specs.lowered_run.holder_model.ModuleFacts.{facts_of, facts_told}
+use Rattle.stored_runs.specs.lowered_run.holder_model.Standing.{stands_at}
+use Rattle.stored_runs.specs.lowered_run.holder_model.States.{Task}
+use Rattle.stored_runs.specs.holder_counts.inner.Naming.{in_data, in_datum}
+use Rattle.stored_runs.specs.holder_counts.inner.Taking.{in_entries}
+use Rattle.stored_runs.proofs.holder_counts.Entries.{ends_counted}
+use Rattle.stored_runs.proofs.holder_counts.Moves.{operands_are}
+use Rattle.stored_runs.proofs.holder_counts.Sums.{total_cons}
+use Rattle.stored_runs.specs.owned_counts.inner.CountedReturns.{ReturnsFrom}
+use Rattle.stored_runs.proofs.owned_counts.CountedReturns.{ended}
 use Rattle.same_runs.proofs.CountedMoves.{none_held}
 
 pub returned_total : (m : Module) (bound : ℕ) (s : HolderState) (rest : List (Task Frame)) (frame : Frame) (f : Function) (i : Inst) (ops : Operands) (x : Datum)

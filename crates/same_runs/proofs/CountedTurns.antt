@@ -23,46 +23,46 @@ use Rattle.type_definitions.specs.Lookups.{deinit_of}
 use Rattle.type_definitions.specs.Mentions.{given_type}
 use Rattle.type_definitions.specs.declared.kind.Kind.{Kind}
 use Rattle.type_definitions.specs.declared.kind.Kind.TheVariants as kind
-use Rattle.accepted_values.specs.accepted_modules.inner.Checked.{IsVerified}
-use Rattle.accepted_values.specs.accepted_modules.ownership_kinds.Facts.{facts_in}
-use Rattle.accepted_values.specs.inner.Handed.{IsToldOf, kind_told}
-use Rattle.accepted_values.specs.inner.Known.{IsAcceptedBody, kind_at}
-use Rattle.accepted_values.specs.run_typing.Forms.{OfValue, given_shape}
-use Rattle.accepted_values.proofs.Facts.{run_facts}
-use Rattle.accepted_values.proofs.Made.{items_of}
-use Rattle.accepted_values.proofs.Parameters.{entry_told}
-use Rattle.accepted_values.proofs.run_typing_laws.ShapeFacts.{tuple_shape}
+use Rattle.stored_runs.specs.accepted_values.accepted_modules.inner.Checked.{IsVerified}
+use Rattle.stored_runs.specs.accepted_values.accepted_modules.ownership_kinds.Facts.{facts_in}
+use Rattle.stored_runs.specs.accepted_values.inner.Handed.{IsToldOf, kind_told}
+use Rattle.stored_runs.specs.accepted_values.inner.Known.{IsAcceptedBody, kind_at}
+use Rattle.stored_runs.specs.accepted_values.run_typing.Forms.{OfValue, given_shape}
+use Rattle.stored_runs.proofs.accepted_values.Facts.{run_facts}
+use Rattle.stored_runs.proofs.accepted_values.Made.{items_of}
+use Rattle.stored_runs.proofs.accepted_values.Parameters.{entry_told}
+use Rattle.stored_runs.proofs.accepted_values.run_typing_laws.ShapeFacts.{tuple_shape}
 use Rattle.run_values.specs.Shapes.{Shape, shape_of}
 use Rattle.run_values.specs.Trivial.{is_trivial}
 use Rattle.run_values.specs.Values as value
 use Rattle.run_values.specs.Values.{Value}
-use Rattle.lowered_run.specs.holder_model.Calling.{holds_something}
-use Rattle.lowered_run.specs.holder_model.Data.{AddressOf, Datum, FunctionOf, ValueOf}
-use Rattle.lowered_run.specs.holder_model.Effects.{only, unchanged}
-use Rattle.lowered_run.specs.holder_model.Frames.{Frame, Operands, has_any}
-use Rattle.lowered_run.specs.holder_model.HolderStates.{HolderNext, HolderState, in_state}
-use Rattle.lowered_run.specs.holder_model.Holders.{of_references, one_object}
-use Rattle.lowered_run.specs.holder_model.ModuleFacts.{facts_of, facts_told}
-use Rattle.lowered_run.specs.holder_model.Outcomes.{Numbers}
-use Rattle.lowered_run.specs.holder_model.Standing.{stands_at}
-use Rattle.lowered_run.specs.holder_model.StepParts.{new_frame}
-use Rattle.lowered_run.specs.holder_model.States.{Finishes, Runs, Task}
-use Rattle.holder_counts.specs.inner.Moving.{in_tasks}
-use Rattle.holder_counts.specs.inner.Naming.{in_datum}
-use Rattle.holder_counts.specs.inner.Taking.{references_begun}
-use Rattle.holder_counts.proofs.Moves.{entries_counted, first_task}
-use Rattle.holder_steps.specs.inner.Ways.{Acts, Enters, GoesBehind, Leaves, Reaches, StandsAtEnd, left_with, operands_in, turned}
-use Rattle.stored_counts.specs.inner.Numbers.{AreCounts}
-use Rattle.stored_counts.proofs.Turns.{kept_stored, tasks_stored}
-use Rattle.owned_counts.proofs.BroughtOwned.{HoldsNothing, brings_none}
-use Rattle.owned_counts.proofs.TakenOwned.{IsValue}
-use Rattle.owned_counts.specs.inner.CountedReturns.{ReturnsFrom}
-use Rattle.owned_counts.proofs.CountedReturns.{returns_counted}
-use Rattle.typed_holders.specs.inner.TypedStates.{IsTypedState}
-use Rattle.typed_holders.proofs.Data.{IsBare, bare_where, read_value}
-use Rattle.typed_holders.proofs.GoesOn.{Running, accepted_body}
-use Rattle.typed_holders.specs.typed_memory.inner.Worlds.{DatumIs}
-use Rattle.typed_holders.proofs.Returns.{returned}
+use Rattle.stored_runs.specs.lowered_run.holder_model.Calling.{holds_something}
+use Rattle.stored_runs.specs.lowered_run.holder_model.Data.{AddressOf, Datum, FunctionOf, ValueOf}
+use Rattle.stored_runs.specs.lowered_run.holder_model.Effects.{only, unchanged}
+use Rattle.stored_runs.specs.lowered_run.holder_model.Frames.{Frame, Operands, has_any}
+use Rattle.stored_runs.specs.lowered_run.holder_model.HolderStates.{HolderNext, HolderState, in_state}
+use Rattle.stored_runs.specs.lowered_run.holder_model.Holders.{of_references, one_object}
+use Rattle.stored_runs.specs.lowered_run.holder_model.ModuleFacts.{facts_of, facts_told}
+use Rattle.stored_runs.specs.lowered_run.holder_model.Outcomes.{Numbers}
+use Rattle.stored_runs.specs.lowered_run.holder_model.Standing.{stands_at}
+use Rattle.stored_runs.specs.lowered_run.holder_model.StepParts.{new_frame}
+use Rattle.stored_runs.specs.lowered_run.holder_model.States.{Finishes, Runs, Task}
+use Rattle.stored_runs.specs.holder_counts.inner.Moving.{in_tasks}
+use Rattle.stored_runs.specs.holder_counts.inner.Naming.{in_datum}
+use Rattle.stored_runs.specs.holder_counts.inner.Taking.{references_begun}
+use Rattle.stored_runs.proofs.holder_counts.Moves.{entries_counted, first_task}
+use Rattle.stored_runs.specs.holder_steps.inner.Ways.{Acts, Enters, GoesBehind, Leaves, Reaches, StandsAtEnd, left_with, operands_in, turned}
+use Rattle.stored_runs.specs.stored_counts.inner.Numbers.{AreCounts}
+use Rattle.stored_runs.proofs.stored_counts.Turns.{kept_stored, tasks_stored}
+use Rattle.stored_runs.proofs.owned_counts.BroughtOwned.{HoldsNothing, brings_none}
+use Rattle.stored_runs.proofs.owned_counts.TakenOwned.{IsValue}
+use Rattle.stored_runs.specs.owned_counts.inner.CountedReturns.{ReturnsFrom}
+use Rattle.stored_runs.proofs.owned_counts.CountedReturns.{returns_counted}
+use Rattle.stored_runs.specs.typed_holders.inner.TypedStates.{IsTypedState}
+use Rattle.stored_runs.proofs.typed_holders.Data.{IsBare, bare_where, read_value}
+use Rattle.stored_runs.proofs.typed_holders.GoesOn.{Running, accepted_body}
+use Rattle.stored_runs.specs.typed_holders.typed_memory.inner.Worlds.{DatumIs}
+use Rattle.stored_runs.proofs.typed_holders.Returns.{returned}
 use Rattle.same_runs.proofs.CountedEnds.{CountedNext, branch_counted, chosen_counted}
 use Rattle.same_runs.proofs.CountedReturns.{returned_total}
 use Rattle.same_runs.proofs.DeinitBodies.{HasDeinit, deinit_body}

@@ -10,14 +10,14 @@ use Rattle.sil_ast.specs.declared.place.FuncId.{FuncId}
 use Rattle.sil_ast.specs.declared.vtable.DeinitEntry.{DeinitEntry}
 use Rattle.sil_ast.specs.declared.vtable.Vtable.{Vtable}
 use Rattle.sil_rules.specs.declared.rule.Rule.TheVariants as rule
-use Rattle.accepted_values.specs.accepted_modules.inner.Checked.{IsVerified}
-use Rattle.accepted_values.specs.accepted_modules.sil_types.Typing.Same.{is_same_signature}
-use Rattle.accepted_values.specs.accepted_modules.sil_types.Typing.SignatureRules.{deinit_signature, has_wrong_deinitialiser, is_deinitialiser, is_external, names_deinitialiser}
-use Rattle.accepted_values.specs.accepted_modules.sil_types.Typing.Typed.{at_vtable, deinit_signature as breaks_deinit, vtable}
-use Rattle.accepted_values.proofs.Accepted.{well_typed}
-use Rattle.accepted_values.proofs.run_typing_laws.Found.{both_first, both_second, named_at, not_false}
-use Rattle.accepted_values.proofs.run_typing_laws.Rows.Finding.{mapped_from, never_passes, passed}
-use Rattle.accepted_values.proofs.run_typing_laws.SameFacts.{same_signatures}
+use Rattle.stored_runs.specs.accepted_values.accepted_modules.inner.Checked.{IsVerified}
+use Rattle.stored_runs.specs.accepted_values.accepted_modules.sil_types.Typing.Same.{is_same_signature}
+use Rattle.stored_runs.specs.accepted_values.accepted_modules.sil_types.Typing.SignatureRules.{deinit_signature, has_wrong_deinitialiser, is_deinitialiser, is_external, names_deinitialiser}
+use Rattle.stored_runs.specs.accepted_values.accepted_modules.sil_types.Typing.Typed.{at_vtable, deinit_signature as breaks_deinit, vtable}
+use Rattle.stored_runs.proofs.accepted_values.Accepted.{well_typed}
+use Rattle.stored_runs.proofs.accepted_values.run_typing_laws.Found.{both_first, both_second, named_at, not_false}
+use Rattle.stored_runs.proofs.accepted_values.run_typing_laws.Rows.Finding.{mapped_from, never_passes, passed}
+use Rattle.stored_runs.proofs.accepted_values.run_typing_laws.SameFacts.{same_signatures}
 use Rattle.type_definitions.specs.Declarations.{at_place, declarations_of, place_of}
 use Rattle.type_definitions.specs.Lookups.{deinit_in, deinit_of}
 

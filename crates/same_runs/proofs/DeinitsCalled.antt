@@ -12,24 +12,24 @@ use Rattle.sil_cfg.specs.declared.item.Item.TheVariants as item
 use Rattle.item_operands.specs.Parts.{inst_at}
 use Rattle.type_definitions.specs.Declarations.{declarations_of}
 use Rattle.run_values.specs.Memory.{object_at}
-use Rattle.lowered_run.specs.holder_model.Data.{Datum}
-use Rattle.lowered_run.specs.holder_model.Dropping.{field_references}
-use Rattle.lowered_run.specs.holder_model.Effects as effects
-use Rattle.lowered_run.specs.holder_model.Effects.{Change}
-use Rattle.lowered_run.specs.holder_model.Faults.{HolderFault}
-use Rattle.lowered_run.specs.holder_model.Frames.{Frame}
-use Rattle.lowered_run.specs.holder_model.HolderStates.{HolderNext, HolderState}
-use Rattle.lowered_run.specs.holder_model.ModuleFacts.{ModuleFacts, facts_of}
-use Rattle.lowered_run.specs.holder_model.Standing.{stands_at}
-use Rattle.lowered_run.specs.holder_model.States.{Ends, Goes, Runs, Task, dropping}
-use Rattle.lowered_run.specs.holder_model.Steps as steps
-use Rattle.holder_steps.specs.inner.Ways.{Acts, DropsOne, Enters, FinishesOne, GoesBehind, Leaves, Performs, Reaches, StepsBy, TakesEdge, left_with, lent_at}
-use Rattle.holder_steps.proofs.StepsTold.{steps_told}
-use Rattle.holder_steps.proofs.TaskStacks.{below_another, going_dropping}
-use Rattle.typed_holders.specs.inner.TypedStates.{IsTypedState, TasksAre}
-use Rattle.holder_steps.specs.inner.Stacks.{Below, Going}
-use Rattle.lowered_run.specs.holder_model.Outcomes.{begins}
-use Rattle.lowered_run.specs.holder_model.StepParts.{new_frame}
+use Rattle.stored_runs.specs.lowered_run.holder_model.Data.{Datum}
+use Rattle.stored_runs.specs.lowered_run.holder_model.Dropping.{field_references}
+use Rattle.stored_runs.specs.lowered_run.holder_model.Effects as effects
+use Rattle.stored_runs.specs.lowered_run.holder_model.Effects.{Change}
+use Rattle.stored_runs.specs.lowered_run.holder_model.Faults.{HolderFault}
+use Rattle.stored_runs.specs.lowered_run.holder_model.Frames.{Frame}
+use Rattle.stored_runs.specs.lowered_run.holder_model.HolderStates.{HolderNext, HolderState}
+use Rattle.stored_runs.specs.lowered_run.holder_model.ModuleFacts.{ModuleFacts, facts_of}
+use Rattle.stored_runs.specs.lowered_run.holder_model.Standing.{stands_at}
+use Rattle.stored_runs.specs.lowered_run.holder_model.States.{Ends, Goes, Runs, Task, dropping}
+use Rattle.stored_runs.specs.lowered_run.holder_model.Steps as steps
+use Rattle.stored_runs.specs.holder_steps.inner.Ways.{Acts, DropsOne, Enters, FinishesOne, GoesBehind, Leaves, Performs, Reaches, StepsBy, TakesEdge, left_with, lent_at}
+use Rattle.stored_runs.proofs.holder_steps.StepsTold.{steps_told}
+use Rattle.stored_runs.proofs.holder_steps.TaskStacks.{below_another, going_dropping}
+use Rattle.stored_runs.specs.typed_holders.inner.TypedStates.{IsTypedState, TasksAre}
+use Rattle.stored_runs.specs.holder_steps.inner.Stacks.{Below, Going}
+use Rattle.stored_runs.specs.lowered_run.holder_model.Outcomes.{begins}
+use Rattle.stored_runs.specs.lowered_run.holder_model.StepParts.{new_frame}
 use Rattle.numbered_form.specs.Names.{Name}
 use Rattle.type_definitions.specs.Lookups.{deinit_of}
 

@@ -10,28 +10,28 @@ use Rattle.run_values.specs.declared.phase.Phase.TheVariants.{Deiniting}
 use Rattle.run_values.specs.Cells.{Cell, Empty, cell_count, in_cells}
 use Rattle.run_values.specs.Memory.{Memory, is_dead, object_at, with_object}
 use Rattle.run_values.specs.Places.{Home, Inside, OnStack, home_cells}
-use Rattle.lowered_run.specs.holder_model.declared.trap.Trap.TheVariants as trap
-use Rattle.lowered_run.specs.holder_model.Dropping.{ended, field_references, in_phase}
-use Rattle.lowered_run.specs.holder_model.Frames.{Frame}
-use Rattle.lowered_run.specs.holder_model.HolderStates.{HolderNext, HolderState, strong_holders}
-use Rattle.lowered_run.specs.holder_model.Holders.{kept_references, one_object}
-use Rattle.lowered_run.specs.holder_model.ModuleFacts.{facts_of}
-use Rattle.lowered_run.specs.holder_model.ModuleShapes.{ModuleShapes, shapes_of}
-use Rattle.lowered_run.specs.holder_model.Outcomes.{Numbers}
-use Rattle.lowered_run.specs.holder_model.States.{Drops, Ends, Finishes, Goes, Task, Trapped, dropping}
-use Rattle.lowered_run.specs.LowFrames.{LowFrame}
-use Rattle.lowered_run.specs.LowStepParts.{LowNext, LowState}
-use Rattle.lowered_run.specs.LowSteps as steps
-use Rattle.lowered_run.specs.Stored.{unnamed}
-use Rattle.lowering_laws.specs.lowering_model.LoweredModules.{lowered}
-use Rattle.holder_steps.specs.inner.Ways as holder
-use Rattle.lowered_steps.specs.inner.LowWays as ways
-use Rattle.lowered_steps.proofs.LowTaken.{told_taken}
-use Rattle.holder_counts.specs.inner.Moving.{in_tasks}
-use Rattle.holder_counts.proofs.Moves.{deinits_counted, drops_counted}
-use Rattle.holder_counts.proofs.Places.{phases_counted}
-use Rattle.stored_counts.specs.inner.Numbers.{AreCounts, AreNamesStored, holders_of}
-use Rattle.stored_counts.proofs.Turns.{deaths_stored, same_numbers, tasks_stored}
+use Rattle.stored_runs.specs.lowered_run.holder_model.declared.trap.Trap.TheVariants as trap
+use Rattle.stored_runs.specs.lowered_run.holder_model.Dropping.{ended, field_references, in_phase}
+use Rattle.stored_runs.specs.lowered_run.holder_model.Frames.{Frame}
+use Rattle.stored_runs.specs.lowered_run.holder_model.HolderStates.{HolderNext, HolderState, strong_holders}
+use Rattle.stored_runs.specs.lowered_run.holder_model.Holders.{kept_references, one_object}
+use Rattle.stored_runs.specs.lowered_run.holder_model.ModuleFacts.{facts_of}
+use Rattle.stored_runs.specs.lowered_run.holder_model.ModuleShapes.{ModuleShapes, shapes_of}
+use Rattle.stored_runs.specs.lowered_run.holder_model.Outcomes.{Numbers}
+use Rattle.stored_runs.specs.lowered_run.holder_model.States.{Drops, Ends, Finishes, Goes, Task, Trapped, dropping}
+use Rattle.stored_runs.specs.lowered_run.LowFrames.{LowFrame}
+use Rattle.stored_runs.specs.lowered_run.LowStepParts.{LowNext, LowState}
+use Rattle.stored_runs.specs.lowered_run.LowSteps as steps
+use Rattle.stored_runs.specs.lowered_run.Stored.{unnamed}
+use Rattle.stored_runs.specs.lowering_laws.lowering_model.LoweredModules.{lowered}
+use Rattle.stored_runs.specs.holder_steps.inner.Ways as holder
+use Rattle.stored_runs.specs.lowered_steps.inner.LowWays as ways
+use Rattle.stored_runs.proofs.lowered_steps.LowTaken.{told_taken}
+use Rattle.stored_runs.specs.holder_counts.inner.Moving.{in_tasks}
+use Rattle.stored_runs.proofs.holder_counts.Moves.{deinits_counted, drops_counted}
+use Rattle.stored_runs.proofs.holder_counts.Places.{phases_counted}
+use Rattle.stored_runs.specs.stored_counts.inner.Numbers.{AreCounts, AreNamesStored, holders_of}
+use Rattle.stored_runs.proofs.stored_counts.Turns.{deaths_stored, same_numbers, tasks_stored}
 use Rattle.stored_runs.specs.inner.Frames.{AreTasksFor, HasFullParts}
 use Rattle.stored_runs.specs.inner.Memories.{AreCellsFor, IsCellFor}
 use Rattle.stored_runs.specs.inner.Runs.{IsEndingFor}

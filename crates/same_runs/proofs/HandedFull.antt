@@ -12,26 +12,26 @@ use Rattle.argument_conventions.specs.declared.row.Content.TheVariants as conten
 use Rattle.item_operands.specs.Items.{item_defined, item_taken}
 use Rattle.item_operands.specs.declared.taken.Taken.{Taken}
 use Rattle.numbered_form.specs.Lists.{Each}
-use Rattle.guarded_entries.proofs.held_places.CallsPlaced as placed
-use Rattle.guarded_entries.proofs.held_places.CallsPlaced.{CallsBody}
-use Rattle.guarded_entries.proofs.held_places.FirstFrames.{IsFirst, body}
-use Rattle.guarded_entries.proofs.held_places.Keeping.{slot_no_part}
-use Rattle.guarded_entries.proofs.held_places.Lending.{lent_by_one, part_full}
-use Rattle.guarded_entries.proofs.held_places.Reading.{operand_within}
-use Rattle.guarded_entries.proofs.held_places.TrailsSo.{trail_laws}
-use Rattle.guarded_entries.proofs.held_places.TypingSo.{typing_laws}
-use Rattle.guarded_entries.proofs.held_places.placed_values.ArgumentsTold.{entry_source}
-use Rattle.guarded_entries.specs.held_places.accepted_memory.memory_accesses.Operations.{operations_of}
-use Rattle.guarded_entries.specs.held_places.accepted_memory.memory_accesses.Rows.{is_part}
-use Rattle.guarded_entries.specs.held_places.accepted_memory.memory_accesses.Sources.{argument_source_or, handed_source, source_at, sources_of}
-use Rattle.guarded_entries.specs.held_places.accepted_memory.memory_accesses.declared.source.Source.{Source}
-use Rattle.guarded_entries.specs.held_places.accepted_memory.memory_accesses.declared.source.Source.TheVariants as source
-use Rattle.guarded_entries.specs.held_places.accepted_places.inner.Stacks.{slots_on}
-use Rattle.guarded_entries.specs.held_places.inner.FramePlaces.{HoldsPlaces, Names}
-use Rattle.guarded_entries.specs.held_places.inner.PlaceStates.{AreLentBy, TasksPlaced}
-use Rattle.guarded_entries.specs.held_places.inner.Premises.{HandsOver, ReadsOperands}
-use Rattle.guarded_entries.specs.held_places.inner.Roots.{IsThere}
-use Rattle.guarded_entries.specs.held_places.inner.TakenPlaces.{AreAlike}
+use Rattle.stored_runs.proofs.guarded_entries.held_places.CallsPlaced as placed
+use Rattle.stored_runs.proofs.guarded_entries.held_places.CallsPlaced.{CallsBody}
+use Rattle.stored_runs.proofs.guarded_entries.held_places.FirstFrames.{IsFirst, body}
+use Rattle.stored_runs.proofs.guarded_entries.held_places.Keeping.{slot_no_part}
+use Rattle.stored_runs.proofs.guarded_entries.held_places.Lending.{lent_by_one, part_full}
+use Rattle.stored_runs.proofs.guarded_entries.held_places.Reading.{operand_within}
+use Rattle.stored_runs.proofs.guarded_entries.held_places.TrailsSo.{trail_laws}
+use Rattle.stored_runs.proofs.guarded_entries.held_places.TypingSo.{typing_laws}
+use Rattle.stored_runs.proofs.guarded_entries.held_places.placed_values.ArgumentsTold.{entry_source}
+use Rattle.stored_runs.specs.guarded_entries.held_places.accepted_memory.memory_accesses.Operations.{operations_of}
+use Rattle.stored_runs.specs.guarded_entries.held_places.accepted_memory.memory_accesses.Rows.{is_part}
+use Rattle.stored_runs.specs.guarded_entries.held_places.accepted_memory.memory_accesses.Sources.{argument_source_or, handed_source, source_at, sources_of}
+use Rattle.stored_runs.specs.guarded_entries.held_places.accepted_memory.memory_accesses.declared.source.Source.{Source}
+use Rattle.stored_runs.specs.guarded_entries.held_places.accepted_memory.memory_accesses.declared.source.Source.TheVariants as source
+use Rattle.stored_runs.specs.guarded_entries.held_places.accepted_places.inner.Stacks.{slots_on}
+use Rattle.stored_runs.specs.guarded_entries.held_places.inner.FramePlaces.{HoldsPlaces, Names}
+use Rattle.stored_runs.specs.guarded_entries.held_places.inner.PlaceStates.{AreLentBy, TasksPlaced}
+use Rattle.stored_runs.specs.guarded_entries.held_places.inner.Premises.{HandsOver, ReadsOperands}
+use Rattle.stored_runs.specs.guarded_entries.held_places.inner.Roots.{IsThere}
+use Rattle.stored_runs.specs.guarded_entries.held_places.inner.TakenPlaces.{AreAlike}
 use Rattle.point_checks.proofs.Among.{Among, among_left, among_right}
 use Rattle.run_values.specs.Memory.{Memory}
 use Rattle.run_values.specs.Places.{Place, is_there_at, value_at}
@@ -41,25 +41,25 @@ use Rattle.sil_ast.specs.declared.place.FuncId.{FuncId}
 use Rattle.sil_ast.specs.declared.place.ValueId.{ValueId}
 use Rattle.sil_cfg.specs.declared.item.Item.TheVariants as item
 use Rattle.type_definitions.specs.Declarations.{Declarations, declarations_of}
-use Rattle.accepted_trails.proofs.Tests.{each_among}
-use Rattle.accepted_trails.proofs.run_trails.WalkEdges.{are_next}
-use Rattle.accepted_trails.specs.inner.Defined.{makes}
-use Rattle.accepted_trails.specs.run_trails.inner.RunTrails.{IsRunTrail}
-use Rattle.accepted_values.specs.accepted_modules.inner.Checked.{IsVerified}
-use Rattle.accepted_values.specs.inner.Known.{IsAcceptedBody}
-use Rattle.accepted_runs.specs.inner.RightStates.{IsRightState}
-use Rattle.lowered_run.specs.holder_model.Calling.{are_as_before, is_as_before, lent_by, lent_places, lent_with}
-use Rattle.lowered_run.specs.holder_model.Data.{AddressOf, Datum, as_place}
-use Rattle.lowered_run.specs.holder_model.Effects as effects
-use Rattle.lowered_run.specs.holder_model.Frames.{Frame, LentPlace, has_any}
-use Rattle.lowered_run.specs.holder_model.HolderStates.{HolderState}
-use Rattle.lowered_run.specs.holder_model.MemoryEffects.{holds}
-use Rattle.lowered_run.specs.holder_model.ModuleFacts.{facts_of, facts_told}
-use Rattle.lowered_run.specs.holder_model.ModuleShapes.{shapes_in, shapes_of}
-use Rattle.lowered_run.specs.holder_model.Standing.{stands_at}
-use Rattle.lowered_run.specs.holder_model.States.{Runs, Task}
-use Rattle.typed_holders.specs.inner.TypedStates.{FrameIs, TasksAre}
-use Rattle.typed_holders.proofs.GoesOn.{accepted_body}
+use Rattle.stored_runs.proofs.accepted_trails.Tests.{each_among}
+use Rattle.stored_runs.proofs.accepted_trails.run_trails.WalkEdges.{are_next}
+use Rattle.stored_runs.specs.accepted_trails.inner.Defined.{makes}
+use Rattle.stored_runs.specs.accepted_trails.run_trails.inner.RunTrails.{IsRunTrail}
+use Rattle.stored_runs.specs.accepted_values.accepted_modules.inner.Checked.{IsVerified}
+use Rattle.stored_runs.specs.accepted_values.inner.Known.{IsAcceptedBody}
+use Rattle.stored_runs.specs.accepted_runs.inner.RightStates.{IsRightState}
+use Rattle.stored_runs.specs.lowered_run.holder_model.Calling.{are_as_before, is_as_before, lent_by, lent_places, lent_with}
+use Rattle.stored_runs.specs.lowered_run.holder_model.Data.{AddressOf, Datum, as_place}
+use Rattle.stored_runs.specs.lowered_run.holder_model.Effects as effects
+use Rattle.stored_runs.specs.lowered_run.holder_model.Frames.{Frame, LentPlace, has_any}
+use Rattle.stored_runs.specs.lowered_run.holder_model.HolderStates.{HolderState}
+use Rattle.stored_runs.specs.lowered_run.holder_model.MemoryEffects.{holds}
+use Rattle.stored_runs.specs.lowered_run.holder_model.ModuleFacts.{facts_of, facts_told}
+use Rattle.stored_runs.specs.lowered_run.holder_model.ModuleShapes.{shapes_in, shapes_of}
+use Rattle.stored_runs.specs.lowered_run.holder_model.Standing.{stands_at}
+use Rattle.stored_runs.specs.lowered_run.holder_model.States.{Runs, Task}
+use Rattle.stored_runs.specs.typed_holders.inner.TypedStates.{FrameIs, TasksAre}
+use Rattle.stored_runs.proofs.typed_holders.GoesOn.{accepted_body}
 use Rattle.stored_runs.specs.inner.CallsAlong.{lent_in}
 use Rattle.stored_runs.specs.inner.Entering.{IsAddressFor, IsFullPart}
 use Rattle.same_runs.specs.inner.Owed.{ArePartsHandedFull, AtInst, effect_there}

@@ -7,17 +7,17 @@ use Rattle.argument_conventions.specs.Rows.{address_row}
 use Rattle.argument_conventions.specs.declared.row.AddressRow.{AddressRow}
 use Rattle.item_operands.specs.Items.{item_defined}
 use Rattle.numbered_form.specs.Lists.{Each}
-use Rattle.guarded_entries.proofs.held_places.accepted_places.Fields.{has_among}
-use Rattle.guarded_entries.proofs.held_places.accepted_places.Naming.{MakesAddress, address_made}
-use Rattle.guarded_entries.proofs.held_places.accepted_values.Counted.{stands}
-use Rattle.guarded_entries.proofs.held_places.placed_values.ArgumentsTold.{entry_source}
-use Rattle.guarded_entries.specs.held_places.accepted_memory.memory_accesses.Sources.{argument_source_or, handed_source, source_at, sources_of}
-use Rattle.guarded_entries.specs.held_places.accepted_memory.memory_accesses.declared.source.Source.{Source}
-use Rattle.guarded_entries.specs.held_places.accepted_memory.memory_accesses.declared.source.Source.TheVariants as source
-use Rattle.guarded_entries.specs.held_places.accepted_places.inner.Located.{IsRoot}
-use Rattle.guarded_entries.specs.held_places.inner.FramePlaces.{HoldsPlaces}
-use Rattle.guarded_entries.specs.held_places.inner.PlaceStates.{BelowPlaced, TasksPlaced}
-use Rattle.guarded_entries.specs.held_places.inner.Roots.{argument}
+use Rattle.stored_runs.proofs.guarded_entries.held_places.accepted_places.Fields.{has_among}
+use Rattle.stored_runs.proofs.guarded_entries.held_places.accepted_places.Naming.{MakesAddress, address_made}
+use Rattle.stored_runs.proofs.guarded_entries.held_places.accepted_values.Counted.{stands}
+use Rattle.stored_runs.proofs.guarded_entries.held_places.placed_values.ArgumentsTold.{entry_source}
+use Rattle.stored_runs.specs.guarded_entries.held_places.accepted_memory.memory_accesses.Sources.{argument_source_or, handed_source, source_at, sources_of}
+use Rattle.stored_runs.specs.guarded_entries.held_places.accepted_memory.memory_accesses.declared.source.Source.{Source}
+use Rattle.stored_runs.specs.guarded_entries.held_places.accepted_memory.memory_accesses.declared.source.Source.TheVariants as source
+use Rattle.stored_runs.specs.guarded_entries.held_places.accepted_places.inner.Located.{IsRoot}
+use Rattle.stored_runs.specs.guarded_entries.held_places.inner.FramePlaces.{HoldsPlaces}
+use Rattle.stored_runs.specs.guarded_entries.held_places.inner.PlaceStates.{BelowPlaced, TasksPlaced}
+use Rattle.stored_runs.specs.guarded_entries.held_places.inner.Roots.{argument}
 use Rattle.point_checks.proofs.Among.{contained_among}
 use Rattle.run_values.specs.Cells.{cell_count, in_cells}
 use Rattle.run_values.specs.Memory.{Memory, object_at, with_object}
@@ -30,24 +30,24 @@ use Rattle.sil_ast.specs.declared.place.ValueId.{ValueId}
 use Rattle.sil_cfg.specs.declared.item.Item.{Item}
 use Rattle.sil_cfg.specs.declared.item.Item.TheVariants as item
 use Rattle.type_definitions.specs.Declarations.{Declarations, declarations_of}
-use Rattle.accepted_trails.specs.inner.Defined.{makes}
-use Rattle.accepted_trails.specs.run_trails.inner.RunTrails.{ComesFirst, GoesOn, IsRunTrail}
-use Rattle.accepted_trails.specs.run_trails.inner.Since.{is_none_since}
-use Rattle.accepted_values.specs.accepted_modules.inner.Checked.{IsVerified}
-use Rattle.accepted_values.specs.inner.Known.{IsAcceptedBody}
-use Rattle.lowered_run.specs.holder_model.Calling.{as_argument}
-use Rattle.lowered_run.specs.holder_model.Data.{AddressOf, Datum, as_place}
-use Rattle.lowered_run.specs.holder_model.Dropping.{ended}
-use Rattle.lowered_run.specs.holder_model.Frames.{Frame}
-use Rattle.lowered_run.specs.holder_model.States.{Drops, Finishes, Runs, Task}
-use Rattle.lowered_run.specs.LowFrames as low_frames
-use Rattle.lowered_run.specs.LowFrames.{LowFrame}
-use Rattle.lowering_laws.specs.ownership_origins.Renamings.{renamings_of}
-use Rattle.lowering_laws.specs.lowering_model.Names.{stands_for}
-use Rattle.typed_holders.specs.inner.TypedStates.{DeinitsTyped, DroppedTyped, FinishedTyped, FrameIs, GoesTyped, TasksAre, WaitsTyped}
-use Rattle.typed_holders.specs.holder_steps.inner.Stacks.{Below}
-use Rattle.typed_holders.specs.typed_memory.inner.Worlds.{World}
-use Rattle.typed_holders.proofs.GoesOn.{accepted_body}
+use Rattle.stored_runs.specs.accepted_trails.inner.Defined.{makes}
+use Rattle.stored_runs.specs.accepted_trails.run_trails.inner.RunTrails.{ComesFirst, GoesOn, IsRunTrail}
+use Rattle.stored_runs.specs.accepted_trails.run_trails.inner.Since.{is_none_since}
+use Rattle.stored_runs.specs.accepted_values.accepted_modules.inner.Checked.{IsVerified}
+use Rattle.stored_runs.specs.accepted_values.inner.Known.{IsAcceptedBody}
+use Rattle.stored_runs.specs.lowered_run.holder_model.Calling.{as_argument}
+use Rattle.stored_runs.specs.lowered_run.holder_model.Data.{AddressOf, Datum, as_place}
+use Rattle.stored_runs.specs.lowered_run.holder_model.Dropping.{ended}
+use Rattle.stored_runs.specs.lowered_run.holder_model.Frames.{Frame}
+use Rattle.stored_runs.specs.lowered_run.holder_model.States.{Drops, Finishes, Runs, Task}
+use Rattle.stored_runs.specs.lowered_run.LowFrames as low_frames
+use Rattle.stored_runs.specs.lowered_run.LowFrames.{LowFrame}
+use Rattle.stored_runs.specs.lowering_laws.ownership_origins.Renamings.{renamings_of}
+use Rattle.stored_runs.specs.lowering_laws.lowering_model.Names.{stands_for}
+use Rattle.stored_runs.specs.typed_holders.inner.TypedStates.{DeinitsTyped, DroppedTyped, FinishedTyped, FrameIs, GoesTyped, TasksAre, WaitsTyped}
+use Rattle.stored_runs.specs.typed_holders.holder_steps.inner.Stacks.{Below}
+use Rattle.stored_runs.specs.typed_holders.typed_memory.inner.Worlds.{World}
+use Rattle.stored_runs.proofs.typed_holders.GoesOn.{accepted_body}
 use Rattle.stored_runs.specs.inner.Frames.{AreTasksFor, AreValuesFor, HasFullParts, IsDatumFor, IsFrameFor, IsGivenPlace, IsTaskFor}
 use Rattle.stored_runs.specs.inner.Lowering.{IsOwnName}
 use Rattle.stored_runs.specs.inner.Names.{IsCurrent, lowered_number}

@@ -5,15 +5,15 @@ use Rattle.sil_ast.specs.declared.place.ObjectId.{ObjectId}
 use Rattle.run_values.specs.declared.phase.Phase.{Phase}
 use Rattle.run_values.specs.declared.phase.Phase.TheVariants.{Dead, Deiniting, Live}
 use Rattle.run_values.specs.Memory.{is_dead, is_dead_phase, phase_of}
-use Rattle.lowered_run.specs.holder_model.Frames.{Frame}
-use Rattle.lowered_run.specs.holder_model.HolderStates.{HolderState}
-use Rattle.lowered_run.specs.holder_model.Holders.{one_object}
-use Rattle.lowered_run.specs.holder_model.States.{Finishes, Task}
-use Rattle.accepted_runs.specs.inner.RightStates.{IsRightState}
-use Rattle.followed_objects.specs.inner.Said.{said}
-use Rattle.guarded_entries.specs.inner.GuardedStates.{finishes_of, is_deiniting_phase}
-use Rattle.held_objects.specs.inner.ObjectStates.{TasksBuild}
-use Rattle.stored_counts.proofs.Turns.{one_itself}
+use Rattle.stored_runs.specs.lowered_run.holder_model.Frames.{Frame}
+use Rattle.stored_runs.specs.lowered_run.holder_model.HolderStates.{HolderState}
+use Rattle.stored_runs.specs.lowered_run.holder_model.Holders.{one_object}
+use Rattle.stored_runs.specs.lowered_run.holder_model.States.{Finishes, Task}
+use Rattle.stored_runs.specs.accepted_runs.inner.RightStates.{IsRightState}
+use Rattle.stored_runs.specs.followed_objects.inner.Said.{said}
+use Rattle.stored_runs.specs.guarded_entries.inner.GuardedStates.{finishes_of, is_deiniting_phase}
+use Rattle.stored_runs.specs.held_objects.inner.ObjectStates.{TasksBuild}
+use Rattle.stored_runs.proofs.stored_counts.Turns.{one_itself}
 use Rattle.same_runs.proofs.Finishing.{FinishesWhole}
 
 module _ (m : Module) (s : HolderState) (right : IsRightState m s) (o : ObjectId) (rest : List (Task Frame)) (is : s.tasks ≡ Finishes [] o ∷ rest) where

@@ -11,14 +11,14 @@ use Rattle.sil_ast.specs.declared.place.PointId.{PointId}
 use Rattle.sil_cfg.specs.declared.item.Item.TheVariants as item
 use Rattle.item_operands.specs.Parts.{inst_at, inst_in}
 use Rattle.run_values.specs.Places.{Place}
-use Rattle.lowered_run.specs.holder_model.Effects.{Change}
-use Rattle.lowered_run.specs.holder_model.Frames.{Entry, Frame}
-use Rattle.lowered_run.specs.holder_model.HolderStates.{HolderState}
-use Rattle.lowered_run.specs.holder_model.Standing.{point_behind, stands_at}
-use Rattle.lowered_run.specs.holder_model.States.{Drops, Runs, Task, dropping}
-use Rattle.lowered_run.specs.LowFrames.{LowFrame}
-use Rattle.lowered_run.specs.LowStepParts.{LowState}
-use Rattle.stored_counts.specs.inner.Numbers.{AreCounts}
+use Rattle.stored_runs.specs.lowered_run.holder_model.Effects.{Change}
+use Rattle.stored_runs.specs.lowered_run.holder_model.Frames.{Entry, Frame}
+use Rattle.stored_runs.specs.lowered_run.holder_model.HolderStates.{HolderState}
+use Rattle.stored_runs.specs.lowered_run.holder_model.Standing.{point_behind, stands_at}
+use Rattle.stored_runs.specs.lowered_run.holder_model.States.{Drops, Runs, Task, dropping}
+use Rattle.stored_runs.specs.lowered_run.LowFrames.{LowFrame}
+use Rattle.stored_runs.specs.lowered_run.LowStepParts.{LowState}
+use Rattle.stored_runs.specs.stored_counts.inner.Numbers.{AreCounts}
 use Rattle.stored_runs.specs.inner.Frames.{AreTasksFor, IsTaskFor}
 use Rattle.stored_runs.specs.inner.PlaceRows.{GoesAlong, LowGoes}
 use Rattle.stored_runs.specs.inner.Points.{insts_of}

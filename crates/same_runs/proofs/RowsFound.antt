@@ -3,21 +3,21 @@ use Rattle.std.proofs.Common.{◌≡◌, ℕ, ◌∷◌, refl, sym, ◌∙◌, s
 use Rattle.std.proofs.lemmas.Option.{same_Some}
 use Rattle.sil_ast.specs.declared.module.Module.{Module}
 use Rattle.sil_cfg.specs.declared.item.Item.TheVariants as item
-use Rattle.accepted_trails.proofs.Unbroken.{are_accepted}
-use Rattle.accepted_trails.proofs.run_trails.RunPaths.{are_trails}
-use Rattle.accepted_trails.proofs.run_trails.TurnedTrails.{turned_item}
-use Rattle.accepted_trails.proofs.run_trails.WalkEdges.{are_next}
-use Rattle.accepted_trails.specs.run_trails.inner.RunTrails.{IsTurnedTrail}
-use Rattle.accepted_values.specs.inner.Known.{IsAcceptedBody}
-use Rattle.lowered_run.specs.holder_model.HolderStates.{HolderNext, HolderState}
-use Rattle.lowered_run.specs.holder_model.Outcomes.{outcome_at}
-use Rattle.lowered_run.specs.holder_model.Standing.{stands_at}
-use Rattle.lowered_run.specs.holder_model.States.{Ends, Runs, Trapped}
-use Rattle.lowered_run.specs.holder_model.declared.trap.Trap.{Trap}
-use Rattle.lowered_run.specs.LowOutcomes.{low_outcome_at}
-use Rattle.lowered_run.specs.LowStepParts.{LowNext, LowState}
-use Rattle.typed_holders.specs.inner.TypedStates.{FrameIs, TasksAre}
-use Rattle.typed_holders.proofs.GoesOn.{accepted_body, typed_module}
+use Rattle.stored_runs.proofs.accepted_trails.Unbroken.{are_accepted}
+use Rattle.stored_runs.proofs.accepted_trails.run_trails.RunPaths.{are_trails}
+use Rattle.stored_runs.proofs.accepted_trails.run_trails.TurnedTrails.{turned_item}
+use Rattle.stored_runs.proofs.accepted_trails.run_trails.WalkEdges.{are_next}
+use Rattle.stored_runs.specs.accepted_trails.run_trails.inner.RunTrails.{IsTurnedTrail}
+use Rattle.stored_runs.specs.accepted_values.inner.Known.{IsAcceptedBody}
+use Rattle.stored_runs.specs.lowered_run.holder_model.HolderStates.{HolderNext, HolderState}
+use Rattle.stored_runs.specs.lowered_run.holder_model.Outcomes.{outcome_at}
+use Rattle.stored_runs.specs.lowered_run.holder_model.Standing.{stands_at}
+use Rattle.stored_runs.specs.lowered_run.holder_model.States.{Ends, Runs, Trapped}
+use Rattle.stored_runs.specs.lowered_run.holder_model.declared.trap.Trap.{Trap}
+use Rattle.stored_runs.specs.lowered_run.LowOutcomes.{low_outcome_at}
+use Rattle.stored_runs.specs.lowered_run.LowStepParts.{LowNext, LowState}
+use Rattle.stored_runs.specs.typed_holders.inner.TypedStates.{FrameIs, TasksAre}
+use Rattle.stored_runs.proofs.typed_holders.GoesOn.{accepted_body, typed_module}
 use Rattle.stored_runs.specs.inner.Along.{IsNextAlong}
 use Rattle.stored_runs.specs.inner.FrameSteps.{StepsAlong}
 use Rattle.stored_runs.specs.inner.Lowering.{LowersSo}

@@ -7,20 +7,20 @@ use Rattle.sil_ast.specs.declared.function.Function.{Function}
 use Rattle.sil_ast.specs.declared.module.Module.{Module}
 use Rattle.sil_ast.specs.declared.place.FuncId.{FuncId}
 use Rattle.type_definitions.specs.Declarations.{declarations_of}
-use Rattle.accepted_values.specs.accepted_modules.inner.Checked.{IsVerified}
-use Rattle.lowered_run.specs.holder_model.Faults.{HolderFault}
-use Rattle.lowered_run.specs.holder_model.HolderStates.{HolderNext, HolderState}
-use Rattle.lowered_run.specs.holder_model.ModuleFacts.{facts_of}
-use Rattle.lowered_run.specs.holder_model.ModuleShapes.{shapes_of}
-use Rattle.lowered_run.specs.holder_model.Outcomes.{EndsSo, Outcome, begins, may_start, outcome_after, outcome_at, run}
-use Rattle.lowered_run.specs.holder_model.States.{Ending, Ends, Goes, step_on}
-use Rattle.lowered_run.specs.holder_model.Steps as holder_run
-use Rattle.lowered_run.specs.declared.low_fault.LowFault.{LowFault}
-use Rattle.lowered_run.specs.LowOutcomes.{LowEndsSo, low_begins, low_outcome_after, low_outcome_at}
-use Rattle.lowered_run.specs.LowStepParts.{LowNext, LowState}
-use Rattle.lowered_run.specs.LowSteps as steps
-use Rattle.lowering_laws.specs.lowering_model.LoweredModules.{lowered, lowered_body}
-use Rattle.typed_holders.proofs.TypedSteps.{steps_typed}
+use Rattle.stored_runs.specs.accepted_values.accepted_modules.inner.Checked.{IsVerified}
+use Rattle.stored_runs.specs.lowered_run.holder_model.Faults.{HolderFault}
+use Rattle.stored_runs.specs.lowered_run.holder_model.HolderStates.{HolderNext, HolderState}
+use Rattle.stored_runs.specs.lowered_run.holder_model.ModuleFacts.{facts_of}
+use Rattle.stored_runs.specs.lowered_run.holder_model.ModuleShapes.{shapes_of}
+use Rattle.stored_runs.specs.lowered_run.holder_model.Outcomes.{EndsSo, Outcome, begins, may_start, outcome_after, outcome_at, run}
+use Rattle.stored_runs.specs.lowered_run.holder_model.States.{Ending, Ends, Goes, step_on}
+use Rattle.stored_runs.specs.lowered_run.holder_model.Steps as holder_run
+use Rattle.stored_runs.specs.lowered_run.declared.low_fault.LowFault.{LowFault}
+use Rattle.stored_runs.specs.lowered_run.LowOutcomes.{LowEndsSo, low_begins, low_outcome_after, low_outcome_at}
+use Rattle.stored_runs.specs.lowered_run.LowStepParts.{LowNext, LowState}
+use Rattle.stored_runs.specs.lowered_run.LowSteps as steps
+use Rattle.stored_runs.specs.lowering_laws.lowering_model.LoweredModules.{lowered, lowered_body}
+use Rattle.stored_runs.proofs.typed_holders.TypedSteps.{steps_typed}
 use Rattle.stored_runs.specs.inner.PlaceRows.{LowGoes}
 use Rattle.stored_runs.specs.inner.Runs.{IsOutcomeFor}
 use Rattle.stored_runs.specs.inner.States.{IsStateFor}

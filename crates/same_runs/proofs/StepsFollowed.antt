@@ -12,28 +12,28 @@ use Rattle.item_operands.specs.Parts.{inst_at}
 use Rattle.type_definitions.specs.Declarations.{declarations_of}
 use Rattle.run_values.specs.Memory.{is_dead}
 use Rattle.run_values.specs.Values as value
-use Rattle.lowered_run.specs.holder_model.Data.{ValueOf}
-use Rattle.lowered_run.specs.holder_model.Effects as effects
-use Rattle.lowered_run.specs.holder_model.Effects.{Change, effect_of}
-use Rattle.lowered_run.specs.holder_model.Faults.{HolderFault, PlaceNotAsAsked, WrongShape}
-use Rattle.lowered_run.specs.holder_model.Frames.{Frame, has_any}
-use Rattle.lowered_run.specs.holder_model.HolderStates.{HolderNext, HolderState, strong_holders}
-use Rattle.lowered_run.specs.holder_model.Holders.{one_object}
-use Rattle.lowered_run.specs.holder_model.ModuleFacts.{ModuleFacts, facts_of}
-use Rattle.lowered_run.specs.holder_model.ModuleShapes.{shapes_in, shapes_of}
-use Rattle.lowered_run.specs.holder_model.Standing.{stands_at}
-use Rattle.lowered_run.specs.holder_model.States.{Drops, Ends, Finishes, Goes, Runs, Task}
-use Rattle.lowered_run.specs.holder_model.Steps as holder_run
-use Rattle.lowered_run.specs.holder_model.declared.row_effect.RowEffect.TheVariants as row
-use Rattle.lowered_run.specs.LowStepParts.{LowNext, LowState}
-use Rattle.accepted_values.specs.accepted_modules.inner.Checked.{IsVerified}
-use Rattle.holder_steps.specs.inner.Ways.{Acts, Enters, GoesBehind, Performs, StepsBy, left_with}
-use Rattle.holder_steps.proofs.StepsTold.{steps_told}
-use Rattle.holder_counts.proofs.Moves.{drops_counted}
-use Rattle.typed_holders.specs.inner.TypedStates.{FrameIs, TasksAre}
-use Rattle.typed_holders.proofs.GoesOn.{Running, typed_module}
-use Rattle.stored_counts.specs.inner.Numbers.{AreCounts}
-use Rattle.stored_counts.proofs.Turns.{one_itself}
+use Rattle.stored_runs.specs.lowered_run.holder_model.Data.{ValueOf}
+use Rattle.stored_runs.specs.lowered_run.holder_model.Effects as effects
+use Rattle.stored_runs.specs.lowered_run.holder_model.Effects.{Change, effect_of}
+use Rattle.stored_runs.specs.lowered_run.holder_model.Faults.{HolderFault, PlaceNotAsAsked, WrongShape}
+use Rattle.stored_runs.specs.lowered_run.holder_model.Frames.{Frame, has_any}
+use Rattle.stored_runs.specs.lowered_run.holder_model.HolderStates.{HolderNext, HolderState, strong_holders}
+use Rattle.stored_runs.specs.lowered_run.holder_model.Holders.{one_object}
+use Rattle.stored_runs.specs.lowered_run.holder_model.ModuleFacts.{ModuleFacts, facts_of}
+use Rattle.stored_runs.specs.lowered_run.holder_model.ModuleShapes.{shapes_in, shapes_of}
+use Rattle.stored_runs.specs.lowered_run.holder_model.Standing.{stands_at}
+use Rattle.stored_runs.specs.lowered_run.holder_model.States.{Drops, Ends, Finishes, Goes, Runs, Task}
+use Rattle.stored_runs.specs.lowered_run.holder_model.Steps as holder_run
+use Rattle.stored_runs.specs.lowered_run.holder_model.declared.row_effect.RowEffect.TheVariants as row
+use Rattle.stored_runs.specs.lowered_run.LowStepParts.{LowNext, LowState}
+use Rattle.stored_runs.specs.accepted_values.accepted_modules.inner.Checked.{IsVerified}
+use Rattle.stored_runs.specs.holder_steps.inner.Ways.{Acts, Enters, GoesBehind, Performs, StepsBy, left_with}
+use Rattle.stored_runs.proofs.holder_steps.StepsTold.{steps_told}
+use Rattle.stored_runs.proofs.holder_counts.Moves.{drops_counted}
+use Rattle.stored_runs.specs.typed_holders.inner.TypedStates.{FrameIs, TasksAre}
+use Rattle.stored_runs.proofs.typed_holders.GoesOn.{Running, typed_module}
+use Rattle.stored_runs.specs.stored_counts.inner.Numbers.{AreCounts}
+use Rattle.stored_runs.proofs.stored_counts.Turns.{one_itself}
 use Rattle.stored_runs.specs.inner.Along.{IsNextAlong, IsNoFault}
 use Rattle.stored_runs.specs.inner.FrameSteps.{StepsAlong}
 use Rattle.stored_runs.specs.inner.PlaceRows.{LowGoes}
@@ -44,10 +44,10 @@ use Rattle.stored_runs.proofs.TypedSteps.{typed_calls_step, typed_deinits_step, 
 use Rattle.same_runs.specs.inner.Followed.{Follows, GoesToo, StepsToo, low_next_of}
 use Rattle.same_runs.specs.inner.Laws.{AreStepsFollowed}
 use Rattle.same_runs.specs.inner.Owed.{AtInst, IsComeTo, IsOwed, LeavesSo, effect_there}
-use Rattle.accepted_runs.specs.inner.RightStates.{IsRightState}
-use Rattle.owned_counts.proofs.CountedInsts.{insts_counted}
-use Rattle.owned_counts.proofs.CountedReturns.{left_counted}
-use Rattle.owned_counts.proofs.TypedPlaces.{object_stored}
+use Rattle.stored_runs.specs.accepted_runs.inner.RightStates.{IsRightState}
+use Rattle.stored_runs.proofs.owned_counts.CountedInsts.{insts_counted}
+use Rattle.stored_runs.proofs.owned_counts.CountedReturns.{left_counted}
+use Rattle.stored_runs.proofs.owned_counts.TypedPlaces.{object_stored}
 use Rattle.same_runs.proofs.Come.{come_faults, comes_called, comes_right}
 use Rattle.same_runs.proofs.RightFinishes.{finishes_whole}
 use Rattle.same_runs.proofs.CountedEnds.{CountedNext}

@@ -5,3 +5,5 @@ pub use Rattle.placed_values.proofs.accepted_places.accepted_values as accepted_
 pub use Rattle.placed_values.proofs.accepted_places.held_entries as held_entries
 pub use Rattle.placed_values.proofs.accepted_premises as accepted_premises
 pub use Rattle.placed_values.proofs as placed_values
+pub use Rattle.placed_values.proofs.accepted_trails as accepted_trails
+pub use Rattle.placed_values.proofs.owned_run_typing as owned_run_typing

@@ -4,3 +4,5 @@ pub use Rattle.placed_values.specs.accepted_places.held_entries as held_entries
 pub use Rattle.placed_values.specs.accepted_places.accepted_values as accepted_values
 pub use Rattle.placed_values.specs.accepted_premises as accepted_premises
 pub use Rattle.placed_values.specs as placed_values
+pub use Rattle.placed_values.specs.accepted_trails as accepted_trails
+pub use Rattle.placed_values.specs.accepted_modules as accepted_modules

@@ -1,7 +1,7 @@
 -- In each function with a body of an accepted module what the next item takes is current.
 use Rattle.type_definitions.specs.Declarations.{declarations_of}
-use Rattle.accepted_premises.proofs.MadeAtStops.{made_at_stops}
-use Rattle.accepted_trails.proofs.Unbroken.{are_accepted}
+use Rattle.owned_counts.proofs.accepted_premises.MadeAtStops.{made_at_stops}
+use Rattle.owned_counts.proofs.accepted_trails.Unbroken.{are_accepted}
 use Rattle.stored_runs.specs.inner.Current.{AreAllCurrent}
 use Rattle.stored_runs.proofs.NamesCurrent.{accepted_current}
 use Rattle.stored_runs.proofs.NamesTaken.{names_taken}

@@ -18,18 +18,18 @@ use Rattle.run_values.specs.Places.{Place, is_there_at, value_at}
 use Rattle.run_values.specs.Shapes.{Shape, class_in, storage_in}
 use Rattle.run_values.specs.Values as value
 use Rattle.run_values.specs.Values.{Value, grouped, integer_of, members_of, object_of, references_of}
-use Rattle.lowered_run.specs.holder_model.declared.row_effect.RowEffect.{RowEffect}
-use Rattle.lowered_run.specs.holder_model.declared.row_effect.RowEffect.TheVariants as row
-use Rattle.lowered_run.specs.holder_model.declared.trap.Trap.TheVariants as trap
-use Rattle.lowered_run.specs.holder_model.Operation.{Operation}
-use Rattle.lowered_run.specs.holder_model.Builtins.{builtin_value, is_set}
-use Rattle.lowered_run.specs.holder_model.Data.{AddressOf, Datum, FunctionOf, ValueOf, all_of, as_place, as_value, values_of}
-use Rattle.lowered_run.specs.holder_model.Effects as effects
-use Rattle.lowered_run.specs.holder_model.Effects.{Calls, Effect, Faults, Makes, Traps, Unfit, effect_by, effect_of, gives, only, part_number, unchanged, with_some}
-use Rattle.lowered_run.specs.holder_model.Faults.{HolderFault, NotLastSlot}
-use Rattle.lowered_run.specs.holder_model.MemoryEffects as memory
-use Rattle.lowered_run.specs.holder_model.MemoryEffects.{all_live, asked_before, effect, fault_of, holds, loaded_name, named_again, two, value_and_place}
-use Rattle.lowered_run.specs.holder_model.ModuleShapes.{ModuleShapes, case_place}
+use Rattle.lowered_steps.specs.lowered_run.holder_model.declared.row_effect.RowEffect.{RowEffect}
+use Rattle.lowered_steps.specs.lowered_run.holder_model.declared.row_effect.RowEffect.TheVariants as row
+use Rattle.lowered_steps.specs.lowered_run.holder_model.declared.trap.Trap.TheVariants as trap
+use Rattle.lowered_steps.specs.lowered_run.holder_model.Operation.{Operation}
+use Rattle.lowered_steps.specs.lowered_run.holder_model.Builtins.{builtin_value, is_set}
+use Rattle.lowered_steps.specs.lowered_run.holder_model.Data.{AddressOf, Datum, FunctionOf, ValueOf, all_of, as_place, as_value, values_of}
+use Rattle.lowered_steps.specs.lowered_run.holder_model.Effects as effects
+use Rattle.lowered_steps.specs.lowered_run.holder_model.Effects.{Calls, Effect, Faults, Makes, Traps, Unfit, effect_by, effect_of, gives, only, part_number, unchanged, with_some}
+use Rattle.lowered_steps.specs.lowered_run.holder_model.Faults.{HolderFault, NotLastSlot}
+use Rattle.lowered_steps.specs.lowered_run.holder_model.MemoryEffects as memory
+use Rattle.lowered_steps.specs.lowered_run.holder_model.MemoryEffects.{all_live, asked_before, effect, fault_of, holds, loaded_name, named_again, two, value_and_place}
+use Rattle.lowered_steps.specs.lowered_run.holder_model.ModuleShapes.{ModuleShapes, case_place}
 
 abbrev NoCall : Effect HolderFault → Type 0
 NoCall (Makes c) = Unit {0}

@@ -25,34 +25,34 @@ use Rattle.type_definitions.specs.Declarations.{Declarations, declarations_of}
 use Rattle.run_values.specs.Shapes.{Shape}
 use Rattle.run_values.specs.Values as value
 use Rattle.run_values.specs.Values.{Value, integer_of}
-use Rattle.accepted_trails.specs.run_trails.inner.RunTrails.{IsTurnedTrail}
-use Rattle.lowered_run.specs.holder_model.declared.event.Event.TheVariants as event
-use Rattle.lowered_run.specs.holder_model.declared.row_effect.RowEffect.TheVariants as row
-use Rattle.lowered_run.specs.holder_model.Calling.{are_as_before, as_argument, handed_over}
-use Rattle.lowered_run.specs.holder_model.Data.{AddressOf, Datum, FunctionOf, ValueOf, all_of, as_function, values_of}
-use Rattle.lowered_run.specs.holder_model.Effects as effects
-use Rattle.lowered_run.specs.holder_model.Effects.{Effect, effect_by, effect_of, unchanged}
-use Rattle.lowered_run.specs.holder_model.Faults.{HolderFault, PlaceNotAsAsked, WrongShape}
-use Rattle.lowered_run.specs.holder_model.Frames.{Frame, LentPlace, Operands, has_any, operands_of}
-use Rattle.lowered_run.specs.holder_model.HolderStates.{HolderNext, HolderState}
-use Rattle.lowered_run.specs.holder_model.MemoryEffects as holder_effects
-use Rattle.lowered_run.specs.holder_model.ModuleFacts.{facts_of, facts_told}
-use Rattle.lowered_run.specs.holder_model.ModuleShapes.{ModuleShapes, shapes_in, shapes_of}
-use Rattle.lowered_run.specs.holder_model.Standing.{stands_at}
-use Rattle.lowered_run.specs.holder_model.States.{Ends, OutOfTurns, Runs, Task}
-use Rattle.lowered_run.specs.holder_model.Steps as holder_run
-use Rattle.lowered_run.specs.LowEffects as low_effects
-use Rattle.lowered_run.specs.LowEffects.{low_effect, stored_behind, stored_by}
-use Rattle.lowered_run.specs.LowFrames.{LowFrame, read_all}
-use Rattle.lowered_run.specs.LowStepParts.{LowNext, LowState, values_taken}
-use Rattle.lowered_run.specs.LowSteps as steps
-use Rattle.lowering_laws.specs.ownership_origins.Renamings.{renames, renamings_of}
-use Rattle.lowering_laws.specs.lowering_model.LoweredBlocks.{blocks_become}
-use Rattle.lowering_laws.specs.lowering_model.LoweredInsts.{lowering_of}
-use Rattle.lowering_laws.specs.lowering_model.LoweredModules.{lowered, lowered_body, lowered_by, lowered_function}
-use Rattle.lowering_laws.specs.lowering_model.Numbers.{new_number, numbering_of, renumbered, renumbered_inst}
-use Rattle.lowering_laws.specs.lowering_model.declared.lowering.Lowering.TheVariants as lowering
-use Rattle.holder_steps.specs.inner.Ways as holder
+use Rattle.owned_counts.specs.accepted_trails.run_trails.inner.RunTrails.{IsTurnedTrail}
+use Rattle.lowered_steps.specs.lowered_run.holder_model.declared.event.Event.TheVariants as event
+use Rattle.lowered_steps.specs.lowered_run.holder_model.declared.row_effect.RowEffect.TheVariants as row
+use Rattle.lowered_steps.specs.lowered_run.holder_model.Calling.{are_as_before, as_argument, handed_over}
+use Rattle.lowered_steps.specs.lowered_run.holder_model.Data.{AddressOf, Datum, FunctionOf, ValueOf, all_of, as_function, values_of}
+use Rattle.lowered_steps.specs.lowered_run.holder_model.Effects as effects
+use Rattle.lowered_steps.specs.lowered_run.holder_model.Effects.{Effect, effect_by, effect_of, unchanged}
+use Rattle.lowered_steps.specs.lowered_run.holder_model.Faults.{HolderFault, PlaceNotAsAsked, WrongShape}
+use Rattle.lowered_steps.specs.lowered_run.holder_model.Frames.{Frame, LentPlace, Operands, has_any, operands_of}
+use Rattle.lowered_steps.specs.lowered_run.holder_model.HolderStates.{HolderNext, HolderState}
+use Rattle.lowered_steps.specs.lowered_run.holder_model.MemoryEffects as holder_effects
+use Rattle.lowered_steps.specs.lowered_run.holder_model.ModuleFacts.{facts_of, facts_told}
+use Rattle.lowered_steps.specs.lowered_run.holder_model.ModuleShapes.{ModuleShapes, shapes_in, shapes_of}
+use Rattle.lowered_steps.specs.lowered_run.holder_model.Standing.{stands_at}
+use Rattle.lowered_steps.specs.lowered_run.holder_model.States.{Ends, OutOfTurns, Runs, Task}
+use Rattle.lowered_steps.specs.lowered_run.holder_model.Steps as holder_run
+use Rattle.lowered_steps.specs.lowered_run.LowEffects as low_effects
+use Rattle.lowered_steps.specs.lowered_run.LowEffects.{low_effect, stored_behind, stored_by}
+use Rattle.lowered_steps.specs.lowered_run.LowFrames.{LowFrame, read_all}
+use Rattle.lowered_steps.specs.lowered_run.LowStepParts.{LowNext, LowState, values_taken}
+use Rattle.lowered_steps.specs.lowered_run.LowSteps as steps
+use Rattle.lowered_numbering_laws.specs.lowering_laws.ownership_origins.Renamings.{renames, renamings_of}
+use Rattle.lowered_numbering_laws.specs.lowering_laws.lowering_model.LoweredBlocks.{blocks_become}
+use Rattle.lowered_numbering_laws.specs.lowering_laws.lowering_model.LoweredInsts.{lowering_of}
+use Rattle.lowered_numbering_laws.specs.lowering_laws.lowering_model.LoweredModules.{lowered, lowered_body, lowered_by, lowered_function}
+use Rattle.lowered_numbering_laws.specs.lowering_laws.lowering_model.Numbers.{new_number, numbering_of, renumbered, renumbered_inst}
+use Rattle.lowered_numbering_laws.specs.lowering_laws.lowering_model.declared.lowering.Lowering.TheVariants as lowering
+use Rattle.owned_counts.specs.holder_steps.inner.Ways as holder
 use Rattle.lowered_steps.specs.inner.LowWays as ways
 use Rattle.stored_runs.specs.inner.Along.{AreTotalsFor, IsNextAlong, IsNoFault}
 use Rattle.stored_runs.specs.inner.CallsAlong.{AreCallsAlong, CallsRight, HandsRight, lent_in}

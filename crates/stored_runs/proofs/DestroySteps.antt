@@ -16,26 +16,26 @@ use Rattle.item_operands.specs.Items.{item_defined}
 use Rattle.type_definitions.specs.Declarations.{Declarations, declarations_of}
 use Rattle.run_values.specs.Places.{Place, cells_at, emptied, is_there_at, value_at}
 use Rattle.run_values.specs.Values.{Value, references_of}
-use Rattle.lowered_run.specs.holder_model.Data.{AddressOf, Datum, ValueOf}
-use Rattle.lowered_run.specs.holder_model.Effects.{Change, effect_of, unchanged}
-use Rattle.lowered_run.specs.holder_model.Frames.{Entry, Frame, Operands, results_put}
-use Rattle.lowered_run.specs.holder_model.HolderStates.{HolderState}
-use Rattle.lowered_run.specs.holder_model.MemoryEffects.{takes, references_at}
-use Rattle.lowered_run.specs.holder_model.ModuleFacts.{facts_of}
-use Rattle.lowered_run.specs.holder_model.ModuleShapes.{ModuleShapes, shapes_in, shapes_of}
-use Rattle.lowered_run.specs.holder_model.Standing.{stands_at}
-use Rattle.lowered_run.specs.holder_model.States.{Task}
-use Rattle.lowered_run.specs.holder_model.declared.row_effect.RowEffect.TheVariants as row
-use Rattle.lowered_run.specs.holder_model.memory_accesses.declared.access.Operation.{Operation}
-use Rattle.lowered_run.specs.LowEffects.{low_effect, operation_done, stored_behind, stored_by, accessed, both_stored, is_first_write, stored_at, value_stored}
-use Rattle.lowered_run.specs.LowStepParts.{LowState, numbers_for}
-use Rattle.lowered_run.specs.Stored.{unnamed}
-use Rattle.lowering_laws.specs.ownership_origins.Renamings.{renames}
-use Rattle.lowering_laws.specs.lowering_model.LoweredInsts.{becomes_by, lowering_of, destroys_by, releases_at}
-use Rattle.lowering_laws.specs.lowering_model.NewInsts.{loaded_from, load, release}
-use Rattle.lowering_laws.specs.lowering_model.Numbers.{renumbered_inst}
-use Rattle.lowering_laws.specs.lowering_model.declared.lowering.Lowering.TheVariants as lowering
-use Rattle.holder_steps.specs.inner.Ways as holder
+use Rattle.lowered_steps.specs.lowered_run.holder_model.Data.{AddressOf, Datum, ValueOf}
+use Rattle.lowered_steps.specs.lowered_run.holder_model.Effects.{Change, effect_of, unchanged}
+use Rattle.lowered_steps.specs.lowered_run.holder_model.Frames.{Entry, Frame, Operands, results_put}
+use Rattle.lowered_steps.specs.lowered_run.holder_model.HolderStates.{HolderState}
+use Rattle.lowered_steps.specs.lowered_run.holder_model.MemoryEffects.{takes, references_at}
+use Rattle.lowered_steps.specs.lowered_run.holder_model.ModuleFacts.{facts_of}
+use Rattle.lowered_steps.specs.lowered_run.holder_model.ModuleShapes.{ModuleShapes, shapes_in, shapes_of}
+use Rattle.lowered_steps.specs.lowered_run.holder_model.Standing.{stands_at}
+use Rattle.lowered_steps.specs.lowered_run.holder_model.States.{Task}
+use Rattle.lowered_steps.specs.lowered_run.holder_model.declared.row_effect.RowEffect.TheVariants as row
+use Rattle.lowered_steps.specs.lowered_run.holder_model.memory_accesses.declared.access.Operation.{Operation}
+use Rattle.lowered_steps.specs.lowered_run.LowEffects.{low_effect, operation_done, stored_behind, stored_by, accessed, both_stored, is_first_write, stored_at, value_stored}
+use Rattle.lowered_steps.specs.lowered_run.LowStepParts.{LowState, numbers_for}
+use Rattle.lowered_steps.specs.lowered_run.Stored.{unnamed}
+use Rattle.lowered_numbering_laws.specs.lowering_laws.ownership_origins.Renamings.{renames}
+use Rattle.lowered_numbering_laws.specs.lowering_laws.lowering_model.LoweredInsts.{becomes_by, lowering_of, destroys_by, releases_at}
+use Rattle.lowered_numbering_laws.specs.lowering_laws.lowering_model.NewInsts.{loaded_from, load, release}
+use Rattle.lowered_numbering_laws.specs.lowering_laws.lowering_model.Numbers.{renumbered_inst}
+use Rattle.lowered_numbering_laws.specs.lowering_laws.lowering_model.declared.lowering.Lowering.TheVariants as lowering
+use Rattle.owned_counts.specs.holder_steps.inner.Ways as holder
 use Rattle.stored_runs.specs.inner.Memories.{IsMemoryFor, MayBeTaken}
 use Rattle.stored_runs.specs.inner.PlaceRows.{GoesAlong, LowGoes, StandsAt, stored_for}
 use Rattle.stored_runs.proofs.MemoriesFor.{place_taken}
@@ -49,8 +49,8 @@ use Rattle.stored_runs.proofs.FullKept.{same_keeps}
 use Rattle.stored_runs.proofs.LoadSteps.{load_effect}
 use Rattle.stored_runs.proofs.StrongCells.{none_unnamed}
 use Rattle.stored_runs.proofs.SpareValues.{parts_still, shown_still, spare, spare_under, with_spare}
-use Rattle.lowered_run.specs.LowEffects as low_effects
-use Rattle.lowering_laws.specs.sil_types.Typing.FormRules.{is_at_storage}
+use Rattle.lowered_steps.specs.lowered_run.LowEffects as low_effects
+use Rattle.lowered_numbering_laws.specs.lowering_laws.sil_types.Typing.FormRules.{is_at_storage}
 
 module _ (m : Module) (bound : ℕ) (s : HolderState) (l : LowState) (frame : Frame) (rest : List (Task Frame)) (f : Function) (i : Inst) (ops : Operands)
     (x : StandsAt m s l frame rest f i ops) (o : Operand) (y : Place) (one : i.operands ≡ o ∷ []) (given : ops.given ≡ AddressOf y ∷ [])

@@ -28,23 +28,23 @@ use Rattle.sil_cfg.specs.declared.item.Item.TheVariants as item
 use Rattle.type_definitions.specs.Declarations.{Declarations, declarations_of}
 use Rattle.run_values.specs.Values.{Value}
 use Rattle.value_tables.specs.FirstValue.{first_value, value_of}
-use Rattle.accepted_trails.specs.run_trails.inner.RunTrails.{IsTurnedTrail}
-use Rattle.lowered_run.specs.holder_model.Data.{Datum, ValueOf, AddressOf, FunctionOf, as_value}
-use Rattle.lowered_run.specs.holder_model.Edges.{carried_along, carried_by, first_value_of, is_default, payload_data, switched_data}
-use Rattle.lowered_run.specs.holder_model.Effects.{unchanged}
-use Rattle.lowered_run.specs.holder_model.Faults.{HolderFault, WrongShape}
-use Rattle.lowered_run.specs.holder_model.Frames.{Entry, Frame, Operands, operands_of, result_put, results_put, with_ok}
-use Rattle.lowered_run.specs.holder_model.HolderStates.{HolderNext, HolderState}
-use Rattle.lowered_run.specs.holder_model.ModuleFacts.{facts_of, facts_told}
-use Rattle.lowered_run.specs.holder_model.ModuleShapes.{ModuleShapes, shapes_of}
-use Rattle.lowered_run.specs.holder_model.Standing.{behind, first_point, target_of}
-use Rattle.lowered_run.specs.holder_model.States.{Ends, OutOfTurns, Runs, Task}
-use Rattle.lowered_run.specs.LowFrames as low_frames
-use Rattle.lowered_run.specs.LowFrames.{LowFrame, and_others, read_all}
-use Rattle.lowered_run.specs.LowStepParts.{LowNext, LowState, taken_value, values_taken}
-use Rattle.lowering_laws.specs.lowering_model.LoweredModules.{lowered, lowered_body}
-use Rattle.lowering_laws.specs.lowering_model.Numbers.{renumbered_edge, renumbered_inst, renumbered_operand}
-use Rattle.holder_steps.specs.inner.Ways as holder
+use Rattle.owned_counts.specs.accepted_trails.run_trails.inner.RunTrails.{IsTurnedTrail}
+use Rattle.lowered_steps.specs.lowered_run.holder_model.Data.{Datum, ValueOf, AddressOf, FunctionOf, as_value}
+use Rattle.lowered_steps.specs.lowered_run.holder_model.Edges.{carried_along, carried_by, first_value_of, is_default, payload_data, switched_data}
+use Rattle.lowered_steps.specs.lowered_run.holder_model.Effects.{unchanged}
+use Rattle.lowered_steps.specs.lowered_run.holder_model.Faults.{HolderFault, WrongShape}
+use Rattle.lowered_steps.specs.lowered_run.holder_model.Frames.{Entry, Frame, Operands, operands_of, result_put, results_put, with_ok}
+use Rattle.lowered_steps.specs.lowered_run.holder_model.HolderStates.{HolderNext, HolderState}
+use Rattle.lowered_steps.specs.lowered_run.holder_model.ModuleFacts.{facts_of, facts_told}
+use Rattle.lowered_steps.specs.lowered_run.holder_model.ModuleShapes.{ModuleShapes, shapes_of}
+use Rattle.lowered_steps.specs.lowered_run.holder_model.Standing.{behind, first_point, target_of}
+use Rattle.lowered_steps.specs.lowered_run.holder_model.States.{Ends, OutOfTurns, Runs, Task}
+use Rattle.lowered_steps.specs.lowered_run.LowFrames as low_frames
+use Rattle.lowered_steps.specs.lowered_run.LowFrames.{LowFrame, and_others, read_all}
+use Rattle.lowered_steps.specs.lowered_run.LowStepParts.{LowNext, LowState, taken_value, values_taken}
+use Rattle.lowered_numbering_laws.specs.lowering_laws.lowering_model.LoweredModules.{lowered, lowered_body}
+use Rattle.lowered_numbering_laws.specs.lowering_laws.lowering_model.Numbers.{renumbered_edge, renumbered_inst, renumbered_operand}
+use Rattle.owned_counts.specs.holder_steps.inner.Ways as holder
 use Rattle.lowered_steps.specs.inner.LowWays as ways
 use Rattle.stored_runs.specs.inner.Along.{AreTotalsFor, IsNextAlong, IsNoFault, TakesNoAddress}
 use Rattle.stored_runs.specs.inner.EdgesTaken.{AreEdgesTaken}

@@ -29,27 +29,27 @@ use Rattle.value_tables.specs.FirstValue.{value_of}
 use Rattle.run_values.specs.Memory.{Memory}
 use Rattle.run_values.specs.Shapes.{Unknown}
 use Rattle.run_values.specs.Values.{Value}
-use Rattle.accepted_trails.specs.run_trails.inner.RunTrails.{ComesAt, IsAtEnd}
-use Rattle.accepted_trails.proofs.run_trails.TurnedTrails.{turned_item}
-use Rattle.lowered_run.specs.holder_model.declared.trap.Trap.TheVariants as trap
-use Rattle.lowered_run.specs.holder_model.Data.{AddressOf, Datum, FunctionOf, ValueOf, as_value, references_in}
-use Rattle.lowered_run.specs.holder_model.Edges.{branch_of, case_edge, edge_of}
-use Rattle.lowered_run.specs.holder_model.Effects.{only}
-use Rattle.lowered_run.specs.holder_model.Faults.{LeavesHeld, LeavesPlace, LeavesSlot, NoEntry, WrongShape}
-use Rattle.lowered_run.specs.holder_model.Frames.{Entry, Frame, Operands, any_dead, datum_in, entry_at, has_any, operands_of}
-use Rattle.lowered_run.specs.holder_model.HolderStates.{HolderNext, HolderState}
-use Rattle.lowered_run.specs.holder_model.ModuleFacts.{facts_of, facts_told}
-use Rattle.lowered_run.specs.holder_model.ModuleShapes.{ModuleShapes, shape_at, shapes_in, shapes_of}
-use Rattle.lowered_run.specs.holder_model.Standing.{stands_at}
-use Rattle.lowered_run.specs.holder_model.StepParts.{switched_shape}
-use Rattle.lowered_run.specs.holder_model.States.{Ends, Runs, Task, Trapped}
-use Rattle.lowered_run.specs.LowFrames as low_frames
-use Rattle.lowered_run.specs.LowFrames.{LowFrame, and_others, read_all}
-use Rattle.lowered_run.specs.LowStepParts.{LowNext, LowState, taken_value, values_taken}
-use Rattle.lowered_run.specs.LowSteps as steps
-use Rattle.lowering_laws.specs.lowering_model.LoweredModules.{lowered, lowered_body}
-use Rattle.lowering_laws.specs.lowering_model.Numbers.{renumbered_inst, renumbered_operand}
-use Rattle.holder_steps.specs.inner.Ways as holder
+use Rattle.owned_counts.specs.accepted_trails.run_trails.inner.RunTrails.{ComesAt, IsAtEnd}
+use Rattle.owned_counts.proofs.accepted_trails.run_trails.TurnedTrails.{turned_item}
+use Rattle.lowered_steps.specs.lowered_run.holder_model.declared.trap.Trap.TheVariants as trap
+use Rattle.lowered_steps.specs.lowered_run.holder_model.Data.{AddressOf, Datum, FunctionOf, ValueOf, as_value, references_in}
+use Rattle.lowered_steps.specs.lowered_run.holder_model.Edges.{branch_of, case_edge, edge_of}
+use Rattle.lowered_steps.specs.lowered_run.holder_model.Effects.{only}
+use Rattle.lowered_steps.specs.lowered_run.holder_model.Faults.{LeavesHeld, LeavesPlace, LeavesSlot, NoEntry, WrongShape}
+use Rattle.lowered_steps.specs.lowered_run.holder_model.Frames.{Entry, Frame, Operands, any_dead, datum_in, entry_at, has_any, operands_of}
+use Rattle.lowered_steps.specs.lowered_run.holder_model.HolderStates.{HolderNext, HolderState}
+use Rattle.lowered_steps.specs.lowered_run.holder_model.ModuleFacts.{facts_of, facts_told}
+use Rattle.lowered_steps.specs.lowered_run.holder_model.ModuleShapes.{ModuleShapes, shape_at, shapes_in, shapes_of}
+use Rattle.lowered_steps.specs.lowered_run.holder_model.Standing.{stands_at}
+use Rattle.lowered_steps.specs.lowered_run.holder_model.StepParts.{switched_shape}
+use Rattle.lowered_steps.specs.lowered_run.holder_model.States.{Ends, Runs, Task, Trapped}
+use Rattle.lowered_steps.specs.lowered_run.LowFrames as low_frames
+use Rattle.lowered_steps.specs.lowered_run.LowFrames.{LowFrame, and_others, read_all}
+use Rattle.lowered_steps.specs.lowered_run.LowStepParts.{LowNext, LowState, taken_value, values_taken}
+use Rattle.lowered_steps.specs.lowered_run.LowSteps as steps
+use Rattle.lowered_numbering_laws.specs.lowering_laws.lowering_model.LoweredModules.{lowered, lowered_body}
+use Rattle.lowered_numbering_laws.specs.lowering_laws.lowering_model.Numbers.{renumbered_inst, renumbered_operand}
+use Rattle.owned_counts.specs.holder_steps.inner.Ways as holder
 use Rattle.lowered_steps.specs.inner.LowWays as ways
 use Rattle.stored_runs.specs.inner.Along.{AreTotalsFor, IsNextAlong, IsNoFault}
 use Rattle.stored_runs.specs.inner.EndsAlong.{AreEndsAlong, ComesPlain, MayReturnTo}

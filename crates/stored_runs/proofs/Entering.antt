@@ -13,24 +13,24 @@ use Rattle.sil_cfg.specs.declared.item.Item.TheVariants as item
 use Rattle.item_operands.specs.Items.{item_defined}
 use Rattle.ownership_chains.specs.declared.facts.Facts.{Facts}
 use Rattle.type_definitions.specs.Declarations.{Declarations, declarations_of}
-use Rattle.accepted_trails.specs.inner.Defined.{makes}
-use Rattle.accepted_trails.proofs.Tests.{each_among}
-use Rattle.lowering_laws.proofs.run_typing_laws.ItemFacts.{values_counted}
-use Rattle.lowered_run.specs.holder_model.declared.limits.TheConstants.{FRAMES}
-use Rattle.lowered_run.specs.holder_model.declared.trap.Trap.TheVariants as trap
-use Rattle.lowered_run.specs.holder_model.Calling.{value_count}
-use Rattle.lowered_run.specs.holder_model.Data.{AddressOf, Datum, FunctionOf, ValueOf}
-use Rattle.lowered_run.specs.holder_model.Frames.{Entry, Frame, datum_in, no_entries, results_put}
-use Rattle.lowered_run.specs.holder_model.HolderStates.{HolderNext, HolderState}
-use Rattle.lowered_run.specs.holder_model.ModuleFacts.{facts_of, facts_told}
-use Rattle.lowered_run.specs.holder_model.ModuleShapes.{ModuleShapes, shapes_of}
-use Rattle.lowered_run.specs.holder_model.StepParts as parts
-use Rattle.lowered_run.specs.holder_model.States.{Ends, Goes, OutOfTurns, Runs, Task, Trapped, frame_count}
-use Rattle.lowered_run.specs.LowFrames.{LowFrame, no_values, put_all}
-use Rattle.lowered_run.specs.LowStepParts.{LowNext, LowState, new_frame}
-use Rattle.lowering_laws.proofs.Lists.{each_weaker}
-use Rattle.lowering_laws.specs.lowering_model.LoweredModules.{lowered, lowered_body}
-use Rattle.holder_steps.specs.inner.Ways as holder
+use Rattle.owned_counts.specs.accepted_trails.inner.Defined.{makes}
+use Rattle.owned_counts.proofs.accepted_trails.Tests.{each_among}
+use Rattle.lowered_numbering_laws.proofs.lowering_laws.run_typing_laws.ItemFacts.{values_counted}
+use Rattle.lowered_steps.specs.lowered_run.holder_model.declared.limits.TheConstants.{FRAMES}
+use Rattle.lowered_steps.specs.lowered_run.holder_model.declared.trap.Trap.TheVariants as trap
+use Rattle.lowered_steps.specs.lowered_run.holder_model.Calling.{value_count}
+use Rattle.lowered_steps.specs.lowered_run.holder_model.Data.{AddressOf, Datum, FunctionOf, ValueOf}
+use Rattle.lowered_steps.specs.lowered_run.holder_model.Frames.{Entry, Frame, datum_in, no_entries, results_put}
+use Rattle.lowered_steps.specs.lowered_run.holder_model.HolderStates.{HolderNext, HolderState}
+use Rattle.lowered_steps.specs.lowered_run.holder_model.ModuleFacts.{facts_of, facts_told}
+use Rattle.lowered_steps.specs.lowered_run.holder_model.ModuleShapes.{ModuleShapes, shapes_of}
+use Rattle.lowered_steps.specs.lowered_run.holder_model.StepParts as parts
+use Rattle.lowered_steps.specs.lowered_run.holder_model.States.{Ends, Goes, OutOfTurns, Runs, Task, Trapped, frame_count}
+use Rattle.lowered_steps.specs.lowered_run.LowFrames.{LowFrame, no_values, put_all}
+use Rattle.lowered_steps.specs.lowered_run.LowStepParts.{LowNext, LowState, new_frame}
+use Rattle.lowered_numbering_laws.proofs.lowering_laws.Lists.{each_weaker}
+use Rattle.lowered_numbering_laws.specs.lowering_laws.lowering_model.LoweredModules.{lowered, lowered_body}
+use Rattle.owned_counts.specs.holder_steps.inner.Ways as holder
 use Rattle.lowered_steps.specs.inner.LowWays as ways
 use Rattle.stored_runs.specs.inner.Along.{AreTotalsFor, IsAlong, IsNextAlong, IsNoFault}
 use Rattle.stored_runs.specs.inner.Entering.{AreEntered, HandsOver, IsAddressFor, IsArgumentFor, IsFullPart}

@@ -15,22 +15,22 @@ use Rattle.item_operands.specs.Items.{item_defined}
 use Rattle.ownership_chains.specs.declared.facts.Facts.{Facts}
 use Rattle.type_definitions.specs.Declarations.{Declarations, declarations_of}
 use Rattle.run_values.specs.Places.{Place}
-use Rattle.accepted_trails.specs.inner.Defined.{makes}
-use Rattle.accepted_trails.proofs.Tests.{each_among}
-use Rattle.lowered_run.specs.holder_model.Data.{Datum}
-use Rattle.lowered_run.specs.holder_model.Effects.{unchanged}
-use Rattle.lowered_run.specs.holder_model.Frames.{Entry, Frame, results_put}
-use Rattle.lowered_run.specs.holder_model.HolderStates.{HolderNext, HolderState}
-use Rattle.lowered_run.specs.holder_model.ModuleFacts.{facts_of, facts_told}
-use Rattle.lowered_run.specs.holder_model.ModuleShapes.{ModuleShapes, shapes_of}
-use Rattle.lowered_run.specs.holder_model.Standing.{behind}
-use Rattle.lowered_run.specs.holder_model.States.{Goes, Runs, Task}
-use Rattle.lowered_run.specs.LowFrames.{LowFrame, put_all}
-use Rattle.lowered_run.specs.LowStepParts.{LowNext, LowState, numbers_for}
-use Rattle.lowered_run.specs.Stored.{new_numbers}
-use Rattle.lowering_laws.proofs.Lists.{each_weaker}
-use Rattle.lowering_laws.specs.lowering_model.LoweredModules.{lowered, lowered_body}
-use Rattle.holder_steps.specs.inner.Ways as holder
+use Rattle.owned_counts.specs.accepted_trails.inner.Defined.{makes}
+use Rattle.owned_counts.proofs.accepted_trails.Tests.{each_among}
+use Rattle.lowered_steps.specs.lowered_run.holder_model.Data.{Datum}
+use Rattle.lowered_steps.specs.lowered_run.holder_model.Effects.{unchanged}
+use Rattle.lowered_steps.specs.lowered_run.holder_model.Frames.{Entry, Frame, results_put}
+use Rattle.lowered_steps.specs.lowered_run.holder_model.HolderStates.{HolderNext, HolderState}
+use Rattle.lowered_steps.specs.lowered_run.holder_model.ModuleFacts.{facts_of, facts_told}
+use Rattle.lowered_steps.specs.lowered_run.holder_model.ModuleShapes.{ModuleShapes, shapes_of}
+use Rattle.lowered_steps.specs.lowered_run.holder_model.Standing.{behind}
+use Rattle.lowered_steps.specs.lowered_run.holder_model.States.{Goes, Runs, Task}
+use Rattle.lowered_steps.specs.lowered_run.LowFrames.{LowFrame, put_all}
+use Rattle.lowered_steps.specs.lowered_run.LowStepParts.{LowNext, LowState, numbers_for}
+use Rattle.lowered_steps.specs.lowered_run.Stored.{new_numbers}
+use Rattle.lowered_numbering_laws.proofs.lowering_laws.Lists.{each_weaker}
+use Rattle.lowered_numbering_laws.specs.lowering_laws.lowering_model.LoweredModules.{lowered, lowered_body}
+use Rattle.owned_counts.specs.holder_steps.inner.Ways as holder
 use Rattle.lowered_steps.specs.inner.LowWays as ways
 use Rattle.stored_runs.specs.inner.Along.{AreTotalsFor, IsNextAlong, IsNoFault}
 use Rattle.stored_runs.specs.inner.Frames.{AreGivenPartsFull, AreTasksFor, AreValuesFor, HasFullParts, IsFrameAt, IsFrameFor, IsTaskFor}

@@ -15,10 +15,10 @@ use Rattle.run_values.specs.Cells.{Cell, Empty, cell_count}
 use Rattle.run_values.specs.Memory.{Memory, Object, no_object, object_at, put_cells, with_object}
 use Rattle.run_values.specs.Places.{Home, Inside, OnStack, Place, cells_at, emptied, home_cells, value_at, with_home_cells}
 use Rattle.run_values.specs.Values.{Value}
-use Rattle.lowered_run.specs.holder_model.Calling.{as_argument, emptied_for, handed_over}
-use Rattle.lowered_run.specs.holder_model.Data.{AddressOf, Datum, FunctionOf, ValueOf, as_place, as_value, values_of, with_first}
-use Rattle.lowered_run.specs.holder_model.Frames.{LentPlace}
-use Rattle.lowered_run.specs.LowFrames as low_frames
+use Rattle.lowered_steps.specs.lowered_run.holder_model.Calling.{as_argument, emptied_for, handed_over}
+use Rattle.lowered_steps.specs.lowered_run.holder_model.Data.{AddressOf, Datum, FunctionOf, ValueOf, as_place, as_value, values_of, with_first}
+use Rattle.lowered_steps.specs.lowered_run.holder_model.Frames.{LentPlace}
+use Rattle.lowered_steps.specs.lowered_run.LowFrames as low_frames
 use Rattle.stored_runs.specs.inner.CallsAlong.{MayBeHandedOver}
 use Rattle.stored_runs.specs.inner.Entering.{IsAddressFor, IsArgumentFor, IsFullPart}
 use Rattle.stored_runs.specs.inner.Frames.{AreGivenPartsFull, IsDatumFor}

@@ -5,8 +5,8 @@ use Rattle.std.specs.List.{cons_option, filter_map, range_with_len}
 use Rattle.std.proofs.lemmas.Slice.Zip.{AllZip-long}
 use Rattle.sil_ast.specs.declared.place.ObjectId.{ObjectId}
 use Rattle.run_values.specs.Memory.{Memory, is_dead, object_at}
-use Rattle.lowered_run.specs.holder_model.declared.left_object.LeftObject.{LeftObject}
-use Rattle.lowered_run.specs.holder_model.Outcomes.{Numbers, is_named, left_objects, object_number, unfreed}
+use Rattle.lowered_steps.specs.lowered_run.holder_model.declared.left_object.LeftObject.{LeftObject}
+use Rattle.lowered_steps.specs.lowered_run.holder_model.Outcomes.{Numbers, is_named, left_objects, object_number, unfreed}
 use Rattle.stored_runs.specs.inner.Memories.{IsMemoryFor, IsObjectFor}
 use Rattle.stored_runs.proofs.MemoriesFor.{dead_for, object_for}
 

@@ -1,5 +1,5 @@
 -- `load` and `load_borrow`: the lowered run loads, and retains what it loaded where the row makes its references anew.
-use Rattle.lowered_run.specs.LowFrames.{put_all}
+use Rattle.lowered_steps.specs.lowered_run.LowFrames.{put_all}
 use Rattle.std.proofs.Common.{◌≡◌, ◌<◌, ℕ, suc, ◌+◌, List, [], ◌∷◌, map, length, arith, refl, sym, ap, ◌∙◌, subst, Bool, true, false, cond, Option, Some, Ok, ap₂, flat_map, option_to_list, set}
 use Rattle.std.specs.Prelude.{is_some, slice_get}
 use Rattle.std.specs.List.{list_any}
@@ -22,29 +22,29 @@ use Rattle.type_definitions.specs.Declarations.{declarations_of}
 use Rattle.run_values.specs.Memory.{Memory, is_dead}
 use Rattle.run_values.specs.Places.{Place, cells_at, emptied, is_there_at, value_at}
 use Rattle.run_values.specs.Values.{Value, references_of}
-use Rattle.lowered_run.specs.holder_model.Data.{AddressOf, Datum, ValueOf}
-use Rattle.lowered_run.specs.holder_model.Effects.{Change, Makes, effect_of, unchanged, with_some}
-use Rattle.lowered_run.specs.holder_model.Frames.{Entry, Frame, Operands, results_put}
-use Rattle.lowered_run.specs.holder_model.HolderStates.{HolderState}
-use Rattle.lowered_run.specs.holder_model.MemoryEffects.{copies_with, takes}
-use Rattle.lowered_run.specs.holder_model.ModuleFacts.{facts_of}
-use Rattle.lowered_run.specs.holder_model.ModuleShapes.{shapes_in, shapes_of}
-use Rattle.lowered_run.specs.holder_model.Outcomes.{Numbers}
-use Rattle.lowered_run.specs.holder_model.Standing.{stands_at}
-use Rattle.lowered_run.specs.holder_model.States.{Task}
-use Rattle.lowered_run.specs.holder_model.declared.row_effect.RowEffect.TheVariants as row
-use Rattle.lowered_run.specs.holder_model.memory_accesses.declared.access.Operation.{Operation}
-use Rattle.lowered_run.specs.LowEffects.{low_effect, stored_behind, stored_by}
-use Rattle.lowered_run.specs.LowFrames as low_frames
-use Rattle.lowered_run.specs.LowStepParts.{LowState, numbers_for, taken_value}
-use Rattle.lowered_run.specs.Stored.{each_changed, one_more}
-use Rattle.lowering_laws.specs.ownership_origins.Renamings.{renames}
-use Rattle.lowering_laws.specs.lowering_model.LoweredBlocks.{value_with}
-use Rattle.lowering_laws.specs.lowering_model.LoweredInsts.{becomes_by, loads_by, lowering_of, plain_load, retains_loaded}
-use Rattle.lowering_laws.specs.lowering_model.NewInsts.{loaded_from, retain}
-use Rattle.lowering_laws.specs.lowering_model.Numbers.{renumbered_inst}
-use Rattle.lowering_laws.specs.lowering_model.declared.lowering.Lowering.TheVariants as lowering
-use Rattle.holder_steps.specs.inner.Ways as holder
+use Rattle.lowered_steps.specs.lowered_run.holder_model.Data.{AddressOf, Datum, ValueOf}
+use Rattle.lowered_steps.specs.lowered_run.holder_model.Effects.{Change, Makes, effect_of, unchanged, with_some}
+use Rattle.lowered_steps.specs.lowered_run.holder_model.Frames.{Entry, Frame, Operands, results_put}
+use Rattle.lowered_steps.specs.lowered_run.holder_model.HolderStates.{HolderState}
+use Rattle.lowered_steps.specs.lowered_run.holder_model.MemoryEffects.{copies_with, takes}
+use Rattle.lowered_steps.specs.lowered_run.holder_model.ModuleFacts.{facts_of}
+use Rattle.lowered_steps.specs.lowered_run.holder_model.ModuleShapes.{shapes_in, shapes_of}
+use Rattle.lowered_steps.specs.lowered_run.holder_model.Outcomes.{Numbers}
+use Rattle.lowered_steps.specs.lowered_run.holder_model.Standing.{stands_at}
+use Rattle.lowered_steps.specs.lowered_run.holder_model.States.{Task}
+use Rattle.lowered_steps.specs.lowered_run.holder_model.declared.row_effect.RowEffect.TheVariants as row
+use Rattle.lowered_steps.specs.lowered_run.holder_model.memory_accesses.declared.access.Operation.{Operation}
+use Rattle.lowered_steps.specs.lowered_run.LowEffects.{low_effect, stored_behind, stored_by}
+use Rattle.lowered_steps.specs.lowered_run.LowFrames as low_frames
+use Rattle.lowered_steps.specs.lowered_run.LowStepParts.{LowState, numbers_for, taken_value}
+use Rattle.lowered_steps.specs.lowered_run.Stored.{each_changed, one_more}
+use Rattle.lowered_numbering_laws.specs.lowering_laws.ownership_origins.Renamings.{renames}
+use Rattle.lowered_numbering_laws.specs.lowering_laws.lowering_model.LoweredBlocks.{value_with}
+use Rattle.lowered_numbering_laws.specs.lowering_laws.lowering_model.LoweredInsts.{becomes_by, loads_by, lowering_of, plain_load, retains_loaded}
+use Rattle.lowered_numbering_laws.specs.lowering_laws.lowering_model.NewInsts.{loaded_from, retain}
+use Rattle.lowered_numbering_laws.specs.lowering_laws.lowering_model.Numbers.{renumbered_inst}
+use Rattle.lowered_numbering_laws.specs.lowering_laws.lowering_model.declared.lowering.Lowering.TheVariants as lowering
+use Rattle.owned_counts.specs.holder_steps.inner.Ways as holder
 use Rattle.stored_runs.specs.inner.Lowering.{IsOwnName}
 use Rattle.stored_runs.specs.inner.Memories.{IsMemoryFor, MayBeTaken}
 use Rattle.stored_runs.specs.inner.PlaceRows.{GoesAlong, LowGoes, StandsAt, stored_for}

@@ -17,15 +17,15 @@ use Rattle.numbered_form.specs.Numbering.{values_of}
 use Rattle.item_operands.specs.Parts.{edge_at, edge_in, inst_at, inst_in, terminator_in, terminator_of}
 use Rattle.ownership_chains.specs.declared.definition.Definition.{Definition}
 use Rattle.type_definitions.specs.Declarations.{Declarations}
-use Rattle.lowered_run.specs.holder_model.Standing.{first_point, point_behind}
-use Rattle.lowering_laws.specs.ownership_origins.Renamings.{renamings_of}
-use Rattle.lowering_laws.specs.sil_types.Typing.FormRules.{is_at_storage}
-use Rattle.lowering_laws.specs.lowering_model.LoweredBlocks.{block_becomes, blocks_become, insts_become, lowered_blocks, value_with}
-use Rattle.lowering_laws.specs.lowering_model.LoweredInsts.{assigns, becomes, becomes_by, destroys_by, lowering_of, loads_by, operand_at, releases_at, stores_by}
-use Rattle.lowering_laws.specs.lowering_model.LoweredModules.{lowered_body}
-use Rattle.lowering_laws.specs.lowering_model.Numbers.{renumbered_block, renumbered_edge, renumbered_inst}
-use Rattle.lowering_laws.specs.lowering_model.declared.lowering.Lowering.{Lowering}
-use Rattle.lowering_laws.specs.lowering_model.declared.lowering.Lowering.TheVariants as lowering
+use Rattle.lowered_steps.specs.lowered_run.holder_model.Standing.{first_point, point_behind}
+use Rattle.lowered_numbering_laws.specs.lowering_laws.ownership_origins.Renamings.{renamings_of}
+use Rattle.lowered_numbering_laws.specs.lowering_laws.sil_types.Typing.FormRules.{is_at_storage}
+use Rattle.lowered_numbering_laws.specs.lowering_laws.lowering_model.LoweredBlocks.{block_becomes, blocks_become, insts_become, lowered_blocks, value_with}
+use Rattle.lowered_numbering_laws.specs.lowering_laws.lowering_model.LoweredInsts.{assigns, becomes, becomes_by, destroys_by, lowering_of, loads_by, operand_at, releases_at, stores_by}
+use Rattle.lowered_numbering_laws.specs.lowering_laws.lowering_model.LoweredModules.{lowered_body}
+use Rattle.lowered_numbering_laws.specs.lowering_laws.lowering_model.Numbers.{renumbered_block, renumbered_edge, renumbered_inst}
+use Rattle.lowered_numbering_laws.specs.lowering_laws.lowering_model.declared.lowering.Lowering.{Lowering}
+use Rattle.lowered_numbering_laws.specs.lowering_laws.lowering_model.declared.lowering.Lowering.TheVariants as lowering
 use Rattle.stored_runs.specs.inner.Names.{lowered_number}
 use Rattle.stored_runs.specs.inner.Points.{insts_before, insts_of, lowered_length, lowered_point}
 

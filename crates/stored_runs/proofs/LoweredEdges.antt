@@ -26,20 +26,20 @@ use Rattle.sil_cfg.specs.declared.item.Item.{Item}
 use Rattle.sil_cfg.specs.declared.item.Item.TheVariants as item
 use Rattle.type_definitions.specs.Declarations.{Declarations, declarations_of}
 use Rattle.value_tables.specs.FirstValue.{first_value}
-use Rattle.lowered_run.specs.holder_model.Edges.{is_default}
-use Rattle.lowering_laws.specs.ownership_origins.Renamings.{default_operand, renamings_of}
-use Rattle.lowering_laws.specs.ownership_origins.Switched.{switch_to}
-use Rattle.lowering_laws.specs.ownership_origins.declared.switched.Switched.{Switched}
-use Rattle.lowering_laws.specs.lowering_model.LoweredBlocks.{without_annotation}
-use Rattle.lowering_laws.specs.lowering_model.LoweredModules.{lowered_body}
-use Rattle.lowering_laws.specs.lowering_model.Names.{renamed_from}
-use Rattle.lowering_laws.specs.lowering_model.Numbers.{renumbered_arg, renumbered_edge}
-use Rattle.lowering_laws.proofs.Ends.{stands_itself}
+use Rattle.lowered_steps.specs.lowered_run.holder_model.Edges.{is_default}
+use Rattle.lowered_numbering_laws.specs.lowering_laws.ownership_origins.Renamings.{default_operand, renamings_of}
+use Rattle.lowered_numbering_laws.specs.lowering_laws.ownership_origins.Switched.{switch_to}
+use Rattle.lowered_numbering_laws.specs.lowering_laws.ownership_origins.declared.switched.Switched.{Switched}
+use Rattle.lowered_numbering_laws.specs.lowering_laws.lowering_model.LoweredBlocks.{without_annotation}
+use Rattle.lowered_numbering_laws.specs.lowering_laws.lowering_model.LoweredModules.{lowered_body}
+use Rattle.lowered_numbering_laws.specs.lowering_laws.lowering_model.Names.{renamed_from}
+use Rattle.lowered_numbering_laws.specs.lowering_laws.lowering_model.Numbers.{renumbered_arg, renumbered_edge}
+use Rattle.lowered_numbering_laws.proofs.lowering_laws.Ends.{stands_itself}
 use Rattle.lowered_typing_laws.proofs.Args.{args_go, args_stay, lowered_args}
 use Rattle.lowered_typing_laws.proofs.Sound.{SoundFunction}
 use Rattle.lowered_typing_laws.proofs.Switches.{SwitchFrom, entry_kept, lone, switch_from}
-use Rattle.accepted_values.specs.inner.Known.{IsAcceptedBody}
-use Rattle.accepted_values.proofs.Accepted.{counted, typed}
+use Rattle.owned_counts.specs.accepted_values.inner.Known.{IsAcceptedBody}
+use Rattle.owned_counts.proofs.accepted_values.Accepted.{counted, typed}
 use Rattle.stored_runs.specs.inner.Lowering.{IsEdgeLowered, IsOtherName, IsOwnName}
 use Rattle.stored_runs.specs.inner.Names.{AreNamed, IsOld, lowered_number}
 use Rattle.stored_runs.proofs.LoweredCode.{low_edge}

@@ -9,16 +9,16 @@ use Rattle.ownership_chains.specs.declared.definition.Definition.{Definition}
 use Rattle.sil_ast.specs.declared.function.Function.{Function}
 use Rattle.sil_ast.specs.declared.place.ValueId.{ValueId}
 use Rattle.type_definitions.specs.Declarations.{Declarations}
-use Rattle.lowering_laws.specs.inner.Laws.{defined_by}
-use Rattle.lowering_laws.specs.inner.Lowerable.{IsLowerable}
-use Rattle.lowering_laws.specs.ownership_origins.Renamings.{renamings_of}
-use Rattle.lowering_laws.specs.lowering_model.LoweredBlocks.{lowered_blocks}
-use Rattle.lowering_laws.specs.lowering_model.Names.{renamed_from, stands_for, stands_within, unless_renamed}
-use Rattle.lowering_laws.specs.lowering_model.Numbers.{new_number, numbering_of, place_among}
-use Rattle.lowering_laws.proofs.Ends.{names_end, stands_itself}
-use Rattle.lowering_laws.proofs.Placed.{no_operands, old_are_placed}
-use Rattle.lowering_laws.proofs.Renumbered.{renumbered_values}
-use Rattle.lowering_laws.proofs.ownership_origins.Counts.{are_of_values}
+use Rattle.lowered_numbering_laws.specs.lowering_laws.inner.Laws.{defined_by}
+use Rattle.lowered_numbering_laws.specs.lowering_laws.inner.Lowerable.{IsLowerable}
+use Rattle.lowered_numbering_laws.specs.lowering_laws.ownership_origins.Renamings.{renamings_of}
+use Rattle.lowered_numbering_laws.specs.lowering_laws.lowering_model.LoweredBlocks.{lowered_blocks}
+use Rattle.lowered_numbering_laws.specs.lowering_laws.lowering_model.Names.{renamed_from, stands_for, stands_within, unless_renamed}
+use Rattle.lowered_numbering_laws.specs.lowering_laws.lowering_model.Numbers.{new_number, numbering_of, place_among}
+use Rattle.lowered_numbering_laws.proofs.lowering_laws.Ends.{names_end, stands_itself}
+use Rattle.lowered_numbering_laws.proofs.lowering_laws.Placed.{no_operands, old_are_placed}
+use Rattle.lowered_numbering_laws.proofs.lowering_laws.Renumbered.{renumbered_values}
+use Rattle.lowered_numbering_laws.proofs.lowering_laws.ownership_origins.Counts.{are_of_values}
 use Rattle.stored_runs.specs.inner.Names.{AreNamed, IsOld, lowered_count, lowered_number}
 
 -- ---- what a value stands for, through more names

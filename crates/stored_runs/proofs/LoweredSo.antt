@@ -18,29 +18,29 @@ use Rattle.sil_cfg.specs.declared.item.Item.TheVariants as items
 use Rattle.type_definitions.specs.Declarations.{Declarations, declarations_of}
 use Rattle.value_tables.specs.FirstValue.{value_of}
 use Rattle.run_values.specs.Shapes.{Unknown}
-use Rattle.lowered_run.specs.holder_model.ModuleShapes.{function_shapes, shape_at, shapes_in, shapes_of, value_shape}
-use Rattle.lowering_laws.specs.inner.Lowerable.{HasNoRings, IsLowerable}
-use Rattle.lowering_laws.specs.ownership_origins.Renamings.{renames, renamings_of}
-use Rattle.lowering_laws.specs.sil_types.Typing.Values.{type_at, value_types}
-use Rattle.lowering_laws.specs.lowering_model.LoweredModules.{lowered, lowered_body, lowered_by, lowered_function}
-use Rattle.lowering_laws.specs.lowering_model.Names.{renamed_from}
-use Rattle.lowering_laws.proofs.Ends.{stands_itself}
-use Rattle.lowering_laws.proofs.Known.{names_in}
-use Rattle.lowering_laws.proofs.Lists.{each_weaker}
-use Rattle.lowering_laws.proofs.Lowerable.{functions_are_lowerable}
-use Rattle.lowering_laws.proofs.Rings.{kinds_have_no_rings}
+use Rattle.lowered_steps.specs.lowered_run.holder_model.ModuleShapes.{function_shapes, shape_at, shapes_in, shapes_of, value_shape}
+use Rattle.lowered_numbering_laws.specs.lowering_laws.inner.Lowerable.{HasNoRings, IsLowerable}
+use Rattle.lowered_numbering_laws.specs.lowering_laws.ownership_origins.Renamings.{renames, renamings_of}
+use Rattle.lowered_numbering_laws.specs.lowering_laws.sil_types.Typing.Values.{type_at, value_types}
+use Rattle.lowered_numbering_laws.specs.lowering_laws.lowering_model.LoweredModules.{lowered, lowered_body, lowered_by, lowered_function}
+use Rattle.lowered_numbering_laws.specs.lowering_laws.lowering_model.Names.{renamed_from}
+use Rattle.lowered_numbering_laws.proofs.lowering_laws.Ends.{stands_itself}
+use Rattle.lowered_numbering_laws.proofs.lowering_laws.Known.{names_in}
+use Rattle.lowered_numbering_laws.proofs.lowering_laws.Lists.{each_weaker}
+use Rattle.lowered_numbering_laws.proofs.lowering_laws.Lowerable.{functions_are_lowerable}
+use Rattle.lowered_numbering_laws.proofs.lowering_laws.Rings.{kinds_have_no_rings}
 use Rattle.lowered_numbering_laws.proofs.Types.{declares_the_same}
 use Rattle.lowered_typing_laws.proofs.Fields.{members_once}
 use Rattle.lowered_typing_laws.proofs.Sound.{SoundFunction, Source, sound_function}
 use Rattle.lowered_typing_laws.proofs.Tables.{type_kept}
-use Rattle.accepted_trails.specs.inner.Defined.{makes}
-use Rattle.accepted_trails.proofs.Tests.{picked, same_value}
-use Rattle.accepted_premises.proofs.MadeAtStops.{makes_so}
-use Rattle.accepted_values.specs.inner.Known.{IsAcceptedBody}
-use Rattle.accepted_values.specs.run_typing.CallForms.{IsOf}
-use Rattle.accepted_values.proofs.Accepted.{counted, has_kinds, in_ownership_form, typed}
-use Rattle.accepted_values.proofs.Made.{items_of, parameters_of_entry}
-use Rattle.accepted_values.proofs.run_typing_laws.ItemFacts.{values_counted}
+use Rattle.owned_counts.specs.accepted_trails.inner.Defined.{makes}
+use Rattle.owned_counts.proofs.accepted_trails.Tests.{picked, same_value}
+use Rattle.owned_counts.proofs.accepted_premises.MadeAtStops.{makes_so}
+use Rattle.owned_counts.specs.accepted_values.inner.Known.{IsAcceptedBody}
+use Rattle.owned_counts.specs.accepted_values.run_typing.CallForms.{IsOf}
+use Rattle.owned_counts.proofs.accepted_values.Accepted.{counted, has_kinds, in_ownership_form, typed}
+use Rattle.owned_counts.proofs.accepted_values.Made.{items_of, parameters_of_entry}
+use Rattle.owned_counts.proofs.accepted_values.run_typing_laws.ItemFacts.{values_counted}
 use Rattle.stored_runs.specs.inner.Lowering.{IsOtherName, IsOwnName, IsTakenOld, LowersSo}
 use Rattle.stored_runs.specs.inner.LoweredSo.{AreLoweredSo}
 use Rattle.stored_runs.specs.inner.Names.{AreNamed, IsOld, lowered_number}

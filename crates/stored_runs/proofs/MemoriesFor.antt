@@ -9,7 +9,7 @@ use Rattle.run_values.specs.Memory.{Memory, Object, is_dead, is_dead_phase, is_l
 use Rattle.run_values.specs.Places.{Home, Inside, OnStack, Place, cells_at, emptied, filled, home_cells, is_there_at, removed, value_at, with_cells, with_home_cells}
 use Rattle.run_values.specs.Values.{Value}
 use Rattle.run_values.specs.declared.phase.Phase.{Phase}
-use Rattle.lowered_run.specs.holder_model.Dropping.{ended, in_phase}
+use Rattle.lowered_steps.specs.lowered_run.holder_model.Dropping.{ended, in_phase}
 use Rattle.stored_runs.specs.inner.Memories.{AreCellsFor, IsMemoryFor, IsObjectFor, MayBeTaken}
 use Rattle.stored_runs.proofs.CellsFor.{dropped_front, emptied_for, joined_for, put_for, same_cells, taken_front, there_for, value_for}
 

@@ -21,32 +21,32 @@ use Rattle.type_definitions.specs.Rules.{is_class_type}
 use Rattle.run_values.specs.Memory.{Memory, is_dead}
 use Rattle.run_values.specs.Places.{Place}
 use Rattle.run_values.specs.Shapes.{Shape}
-use Rattle.lowered_run.specs.holder_model.Data.{Datum, references_in}
-use Rattle.lowered_run.specs.holder_model.Effects as effects
-use Rattle.lowered_run.specs.holder_model.Effects.{Change, Effect, Makes, effect_of, unchanged}
-use Rattle.lowered_run.specs.holder_model.Frames.{Entry, Frame, results_put}
-use Rattle.lowered_run.specs.holder_model.HolderStates.{HolderState}
-use Rattle.lowered_run.specs.holder_model.ModuleFacts.{facts_of, facts_told}
-use Rattle.lowered_run.specs.holder_model.ModuleShapes.{ModuleShapes, shapes_in, shapes_of}
-use Rattle.lowered_run.specs.holder_model.Outcomes.{Numbers}
-use Rattle.lowered_run.specs.holder_model.Standing.{point_behind, stands_at}
-use Rattle.lowered_run.specs.holder_model.States.{Goes, Runs, Task, dropping}
-use Rattle.lowered_run.specs.holder_model.declared.row_effect.RowEffect.TheVariants as row
-use Rattle.lowered_run.specs.LowEffects as low_effects
-use Rattle.lowered_run.specs.LowEffects.{low_effect, stored_behind, stored_by}
-use Rattle.lowered_run.specs.LowFrames as low_frames
-use Rattle.lowered_run.specs.LowFrames.{LowFrame, put_all, read_all}
-use Rattle.lowered_run.specs.LowStepParts.{LowState, numbers_for, slots_behind, taken_value, values_taken}
-use Rattle.lowered_run.specs.LowSteps as steps
-use Rattle.lowered_run.specs.Stored.{each_changed, one_more}
-use Rattle.lowering_laws.specs.ownership_origins.Renamings.{renames}
-use Rattle.lowering_laws.specs.lowering_model.LoweredBlocks.{value_with}
-use Rattle.lowering_laws.specs.lowering_model.LoweredInsts.{becomes, becomes_by, lowering_of}
-use Rattle.lowering_laws.specs.lowering_model.LoweredModules.{lowered, lowered_body}
-use Rattle.lowering_laws.specs.lowering_model.NewInsts.{release, retain}
-use Rattle.lowering_laws.specs.lowering_model.Numbers.{renumbered_inst}
-use Rattle.lowering_laws.specs.lowering_model.declared.lowering.Lowering.TheVariants as lowering
-use Rattle.lowering_laws.specs.sil_types.Typing.RowTypes.{passes}
+use Rattle.lowered_steps.specs.lowered_run.holder_model.Data.{Datum, references_in}
+use Rattle.lowered_steps.specs.lowered_run.holder_model.Effects as effects
+use Rattle.lowered_steps.specs.lowered_run.holder_model.Effects.{Change, Effect, Makes, effect_of, unchanged}
+use Rattle.lowered_steps.specs.lowered_run.holder_model.Frames.{Entry, Frame, results_put}
+use Rattle.lowered_steps.specs.lowered_run.holder_model.HolderStates.{HolderState}
+use Rattle.lowered_steps.specs.lowered_run.holder_model.ModuleFacts.{facts_of, facts_told}
+use Rattle.lowered_steps.specs.lowered_run.holder_model.ModuleShapes.{ModuleShapes, shapes_in, shapes_of}
+use Rattle.lowered_steps.specs.lowered_run.holder_model.Outcomes.{Numbers}
+use Rattle.lowered_steps.specs.lowered_run.holder_model.Standing.{point_behind, stands_at}
+use Rattle.lowered_steps.specs.lowered_run.holder_model.States.{Goes, Runs, Task, dropping}
+use Rattle.lowered_steps.specs.lowered_run.holder_model.declared.row_effect.RowEffect.TheVariants as row
+use Rattle.lowered_steps.specs.lowered_run.LowEffects as low_effects
+use Rattle.lowered_steps.specs.lowered_run.LowEffects.{low_effect, stored_behind, stored_by}
+use Rattle.lowered_steps.specs.lowered_run.LowFrames as low_frames
+use Rattle.lowered_steps.specs.lowered_run.LowFrames.{LowFrame, put_all, read_all}
+use Rattle.lowered_steps.specs.lowered_run.LowStepParts.{LowState, numbers_for, slots_behind, taken_value, values_taken}
+use Rattle.lowered_steps.specs.lowered_run.LowSteps as steps
+use Rattle.lowered_steps.specs.lowered_run.Stored.{each_changed, one_more}
+use Rattle.lowered_numbering_laws.specs.lowering_laws.ownership_origins.Renamings.{renames}
+use Rattle.lowered_numbering_laws.specs.lowering_laws.lowering_model.LoweredBlocks.{value_with}
+use Rattle.lowered_numbering_laws.specs.lowering_laws.lowering_model.LoweredInsts.{becomes, becomes_by, lowering_of}
+use Rattle.lowered_numbering_laws.specs.lowering_laws.lowering_model.LoweredModules.{lowered, lowered_body}
+use Rattle.lowered_numbering_laws.specs.lowering_laws.lowering_model.NewInsts.{release, retain}
+use Rattle.lowered_numbering_laws.specs.lowering_laws.lowering_model.Numbers.{renumbered_inst}
+use Rattle.lowered_numbering_laws.specs.lowering_laws.lowering_model.declared.lowering.Lowering.TheVariants as lowering
+use Rattle.lowered_numbering_laws.specs.lowering_laws.sil_types.Typing.RowTypes.{passes}
 use Rattle.lowered_steps.specs.inner.LowWays.{Acts, GoesBehind, Performs, StepsBy, effect_in, moved, retained}
 use Rattle.lowered_steps.proofs.LowTaken.{told_taken}
 use Rattle.stored_runs.specs.inner.Frames.{AreValuesFor, IsFrameAt, IsFrameFor, IsTaskFor}

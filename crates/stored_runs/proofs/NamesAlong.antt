@@ -1,10 +1,10 @@
 -- Rows at places that are lowered to themselves: loads and stores of names, storage that is destroyed, slots that go, and addresses of members.
 use Rattle.stored_runs.specs.inner.RowsRight.{is_place_row}
 use Rattle.sil_ast.specs.declared.decl.Storage.TheVariants as storage
-use Rattle.lowered_run.specs.holder_model.declared.trap.Trap.TheVariants as trap
-use Rattle.lowered_run.specs.holder_model.MemoryEffects.{two, value_and_place, copies_with, takes, references_at, all_live, loaded_name, named_again}
-use Rattle.lowered_run.specs.Stored.{named, unnamed}
-use Rattle.accepted_trails.specs.inner.Defined.{makes}
+use Rattle.lowered_steps.specs.lowered_run.holder_model.declared.trap.Trap.TheVariants as trap
+use Rattle.lowered_steps.specs.lowered_run.holder_model.MemoryEffects.{two, value_and_place, copies_with, takes, references_at, all_live, loaded_name, named_again}
+use Rattle.lowered_steps.specs.lowered_run.Stored.{named, unnamed}
+use Rattle.owned_counts.specs.accepted_trails.inner.Defined.{makes}
 use Rattle.sil_ast.specs.declared.decl.Storage.{Storage}
 use Rattle.run_values.specs.declared.phase.Phase.{Phase}
 use Rattle.stored_runs.proofs.PlainAlong.{plain_along}
@@ -22,15 +22,15 @@ use Rattle.run_values.specs.Places.{Place, emptied, filled, is_there_at, removed
 use Rattle.run_values.specs.Shapes.{Shape, storage_in}
 use Rattle.run_values.specs.Values as value
 use Rattle.run_values.specs.Values.{Value, grouped, integer_of, members_of, object_of, references_of}
-use Rattle.lowered_run.specs.holder_model.Data.{AddressOf, Datum, ValueOf}
-use Rattle.lowered_run.specs.holder_model.Effects.{Change, Effect, Makes, effect_by, gives, gives_value, part_number, unchanged, with_some, effect_of, Traps, names_member, SameSlots, ClosesSlot}
-use Rattle.lowered_run.specs.holder_model.Faults.{HolderFault}
-use Rattle.lowered_run.specs.holder_model.ModuleShapes.{ModuleShapes, shapes_in, shapes_of}
-use Rattle.lowered_run.specs.holder_model.declared.row_effect.RowEffect.{RowEffect}
-use Rattle.lowered_run.specs.holder_model.declared.row_effect.RowEffect.TheVariants as row
-use Rattle.lowered_run.specs.declared.low_fault.LowFault.{LowFault}
-use Rattle.lowered_run.specs.LowEffects as low_effects
-use Rattle.lowering_laws.specs.lowering_model.Numbers.{renumbered_inst}
+use Rattle.lowered_steps.specs.lowered_run.holder_model.Data.{AddressOf, Datum, ValueOf}
+use Rattle.lowered_steps.specs.lowered_run.holder_model.Effects.{Change, Effect, Makes, effect_by, gives, gives_value, part_number, unchanged, with_some, effect_of, Traps, names_member, SameSlots, ClosesSlot}
+use Rattle.lowered_steps.specs.lowered_run.holder_model.Faults.{HolderFault}
+use Rattle.lowered_steps.specs.lowered_run.holder_model.ModuleShapes.{ModuleShapes, shapes_in, shapes_of}
+use Rattle.lowered_steps.specs.lowered_run.holder_model.declared.row_effect.RowEffect.{RowEffect}
+use Rattle.lowered_steps.specs.lowered_run.holder_model.declared.row_effect.RowEffect.TheVariants as row
+use Rattle.lowered_steps.specs.lowered_run.declared.low_fault.LowFault.{LowFault}
+use Rattle.lowered_steps.specs.lowered_run.LowEffects as low_effects
+use Rattle.lowered_numbering_laws.specs.lowering_laws.lowering_model.Numbers.{renumbered_inst}
 use Rattle.stored_runs.specs.inner.EffectsFor.{IsChangeFor}
 use Rattle.stored_runs.specs.inner.Memories.{IsMemoryFor}
 use Rattle.stored_runs.proofs.MemoriesFor.{place_filled, place_for, live_for, place_emptied, place_removed}
@@ -41,17 +41,17 @@ use Rattle.sil_ast.specs.declared.module.Module.{Module}
 use Rattle.sil_ast.specs.declared.operands.Operand.{Operand}
 use Rattle.sil_cfg.specs.declared.item.Item.TheVariants as item
 use Rattle.item_operands.specs.Items.{item_defined}
-use Rattle.lowered_run.specs.holder_model.Frames.{Entry, Frame, Operands, results_put}
-use Rattle.lowered_run.specs.holder_model.HolderStates.{HolderState}
-use Rattle.lowered_run.specs.holder_model.ModuleFacts.{facts_of}
-use Rattle.lowered_run.specs.holder_model.Outcomes.{Numbers}
-use Rattle.lowered_run.specs.holder_model.Standing.{stands_at}
-use Rattle.lowered_run.specs.holder_model.States.{Task}
-use Rattle.lowered_run.specs.holder_model.memory_accesses.declared.access.Operation.{Operation}
-use Rattle.lowered_run.specs.LowEffects.{low_effect, operation_done, stored_behind, stored_by, accessed, both_stored, is_first_write, stored_at, value_stored, taken_at}
-use Rattle.lowered_run.specs.LowStepParts.{LowState}
-use Rattle.lowering_laws.specs.ownership_origins.Renamings.{renames}
-use Rattle.holder_steps.specs.inner.Ways as holder
+use Rattle.lowered_steps.specs.lowered_run.holder_model.Frames.{Entry, Frame, Operands, results_put}
+use Rattle.lowered_steps.specs.lowered_run.holder_model.HolderStates.{HolderState}
+use Rattle.lowered_steps.specs.lowered_run.holder_model.ModuleFacts.{facts_of}
+use Rattle.lowered_steps.specs.lowered_run.holder_model.Outcomes.{Numbers}
+use Rattle.lowered_steps.specs.lowered_run.holder_model.Standing.{stands_at}
+use Rattle.lowered_steps.specs.lowered_run.holder_model.States.{Task}
+use Rattle.lowered_steps.specs.lowered_run.holder_model.memory_accesses.declared.access.Operation.{Operation}
+use Rattle.lowered_steps.specs.lowered_run.LowEffects.{low_effect, operation_done, stored_behind, stored_by, accessed, both_stored, is_first_write, stored_at, value_stored, taken_at}
+use Rattle.lowered_steps.specs.lowered_run.LowStepParts.{LowState}
+use Rattle.lowered_numbering_laws.specs.lowering_laws.ownership_origins.Renamings.{renames}
+use Rattle.owned_counts.specs.holder_steps.inner.Ways as holder
 use Rattle.stored_runs.specs.inner.PlaceRows.{GoesAlong, StandsAt, stored_for}
 use Rattle.stored_runs.proofs.RowSteps.{parts_kept}
 use Rattle.stored_runs.proofs.RowsBehind.{accessed_so, from, low_shapes, low_told, made, num}
@@ -60,10 +60,10 @@ use Rattle.run_values.specs.Cells.{in_cells}
 use Rattle.stored_runs.proofs.FullKept.{filling_keeps}
 use Rattle.stored_runs.proofs.LoadSteps.{read_below, there_below}
 use Rattle.stored_runs.proofs.StrongCells.{unnamed_same}
-use Rattle.lowered_run.specs.holder_model.StepParts as parts
-use Rattle.lowered_run.specs.holder_model.MemoryEffects as holder_effects
+use Rattle.lowered_steps.specs.lowered_run.holder_model.StepParts as parts
+use Rattle.lowered_steps.specs.lowered_run.holder_model.MemoryEffects as holder_effects
 use Rattle.stored_runs.proofs.StaysAlong.{low_data, stays_along}
-use Rattle.lowered_run.specs.holder_model.memory_accesses.Operations.{access_kind_of, operation_by}
+use Rattle.lowered_steps.specs.lowered_run.holder_model.memory_accesses.Operations.{access_kind_of, operation_by}
 
 module _ (m : Module) (bound : ℕ) (s : HolderState) (l : LowState) (frame : Frame) (rest : List (Task Frame)) (f : Function) (i : Inst) (ops : Operands)
     (x : StandsAt m s l frame rest f i ops) (alone : made m bound s l frame rest f i ops x ≡ i ∷ []) (keeps : renames i.op ≡ false) where

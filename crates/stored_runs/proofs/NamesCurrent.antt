@@ -17,17 +17,17 @@ use Rattle.sil_cfg.specs.inner.Splice.{Precedes, Stop, is_at, item, same_item}
 use Rattle.sil_cfg.proofs.Places.{same_item-true}
 use Rattle.type_definitions.specs.Declarations.{Declarations}
 use Rattle.ownership_chains.specs.declared.definition.Definition.{Definition}
-use Rattle.lowering_laws.specs.ownership_origins.Renamings.{renamings_of}
-use Rattle.lowering_laws.specs.lowering_model.Names.{renamed_from, stands_within, unless_renamed}
-use Rattle.accepted_trails.specs.run_trails.inner.RunTrails.{IsTurnedTrail}
-use Rattle.accepted_trails.specs.run_trails.inner.Since.{is_none_since}
-use Rattle.accepted_trails.proofs.run_trails.SplicedRuns.{are_spliced}
-use Rattle.accepted_trails.proofs.run_trails.TurnedTrails.{are_of_items, turned_item, turned_older}
-use Rattle.accepted_trails.specs.inner.Accepted.{IsAcceptedIn}
-use Rattle.accepted_trails.specs.inner.Bases.{MakesAtStops}
-use Rattle.accepted_trails.specs.inner.Defined.{IsDefinedOn, IsTakenFrom, makes}
-use Rattle.accepted_trails.proofs.OperandsDefined.{operands_defined}
-use Rattle.accepted_trails.proofs.Tests.{any_alike, any_reversed, each_among, each_weaker, either, or_right, picked, same_value}
+use Rattle.lowered_numbering_laws.specs.lowering_laws.ownership_origins.Renamings.{renamings_of}
+use Rattle.lowered_numbering_laws.specs.lowering_laws.lowering_model.Names.{renamed_from, stands_within, unless_renamed}
+use Rattle.owned_counts.specs.accepted_trails.run_trails.inner.RunTrails.{IsTurnedTrail}
+use Rattle.owned_counts.specs.accepted_trails.run_trails.inner.Since.{is_none_since}
+use Rattle.owned_counts.proofs.accepted_trails.run_trails.SplicedRuns.{are_spliced}
+use Rattle.owned_counts.proofs.accepted_trails.run_trails.TurnedTrails.{are_of_items, turned_item, turned_older}
+use Rattle.owned_counts.specs.accepted_trails.inner.Accepted.{IsAcceptedIn}
+use Rattle.owned_counts.specs.accepted_trails.inner.Bases.{MakesAtStops}
+use Rattle.owned_counts.specs.accepted_trails.inner.Defined.{IsDefinedOn, IsTakenFrom, makes}
+use Rattle.owned_counts.proofs.accepted_trails.OperandsDefined.{operands_defined}
+use Rattle.owned_counts.proofs.accepted_trails.Tests.{any_alike, any_reversed, each_among, each_weaker, either, or_right, picked, same_value}
 use Rattle.stored_runs.specs.inner.Current.{AreAcceptedCurrent, TakesNamed, is_of}
 use Rattle.stored_runs.specs.inner.Names.{IsTakenCurrent}
 

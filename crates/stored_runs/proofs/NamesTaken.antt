@@ -27,17 +27,17 @@ use Rattle.sil_ast.specs.declared.place.ValueId.{ValueId}
 use Rattle.sil_cfg.specs.declared.item.Item.{Item}
 use Rattle.sil_cfg.specs.declared.item.Item.TheVariants as items
 use Rattle.value_tables.specs.FirstValue.{first_value, value_of}
-use Rattle.lowering_laws.specs.ownership_origins.Renamings.{default_operand, renames, renamings_of}
-use Rattle.lowering_laws.specs.ownership_origins.Switched.{switch_to}
-use Rattle.lowering_laws.specs.ownership_origins.declared.switched.Switched.{Switched}
-use Rattle.lowering_laws.specs.lowering_model.Names.{renamed_from}
-use Rattle.lowering_laws.proofs.Known.{names_in}
+use Rattle.lowered_numbering_laws.specs.lowering_laws.ownership_origins.Renamings.{default_operand, renames, renamings_of}
+use Rattle.lowered_numbering_laws.specs.lowering_laws.ownership_origins.Switched.{switch_to}
+use Rattle.lowered_numbering_laws.specs.lowering_laws.ownership_origins.declared.switched.Switched.{Switched}
+use Rattle.lowered_numbering_laws.specs.lowering_laws.lowering_model.Names.{renamed_from}
+use Rattle.lowered_numbering_laws.proofs.lowering_laws.Known.{names_in}
 use Rattle.lowered_typing_laws.proofs.Sound.{SoundFunction, sound_function}
 use Rattle.lowered_typing_laws.proofs.Switches.{SwitchFrom, entry_kept, lone, switch_from}
-use Rattle.accepted_trails.specs.inner.Defined.{makes}
-use Rattle.accepted_trails.proofs.Tests.{picked, same_value}
-use Rattle.accepted_values.specs.inner.Known.{IsAcceptedBody}
-use Rattle.accepted_values.proofs.Accepted.{counted, typed}
+use Rattle.owned_counts.specs.accepted_trails.inner.Defined.{makes}
+use Rattle.owned_counts.proofs.accepted_trails.Tests.{picked, same_value}
+use Rattle.owned_counts.specs.accepted_values.inner.Known.{IsAcceptedBody}
+use Rattle.owned_counts.proofs.accepted_values.Accepted.{counted, typed}
 use Rattle.stored_runs.specs.inner.Current.{AreNamesTaken, is_of}
 use Rattle.stored_runs.proofs.RenamingRows.{IsNamedBy, args_named, results_named}
 

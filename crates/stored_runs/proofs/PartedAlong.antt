@@ -1,10 +1,10 @@
 -- A struct or tuple is taken apart: the lowered run extracts its members one by one.
 use Rattle.std.specs.Prelude.{option_and_then, ◌++◌, slice_get, ◌==◌}
 use Rattle.sil_ast.specs.declared.member.Member.{Member}
-use Rattle.lowered_run.specs.holder_model.memory_accesses.Sources.{member_place}
-use Rattle.lowered_run.specs.holder_model.Effects.{gives_value, Change, Makes, effect_of, unchanged, with_some}
-use Rattle.lowering_laws.specs.lowering_model.Extracts.{element_extracts, extracts_elements, extracts_fields, field_extracts, members_of_struct}
-use Rattle.lowered_run.specs.LowFrames.{put_all}
+use Rattle.lowered_steps.specs.lowered_run.holder_model.memory_accesses.Sources.{member_place}
+use Rattle.lowered_steps.specs.lowered_run.holder_model.Effects.{gives_value, Change, Makes, effect_of, unchanged, with_some}
+use Rattle.lowered_numbering_laws.specs.lowering_laws.lowering_model.Extracts.{element_extracts, extracts_elements, extracts_fields, field_extracts, members_of_struct}
+use Rattle.lowered_steps.specs.lowered_run.LowFrames.{put_all}
 use Rattle.std.proofs.Common.{◌≡◌, ℕ, suc, ◌+◌, List, [], ◌∷◌, map, length, arith, refl, sym, ap, ◌∙◌, subst, false, Option, Some, Ok, ap₂, flat_map, option_to_list, set}
 use Rattle.std.proofs.lemmas.Option.{same_Some}
 use Rattle.numbered_form.specs.Lists.{Each}
@@ -18,24 +18,24 @@ use Rattle.item_operands.specs.Items.{item_defined}
 use Rattle.item_operands.specs.Roles.{taken_by}
 use Rattle.type_definitions.specs.Declarations.{Declarations, declarations_of}
 use Rattle.run_values.specs.Values.{Value, members_of}
-use Rattle.lowered_run.specs.holder_model.Data.{Datum, ValueOf}
-use Rattle.lowered_run.specs.holder_model.Frames.{Entry, Frame, Operands, results_put}
-use Rattle.lowered_run.specs.holder_model.HolderStates.{HolderState}
-use Rattle.lowered_run.specs.holder_model.ModuleFacts.{facts_of}
-use Rattle.lowered_run.specs.holder_model.ModuleShapes.{ModuleShapes, shapes_in, shapes_of}
-use Rattle.lowered_run.specs.holder_model.Outcomes.{Numbers}
-use Rattle.lowered_run.specs.holder_model.Standing.{stands_at}
-use Rattle.lowered_run.specs.holder_model.States.{Task}
-use Rattle.lowered_run.specs.holder_model.declared.row_effect.RowEffect.TheVariants as row
-use Rattle.lowered_run.specs.LowEffects.{low_effect, stored_behind, stored_by}
-use Rattle.lowered_run.specs.LowFrames as low_frames
-use Rattle.lowered_run.specs.LowStepParts.{LowState, numbers_for, taken_value}
-use Rattle.lowering_laws.specs.ownership_origins.Renamings.{renames}
-use Rattle.lowering_laws.specs.lowering_model.LoweredBlocks.{value_with}
-use Rattle.lowering_laws.specs.lowering_model.LoweredInsts.{becomes_by, lowering_of}
-use Rattle.lowering_laws.specs.lowering_model.Numbers.{renumbered_inst}
-use Rattle.lowering_laws.specs.lowering_model.declared.lowering.Lowering.TheVariants as lowering
-use Rattle.holder_steps.specs.inner.Ways as holder
+use Rattle.lowered_steps.specs.lowered_run.holder_model.Data.{Datum, ValueOf}
+use Rattle.lowered_steps.specs.lowered_run.holder_model.Frames.{Entry, Frame, Operands, results_put}
+use Rattle.lowered_steps.specs.lowered_run.holder_model.HolderStates.{HolderState}
+use Rattle.lowered_steps.specs.lowered_run.holder_model.ModuleFacts.{facts_of}
+use Rattle.lowered_steps.specs.lowered_run.holder_model.ModuleShapes.{ModuleShapes, shapes_in, shapes_of}
+use Rattle.lowered_steps.specs.lowered_run.holder_model.Outcomes.{Numbers}
+use Rattle.lowered_steps.specs.lowered_run.holder_model.Standing.{stands_at}
+use Rattle.lowered_steps.specs.lowered_run.holder_model.States.{Task}
+use Rattle.lowered_steps.specs.lowered_run.holder_model.declared.row_effect.RowEffect.TheVariants as row
+use Rattle.lowered_steps.specs.lowered_run.LowEffects.{low_effect, stored_behind, stored_by}
+use Rattle.lowered_steps.specs.lowered_run.LowFrames as low_frames
+use Rattle.lowered_steps.specs.lowered_run.LowStepParts.{LowState, numbers_for, taken_value}
+use Rattle.lowered_numbering_laws.specs.lowering_laws.ownership_origins.Renamings.{renames}
+use Rattle.lowered_numbering_laws.specs.lowering_laws.lowering_model.LoweredBlocks.{value_with}
+use Rattle.lowered_numbering_laws.specs.lowering_laws.lowering_model.LoweredInsts.{becomes_by, lowering_of}
+use Rattle.lowered_numbering_laws.specs.lowering_laws.lowering_model.Numbers.{renumbered_inst}
+use Rattle.lowered_numbering_laws.specs.lowering_laws.lowering_model.declared.lowering.Lowering.TheVariants as lowering
+use Rattle.owned_counts.specs.holder_steps.inner.Ways as holder
 use Rattle.stored_runs.specs.inner.PlaceRows.{GoesAlong, LowGoes, StandsAt, stored_for}
 use Rattle.stored_runs.proofs.RowSteps.{numbers_in_both}
 use Rattle.stored_runs.proofs.RowsBehind.{PutsIn, begin, begins, behind_all, end, from, low_shapes, low_told, lowered_to, made, num, one_step, puts_in, same_numbers, stands, waits}

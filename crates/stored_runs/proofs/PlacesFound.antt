@@ -19,24 +19,24 @@ use Rattle.run_values.specs.Cells.{Cell, Empty, Gone, Keeps}
 use Rattle.run_values.specs.Places.{Place, emptied, filled, is_empty_cell, is_there_at, removed, value_at}
 use Rattle.run_values.specs.Shapes.{Shape, storage_in}
 use Rattle.run_values.specs.Values.{Value, references_of}
-use Rattle.lowered_run.specs.holder_model.Data.{AddressOf, Datum, ValueOf, as_place}
-use Rattle.lowered_run.specs.holder_model.Effects.{Change, ClosesSlot, Effect, Faults, Makes, effect_by, effect_of, only, unchanged, with_some}
-use Rattle.lowered_run.specs.holder_model.Faults.{HolderFault, NotLastSlot}
-use Rattle.lowered_run.specs.holder_model.Frames.{Frame, Operands}
-use Rattle.lowered_run.specs.holder_model.HolderStates.{HolderState}
-use Rattle.lowered_run.specs.holder_model.MemoryEffects as memory_effects
-use Rattle.lowered_run.specs.holder_model.MemoryEffects.{asked_before, copies_with, fault_of, holds, loaded_name, references_at, takes, two, value_and_place, where_held}
-use Rattle.lowered_run.specs.holder_model.ModuleShapes.{ModuleShapes, shapes_in, shapes_of}
-use Rattle.lowered_run.specs.holder_model.declared.row_effect.RowEffect.{RowEffect}
-use Rattle.lowered_run.specs.holder_model.declared.row_effect.RowEffect.TheVariants as row
-use Rattle.lowered_run.specs.holder_model.memory_accesses.declared.access.Operation.{Operation}
-use Rattle.lowered_run.specs.LowStepParts.{LowState}
-use Rattle.lowering_laws.specs.lowering_model.LoweredInsts.{lowering_of}
-use Rattle.lowering_laws.specs.lowering_model.declared.lowering.Lowering.TheVariants as lowering
-use Rattle.lowering_laws.specs.ownership_origins.Renamings.{renames}
-use Rattle.accepted_values.specs.run_typing.Forms.{Form, OfPlace, OfValue}
-use Rattle.typed_holders.specs.typed_memory.inner.Worlds.{PlaceIs, Suits, World}
-use Rattle.typed_holders.proofs.Data.{DataAre, read_place, read_value}
+use Rattle.lowered_steps.specs.lowered_run.holder_model.Data.{AddressOf, Datum, ValueOf, as_place}
+use Rattle.lowered_steps.specs.lowered_run.holder_model.Effects.{Change, ClosesSlot, Effect, Faults, Makes, effect_by, effect_of, only, unchanged, with_some}
+use Rattle.lowered_steps.specs.lowered_run.holder_model.Faults.{HolderFault, NotLastSlot}
+use Rattle.lowered_steps.specs.lowered_run.holder_model.Frames.{Frame, Operands}
+use Rattle.lowered_steps.specs.lowered_run.holder_model.HolderStates.{HolderState}
+use Rattle.lowered_steps.specs.lowered_run.holder_model.MemoryEffects as memory_effects
+use Rattle.lowered_steps.specs.lowered_run.holder_model.MemoryEffects.{asked_before, copies_with, fault_of, holds, loaded_name, references_at, takes, two, value_and_place, where_held}
+use Rattle.lowered_steps.specs.lowered_run.holder_model.ModuleShapes.{ModuleShapes, shapes_in, shapes_of}
+use Rattle.lowered_steps.specs.lowered_run.holder_model.declared.row_effect.RowEffect.{RowEffect}
+use Rattle.lowered_steps.specs.lowered_run.holder_model.declared.row_effect.RowEffect.TheVariants as row
+use Rattle.lowered_steps.specs.lowered_run.holder_model.memory_accesses.declared.access.Operation.{Operation}
+use Rattle.lowered_steps.specs.lowered_run.LowStepParts.{LowState}
+use Rattle.lowered_numbering_laws.specs.lowering_laws.lowering_model.LoweredInsts.{lowering_of}
+use Rattle.lowered_numbering_laws.specs.lowering_laws.lowering_model.declared.lowering.Lowering.TheVariants as lowering
+use Rattle.lowered_numbering_laws.specs.lowering_laws.ownership_origins.Renamings.{renames}
+use Rattle.owned_counts.specs.accepted_values.run_typing.Forms.{Form, OfPlace, OfValue}
+use Rattle.owned_counts.specs.typed_holders.typed_memory.inner.Worlds.{PlaceIs, Suits, World}
+use Rattle.owned_counts.proofs.typed_holders.Data.{DataAre, read_place, read_value}
 use Rattle.stored_runs.proofs.StrongCells.{held}
 
 -- ---- rows and their operations

@@ -1,5 +1,5 @@
 -- Written types, and what a function's own slots are, tell of places what rows ask, but for what is left.
-use Rattle.lowered_run.specs.holder_model.Standing.{stands_at}
+use Rattle.lowered_steps.specs.lowered_run.holder_model.Standing.{stands_at}
 use Rattle.stored_runs.specs.inner.PlacesLeft.{ArePlacesTold}
 use Rattle.stored_runs.specs.inner.WrittenPlaces.{PlacesWritten}
 use Rattle.stored_runs.proofs.OwnSlots.{are_slots_own}

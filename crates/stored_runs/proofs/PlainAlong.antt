@@ -14,41 +14,41 @@ use Rattle.run_values.specs.Places as places
 use Rattle.run_values.specs.Shapes.{Shape, class_in}
 use Rattle.run_values.specs.Values as value
 use Rattle.run_values.specs.Values.{Value, grouped, integer_of, members_of, object_of, references_of}
-use Rattle.lowered_run.specs.holder_model.Builtins.{builtin_value, is_set}
-use Rattle.lowered_run.specs.holder_model.Data.{AddressOf, Datum, FunctionOf, ValueOf, all_of, as_function, as_place, as_value, values_of}
-use Rattle.lowered_run.specs.holder_model.Effects as effects
-use Rattle.lowered_run.specs.holder_model.Effects.{Change, Effect, Makes, OpensSlot, effect_by, gives, gives_value, only, part_number, part_number_by, unchanged, with_some, effect_of, result_shape, result_shape_of, Calls, Faults, Traps, Unfit, chooses, copies, drops, retains, gives_member, gives_members, names_member, names_field, names_field_of, field_of_object, makes_object, traps_where}
-use Rattle.lowered_run.specs.holder_model.ModuleShapes.{ModuleShapes, case_place, shapes_in, shapes_of}
-use Rattle.lowered_run.specs.holder_model.declared.row_effect.RowEffect.{RowEffect}
-use Rattle.lowered_run.specs.holder_model.declared.row_effect.RowEffect.TheVariants as row
-use Rattle.lowered_run.specs.declared.low_fault.LowFault.{LowFault}
-use Rattle.lowered_run.specs.LowEffects as low_effects
-use Rattle.lowering_laws.specs.lowering_model.Numbers.{renumbered_inst}
+use Rattle.lowered_steps.specs.lowered_run.holder_model.Builtins.{builtin_value, is_set}
+use Rattle.lowered_steps.specs.lowered_run.holder_model.Data.{AddressOf, Datum, FunctionOf, ValueOf, all_of, as_function, as_place, as_value, values_of}
+use Rattle.lowered_steps.specs.lowered_run.holder_model.Effects as effects
+use Rattle.lowered_steps.specs.lowered_run.holder_model.Effects.{Change, Effect, Makes, OpensSlot, effect_by, gives, gives_value, only, part_number, part_number_by, unchanged, with_some, effect_of, result_shape, result_shape_of, Calls, Faults, Traps, Unfit, chooses, copies, drops, retains, gives_member, gives_members, names_member, names_field, names_field_of, field_of_object, makes_object, traps_where}
+use Rattle.lowered_steps.specs.lowered_run.holder_model.ModuleShapes.{ModuleShapes, case_place, shapes_in, shapes_of}
+use Rattle.lowered_steps.specs.lowered_run.holder_model.declared.row_effect.RowEffect.{RowEffect}
+use Rattle.lowered_steps.specs.lowered_run.holder_model.declared.row_effect.RowEffect.TheVariants as row
+use Rattle.lowered_steps.specs.lowered_run.declared.low_fault.LowFault.{LowFault}
+use Rattle.lowered_steps.specs.lowered_run.LowEffects as low_effects
+use Rattle.lowered_numbering_laws.specs.lowering_laws.lowering_model.Numbers.{renumbered_inst}
 use Rattle.stored_runs.specs.inner.EffectsFor.{IsEffectFor}
 use Rattle.sil_ast.specs.declared.function.Function.{Function}
 use Rattle.sil_ast.specs.declared.module.Module.{Module}
 use Rattle.sil_cfg.specs.declared.item.Item.TheVariants as item
 use Rattle.item_operands.specs.Items.{item_defined, item_taken}
-use Rattle.lowered_run.specs.holder_model.Frames.{Entry, Frame, Operands, results_put}
-use Rattle.lowered_run.specs.holder_model.HolderStates.{HolderState}
-use Rattle.lowered_run.specs.holder_model.MemoryEffects.{copies_with, takes, references_at}
-use Rattle.lowered_run.specs.holder_model.ModuleFacts.{facts_of}
-use Rattle.lowered_run.specs.holder_model.Outcomes.{Numbers}
-use Rattle.lowered_run.specs.holder_model.Standing.{stands_at}
-use Rattle.lowered_run.specs.holder_model.States.{Task}
-use Rattle.lowered_run.specs.LowEffects.{low_effect, operation_done, stored_behind, stored_by, accessed, both_stored, is_first_write, stored_at, value_stored}
-use Rattle.lowered_run.specs.LowStepParts.{LowState}
-use Rattle.lowering_laws.specs.ownership_origins.Renamings.{renames}
-use Rattle.holder_steps.specs.inner.Ways as holder
+use Rattle.lowered_steps.specs.lowered_run.holder_model.Frames.{Entry, Frame, Operands, results_put}
+use Rattle.lowered_steps.specs.lowered_run.holder_model.HolderStates.{HolderState}
+use Rattle.lowered_steps.specs.lowered_run.holder_model.MemoryEffects.{copies_with, takes, references_at}
+use Rattle.lowered_steps.specs.lowered_run.holder_model.ModuleFacts.{facts_of}
+use Rattle.lowered_steps.specs.lowered_run.holder_model.Outcomes.{Numbers}
+use Rattle.lowered_steps.specs.lowered_run.holder_model.Standing.{stands_at}
+use Rattle.lowered_steps.specs.lowered_run.holder_model.States.{Task}
+use Rattle.lowered_steps.specs.lowered_run.LowEffects.{low_effect, operation_done, stored_behind, stored_by, accessed, both_stored, is_first_write, stored_at, value_stored}
+use Rattle.lowered_steps.specs.lowered_run.LowStepParts.{LowState}
+use Rattle.lowered_numbering_laws.specs.lowering_laws.ownership_origins.Renamings.{renames}
+use Rattle.owned_counts.specs.holder_steps.inner.Ways as holder
 use Rattle.stored_runs.specs.inner.PlaceRows.{GoesAlong, StandsAt, stored_for}
 use Rattle.stored_runs.proofs.RowSteps.{KeepsFull, parts_kept}
 use Rattle.stored_runs.proofs.RowsBehind.{from, low_shapes, low_told, made, num}
 use Rattle.stored_runs.proofs.SameRows.{row_for}
 use Rattle.stored_runs.proofs.StandsThere.{facts, given_parts, taken_so}
 use Rattle.stored_runs.proofs.FullKept.{growing_keeps, making_keeps, same_keeps}
-use Rattle.lowered_run.specs.holder_model.StepParts as parts
+use Rattle.lowered_steps.specs.lowered_run.holder_model.StepParts as parts
 use Rattle.stored_runs.proofs.StayingSteps.{operated_alive, operated_none}
-use Rattle.lowered_run.specs.holder_model.MemoryEffects as holder_effects
+use Rattle.lowered_steps.specs.lowered_run.holder_model.MemoryEffects as holder_effects
 use Rattle.stored_runs.proofs.StaysAlong.{low_data, shape_same, stays_along}
 
 -- ---- full places stay full

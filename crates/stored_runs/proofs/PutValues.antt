@@ -4,9 +4,9 @@ use Rattle.std.specs.Prelude.{◌==◌, slice_get, unwrap_or}
 use Rattle.std.proofs.lemmas.Option.{none-some, same_Some}
 use Rattle.numbered_form.specs.Lists.{Each}
 use Rattle.sil_ast.specs.declared.place.ValueId.{ValueId}
-use Rattle.lowered_run.specs.holder_model.Data.{Datum}
-use Rattle.lowered_run.specs.holder_model.Frames.{Gone, entry_at, no_entries}
-use Rattle.lowered_run.specs.LowFrames.{no_values, put_all, value_at}
+use Rattle.lowered_steps.specs.lowered_run.holder_model.Data.{Datum}
+use Rattle.lowered_steps.specs.lowered_run.holder_model.Frames.{Gone, entry_at, no_entries}
+use Rattle.lowered_steps.specs.lowered_run.LowFrames.{no_values, put_all, value_at}
 use Rattle.stored_runs.proofs.ValuesFor.{value_other}
 
 -- ---- none of so many is there

@@ -23,17 +23,17 @@ use Rattle.ownership_chains.specs.Facts.{has}
 use Rattle.ownership_chains.specs.declared.facts.Facts.{Facts}
 use Rattle.type_definitions.specs.Declarations.{Declarations}
 use Rattle.run_values.specs.Memory.{Memory}
-use Rattle.accepted_trails.specs.inner.Defined.{makes}
-use Rattle.accepted_trails.specs.run_trails.inner.Since.{is_none_since}
-use Rattle.lowered_run.specs.holder_model.Calling.{as_argument}
-use Rattle.lowered_run.specs.holder_model.Data.{AddressOf, Datum, FunctionOf, ValueOf, as_place}
-use Rattle.lowered_run.specs.holder_model.Frames.{Entry, datum_in, entry_at, results_put}
-use Rattle.lowered_run.specs.LowFrames as low_frames
-use Rattle.lowered_run.specs.LowFrames.{and_others, read_all}
-use Rattle.lowered_run.specs.LowStepParts.{taken_value, values_taken}
-use Rattle.lowering_laws.specs.ownership_origins.Renamings.{renamings_of}
-use Rattle.lowering_laws.specs.lowering_model.Names.{stands_for}
-use Rattle.lowering_laws.specs.lowering_model.Numbers.{renumbered_inst, renumbered_operand}
+use Rattle.owned_counts.specs.accepted_trails.inner.Defined.{makes}
+use Rattle.owned_counts.specs.accepted_trails.run_trails.inner.Since.{is_none_since}
+use Rattle.lowered_steps.specs.lowered_run.holder_model.Calling.{as_argument}
+use Rattle.lowered_steps.specs.lowered_run.holder_model.Data.{AddressOf, Datum, FunctionOf, ValueOf, as_place}
+use Rattle.lowered_steps.specs.lowered_run.holder_model.Frames.{Entry, datum_in, entry_at, results_put}
+use Rattle.lowered_steps.specs.lowered_run.LowFrames as low_frames
+use Rattle.lowered_steps.specs.lowered_run.LowFrames.{and_others, read_all}
+use Rattle.lowered_steps.specs.lowered_run.LowStepParts.{taken_value, values_taken}
+use Rattle.lowered_numbering_laws.specs.lowering_laws.ownership_origins.Renamings.{renamings_of}
+use Rattle.lowered_numbering_laws.specs.lowering_laws.lowering_model.Names.{stands_for}
+use Rattle.lowered_numbering_laws.specs.lowering_laws.lowering_model.Numbers.{renumbered_inst, renumbered_operand}
 use Rattle.stored_runs.specs.inner.Frames.{AreValuesFor, IsDatumFor, IsNoAddress, IsShownAs}
 use Rattle.stored_runs.specs.inner.Lowering.{IsOwnName, IsTakenOld}
 use Rattle.stored_runs.specs.inner.Names.{AreNamed, IsCurrent, IsOld, IsTakenCurrent, lowered_number}

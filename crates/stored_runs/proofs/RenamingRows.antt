@@ -13,12 +13,12 @@ use Rattle.sil_ast.specs.declared.function.BlockArg.{BlockArg}
 use Rattle.sil_ast.specs.declared.function.Function.{Function}
 use Rattle.sil_ast.specs.declared.inst.Inst.{Inst}
 use Rattle.sil_ast.specs.declared.place.ValueId.{ValueId}
-use Rattle.lowering_laws.specs.ownership_origins.Renamings.{arg_renaming, arg_renamings, default_operand, renamed, renamings_of, result_renamings}
-use Rattle.lowering_laws.specs.ownership_origins.Switched.{switch_to}
-use Rattle.lowering_laws.specs.lowering_model.Names.{renamed_from}
-use Rattle.lowering_laws.proofs.Known.{names_in}
-use Rattle.lowering_laws.proofs.Lists.{each_weaker}
-use Rattle.lowering_laws.proofs.run_typing_laws.Rows.Tables.{row_at, told_of_args, told_of_results}
+use Rattle.lowered_numbering_laws.specs.lowering_laws.ownership_origins.Renamings.{arg_renaming, arg_renamings, default_operand, renamed, renamings_of, result_renamings}
+use Rattle.lowered_numbering_laws.specs.lowering_laws.ownership_origins.Switched.{switch_to}
+use Rattle.lowered_numbering_laws.specs.lowering_laws.lowering_model.Names.{renamed_from}
+use Rattle.lowered_numbering_laws.proofs.lowering_laws.Known.{names_in}
+use Rattle.lowered_numbering_laws.proofs.lowering_laws.Lists.{each_weaker}
+use Rattle.lowered_numbering_laws.proofs.lowering_laws.run_typing_laws.Rows.Tables.{row_at, told_of_args, told_of_results}
 
 row_operands : (defs : List Definition) (v : ValueId) → operands_at defs v ≡ (row_at (renamed []) defs v).operands
 row_operands defs v = at defs v.0

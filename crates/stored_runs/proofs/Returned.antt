@@ -12,24 +12,24 @@ use Rattle.sil_cfg.specs.declared.item.Item.TheVariants as item
 use Rattle.item_operands.specs.Items.{item_defined}
 use Rattle.type_definitions.specs.Declarations.{Declarations, declarations_of}
 use Rattle.run_values.specs.Values.{Value, references_of}
-use Rattle.lowered_run.specs.holder_model.Data.{Datum, as_value, references_in}
-use Rattle.lowered_run.specs.holder_model.Effects.{unchanged}
-use Rattle.lowered_run.specs.holder_model.Faults.{WrongShape}
-use Rattle.lowered_run.specs.holder_model.Frames.{Frame, any_dead}
-use Rattle.lowered_run.specs.holder_model.HolderStates.{HolderNext, HolderState}
-use Rattle.lowered_run.specs.holder_model.ModuleFacts.{facts_of}
-use Rattle.lowered_run.specs.holder_model.ModuleShapes.{ModuleShapes, shapes_of}
-use Rattle.lowered_run.specs.holder_model.Outcomes.{returned_holders}
-use Rattle.lowered_run.specs.holder_model.Standing.{stands_at}
-use Rattle.lowered_run.specs.holder_model.States.{Drops, Ends, Finishes, Goes, Returned, Runs, Task}
-use Rattle.lowered_run.specs.LowFrames.{LowFrame}
-use Rattle.lowered_run.specs.LowStepParts.{LowNext, LowState}
-use Rattle.lowered_run.specs.Stored.{numbers_of}
-use Rattle.lowering_laws.specs.ownership_origins.Renamings.{renames}
-use Rattle.lowering_laws.specs.lowering_model.LoweredInsts.{lowering_of}
-use Rattle.lowering_laws.specs.lowering_model.LoweredModules.{lowered, lowered_body}
-use Rattle.lowering_laws.specs.lowering_model.declared.lowering.Lowering.TheVariants as lowering
-use Rattle.holder_steps.specs.inner.Ways as holder
+use Rattle.lowered_steps.specs.lowered_run.holder_model.Data.{Datum, as_value, references_in}
+use Rattle.lowered_steps.specs.lowered_run.holder_model.Effects.{unchanged}
+use Rattle.lowered_steps.specs.lowered_run.holder_model.Faults.{WrongShape}
+use Rattle.lowered_steps.specs.lowered_run.holder_model.Frames.{Frame, any_dead}
+use Rattle.lowered_steps.specs.lowered_run.holder_model.HolderStates.{HolderNext, HolderState}
+use Rattle.lowered_steps.specs.lowered_run.holder_model.ModuleFacts.{facts_of}
+use Rattle.lowered_steps.specs.lowered_run.holder_model.ModuleShapes.{ModuleShapes, shapes_of}
+use Rattle.lowered_steps.specs.lowered_run.holder_model.Outcomes.{returned_holders}
+use Rattle.lowered_steps.specs.lowered_run.holder_model.Standing.{stands_at}
+use Rattle.lowered_steps.specs.lowered_run.holder_model.States.{Drops, Ends, Finishes, Goes, Returned, Runs, Task}
+use Rattle.lowered_steps.specs.lowered_run.LowFrames.{LowFrame}
+use Rattle.lowered_steps.specs.lowered_run.LowStepParts.{LowNext, LowState}
+use Rattle.lowered_steps.specs.lowered_run.Stored.{numbers_of}
+use Rattle.lowered_numbering_laws.specs.lowering_laws.ownership_origins.Renamings.{renames}
+use Rattle.lowered_numbering_laws.specs.lowering_laws.lowering_model.LoweredInsts.{lowering_of}
+use Rattle.lowered_numbering_laws.specs.lowering_laws.lowering_model.LoweredModules.{lowered, lowered_body}
+use Rattle.lowered_numbering_laws.specs.lowering_laws.lowering_model.declared.lowering.Lowering.TheVariants as lowering
+use Rattle.owned_counts.specs.holder_steps.inner.Ways as holder
 use Rattle.lowered_steps.specs.inner.LowWays as ways
 use Rattle.stored_runs.specs.inner.Along.{AreTotalsFor, IsNextAlong, IsNoFault}
 use Rattle.stored_runs.specs.inner.Frames.{AreTasksFor, HasFullParts, IsFrameAt, IsFrameFor, IsTaskFor}

@@ -17,22 +17,22 @@ use Rattle.type_definitions.specs.Declarations.{Declarations, declarations_of}
 use Rattle.run_values.specs.Memory.{Memory, is_dead}
 use Rattle.run_values.specs.Places.{Place, value_at}
 use Rattle.run_values.specs.Shapes.{Shape}
-use Rattle.lowered_run.specs.holder_model.Data.{Datum}
-use Rattle.lowered_run.specs.holder_model.Effects.{Change, Makes}
-use Rattle.lowered_run.specs.holder_model.Frames.{Entry, Frame}
-use Rattle.lowered_run.specs.holder_model.HolderStates.{HolderState}
-use Rattle.lowered_run.specs.holder_model.ModuleFacts.{facts_of}
-use Rattle.lowered_run.specs.holder_model.ModuleShapes.{ModuleShapes, shapes_in, shapes_of}
-use Rattle.lowered_run.specs.holder_model.Outcomes.{Numbers}
-use Rattle.lowered_run.specs.holder_model.Standing.{point_behind, stands_at}
-use Rattle.lowered_run.specs.holder_model.States.{Drops, Goes, Runs, Task, dropping}
-use Rattle.lowered_run.specs.LowEffects.{low_effect, stored_behind}
-use Rattle.lowered_run.specs.LowFrames.{LowFrame, put_all, read_all}
-use Rattle.lowered_run.specs.LowStepParts.{LowState, numbers_for, slots_behind, taken_value}
-use Rattle.lowered_run.specs.LowSteps as steps
-use Rattle.lowered_run.specs.Stored.{each_changed, new_numbers, one_more}
-use Rattle.lowering_laws.specs.lowering_model.LoweredModules.{lowered, lowered_body}
-use Rattle.holder_steps.specs.inner.Ways as holder
+use Rattle.lowered_steps.specs.lowered_run.holder_model.Data.{Datum}
+use Rattle.lowered_steps.specs.lowered_run.holder_model.Effects.{Change, Makes}
+use Rattle.lowered_steps.specs.lowered_run.holder_model.Frames.{Entry, Frame}
+use Rattle.lowered_steps.specs.lowered_run.holder_model.HolderStates.{HolderState}
+use Rattle.lowered_steps.specs.lowered_run.holder_model.ModuleFacts.{facts_of}
+use Rattle.lowered_steps.specs.lowered_run.holder_model.ModuleShapes.{ModuleShapes, shapes_in, shapes_of}
+use Rattle.lowered_steps.specs.lowered_run.holder_model.Outcomes.{Numbers}
+use Rattle.lowered_steps.specs.lowered_run.holder_model.Standing.{point_behind, stands_at}
+use Rattle.lowered_steps.specs.lowered_run.holder_model.States.{Drops, Goes, Runs, Task, dropping}
+use Rattle.lowered_steps.specs.lowered_run.LowEffects.{low_effect, stored_behind}
+use Rattle.lowered_steps.specs.lowered_run.LowFrames.{LowFrame, put_all, read_all}
+use Rattle.lowered_steps.specs.lowered_run.LowStepParts.{LowState, numbers_for, slots_behind, taken_value}
+use Rattle.lowered_steps.specs.lowered_run.LowSteps as steps
+use Rattle.lowered_steps.specs.lowered_run.Stored.{each_changed, new_numbers, one_more}
+use Rattle.lowered_numbering_laws.specs.lowering_laws.lowering_model.LoweredModules.{lowered, lowered_body}
+use Rattle.owned_counts.specs.holder_steps.inner.Ways as holder
 use Rattle.lowered_steps.specs.inner.LowWays.{moved}
 use Rattle.stored_runs.specs.inner.Along.{AreTotalsFor, IsAlong}
 use Rattle.stored_runs.specs.inner.Frames.{AreGivenPartsFull, AreTasksFor, AreValuesFor, HasFullParts, IsFrameAt, IsFrameFor, IsTaskFor}

@@ -1,10 +1,10 @@
 -- Each row that finds what it needs goes along in the lowered run.
 use Rattle.sil_ast.specs.declared.place.FuncId.{FuncId}
-use Rattle.lowering_laws.specs.sil_types.Typing.FormRules.{is_at_storage}
+use Rattle.lowered_numbering_laws.specs.lowering_laws.sil_types.Typing.FormRules.{is_at_storage}
 use Rattle.stored_runs.specs.inner.RowsRight.{AreRowsAlong, ArePartsFull, RowRight}
 use Rattle.sil_ast.specs.declared.decl.Storage.TheVariants as storage
-use Rattle.lowered_run.specs.holder_model.declared.trap.Trap.TheVariants as trap
-use Rattle.lowered_run.specs.holder_model.MemoryEffects.{copies_with, takes, references_at, all_live, loaded_name, named_again}
+use Rattle.lowered_steps.specs.lowered_run.holder_model.declared.trap.Trap.TheVariants as trap
+use Rattle.lowered_steps.specs.lowered_run.holder_model.MemoryEffects.{copies_with, takes, references_at, all_live, loaded_name, named_again}
 use Rattle.sil_ast.specs.declared.decl.Storage.{Storage}
 use Rattle.std.proofs.Common.{◌≡◌, ℕ, List, [], ◌∷◌, map, sym, ap, ◌∙◌, subst, Bool, true, false, cond, Option, Some, None, Ok, flat_map, option_to_list, ◌⊎◌, inl, inr}
 use Rattle.std.specs.Prelude.{slice_get}
@@ -18,9 +18,9 @@ use Rattle.run_values.specs.Places.{Place, emptied, filled}
 use Rattle.run_values.specs.Shapes.{storage_in}
 use Rattle.run_values.specs.Values as value
 use Rattle.run_values.specs.Values.{Value, grouped, integer_of, members_of, object_of, references_of}
-use Rattle.lowered_run.specs.holder_model.Data.{AddressOf, ValueOf}
-use Rattle.lowered_run.specs.holder_model.Effects.{Change, Effect, Makes, gives_value, unchanged, Traps, SameSlots}
-use Rattle.lowered_run.specs.holder_model.Faults.{HolderFault}
+use Rattle.lowered_steps.specs.lowered_run.holder_model.Data.{AddressOf, ValueOf}
+use Rattle.lowered_steps.specs.lowered_run.holder_model.Effects.{Change, Effect, Makes, gives_value, unchanged, Traps, SameSlots}
+use Rattle.lowered_steps.specs.lowered_run.holder_model.Faults.{HolderFault}
 use Rattle.stored_runs.proofs.SpareValues.{spare}
 use Rattle.stored_runs.specs.inner.Spares.{AreSparesApart}
 use Rattle.stored_runs.specs.inner.Frames.{HasFullParts, AreGivenPartsFull}
@@ -32,23 +32,23 @@ use Rattle.sil_ast.specs.declared.module.Module.{Module}
 use Rattle.sil_ast.specs.declared.operands.Operand.{Operand}
 use Rattle.sil_cfg.specs.declared.item.Item.TheVariants as item
 use Rattle.item_operands.specs.Items.{item_defined}
-use Rattle.lowered_run.specs.holder_model.Frames.{Entry, Frame, Operands, results_put}
-use Rattle.lowered_run.specs.holder_model.HolderStates.{HolderState}
-use Rattle.lowered_run.specs.holder_model.ModuleFacts.{facts_of}
-use Rattle.lowered_run.specs.holder_model.Standing.{stands_at}
-use Rattle.lowered_run.specs.holder_model.States.{Task}
-use Rattle.lowered_run.specs.holder_model.memory_accesses.declared.access.Operation.{Operation}
-use Rattle.lowered_run.specs.LowStepParts.{LowState}
-use Rattle.lowering_laws.specs.lowering_model.LoweredInsts.{becomes_by, lowering_of, plain_store, stores_by, assigns, destroys_by}
-use Rattle.lowering_laws.specs.lowering_model.NewInsts.{loaded_from, load, release}
-use Rattle.lowering_laws.specs.lowering_model.declared.lowering.Lowering.TheVariants as lowering
-use Rattle.holder_steps.specs.inner.Ways as holder
+use Rattle.lowered_steps.specs.lowered_run.holder_model.Frames.{Entry, Frame, Operands, results_put}
+use Rattle.lowered_steps.specs.lowered_run.holder_model.HolderStates.{HolderState}
+use Rattle.lowered_steps.specs.lowered_run.holder_model.ModuleFacts.{facts_of}
+use Rattle.lowered_steps.specs.lowered_run.holder_model.Standing.{stands_at}
+use Rattle.lowered_steps.specs.lowered_run.holder_model.States.{Task}
+use Rattle.lowered_steps.specs.lowered_run.holder_model.memory_accesses.declared.access.Operation.{Operation}
+use Rattle.lowered_steps.specs.lowered_run.LowStepParts.{LowState}
+use Rattle.lowered_numbering_laws.specs.lowering_laws.lowering_model.LoweredInsts.{becomes_by, lowering_of, plain_store, stores_by, assigns, destroys_by}
+use Rattle.lowered_numbering_laws.specs.lowering_laws.lowering_model.NewInsts.{loaded_from, load, release}
+use Rattle.lowered_numbering_laws.specs.lowering_laws.lowering_model.declared.lowering.Lowering.TheVariants as lowering
+use Rattle.owned_counts.specs.holder_steps.inner.Ways as holder
 use Rattle.stored_runs.specs.inner.PlaceRows.{GoesAlong, StandsAt, stored_for}
 use Rattle.stored_runs.proofs.RowsBehind.{from, made}
 use Rattle.stored_runs.proofs.StandsThere.{facts, one_place}
 use Rattle.stored_runs.proofs.ValuesFor.{ok-ok}
 use Rattle.stored_runs.proofs.LoadSteps.{load_along}
-use Rattle.lowered_run.specs.holder_model.StepParts as parts
+use Rattle.lowered_steps.specs.lowered_run.holder_model.StepParts as parts
 use Rattle.stored_runs.proofs.StaysAlong.{stays_alone}
 use Rattle.stored_runs.proofs.NamesAlong.{exact_along, looks_along, member_along, name_along, slot_along, storage_along, stored_along}
 use Rattle.stored_runs.proofs.DestroySteps.{destroy_along}

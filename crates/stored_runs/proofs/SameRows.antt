@@ -22,18 +22,18 @@ use Rattle.run_values.specs.Places as places
 use Rattle.run_values.specs.Shapes.{Shape, class_in}
 use Rattle.run_values.specs.Values as value
 use Rattle.run_values.specs.Values.{Value, grouped, integer_of, members_of, object_of, references_of}
-use Rattle.lowered_run.specs.holder_model.Builtins.{builtin_value, is_set}
-use Rattle.lowered_run.specs.holder_model.Data.{AddressOf, Datum, FunctionOf, ValueOf, all_of, as_function, as_place, as_value, home_references, values_of}
-use Rattle.lowered_run.specs.holder_model.Effects as effects
-use Rattle.lowered_run.specs.holder_model.Effects.{Change, Effect, Makes, OpensSlot, effect_by, gives, gives_value, only, part_number, part_number_by, unchanged, with_some}
-use Rattle.lowered_run.specs.holder_model.Faults.{HolderFault}
-use Rattle.lowered_run.specs.holder_model.ModuleShapes.{ModuleShapes, case_place, field_shapes, fields_in, is_class}
-use Rattle.lowered_run.specs.holder_model.declared.row_effect.RowEffect.{RowEffect}
-use Rattle.lowered_run.specs.holder_model.declared.row_effect.RowEffect.TheVariants as row
-use Rattle.lowered_run.specs.declared.low_fault.LowFault.{LowFault}
-use Rattle.lowered_run.specs.declared.low_fault.LowFault.TheVariants as fault
-use Rattle.lowered_run.specs.LowEffects as low_effects
-use Rattle.lowering_laws.specs.lowering_model.Numbers.{renumbered_inst}
+use Rattle.lowered_steps.specs.lowered_run.holder_model.Builtins.{builtin_value, is_set}
+use Rattle.lowered_steps.specs.lowered_run.holder_model.Data.{AddressOf, Datum, FunctionOf, ValueOf, all_of, as_function, as_place, as_value, home_references, values_of}
+use Rattle.lowered_steps.specs.lowered_run.holder_model.Effects as effects
+use Rattle.lowered_steps.specs.lowered_run.holder_model.Effects.{Change, Effect, Makes, OpensSlot, effect_by, gives, gives_value, only, part_number, part_number_by, unchanged, with_some}
+use Rattle.lowered_steps.specs.lowered_run.holder_model.Faults.{HolderFault}
+use Rattle.lowered_steps.specs.lowered_run.holder_model.ModuleShapes.{ModuleShapes, case_place, field_shapes, fields_in, is_class}
+use Rattle.lowered_steps.specs.lowered_run.holder_model.declared.row_effect.RowEffect.{RowEffect}
+use Rattle.lowered_steps.specs.lowered_run.holder_model.declared.row_effect.RowEffect.TheVariants as row
+use Rattle.lowered_steps.specs.lowered_run.declared.low_fault.LowFault.{LowFault}
+use Rattle.lowered_steps.specs.lowered_run.declared.low_fault.LowFault.TheVariants as fault
+use Rattle.lowered_steps.specs.lowered_run.LowEffects as low_effects
+use Rattle.lowered_numbering_laws.specs.lowering_laws.lowering_model.Numbers.{renumbered_inst}
 use Rattle.stored_runs.specs.inner.EffectsFor.{IsEffectFor}
 use Rattle.stored_runs.specs.inner.Memories.{IsMemoryFor, IsObjectFor, IsCellFor}
 use Rattle.stored_runs.proofs.MemoriesFor.{dead_for, object_added, place_there, slot_added}

@@ -2,9 +2,9 @@
 use Rattle.stored_runs.specs.inner.Names.{IsOld}
 use Rattle.stored_runs.proofs.SparesApart.{defined_there}
 use Rattle.stored_runs.specs.inner.Spares.{AreSparesApart}
-use Rattle.lowering_laws.specs.inner.Laws.{defined_by}
+use Rattle.lowered_numbering_laws.specs.lowering_laws.inner.Laws.{defined_by}
 use Rattle.stored_runs.specs.inner.Frames.{AreValuesFor, AreGivenPartsFull, IsShownAs}
-use Rattle.lowered_run.specs.LowFrames.{put_all}
+use Rattle.lowered_steps.specs.lowered_run.LowFrames.{put_all}
 use Rattle.std.proofs.Common.{◌≡◌, ◌<◌, ℕ, ◌+◌, List, refl, sym, ap, ◌∙◌, subst, true, false, Option, Some, set, ◌||◌, eq-eqb}
 use Rattle.std.specs.Prelude.{slice_get}
 use Rattle.std.specs.List.{list_any}
@@ -16,16 +16,16 @@ use Rattle.sil_ast.specs.declared.place.ValueId.{ValueId}
 use Rattle.type_definitions.specs.Declarations.{Declarations, declarations_of}
 use Rattle.run_values.specs.Memory.{Memory}
 use Rattle.run_values.specs.Values.{Value}
-use Rattle.lowered_run.specs.holder_model.Data.{Datum, ValueOf}
-use Rattle.lowered_run.specs.holder_model.Frames.{Entry, Frame, Operands}
-use Rattle.lowered_run.specs.holder_model.HolderStates.{HolderState}
-use Rattle.lowered_run.specs.holder_model.Standing.{stands_at}
-use Rattle.lowered_run.specs.holder_model.States.{Task}
-use Rattle.lowered_run.specs.LowFrames as low_frames
-use Rattle.lowered_run.specs.LowStepParts.{LowState}
-use Rattle.lowering_laws.specs.lowering_model.LoweredBlocks.{value_with}
-use Rattle.lowering_laws.specs.lowering_model.NewInsts.{load}
-use Rattle.lowering_laws.specs.lowering_model.Numbers.{is_value}
+use Rattle.lowered_steps.specs.lowered_run.holder_model.Data.{Datum, ValueOf}
+use Rattle.lowered_steps.specs.lowered_run.holder_model.Frames.{Entry, Frame, Operands}
+use Rattle.lowered_steps.specs.lowered_run.holder_model.HolderStates.{HolderState}
+use Rattle.lowered_steps.specs.lowered_run.holder_model.Standing.{stands_at}
+use Rattle.lowered_steps.specs.lowered_run.holder_model.States.{Task}
+use Rattle.lowered_steps.specs.lowered_run.LowFrames as low_frames
+use Rattle.lowered_steps.specs.lowered_run.LowStepParts.{LowState}
+use Rattle.lowered_numbering_laws.specs.lowering_laws.lowering_model.LoweredBlocks.{value_with}
+use Rattle.lowered_numbering_laws.specs.lowering_laws.lowering_model.NewInsts.{load}
+use Rattle.lowered_numbering_laws.specs.lowering_laws.lowering_model.Numbers.{is_value}
 use Rattle.stored_runs.specs.inner.PlaceRows.{StandsAt}
 use Rattle.stored_runs.proofs.RowSteps.{KeepsFull}
 use Rattle.stored_runs.proofs.RowsBehind.{begin, lowered_to, made, num}

@@ -12,16 +12,16 @@ use Rattle.sil_ast.specs.declared.function.Function.{Function}
 use Rattle.sil_ast.specs.declared.inst.Inst.{Inst}
 use Rattle.sil_ast.specs.declared.place.ValueId.{ValueId}
 use Rattle.type_definitions.specs.Declarations.{Declarations}
-use Rattle.lowering_laws.specs.inner.Laws.{defined_by}
-use Rattle.lowering_laws.specs.inner.Lowerable.{IsLowerable}
-use Rattle.lowering_laws.specs.ownership_origins.Renamings.{renamings_of}
-use Rattle.lowering_laws.specs.lowering_model.LoweredBlocks.{lowered_blocks}
-use Rattle.lowering_laws.specs.lowering_model.Names.{stands_for}
-use Rattle.lowering_laws.specs.lowering_model.Numbers.{is_value, new_number, numbering_of}
-use Rattle.lowering_laws.proofs.Ends.{names_end}
-use Rattle.lowering_laws.proofs.Placed.{defined_are_placed, old_are_placed}
-use Rattle.lowering_laws.proofs.Renumbered.{renumbered_values}
-use Rattle.lowering_laws.proofs.ownership_origins.Counts.{are_of_values}
+use Rattle.lowered_numbering_laws.specs.lowering_laws.inner.Laws.{defined_by}
+use Rattle.lowered_numbering_laws.specs.lowering_laws.inner.Lowerable.{IsLowerable}
+use Rattle.lowered_numbering_laws.specs.lowering_laws.ownership_origins.Renamings.{renamings_of}
+use Rattle.lowered_numbering_laws.specs.lowering_laws.lowering_model.LoweredBlocks.{lowered_blocks}
+use Rattle.lowered_numbering_laws.specs.lowering_laws.lowering_model.Names.{stands_for}
+use Rattle.lowered_numbering_laws.specs.lowering_laws.lowering_model.Numbers.{is_value, new_number, numbering_of}
+use Rattle.lowered_numbering_laws.proofs.lowering_laws.Ends.{names_end}
+use Rattle.lowered_numbering_laws.proofs.lowering_laws.Placed.{defined_are_placed, old_are_placed}
+use Rattle.lowered_numbering_laws.proofs.lowering_laws.Renumbered.{renumbered_values}
+use Rattle.lowered_numbering_laws.proofs.lowering_laws.ownership_origins.Counts.{are_of_values}
 use Rattle.stored_runs.specs.inner.Names.{IsOld, IsSpare, lowered_count, lowered_number}
 use Rattle.stored_runs.specs.inner.Spares.{AreAcceptedSparesApart, AreSparesApart}
 use Rattle.stored_runs.proofs.LoweredSo.{lowerable}

@@ -9,13 +9,13 @@ use Rattle.sil_cfg.specs.declared.item.Item.TheVariants as item
 use Rattle.item_operands.specs.Items.{item_defined, item_taken}
 use Rattle.item_operands.specs.Parts.{inst_at}
 use Rattle.type_definitions.specs.Declarations.{Declarations}
-use Rattle.lowered_run.specs.holder_model.Standing.{point_behind}
-use Rattle.lowered_run.specs.LowStepParts.{taken_value, values_taken}
-use Rattle.lowering_laws.specs.lowering_model.LoweredBlocks.{value_with}
-use Rattle.lowering_laws.specs.lowering_model.LoweredInsts.{becomes, becomes_by, lowering_of}
-use Rattle.lowering_laws.specs.lowering_model.LoweredModules.{lowered_body}
-use Rattle.lowering_laws.specs.lowering_model.Numbers.{renumbered_inst}
-use Rattle.lowering_laws.specs.lowering_model.declared.lowering.Lowering.TheVariants as lowering
+use Rattle.lowered_steps.specs.lowered_run.holder_model.Standing.{point_behind}
+use Rattle.lowered_steps.specs.lowered_run.LowStepParts.{taken_value, values_taken}
+use Rattle.lowered_numbering_laws.specs.lowering_laws.lowering_model.LoweredBlocks.{value_with}
+use Rattle.lowered_numbering_laws.specs.lowering_laws.lowering_model.LoweredInsts.{becomes, becomes_by, lowering_of}
+use Rattle.lowered_numbering_laws.specs.lowering_laws.lowering_model.LoweredModules.{lowered_body}
+use Rattle.lowered_numbering_laws.specs.lowering_laws.lowering_model.Numbers.{renumbered_inst}
+use Rattle.lowered_numbering_laws.specs.lowering_laws.lowering_model.declared.lowering.Lowering.TheVariants as lowering
 use Rattle.stored_runs.specs.inner.Names.{lowered_number}
 use Rattle.stored_runs.specs.inner.Points.{lowered_point}
 use Rattle.stored_runs.proofs.LoweredCode.{IsLoweredTo, lowered_inst}

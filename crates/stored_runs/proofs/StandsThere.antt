@@ -20,17 +20,17 @@ use Rattle.type_definitions.specs.Declarations.{Declarations, declarations_of}
 use Rattle.run_values.specs.Memory.{is_dead}
 use Rattle.run_values.specs.Places.{Place, value_at}
 use Rattle.run_values.specs.Values.{Value, references_of}
-use Rattle.accepted_trails.specs.inner.Defined.{makes}
-use Rattle.lowered_run.specs.holder_model.Data.{AddressOf, Datum, FunctionOf, ValueOf, as_place, home_references, references_in}
-use Rattle.lowered_run.specs.holder_model.Frames.{Frame, Operands, any_dead}
-use Rattle.lowered_run.specs.holder_model.HolderStates.{HolderState}
-use Rattle.lowered_run.specs.holder_model.ModuleFacts.{facts_of, facts_told}
-use Rattle.lowered_run.specs.holder_model.Standing.{stands_at}
-use Rattle.lowered_run.specs.holder_model.States.{Task}
-use Rattle.lowered_run.specs.LowFrames as low_frames
-use Rattle.lowered_run.specs.LowFrames.{LowFrame, put_all, read_all}
-use Rattle.lowered_run.specs.LowStepParts.{LowState, taken_value}
-use Rattle.lowering_laws.specs.ownership_origins.Renamings.{renames}
+use Rattle.owned_counts.specs.accepted_trails.inner.Defined.{makes}
+use Rattle.lowered_steps.specs.lowered_run.holder_model.Data.{AddressOf, Datum, FunctionOf, ValueOf, as_place, home_references, references_in}
+use Rattle.lowered_steps.specs.lowered_run.holder_model.Frames.{Frame, Operands, any_dead}
+use Rattle.lowered_steps.specs.lowered_run.holder_model.HolderStates.{HolderState}
+use Rattle.lowered_steps.specs.lowered_run.holder_model.ModuleFacts.{facts_of, facts_told}
+use Rattle.lowered_steps.specs.lowered_run.holder_model.Standing.{stands_at}
+use Rattle.lowered_steps.specs.lowered_run.holder_model.States.{Task}
+use Rattle.lowered_steps.specs.lowered_run.LowFrames as low_frames
+use Rattle.lowered_steps.specs.lowered_run.LowFrames.{LowFrame, put_all, read_all}
+use Rattle.lowered_steps.specs.lowered_run.LowStepParts.{LowState, taken_value}
+use Rattle.lowered_numbering_laws.specs.lowering_laws.ownership_origins.Renamings.{renames}
 use Rattle.stored_runs.specs.inner.Frames.{IsNoAddress, AreGivenPartsFull, IsDatumFor, IsFrameAt}
 use Rattle.stored_runs.specs.inner.Lowering.{IsOwnName, IsTakenOld}
 use Rattle.stored_runs.specs.inner.Names.{IsOld, lowered_number}

@@ -1,6 +1,6 @@
 -- An instruction that is lowered to itself goes along, where what it does in the lowered run is told.
 use Rattle.stored_runs.specs.inner.Frames.{HasFullParts, AreGivenPartsFull}
-use Rattle.lowered_run.specs.LowFrames.{put_all, read_all}
+use Rattle.lowered_steps.specs.lowered_run.LowFrames.{put_all, read_all}
 use Rattle.std.proofs.Common.{◌≡◌, ℕ, suc, ◌+◌, List, [], ◌∷◌, map, length, arith, refl, sym, ap, ◌∙◌, subst, false, Ok, ap₂}
 use Rattle.std.specs.Prelude.{find, slice_get}
 use Rattle.std.specs.List.{list_any}
@@ -16,23 +16,23 @@ use Rattle.item_operands.specs.Roles.{taken_by}
 use Rattle.type_definitions.specs.Declarations.{Declarations, declarations_of}
 use Rattle.run_values.specs.Memory.{Memory, is_dead}
 use Rattle.run_values.specs.Places.{Place}
-use Rattle.lowered_run.specs.holder_model.Data.{Datum}
-use Rattle.lowered_run.specs.holder_model.Effects.{Change, Makes, result_shape, result_shape_of}
-use Rattle.lowered_run.specs.holder_model.Frames.{Entry, Frame, Operands, results_put}
-use Rattle.lowered_run.specs.holder_model.HolderStates.{HolderState}
-use Rattle.lowered_run.specs.holder_model.ModuleFacts.{facts_of}
-use Rattle.lowered_run.specs.holder_model.ModuleShapes.{ModuleShapes, shapes_in, shapes_of, shape_at}
-use Rattle.lowered_run.specs.holder_model.Standing.{stands_at}
-use Rattle.lowered_run.specs.holder_model.States.{Task}
-use Rattle.lowered_run.specs.LowEffects.{low_effect, stored_behind}
-use Rattle.lowered_run.specs.LowStepParts.{LowState, numbers_for, taken_value, slots_behind}
-use Rattle.lowered_run.specs.Stored.{each_changed, one_more}
-use Rattle.lowering_laws.specs.ownership_origins.Renamings.{renames}
-use Rattle.lowering_laws.specs.lowering_model.LoweredBlocks.{value_with}
-use Rattle.lowering_laws.specs.lowering_model.LoweredInsts.{becomes_by, lowering_of}
-use Rattle.lowering_laws.specs.lowering_model.Numbers.{renumbered_inst}
-use Rattle.lowering_laws.specs.lowering_model.declared.lowering.Lowering.TheVariants as lowering
-use Rattle.holder_steps.specs.inner.Ways as holder
+use Rattle.lowered_steps.specs.lowered_run.holder_model.Data.{Datum}
+use Rattle.lowered_steps.specs.lowered_run.holder_model.Effects.{Change, Makes, result_shape, result_shape_of}
+use Rattle.lowered_steps.specs.lowered_run.holder_model.Frames.{Entry, Frame, Operands, results_put}
+use Rattle.lowered_steps.specs.lowered_run.holder_model.HolderStates.{HolderState}
+use Rattle.lowered_steps.specs.lowered_run.holder_model.ModuleFacts.{facts_of}
+use Rattle.lowered_steps.specs.lowered_run.holder_model.ModuleShapes.{ModuleShapes, shapes_in, shapes_of, shape_at}
+use Rattle.lowered_steps.specs.lowered_run.holder_model.Standing.{stands_at}
+use Rattle.lowered_steps.specs.lowered_run.holder_model.States.{Task}
+use Rattle.lowered_steps.specs.lowered_run.LowEffects.{low_effect, stored_behind}
+use Rattle.lowered_steps.specs.lowered_run.LowStepParts.{LowState, numbers_for, taken_value, slots_behind}
+use Rattle.lowered_steps.specs.lowered_run.Stored.{each_changed, one_more}
+use Rattle.lowered_numbering_laws.specs.lowering_laws.ownership_origins.Renamings.{renames}
+use Rattle.lowered_numbering_laws.specs.lowering_laws.lowering_model.LoweredBlocks.{value_with}
+use Rattle.lowered_numbering_laws.specs.lowering_laws.lowering_model.LoweredInsts.{becomes_by, lowering_of}
+use Rattle.lowered_numbering_laws.specs.lowering_laws.lowering_model.Numbers.{renumbered_inst}
+use Rattle.lowered_numbering_laws.specs.lowering_laws.lowering_model.declared.lowering.Lowering.TheVariants as lowering
+use Rattle.owned_counts.specs.holder_steps.inner.Ways as holder
 use Rattle.stored_runs.specs.inner.Lowering.{IsOwnName}
 use Rattle.stored_runs.specs.inner.PlaceRows.{GoesAlong, LowGoes, StandsAt, stored_for}
 use Rattle.stored_runs.proofs.RowSteps.{numbers_in_both}
@@ -40,7 +40,7 @@ use Rattle.stored_runs.proofs.RowsBehind.{PutsIn, begin, begins, behind_all, end
 use Rattle.stored_runs.proofs.SameRows.{none_dead}
 use Rattle.stored_runs.proofs.StandsThere.{facts, reads}
 use Rattle.run_values.specs.Shapes.{Shape}
-use Rattle.lowered_run.specs.holder_model.StepParts as parts
+use Rattle.lowered_steps.specs.lowered_run.holder_model.StepParts as parts
 use Rattle.stored_runs.specs.inner.EffectsFor.{IsChangeFor}
 use Rattle.stored_runs.proofs.Reading.{takes_there}
 use Rattle.stored_runs.proofs.StayingSteps.{slots_for}

@@ -4,7 +4,7 @@ use Rattle.stored_runs.specs.inner.Names.{IsOld}
 use Rattle.stored_runs.specs.inner.Spares.{AreSparesApart}
 use Rattle.std.proofs.lemmas.Bool.{cases_Bool}
 use Rattle.stored_runs.specs.inner.Frames.{AreValuesFor, HasFullParts}
-use Rattle.lowered_run.specs.LowFrames.{put_all}
+use Rattle.lowered_steps.specs.lowered_run.LowFrames.{put_all}
 use Rattle.std.proofs.Common.{◌≡◌, ℕ, suc, ◌+◌, List, [], ◌∷◌, map, length, arith, refl, sym, ap, ◌∙◌, subst, Bool, true, false, cond, Option, Some, None, Ok, ap₂, not, ◌⊎◌, inl, inr, ◌||◌, length-set}
 use Rattle.std.specs.Prelude.{is_some, slice_get}
 use Rattle.std.proofs.lemmas.Option.{same_Some}
@@ -25,27 +25,27 @@ use Rattle.type_definitions.specs.Declarations.{Declarations, declarations_of}
 use Rattle.run_values.specs.Memory.{Memory}
 use Rattle.run_values.specs.Places.{Place, cells_at, is_there_at, value_at, Home, Inside, OnStack, with_home_cells, filled}
 use Rattle.run_values.specs.Values.{Value, references_of}
-use Rattle.lowered_run.specs.holder_model.Data.{AddressOf, Datum, ValueOf}
-use Rattle.lowered_run.specs.holder_model.Effects.{Change, Makes, effect_of, unchanged}
-use Rattle.lowered_run.specs.holder_model.Frames.{Entry, Frame, Operands, results_put}
-use Rattle.lowered_run.specs.holder_model.HolderStates.{HolderState}
-use Rattle.lowered_run.specs.holder_model.MemoryEffects.{references_at}
-use Rattle.lowered_run.specs.holder_model.ModuleFacts.{facts_of}
-use Rattle.lowered_run.specs.holder_model.ModuleShapes.{ModuleShapes, shapes_in, shapes_of}
-use Rattle.lowered_run.specs.holder_model.Outcomes.{Numbers}
-use Rattle.lowered_run.specs.holder_model.Standing.{stands_at}
-use Rattle.lowered_run.specs.holder_model.States.{Task}
-use Rattle.lowered_run.specs.holder_model.memory_accesses.declared.access.Operation.{Operation}
-use Rattle.lowered_run.specs.LowEffects.{low_effect, operation_done, stored_behind, stored_by, accessed, both_stored, is_first_write, value_stored}
-use Rattle.lowered_run.specs.LowFrames as low_frames
-use Rattle.lowered_run.specs.LowStepParts.{LowState, numbers_for, taken_value}
-use Rattle.lowered_run.specs.Stored.{unnamed}
-use Rattle.lowering_laws.specs.ownership_origins.Renamings.{renames}
-use Rattle.lowering_laws.specs.lowering_model.LoweredBlocks.{value_with}
-use Rattle.lowering_laws.specs.lowering_model.LoweredInsts.{becomes_by, lowering_of, plain_store, stores_by}
-use Rattle.lowering_laws.specs.lowering_model.NewInsts.{loaded_from, load, release}
-use Rattle.lowering_laws.specs.lowering_model.Numbers.{renumbered_inst}
-use Rattle.holder_steps.specs.inner.Ways as holder
+use Rattle.lowered_steps.specs.lowered_run.holder_model.Data.{AddressOf, Datum, ValueOf}
+use Rattle.lowered_steps.specs.lowered_run.holder_model.Effects.{Change, Makes, effect_of, unchanged}
+use Rattle.lowered_steps.specs.lowered_run.holder_model.Frames.{Entry, Frame, Operands, results_put}
+use Rattle.lowered_steps.specs.lowered_run.holder_model.HolderStates.{HolderState}
+use Rattle.lowered_steps.specs.lowered_run.holder_model.MemoryEffects.{references_at}
+use Rattle.lowered_steps.specs.lowered_run.holder_model.ModuleFacts.{facts_of}
+use Rattle.lowered_steps.specs.lowered_run.holder_model.ModuleShapes.{ModuleShapes, shapes_in, shapes_of}
+use Rattle.lowered_steps.specs.lowered_run.holder_model.Outcomes.{Numbers}
+use Rattle.lowered_steps.specs.lowered_run.holder_model.Standing.{stands_at}
+use Rattle.lowered_steps.specs.lowered_run.holder_model.States.{Task}
+use Rattle.lowered_steps.specs.lowered_run.holder_model.memory_accesses.declared.access.Operation.{Operation}
+use Rattle.lowered_steps.specs.lowered_run.LowEffects.{low_effect, operation_done, stored_behind, stored_by, accessed, both_stored, is_first_write, value_stored}
+use Rattle.lowered_steps.specs.lowered_run.LowFrames as low_frames
+use Rattle.lowered_steps.specs.lowered_run.LowStepParts.{LowState, numbers_for, taken_value}
+use Rattle.lowered_steps.specs.lowered_run.Stored.{unnamed}
+use Rattle.lowered_numbering_laws.specs.lowering_laws.ownership_origins.Renamings.{renames}
+use Rattle.lowered_numbering_laws.specs.lowering_laws.lowering_model.LoweredBlocks.{value_with}
+use Rattle.lowered_numbering_laws.specs.lowering_laws.lowering_model.LoweredInsts.{becomes_by, lowering_of, plain_store, stores_by}
+use Rattle.lowered_numbering_laws.specs.lowering_laws.lowering_model.NewInsts.{loaded_from, load, release}
+use Rattle.lowered_numbering_laws.specs.lowering_laws.lowering_model.Numbers.{renumbered_inst}
+use Rattle.owned_counts.specs.holder_steps.inner.Ways as holder
 use Rattle.stored_runs.specs.inner.Memories.{IsMemoryFor, MayBeTaken}
 use Rattle.stored_runs.specs.inner.PlaceRows.{GoesAlong, LowGoes, StandsAt, operand_value, stored_for}
 use Rattle.stored_runs.proofs.MemoriesFor.{place_filled, place_for}

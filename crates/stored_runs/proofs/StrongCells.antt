@@ -13,11 +13,11 @@ use Rattle.run_values.specs.Leaves.{with_more}
 use Rattle.run_values.specs.Shapes.{Shape, Shapes, NoMember, Member, Integer, Reference, Struct, Tuple, Enum, Stored, Unknown, each_by_layers, listed}
 use Rattle.run_values.specs.Values.{Value, grouped, references_of}
 use Rattle.value_parts.proofs.Inductions.{InParts, by_parts}
-use Rattle.lowered_run.specs.holder_model.Holders.{kept_references}
-use Rattle.lowered_run.specs.holder_model.Outcomes.{Numbers}
-use Rattle.lowered_run.specs.Stored.{each_changed, less_unowned, less_weak, more_unowned, more_weak, named, unnamed, unowned_named, weakly_named}
+use Rattle.lowered_steps.specs.lowered_run.holder_model.Holders.{kept_references}
+use Rattle.lowered_steps.specs.lowered_run.holder_model.Outcomes.{Numbers}
+use Rattle.lowered_steps.specs.lowered_run.Stored.{each_changed, less_unowned, less_weak, more_unowned, more_weak, named, unnamed, unowned_named, weakly_named}
 use Rattle.stored_runs.specs.inner.Memories.{AreCellsFor, IsCellFor, MayBeTaken}
-use Rattle.typed_memory.proofs.Grouped.{group_references}
+use Rattle.owned_counts.proofs.typed_memory.Grouped.{group_references}
 
 -- ---- names
 

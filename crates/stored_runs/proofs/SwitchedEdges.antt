@@ -8,8 +8,8 @@ use Rattle.sil_ast.specs.declared.inst.Edge.{Edge}
 use Rattle.sil_ast.specs.declared.place.ValueId.{ValueId}
 use Rattle.run_values.specs.Shapes.{Shape}
 use Rattle.run_values.specs.Values.{ChosenCase, Value, case_of}
-use Rattle.lowered_run.specs.holder_model.Edges.{case_edge, edge_for, is_default, is_for}
-use Rattle.lowering_laws.specs.lowering_model.Numbers.{renumbered_edge}
+use Rattle.lowered_steps.specs.lowered_run.holder_model.Edges.{case_edge, edge_for, is_default, is_for}
+use Rattle.lowered_numbering_laws.specs.lowering_laws.lowering_model.Numbers.{renumbered_edge}
 
 place_mapped : {A B : Type 0} (p : B → Bool) (q : A → Bool) (g : A → B) → ((x : A) → p (g x) ≡ q x) → (xs : List A) → position_or_len p (map g xs) ≡ position_or_len q xs
 place_mapped p q g h [] = refl

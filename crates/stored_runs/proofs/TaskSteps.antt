@@ -7,31 +7,31 @@ use Rattle.sil_ast.specs.declared.module.Module.{Module}
 use Rattle.sil_ast.specs.declared.place.ObjectId.{ObjectId}
 use Rattle.type_definitions.specs.Declarations.{declarations_of}
 use Rattle.run_values.specs.Memory.{Memory, Object, is_dead, is_live, object_at}
-use Rattle.lowered_run.specs.holder_model.declared.event.Event.TheVariants as event
-use Rattle.lowered_run.specs.holder_model.Dropping.{deinits_of}
-use Rattle.lowered_run.specs.holder_model.Frames.{Frame}
-use Rattle.lowered_run.specs.holder_model.HolderStates.{HolderNext, HolderState, strong_holders}
-use Rattle.lowered_run.specs.holder_model.Holders.{one_object, unowned_holders, weak_holders}
-use Rattle.lowered_run.specs.holder_model.ModuleFacts.{facts_of}
-use Rattle.lowered_run.specs.holder_model.ModuleShapes.{shapes_of}
-use Rattle.lowered_run.specs.holder_model.Outcomes.{Numbers}
-use Rattle.lowered_run.specs.holder_model.States.{Drops, Ends, Finishes, Goes, OutOfTurns, Task}
-use Rattle.lowered_run.specs.LowFrames.{LowFrame}
-use Rattle.lowered_run.specs.LowStepParts.{LowNext, LowState}
-use Rattle.lowered_run.specs.LowSteps as steps
-use Rattle.lowered_run.specs.Stored.{numbers_of, one_less}
-use Rattle.lowering_laws.specs.lowering_model.LoweredModules.{lowered}
-use Rattle.holder_steps.specs.inner.Ways as holder
-use Rattle.holder_steps.specs.inner.Ways.{DropsOne}
+use Rattle.lowered_steps.specs.lowered_run.holder_model.declared.event.Event.TheVariants as event
+use Rattle.lowered_steps.specs.lowered_run.holder_model.Dropping.{deinits_of}
+use Rattle.lowered_steps.specs.lowered_run.holder_model.Frames.{Frame}
+use Rattle.lowered_steps.specs.lowered_run.holder_model.HolderStates.{HolderNext, HolderState, strong_holders}
+use Rattle.lowered_steps.specs.lowered_run.holder_model.Holders.{one_object, unowned_holders, weak_holders}
+use Rattle.lowered_steps.specs.lowered_run.holder_model.ModuleFacts.{facts_of}
+use Rattle.lowered_steps.specs.lowered_run.holder_model.ModuleShapes.{shapes_of}
+use Rattle.lowered_steps.specs.lowered_run.holder_model.Outcomes.{Numbers}
+use Rattle.lowered_steps.specs.lowered_run.holder_model.States.{Drops, Ends, Finishes, Goes, OutOfTurns, Task}
+use Rattle.lowered_steps.specs.lowered_run.LowFrames.{LowFrame}
+use Rattle.lowered_steps.specs.lowered_run.LowStepParts.{LowNext, LowState}
+use Rattle.lowered_steps.specs.lowered_run.LowSteps as steps
+use Rattle.lowered_steps.specs.lowered_run.Stored.{numbers_of, one_less}
+use Rattle.lowered_numbering_laws.specs.lowering_laws.lowering_model.LoweredModules.{lowered}
+use Rattle.owned_counts.specs.holder_steps.inner.Ways as holder
+use Rattle.owned_counts.specs.holder_steps.inner.Ways.{DropsOne}
 use Rattle.lowered_steps.specs.inner.LowWays as ways
 use Rattle.lowered_steps.specs.inner.LowWays.{Falls, ReleasesOne, StepsBy, released}
 use Rattle.lowered_steps.proofs.LowTaken.{told_taken}
 use Rattle.stored_runs.specs.inner.Frames.{AreTasksFor, HasFullParts, IsTaskFor}
-use Rattle.stored_counts.specs.inner.Numbers.{AreCounts, holders_of}
+use Rattle.owned_counts.specs.stored_counts.inner.Numbers.{AreCounts, holders_of}
 use Rattle.stored_runs.specs.inner.Runs.{IsEndingFor, IsNextFor}
 use Rattle.stored_runs.specs.inner.States.{IsStateFor}
 use Rattle.stored_runs.proofs.MemoriesFor.{dead_for, live_for, object_for, phase_put}
-use Rattle.stored_counts.proofs.StoredCounts.{changed_length, less_strong_by, one_changed, strong_less}
+use Rattle.owned_counts.proofs.stored_counts.StoredCounts.{changed_length, less_strong_by, one_changed, strong_less}
 
 -- what stands on top of both
 pub record DropsTop (m : Module) (os : List ObjectId) (rest : List (Task Frame)) (l : LowState) : Type 0 where

@@ -3,8 +3,8 @@ use Rattle.stored_runs.specs.inner.RowsRight.{AreTrapsAlong, TrapRight, is_place
 use Rattle.stored_runs.proofs.StaysAlong.{stays_alone, low_data}
 use Rattle.item_operands.specs.Parts.{inst_at}
 use Rattle.sil_ast.specs.declared.decl.Storage.TheVariants as storage
-use Rattle.lowered_run.specs.holder_model.declared.trap.Trap.TheVariants as trap
-use Rattle.lowered_run.specs.holder_model.MemoryEffects.{two, value_and_place, copies_with, takes, references_at, all_live, loaded_name, named_again}
+use Rattle.lowered_steps.specs.lowered_run.holder_model.declared.trap.Trap.TheVariants as trap
+use Rattle.lowered_steps.specs.lowered_run.holder_model.MemoryEffects.{two, value_and_place, copies_with, takes, references_at, all_live, loaded_name, named_again}
 use Rattle.sil_ast.specs.declared.decl.Storage.{Storage}
 use Rattle.stored_runs.proofs.PlainAlong.{low_does}
 use Rattle.std.proofs.Common.{◌≡◌, ℕ, List, [], ◌∷◌, map, refl, sym, ap, ◌∙◌, subst, Bool, true, false, cond, Option, Some, None, arith, Ok}
@@ -17,39 +17,39 @@ use Rattle.run_values.specs.Places.{Place, emptied, is_there_at, value_at}
 use Rattle.run_values.specs.Shapes.{Shape, storage_in}
 use Rattle.run_values.specs.Values as value
 use Rattle.run_values.specs.Values.{Value, grouped, integer_of, members_of, object_of, references_of}
-use Rattle.lowered_run.specs.holder_model.Data.{AddressOf, Datum}
-use Rattle.lowered_run.specs.holder_model.Effects.{Effect, gives_value, effect_of, Traps}
-use Rattle.lowered_run.specs.holder_model.Faults.{HolderFault}
-use Rattle.lowered_run.specs.holder_model.ModuleShapes.{ModuleShapes, shapes_in, shapes_of}
-use Rattle.lowered_run.specs.holder_model.declared.row_effect.RowEffect.TheVariants as row
-use Rattle.lowered_run.specs.declared.low_fault.LowFault.{LowFault}
-use Rattle.lowering_laws.specs.lowering_model.Numbers.{renumbered_inst}
+use Rattle.lowered_steps.specs.lowered_run.holder_model.Data.{AddressOf, Datum}
+use Rattle.lowered_steps.specs.lowered_run.holder_model.Effects.{Effect, gives_value, effect_of, Traps}
+use Rattle.lowered_steps.specs.lowered_run.holder_model.Faults.{HolderFault}
+use Rattle.lowered_steps.specs.lowered_run.holder_model.ModuleShapes.{ModuleShapes, shapes_in, shapes_of}
+use Rattle.lowered_steps.specs.lowered_run.holder_model.declared.row_effect.RowEffect.TheVariants as row
+use Rattle.lowered_steps.specs.lowered_run.declared.low_fault.LowFault.{LowFault}
+use Rattle.lowered_numbering_laws.specs.lowering_laws.lowering_model.Numbers.{renumbered_inst}
 use Rattle.stored_runs.specs.inner.EffectsFor.{IsEffectFor}
 use Rattle.stored_runs.specs.inner.Frames.{IsNoAddress}
-use Rattle.lowered_run.specs.LowFrames.{read_all}
+use Rattle.lowered_steps.specs.lowered_run.LowFrames.{read_all}
 use Rattle.numbered_form.specs.Lists.{Each}
 use Rattle.sil_ast.specs.declared.function.Function.{Function}
 use Rattle.sil_ast.specs.declared.module.Module.{Module}
 use Rattle.sil_ast.specs.declared.operands.Operand.{Operand}
 use Rattle.sil_cfg.specs.declared.item.Item.TheVariants as item
-use Rattle.lowered_run.specs.holder_model.Frames.{Frame, Operands}
-use Rattle.lowered_run.specs.holder_model.HolderStates.{HolderState}
-use Rattle.lowered_run.specs.holder_model.Standing.{stands_at}
-use Rattle.lowered_run.specs.holder_model.States.{Task, Ends, Trapped}
-use Rattle.lowered_run.specs.holder_model.memory_accesses.declared.access.Operation.{Operation}
-use Rattle.lowered_run.specs.LowEffects.{low_effect}
-use Rattle.lowered_run.specs.LowStepParts.{LowState, values_taken}
-use Rattle.lowering_laws.specs.ownership_origins.Renamings.{renames}
+use Rattle.lowered_steps.specs.lowered_run.holder_model.Frames.{Frame, Operands}
+use Rattle.lowered_steps.specs.lowered_run.holder_model.HolderStates.{HolderState}
+use Rattle.lowered_steps.specs.lowered_run.holder_model.Standing.{stands_at}
+use Rattle.lowered_steps.specs.lowered_run.holder_model.States.{Task, Ends, Trapped}
+use Rattle.lowered_steps.specs.lowered_run.holder_model.memory_accesses.declared.access.Operation.{Operation}
+use Rattle.lowered_steps.specs.lowered_run.LowEffects.{low_effect}
+use Rattle.lowered_steps.specs.lowered_run.LowStepParts.{LowState, values_taken}
+use Rattle.lowered_numbering_laws.specs.lowering_laws.ownership_origins.Renamings.{renames}
 use Rattle.stored_runs.specs.inner.PlaceRows.{StandsAt}
 use Rattle.stored_runs.proofs.RowsBehind.{begin, low_shapes, low_told, made, num, stands}
 use Rattle.stored_runs.proofs.StandsThere.{reads, exact_read}
 use Rattle.stored_runs.proofs.Reading.{taken_renumbered, takes_there}
 use Rattle.stored_runs.proofs.StayingSteps.{function_there}
-use Rattle.lowered_run.specs.holder_model.MemoryEffects as holder_effects
-use Rattle.lowered_run.specs.holder_model.memory_accesses.Operations.{access_kind_of, operation_by}
-use Rattle.lowered_run.specs.holder_model.declared.trap.Trap.{Trap}
-use Rattle.lowered_run.specs.LowSteps as steps
-use Rattle.lowering_laws.specs.lowering_model.LoweredModules.{lowered, lowered_body}
+use Rattle.lowered_steps.specs.lowered_run.holder_model.MemoryEffects as holder_effects
+use Rattle.lowered_steps.specs.lowered_run.holder_model.memory_accesses.Operations.{access_kind_of, operation_by}
+use Rattle.lowered_steps.specs.lowered_run.holder_model.declared.trap.Trap.{Trap}
+use Rattle.lowered_steps.specs.lowered_run.LowSteps as steps
+use Rattle.lowered_numbering_laws.specs.lowering_laws.lowering_model.LoweredModules.{lowered, lowered_body}
 use Rattle.lowered_steps.specs.inner.LowWays as ways
 use Rattle.lowered_steps.proofs.LowTaken.{told_taken}
 use Rattle.stored_runs.specs.inner.Along.{IsNextAlong}

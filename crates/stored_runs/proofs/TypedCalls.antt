@@ -27,32 +27,32 @@ use Rattle.sil_ast.specs.declared.place.ValueId.{ValueId}
 use Rattle.sil_cfg.specs.declared.item.Item.TheVariants as item
 use Rattle.type_definitions.specs.Declarations.{declarations_of}
 use Rattle.value_parts.proofs.Inductions.{InParts, by_parts}
-use Rattle.accepted_values.specs.inner.Known.{IsAcceptedBody}
-use Rattle.accepted_values.specs.owned_run_typing.inner.OwnedTyped.{OwnedFunction, OwnedInst}
-use Rattle.accepted_values.specs.run_typing.EndForms.{value_in}
-use Rattle.accepted_values.specs.run_typing.Forms.{Form, entry_forms, form_of, forms_of}
-use Rattle.lowered_run.specs.holder_model.Calling.{are_as_before, is_as_before, lent_places, lent_with}
-use Rattle.lowered_run.specs.holder_model.Data.{Datum, as_place}
-use Rattle.lowered_run.specs.holder_model.Effects as effects
-use Rattle.lowered_run.specs.holder_model.Effects.{Effect}
-use Rattle.lowered_run.specs.holder_model.Faults.{HolderFault}
-use Rattle.lowered_run.specs.holder_model.Frames.{Frame, LentPlace, Operands, has_any, operands_of}
-use Rattle.lowered_run.specs.holder_model.HolderStates.{HolderState}
-use Rattle.lowered_run.specs.holder_model.MemoryEffects.{holds}
-use Rattle.lowered_run.specs.holder_model.ModuleFacts.{facts_of, facts_told}
-use Rattle.lowered_run.specs.holder_model.ModuleShapes.{shapes_in, shapes_of}
-use Rattle.lowered_run.specs.holder_model.Standing.{stands_at}
-use Rattle.lowered_run.specs.holder_model.Steps as holder_run
-use Rattle.lowered_run.specs.LowStepParts.{values_taken}
-use Rattle.typed_holders.specs.inner.TypedStates.{EntriesAre, FrameIs}
-use Rattle.typed_holders.specs.typed_memory.inner.Worlds.{CellIs, DatumIs, IsWorldOf, MemoryIs, PlaceIs, World, cell_shapes, each_cell_shapes}
-use Rattle.typed_memory.proofs.Homes.{PlaceCells, place_cells}
-use Rattle.typed_holders.proofs.Data.{DataAre}
-use Rattle.typed_holders.proofs.Effects.{EffectFits}
-use Rattle.typed_holders.proofs.Entries.{FitEach, fit_data, operands_fit}
-use Rattle.typed_holders.proofs.GoesOn.{accepted_body, typed_module}
-use Rattle.typed_holders.proofs.RowForms.{row_fits}
-use Rattle.typed_holders.proofs.ShapesTold.{result_told}
+use Rattle.owned_counts.specs.accepted_values.inner.Known.{IsAcceptedBody}
+use Rattle.owned_counts.specs.accepted_values.owned_run_typing.inner.OwnedTyped.{OwnedFunction, OwnedInst}
+use Rattle.owned_counts.specs.accepted_values.run_typing.EndForms.{value_in}
+use Rattle.owned_counts.specs.accepted_values.run_typing.Forms.{Form, entry_forms, form_of, forms_of}
+use Rattle.lowered_steps.specs.lowered_run.holder_model.Calling.{are_as_before, is_as_before, lent_places, lent_with}
+use Rattle.lowered_steps.specs.lowered_run.holder_model.Data.{Datum, as_place}
+use Rattle.lowered_steps.specs.lowered_run.holder_model.Effects as effects
+use Rattle.lowered_steps.specs.lowered_run.holder_model.Effects.{Effect}
+use Rattle.lowered_steps.specs.lowered_run.holder_model.Faults.{HolderFault}
+use Rattle.lowered_steps.specs.lowered_run.holder_model.Frames.{Frame, LentPlace, Operands, has_any, operands_of}
+use Rattle.lowered_steps.specs.lowered_run.holder_model.HolderStates.{HolderState}
+use Rattle.lowered_steps.specs.lowered_run.holder_model.MemoryEffects.{holds}
+use Rattle.lowered_steps.specs.lowered_run.holder_model.ModuleFacts.{facts_of, facts_told}
+use Rattle.lowered_steps.specs.lowered_run.holder_model.ModuleShapes.{shapes_in, shapes_of}
+use Rattle.lowered_steps.specs.lowered_run.holder_model.Standing.{stands_at}
+use Rattle.lowered_steps.specs.lowered_run.holder_model.Steps as holder_run
+use Rattle.lowered_steps.specs.lowered_run.LowStepParts.{values_taken}
+use Rattle.owned_counts.specs.typed_holders.inner.TypedStates.{EntriesAre, FrameIs}
+use Rattle.owned_counts.specs.typed_holders.typed_memory.inner.Worlds.{CellIs, DatumIs, IsWorldOf, MemoryIs, PlaceIs, World, cell_shapes, each_cell_shapes}
+use Rattle.owned_counts.proofs.typed_memory.Homes.{PlaceCells, place_cells}
+use Rattle.owned_counts.proofs.typed_holders.Data.{DataAre}
+use Rattle.owned_counts.proofs.typed_holders.Effects.{EffectFits}
+use Rattle.owned_counts.proofs.typed_holders.Entries.{FitEach, fit_data, operands_fit}
+use Rattle.owned_counts.proofs.typed_holders.GoesOn.{accepted_body, typed_module}
+use Rattle.owned_counts.proofs.typed_holders.RowForms.{row_fits}
+use Rattle.owned_counts.proofs.typed_holders.ShapesTold.{result_told}
 use Rattle.stored_runs.specs.inner.CallsAlong.{HandsRight, MayBeHandedOver, lent_in}
 use Rattle.stored_runs.specs.inner.Entering.{IsAddressFor, IsFullPart}
 use Rattle.stored_runs.specs.inner.Memories.{MayBeTaken}

@@ -27,28 +27,28 @@ use Rattle.sil_ast.specs.declared.place.ValueId.{ValueId}
 use Rattle.sil_cfg.specs.declared.item.Item.{Item}
 use Rattle.sil_cfg.specs.declared.item.Item.TheVariants as item
 use Rattle.type_definitions.specs.Declarations.{Declarations, declarations_of}
-use Rattle.accepted_trails.specs.run_trails.inner.RunTrails.{ComesAt}
-use Rattle.accepted_trails.proofs.Unbroken.{are_accepted}
-use Rattle.accepted_trails.proofs.run_trails.RunPaths.{are_trails}
-use Rattle.accepted_trails.proofs.run_trails.WalkEdges.{are_next}
-use Rattle.accepted_values.specs.inner.Known.{IsAcceptedBody}
-use Rattle.accepted_values.proofs.Branches.{known_end}
-use Rattle.accepted_values.proofs.Made.{items_of}
-use Rattle.accepted_values.proofs.run_typing_laws.ListFacts.{get_below}
-use Rattle.accepted_values.specs.owned_run_typing.inner.OwnedEnds.{OwnedEndForms}
-use Rattle.accepted_values.specs.owned_run_typing.inner.OwnedTyped.{OwnedFunction}
-use Rattle.accepted_values.specs.run_typing.EndForms.{EdgeForms, EndForms, handed_over, value_in}
-use Rattle.accepted_values.specs.run_typing.Forms.{Form, OfValue, form_of, forms_of}
-use Rattle.lowered_run.specs.holder_model.Data.{Datum}
-use Rattle.lowered_run.specs.holder_model.Frames.{Frame}
-use Rattle.lowered_run.specs.holder_model.HolderStates.{HolderState}
-use Rattle.lowered_run.specs.holder_model.ModuleFacts.{facts_of, facts_told}
-use Rattle.lowered_run.specs.holder_model.Standing.{stands_at}
-use Rattle.lowered_run.specs.LowStepParts.{taken_value}
-use Rattle.typed_holders.specs.inner.TypedStates.{FrameIs}
-use Rattle.typed_holders.specs.typed_memory.inner.Worlds.{DatumIs, World}
-use Rattle.typed_holders.proofs.Entries.{FitEach, operands_fit}
-use Rattle.typed_holders.proofs.GoesOn.{typed_module}
+use Rattle.owned_counts.specs.accepted_trails.run_trails.inner.RunTrails.{ComesAt}
+use Rattle.owned_counts.proofs.accepted_trails.Unbroken.{are_accepted}
+use Rattle.owned_counts.proofs.accepted_trails.run_trails.RunPaths.{are_trails}
+use Rattle.owned_counts.proofs.accepted_trails.run_trails.WalkEdges.{are_next}
+use Rattle.owned_counts.specs.accepted_values.inner.Known.{IsAcceptedBody}
+use Rattle.owned_counts.proofs.accepted_values.Branches.{known_end}
+use Rattle.owned_counts.proofs.accepted_values.Made.{items_of}
+use Rattle.owned_counts.proofs.accepted_values.run_typing_laws.ListFacts.{get_below}
+use Rattle.owned_counts.specs.accepted_values.owned_run_typing.inner.OwnedEnds.{OwnedEndForms}
+use Rattle.owned_counts.specs.accepted_values.owned_run_typing.inner.OwnedTyped.{OwnedFunction}
+use Rattle.owned_counts.specs.accepted_values.run_typing.EndForms.{EdgeForms, EndForms, handed_over, value_in}
+use Rattle.owned_counts.specs.accepted_values.run_typing.Forms.{Form, OfValue, form_of, forms_of}
+use Rattle.lowered_steps.specs.lowered_run.holder_model.Data.{Datum}
+use Rattle.lowered_steps.specs.lowered_run.holder_model.Frames.{Frame}
+use Rattle.lowered_steps.specs.lowered_run.holder_model.HolderStates.{HolderState}
+use Rattle.lowered_steps.specs.lowered_run.holder_model.ModuleFacts.{facts_of, facts_told}
+use Rattle.lowered_steps.specs.lowered_run.holder_model.Standing.{stands_at}
+use Rattle.lowered_steps.specs.lowered_run.LowStepParts.{taken_value}
+use Rattle.owned_counts.specs.typed_holders.inner.TypedStates.{FrameIs}
+use Rattle.owned_counts.specs.typed_holders.typed_memory.inner.Worlds.{DatumIs, World}
+use Rattle.owned_counts.proofs.typed_holders.Entries.{FitEach, operands_fit}
+use Rattle.owned_counts.proofs.typed_holders.GoesOn.{typed_module}
 use Rattle.stored_runs.specs.inner.EndsAlong.{ComesPlain}
 use Rattle.stored_runs.specs.inner.Frames.{IsNoAddress}
 use Rattle.stored_runs.specs.inner.TypedEnds.{AreEndsPlain}

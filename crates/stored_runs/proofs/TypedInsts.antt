@@ -6,21 +6,21 @@ use Rattle.sil_ast.specs.declared.module.Module.{Module}
 use Rattle.sil_cfg.specs.declared.item.Item.TheVariants as item
 use Rattle.item_operands.specs.Items.{item_taken}
 use Rattle.type_definitions.specs.Declarations.{declarations_of}
-use Rattle.accepted_values.specs.inner.Known.{IsAcceptedBody}
-use Rattle.accepted_values.specs.owned_run_typing.inner.OwnedTyped.{OwnedFunction, OwnedInst}
-use Rattle.accepted_values.specs.run_typing.EndForms.{value_in}
-use Rattle.accepted_values.specs.run_typing.Forms.{Form, form_of}
-use Rattle.lowered_run.specs.holder_model.Frames.{Frame, Operands}
-use Rattle.lowered_run.specs.holder_model.HolderStates.{HolderState}
-use Rattle.lowered_run.specs.holder_model.ModuleFacts.{facts_of, facts_told}
-use Rattle.lowered_run.specs.holder_model.Standing.{stands_at}
-use Rattle.lowered_run.specs.holder_model.States.{Task}
-use Rattle.lowered_run.specs.LowStepParts.{LowState}
-use Rattle.typed_holders.specs.inner.TypedStates.{FrameIs}
-use Rattle.typed_holders.specs.typed_memory.inner.Worlds.{World}
-use Rattle.typed_holders.proofs.Data.{DataAre}
-use Rattle.typed_holders.proofs.Entries.{FitEach, fit_data, operands_fit}
-use Rattle.typed_holders.proofs.GoesOn.{typed_module}
+use Rattle.owned_counts.specs.accepted_values.inner.Known.{IsAcceptedBody}
+use Rattle.owned_counts.specs.accepted_values.owned_run_typing.inner.OwnedTyped.{OwnedFunction, OwnedInst}
+use Rattle.owned_counts.specs.accepted_values.run_typing.EndForms.{value_in}
+use Rattle.owned_counts.specs.accepted_values.run_typing.Forms.{Form, form_of}
+use Rattle.lowered_steps.specs.lowered_run.holder_model.Frames.{Frame, Operands}
+use Rattle.lowered_steps.specs.lowered_run.holder_model.HolderStates.{HolderState}
+use Rattle.lowered_steps.specs.lowered_run.holder_model.ModuleFacts.{facts_of, facts_told}
+use Rattle.lowered_steps.specs.lowered_run.holder_model.Standing.{stands_at}
+use Rattle.lowered_steps.specs.lowered_run.holder_model.States.{Task}
+use Rattle.lowered_steps.specs.lowered_run.LowStepParts.{LowState}
+use Rattle.owned_counts.specs.typed_holders.inner.TypedStates.{FrameIs}
+use Rattle.owned_counts.specs.typed_holders.typed_memory.inner.Worlds.{World}
+use Rattle.owned_counts.proofs.typed_holders.Data.{DataAre}
+use Rattle.owned_counts.proofs.typed_holders.Entries.{FitEach, fit_data, operands_fit}
+use Rattle.owned_counts.proofs.typed_holders.GoesOn.{typed_module}
 use Rattle.stored_runs.specs.inner.PlaceRows.{StandsAt}
 
 abbrev pub operand_forms : Module → Function → Inst → List Form

@@ -18,15 +18,15 @@ use Rattle.run_values.specs.Trivial.{is_trivial, itself, trivial_layer}
 use Rattle.run_values.specs.Values.{Value}
 use Rattle.value_parts.specs.inner.Storages.{no_storage_layer}
 use Rattle.value_parts.proofs.Inductions.{InParts, by_parts}
-use Rattle.lowered_run.specs.holder_model.Holders.{kept_references, same_storage}
-use Rattle.lowered_run.specs.holder_model.MemoryEffects.{references_at}
-use Rattle.accepted_values.specs.run_typing.Forms.{has_no_storage}
-use Rattle.accepted_values.specs.run_typing.StorageForms.{IsNamed}
-use Rattle.typed_holders.specs.typed_memory.inner.Worlds.{CellIs, MemoryIs, PlaceIs, World, cell_shapes, each_cell_shapes, names}
-use Rattle.typed_memory.proofs.CellShapes.{shape_count}
-use Rattle.typed_memory.proofs.CellsTyped.{cells_typed, nothing_is_none}
-use Rattle.typed_memory.proofs.Homes.{PlaceCells, place_cells}
-use Rattle.typed_memory.proofs.Trivials.{no_references}
+use Rattle.lowered_steps.specs.lowered_run.holder_model.Holders.{kept_references, same_storage}
+use Rattle.lowered_steps.specs.lowered_run.holder_model.MemoryEffects.{references_at}
+use Rattle.owned_counts.specs.accepted_values.run_typing.Forms.{has_no_storage}
+use Rattle.owned_counts.specs.accepted_values.run_typing.StorageForms.{IsNamed}
+use Rattle.owned_counts.specs.typed_holders.typed_memory.inner.Worlds.{CellIs, MemoryIs, PlaceIs, World, cell_shapes, each_cell_shapes, names}
+use Rattle.owned_counts.proofs.typed_memory.CellShapes.{shape_count}
+use Rattle.owned_counts.proofs.typed_memory.CellsTyped.{cells_typed, nothing_is_none}
+use Rattle.owned_counts.proofs.typed_memory.Homes.{PlaceCells, place_cells}
+use Rattle.owned_counts.proofs.typed_memory.Trivials.{no_references}
 use Rattle.stored_runs.specs.inner.Memories.{MayBeTaken}
 use Rattle.stored_runs.specs.inner.TypedPlaces.{ArePlainPlaces, AreStoragePlaces, AreTrivialPlaces, IsPlainPlace}
 use Rattle.stored_runs.proofs.FullKept.{IsKept, cells_kept}

@@ -11,29 +11,29 @@ use Rattle.sil_ast.specs.declared.place.ValueId.{ValueId}
 use Rattle.type_definitions.specs.Declarations.{declarations_of}
 use Rattle.run_values.specs.Shapes.{Reference, Shape}
 use Rattle.run_values.specs.Values.{Value, references_of}
-use Rattle.accepted_values.specs.inner.Known.{IsAcceptedBody}
-use Rattle.accepted_values.specs.owned_run_typing.inner.OwnedRows.{OwnedRowForms}
-use Rattle.accepted_values.specs.owned_run_typing.inner.OwnedRows as owned
-use Rattle.accepted_values.specs.run_typing.Forms.{Form, OfPlace, OfValue, form_of}
-use Rattle.accepted_values.specs.run_typing.RowForms.{RowForms, operand_shapes}
-use Rattle.accepted_values.specs.run_typing.RowForms as lowered
-use Rattle.lowered_run.specs.holder_model.Data.{Datum, ValueOf}
-use Rattle.lowered_run.specs.holder_model.Effects.{Change, Effect, Makes, effect_by, effect_of, unchanged}
-use Rattle.lowered_run.specs.holder_model.Faults.{HolderFault}
-use Rattle.lowered_run.specs.holder_model.Frames.{Frame, Operands}
-use Rattle.lowered_run.specs.holder_model.HolderStates.{HolderState}
-use Rattle.lowered_run.specs.holder_model.MemoryEffects.{at_places}
-use Rattle.lowered_run.specs.holder_model.ModuleShapes.{shapes_in, shapes_of}
-use Rattle.lowered_run.specs.holder_model.States.{Task}
-use Rattle.lowered_run.specs.holder_model.declared.row_effect.RowEffect.{RowEffect}
-use Rattle.lowered_run.specs.holder_model.declared.row_effect.RowEffect.TheVariants as row
-use Rattle.lowered_run.specs.LowStepParts.{LowState}
-use Rattle.lowering_laws.specs.lowering_model.LoweredInsts.{lowering_of}
-use Rattle.lowering_laws.specs.lowering_model.declared.lowering.Lowering.TheVariants as lowering
-use Rattle.lowering_laws.specs.ownership_origins.Renamings.{renames}
-use Rattle.typed_holders.specs.inner.TypedStates.{FrameIs}
-use Rattle.typed_holders.specs.typed_memory.inner.Worlds.{Suits, World}
-use Rattle.typed_holders.proofs.Data.{DataAre, read_value}
+use Rattle.owned_counts.specs.accepted_values.inner.Known.{IsAcceptedBody}
+use Rattle.owned_counts.specs.accepted_values.owned_run_typing.inner.OwnedRows.{OwnedRowForms}
+use Rattle.owned_counts.specs.accepted_values.owned_run_typing.inner.OwnedRows as owned
+use Rattle.owned_counts.specs.accepted_values.run_typing.Forms.{Form, OfPlace, OfValue, form_of}
+use Rattle.owned_counts.specs.accepted_values.run_typing.RowForms.{RowForms, operand_shapes}
+use Rattle.owned_counts.specs.accepted_values.run_typing.RowForms as lowered
+use Rattle.lowered_steps.specs.lowered_run.holder_model.Data.{Datum, ValueOf}
+use Rattle.lowered_steps.specs.lowered_run.holder_model.Effects.{Change, Effect, Makes, effect_by, effect_of, unchanged}
+use Rattle.lowered_steps.specs.lowered_run.holder_model.Faults.{HolderFault}
+use Rattle.lowered_steps.specs.lowered_run.holder_model.Frames.{Frame, Operands}
+use Rattle.lowered_steps.specs.lowered_run.holder_model.HolderStates.{HolderState}
+use Rattle.lowered_steps.specs.lowered_run.holder_model.MemoryEffects.{at_places}
+use Rattle.lowered_steps.specs.lowered_run.holder_model.ModuleShapes.{shapes_in, shapes_of}
+use Rattle.lowered_steps.specs.lowered_run.holder_model.States.{Task}
+use Rattle.lowered_steps.specs.lowered_run.holder_model.declared.row_effect.RowEffect.{RowEffect}
+use Rattle.lowered_steps.specs.lowered_run.holder_model.declared.row_effect.RowEffect.TheVariants as row
+use Rattle.lowered_steps.specs.lowered_run.LowStepParts.{LowState}
+use Rattle.lowered_numbering_laws.specs.lowering_laws.lowering_model.LoweredInsts.{lowering_of}
+use Rattle.lowered_numbering_laws.specs.lowering_laws.lowering_model.declared.lowering.Lowering.TheVariants as lowering
+use Rattle.lowered_numbering_laws.specs.lowering_laws.ownership_origins.Renamings.{renames}
+use Rattle.owned_counts.specs.typed_holders.inner.TypedStates.{FrameIs}
+use Rattle.owned_counts.specs.typed_holders.typed_memory.inner.Worlds.{Suits, World}
+use Rattle.owned_counts.proofs.typed_holders.Data.{DataAre, read_value}
 use Rattle.stored_runs.specs.inner.Frames.{IsNoAddress}
 use Rattle.stored_runs.specs.inner.PlaceRows.{StandsAt}
 use Rattle.stored_runs.specs.inner.RowsRight.{RowRight, held_effect, is_place_row}

@@ -3,21 +3,21 @@ use Rattle.sil_ast.specs.declared.place.PointId.{PointId}
 use Rattle.sil_ast.specs.declared.inst.Qualifier.{Qualifier}
 use Rattle.sil_cfg.specs.declared.item.Item.TheVariants as item
 use Rattle.item_operands.specs.Items.{item_taken}
-use Rattle.lowered_run.specs.LowEffects.{is_first_write}
-use Rattle.lowered_run.specs.holder_model.ModuleFacts.{facts_of, facts_told}
-use Rattle.lowered_run.specs.holder_model.Standing.{stands_at}
-use Rattle.lowered_run.specs.holder_model.memory_accesses.Operations.{access_kind_of, operation_by}
-use Rattle.accepted_values.specs.inner.Known.{IsAcceptedBody}
-use Rattle.accepted_values.specs.owned_run_typing.inner.OwnedTyped.{OwnedFunction, OwnedInst}
-use Rattle.accepted_values.specs.owned_run_typing.inner.OwnedRows.{OwnedRowForms}
-use Rattle.accepted_values.specs.owned_run_typing.inner.OwnedRows as owned
-use Rattle.accepted_values.specs.run_typing.RowForms.{IsStoreOf, RowForms}
-use Rattle.accepted_values.specs.run_typing.RowForms as lowered
-use Rattle.accepted_values.specs.run_typing.EndForms.{value_in}
-use Rattle.accepted_values.specs.run_typing.StorageForms.{IsNamed}
-use Rattle.typed_holders.specs.inner.TypedStates.{FrameIs}
-use Rattle.typed_holders.proofs.Entries.{FitEach, fit_data, operands_fit}
-use Rattle.typed_holders.proofs.GoesOn.{typed_module}
+use Rattle.lowered_steps.specs.lowered_run.LowEffects.{is_first_write}
+use Rattle.lowered_steps.specs.lowered_run.holder_model.ModuleFacts.{facts_of, facts_told}
+use Rattle.lowered_steps.specs.lowered_run.holder_model.Standing.{stands_at}
+use Rattle.lowered_steps.specs.lowered_run.holder_model.memory_accesses.Operations.{access_kind_of, operation_by}
+use Rattle.owned_counts.specs.accepted_values.inner.Known.{IsAcceptedBody}
+use Rattle.owned_counts.specs.accepted_values.owned_run_typing.inner.OwnedTyped.{OwnedFunction, OwnedInst}
+use Rattle.owned_counts.specs.accepted_values.owned_run_typing.inner.OwnedRows.{OwnedRowForms}
+use Rattle.owned_counts.specs.accepted_values.owned_run_typing.inner.OwnedRows as owned
+use Rattle.owned_counts.specs.accepted_values.run_typing.RowForms.{IsStoreOf, RowForms}
+use Rattle.owned_counts.specs.accepted_values.run_typing.RowForms as lowered
+use Rattle.owned_counts.specs.accepted_values.run_typing.EndForms.{value_in}
+use Rattle.owned_counts.specs.accepted_values.run_typing.StorageForms.{IsNamed}
+use Rattle.owned_counts.specs.typed_holders.inner.TypedStates.{FrameIs}
+use Rattle.owned_counts.proofs.typed_holders.Entries.{FitEach, fit_data, operands_fit}
+use Rattle.owned_counts.proofs.typed_holders.GoesOn.{typed_module}
 use Rattle.stored_runs.specs.inner.Frames.{HasFullParts}
 use Rattle.stored_runs.specs.inner.PlaceRows.{StandsAt}
 use Rattle.stored_runs.specs.inner.RowsRight.{ArePartsFull, RowRight, StoresStrong, held_effect, is_place_row, operation_done}
@@ -40,24 +40,24 @@ use Rattle.run_values.specs.Places.{Place, cells_at, emptied, filled, is_empty_a
 use Rattle.run_values.specs.Shapes.{Shape, Stored, storage_in}
 use Rattle.run_values.specs.Trivial.{is_trivial}
 use Rattle.run_values.specs.Values.{Value}
-use Rattle.lowered_run.specs.holder_model.Data.{AddressOf, ValueOf}
-use Rattle.lowered_run.specs.holder_model.Effects.{Change, Effect, Makes, effect_of, unchanged}
-use Rattle.lowered_run.specs.holder_model.Faults.{HolderFault}
-use Rattle.lowered_run.specs.holder_model.Frames.{Frame, Operands}
-use Rattle.lowered_run.specs.holder_model.HolderStates.{HolderState}
-use Rattle.lowered_run.specs.holder_model.MemoryEffects.{asked_before, holds, references_at, takes}
-use Rattle.lowered_run.specs.holder_model.States.{Task}
-use Rattle.lowered_run.specs.holder_model.declared.row_effect.RowEffect.{RowEffect}
-use Rattle.lowered_run.specs.holder_model.declared.row_effect.RowEffect.TheVariants as row
-use Rattle.lowered_run.specs.holder_model.memory_accesses.declared.access.Operation.{Operation}
-use Rattle.lowered_run.specs.holder_model.memory_accesses.declared.access.Operation.TheVariants as operation
-use Rattle.lowered_run.specs.LowStepParts.{LowState}
-use Rattle.lowering_laws.specs.lowering_model.LoweredInsts.{lowering_of}
-use Rattle.lowering_laws.specs.lowering_model.declared.lowering.Lowering.TheVariants as lowering
-use Rattle.lowering_laws.specs.ownership_origins.Renamings.{renames}
-use Rattle.accepted_values.specs.run_typing.Forms.{Form, OfPlace, OfValue, form_of, has_no_storage}
-use Rattle.typed_holders.specs.typed_memory.inner.Worlds.{IsWorldOf, MemoryIs, PlaceIs, Suits, World}
-use Rattle.typed_holders.proofs.Data.{DataAre}
+use Rattle.lowered_steps.specs.lowered_run.holder_model.Data.{AddressOf, ValueOf}
+use Rattle.lowered_steps.specs.lowered_run.holder_model.Effects.{Change, Effect, Makes, effect_of, unchanged}
+use Rattle.lowered_steps.specs.lowered_run.holder_model.Faults.{HolderFault}
+use Rattle.lowered_steps.specs.lowered_run.holder_model.Frames.{Frame, Operands}
+use Rattle.lowered_steps.specs.lowered_run.holder_model.HolderStates.{HolderState}
+use Rattle.lowered_steps.specs.lowered_run.holder_model.MemoryEffects.{asked_before, holds, references_at, takes}
+use Rattle.lowered_steps.specs.lowered_run.holder_model.States.{Task}
+use Rattle.lowered_steps.specs.lowered_run.holder_model.declared.row_effect.RowEffect.{RowEffect}
+use Rattle.lowered_steps.specs.lowered_run.holder_model.declared.row_effect.RowEffect.TheVariants as row
+use Rattle.lowered_steps.specs.lowered_run.holder_model.memory_accesses.declared.access.Operation.{Operation}
+use Rattle.lowered_steps.specs.lowered_run.holder_model.memory_accesses.declared.access.Operation.TheVariants as operation
+use Rattle.lowered_steps.specs.lowered_run.LowStepParts.{LowState}
+use Rattle.lowered_numbering_laws.specs.lowering_laws.lowering_model.LoweredInsts.{lowering_of}
+use Rattle.lowered_numbering_laws.specs.lowering_laws.lowering_model.declared.lowering.Lowering.TheVariants as lowering
+use Rattle.lowered_numbering_laws.specs.lowering_laws.ownership_origins.Renamings.{renames}
+use Rattle.owned_counts.specs.accepted_values.run_typing.Forms.{Form, OfPlace, OfValue, form_of, has_no_storage}
+use Rattle.owned_counts.specs.typed_holders.typed_memory.inner.Worlds.{IsWorldOf, MemoryIs, PlaceIs, Suits, World}
+use Rattle.owned_counts.proofs.typed_holders.Data.{DataAre}
 use Rattle.stored_runs.specs.inner.TypedPlaces.{IsPlainPlace}
 use Rattle.stored_runs.specs.inner.TypedRows.{AreTypedPlaceRows, PlacesTold}
 use Rattle.stored_runs.proofs.TypedPlaces.{are_plain_places, are_storage_places, are_trivial_places}

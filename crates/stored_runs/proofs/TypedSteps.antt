@@ -15,29 +15,29 @@ use Rattle.item_operands.specs.Items.{item_defined}
 use Rattle.type_definitions.specs.Declarations.{Declarations, declarations_of}
 use Rattle.run_values.specs.Values as value
 use Rattle.run_values.specs.Values.{Value}
-use Rattle.accepted_trails.proofs.Unbroken.{are_accepted}
-use Rattle.accepted_trails.proofs.run_trails.RunPaths.{are_trails}
-use Rattle.accepted_trails.proofs.run_trails.TurnedTrails.{turned_item}
-use Rattle.accepted_trails.proofs.run_trails.WalkEdges.{are_next}
-use Rattle.accepted_trails.specs.run_trails.inner.RunTrails.{IsTurnedTrail}
-use Rattle.accepted_values.specs.inner.Known.{IsAcceptedBody}
-use Rattle.accepted_values.specs.run_typing.CallForms.{IsDeinitOf}
-use Rattle.accepted_values.specs.run_typing.Forms.{form_of}
-use Rattle.lowered_run.specs.holder_model.Data.{Datum, ValueOf}
-use Rattle.lowered_run.specs.holder_model.Frames.{Frame, has_any}
-use Rattle.lowered_run.specs.holder_model.HolderStates.{HolderState}
-use Rattle.lowered_run.specs.holder_model.ModuleShapes.{shapes_of}
-use Rattle.lowered_run.specs.holder_model.Standing.{stands_at}
-use Rattle.lowered_run.specs.holder_model.States.{Drops, Finishes, Runs, Task}
-use Rattle.lowered_run.specs.LowFrames.{LowFrame}
-use Rattle.lowered_run.specs.LowStepParts.{LowNext, LowState}
-use Rattle.lowering_laws.specs.lowering_model.LoweredModules.{lowered, lowered_body}
+use Rattle.owned_counts.proofs.accepted_trails.Unbroken.{are_accepted}
+use Rattle.owned_counts.proofs.accepted_trails.run_trails.RunPaths.{are_trails}
+use Rattle.owned_counts.proofs.accepted_trails.run_trails.TurnedTrails.{turned_item}
+use Rattle.owned_counts.proofs.accepted_trails.run_trails.WalkEdges.{are_next}
+use Rattle.owned_counts.specs.accepted_trails.run_trails.inner.RunTrails.{IsTurnedTrail}
+use Rattle.owned_counts.specs.accepted_values.inner.Known.{IsAcceptedBody}
+use Rattle.owned_counts.specs.accepted_values.run_typing.CallForms.{IsDeinitOf}
+use Rattle.owned_counts.specs.accepted_values.run_typing.Forms.{form_of}
+use Rattle.lowered_steps.specs.lowered_run.holder_model.Data.{Datum, ValueOf}
+use Rattle.lowered_steps.specs.lowered_run.holder_model.Frames.{Frame, has_any}
+use Rattle.lowered_steps.specs.lowered_run.holder_model.HolderStates.{HolderState}
+use Rattle.lowered_steps.specs.lowered_run.holder_model.ModuleShapes.{shapes_of}
+use Rattle.lowered_steps.specs.lowered_run.holder_model.Standing.{stands_at}
+use Rattle.lowered_steps.specs.lowered_run.holder_model.States.{Drops, Finishes, Runs, Task}
+use Rattle.lowered_steps.specs.lowered_run.LowFrames.{LowFrame}
+use Rattle.lowered_steps.specs.lowered_run.LowStepParts.{LowNext, LowState}
+use Rattle.lowered_numbering_laws.specs.lowering_laws.lowering_model.LoweredModules.{lowered, lowered_body}
 use Rattle.lowered_steps.specs.inner.LowWays as ways
 use Rattle.lowered_steps.proofs.LowTaken.{told_taken}
-use Rattle.typed_holders.specs.inner.TypedStates.{DeinitsTyped, DroppedTyped, FinishedTyped, FrameIs, GoesTyped, TasksAre, WaitsTyped}
-use Rattle.typed_holders.specs.holder_steps.inner.Stacks.{Below}
-use Rattle.typed_holders.specs.typed_memory.inner.Worlds.{World}
-use Rattle.typed_holders.proofs.GoesOn.{accepted_body, typed_module}
+use Rattle.owned_counts.specs.typed_holders.inner.TypedStates.{DeinitsTyped, DroppedTyped, FinishedTyped, FrameIs, GoesTyped, TasksAre, WaitsTyped}
+use Rattle.owned_counts.specs.typed_holders.holder_steps.inner.Stacks.{Below}
+use Rattle.owned_counts.specs.typed_holders.typed_memory.inner.Worlds.{World}
+use Rattle.owned_counts.proofs.typed_holders.GoesOn.{accepted_body, typed_module}
 use Rattle.stored_runs.specs.inner.Along.{IsNextAlong}
 use Rattle.stored_runs.specs.inner.Awaited.{AreAwaited, AreAwaitedBelow}
 use Rattle.stored_runs.specs.inner.Entering.{HandsOver, IsAddressFor}

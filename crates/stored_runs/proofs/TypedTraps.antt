@@ -14,21 +14,21 @@ use Rattle.run_values.specs.Places.{Place, emptied, is_there_at, member_place, r
 use Rattle.run_values.specs.Shapes.{Shape, class_in, storage_in}
 use Rattle.run_values.specs.Values as value
 use Rattle.run_values.specs.Values.{Value, grouped, members_of, object_of, references_of}
-use Rattle.accepted_values.specs.run_typing.Forms.{Form, form_of}
-use Rattle.lowered_run.specs.holder_model.Data.{AddressOf, Datum, FunctionOf, ValueOf, as_place, as_value, references_in, values_of}
-use Rattle.lowered_run.specs.holder_model.Effects as effects
-use Rattle.lowered_run.specs.holder_model.Effects.{Effect, Faults, Makes, Traps, effect_by, effect_of, only, with_some}
-use Rattle.lowered_run.specs.holder_model.Faults.{HolderFault, NotLastSlot}
-use Rattle.lowered_run.specs.holder_model.MemoryEffects as memory_effects
-use Rattle.lowered_run.specs.holder_model.MemoryEffects.{asked_before, fault_of, holds, loaded_name, takes, where_held}
-use Rattle.lowered_run.specs.holder_model.ModuleShapes.{ModuleShapes, shapes_in, shapes_of}
-use Rattle.lowered_run.specs.holder_model.declared.row_effect.RowEffect.{RowEffect}
-use Rattle.lowered_run.specs.holder_model.declared.row_effect.RowEffect.TheVariants as row
-use Rattle.lowered_run.specs.holder_model.declared.trap.Trap.{Trap}
-use Rattle.lowered_run.specs.holder_model.memory_accesses.Operations.{access_kind_of, operation_by}
-use Rattle.lowered_run.specs.holder_model.memory_accesses.declared.access.Operation.{Operation}
-use Rattle.typed_holders.specs.typed_memory.inner.Worlds.{World}
-use Rattle.typed_holders.proofs.Data.{DataAre}
+use Rattle.owned_counts.specs.accepted_values.run_typing.Forms.{Form, form_of}
+use Rattle.lowered_steps.specs.lowered_run.holder_model.Data.{AddressOf, Datum, FunctionOf, ValueOf, as_place, as_value, references_in, values_of}
+use Rattle.lowered_steps.specs.lowered_run.holder_model.Effects as effects
+use Rattle.lowered_steps.specs.lowered_run.holder_model.Effects.{Effect, Faults, Makes, Traps, effect_by, effect_of, only, with_some}
+use Rattle.lowered_steps.specs.lowered_run.holder_model.Faults.{HolderFault, NotLastSlot}
+use Rattle.lowered_steps.specs.lowered_run.holder_model.MemoryEffects as memory_effects
+use Rattle.lowered_steps.specs.lowered_run.holder_model.MemoryEffects.{asked_before, fault_of, holds, loaded_name, takes, where_held}
+use Rattle.lowered_steps.specs.lowered_run.holder_model.ModuleShapes.{ModuleShapes, shapes_in, shapes_of}
+use Rattle.lowered_steps.specs.lowered_run.holder_model.declared.row_effect.RowEffect.{RowEffect}
+use Rattle.lowered_steps.specs.lowered_run.holder_model.declared.row_effect.RowEffect.TheVariants as row
+use Rattle.lowered_steps.specs.lowered_run.holder_model.declared.trap.Trap.{Trap}
+use Rattle.lowered_steps.specs.lowered_run.holder_model.memory_accesses.Operations.{access_kind_of, operation_by}
+use Rattle.lowered_steps.specs.lowered_run.holder_model.memory_accesses.declared.access.Operation.{Operation}
+use Rattle.owned_counts.specs.typed_holders.typed_memory.inner.Worlds.{World}
+use Rattle.owned_counts.proofs.typed_holders.Data.{DataAre}
 use Rattle.stored_runs.specs.inner.Frames.{IsNoAddress}
 use Rattle.stored_runs.specs.inner.RowsRight.{TrapRight, is_place_row}
 use Rattle.stored_runs.specs.inner.TypedTraps.{AreTypedTraps}

@@ -25,34 +25,34 @@ use Rattle.run_values.specs.Places.{Place}
 use Rattle.run_values.specs.Shapes.{Shape, Stored, shape_of, storage_in}
 use Rattle.run_values.specs.Trivial.{is_trivial}
 use Rattle.run_values.specs.Values.{Value}
-use Rattle.accepted_values.specs.inner.Known.{IsAcceptedBody}
-use Rattle.accepted_values.specs.run_typing.Forms.{Form, OfPlace, OfValue, has_no_storage}
-use Rattle.accepted_values.specs.accepted_modules.sil_types.Typing.FormRules.{has_word_by, has_wrong_qualifier, is_owned_form, is_write_word}
-use Rattle.accepted_values.specs.accepted_modules.sil_types.Typing.OperandTypes.{has_type}
-use Rattle.accepted_values.specs.accepted_modules.sil_types.Typing.RowTypes.{passes, written}
-use Rattle.accepted_values.specs.accepted_modules.sil_types.Typing.Same.{all_pairs}
-use Rattle.accepted_values.specs.accepted_modules.sil_types.Typing.Shapes.{in_unowned, in_weak, is_nontrivial, is_object, is_storage, is_storage_layer, object_at, target, unowned_at, weak_at, where_it}
-use Rattle.accepted_values.specs.accepted_modules.sil_types.Typing.Typed.{BreaksAtPoint, at_point, point}
-use Rattle.accepted_values.specs.accepted_modules.sil_types.Typing.Values.{value_types}
-use Rattle.accepted_values.proofs.Accepted.{in_ownership_form, well_typed}
-use Rattle.accepted_values.proofs.run_typing_laws.Rows.Counting.{placed_at}
-use Rattle.accepted_values.proofs.run_typing_laws.Rows.Finding.{found_behind, never_passes, where_found}
-use Rattle.accepted_values.proofs.run_typing_laws.Rows.Forms.{place_form, typed_form}
-use Rattle.accepted_values.proofs.run_typing_laws.Rows.Known.{Known, known}
-use Rattle.accepted_values.proofs.run_typing_laws.Rows.Layers.{is_unowned, is_weak, unowned_type, weak_type}
-use Rattle.accepted_values.proofs.run_typing_laws.Rows.Memory.{object_place}
-use Rattle.accepted_values.proofs.run_typing_laws.Rows.Points.{is_at}
-use Rattle.accepted_values.proofs.run_typing_laws.Rows.Shares.{of_parts, one_operand, taken_from, two_operands}
-use Rattle.accepted_values.proofs.run_typing_laws.ShapeFacts.{unowned_shape, weak_shape}
-use Rattle.accepted_values.specs.owned_run_typing.run_typing_laws.inner.WellTyped.{IsWellTyped}
-use Rattle.lowered_run.specs.holder_model.Data.{AddressOf, Datum, ValueOf}
-use Rattle.lowered_run.specs.holder_model.Effects.{effect_of}
-use Rattle.lowered_run.specs.holder_model.Standing.{stands_at}
-use Rattle.lowered_run.specs.holder_model.declared.row_effect.RowEffect.TheVariants as row
-use Rattle.lowering_laws.specs.sil_types.Typing.FormRules.{is_at_storage}
-use Rattle.typed_holders.specs.typed_memory.inner.Worlds.{World}
-use Rattle.typed_holders.proofs.Data.{DataAre}
-use Rattle.typed_holders.proofs.TrivialShapes.{trivial_shape}
+use Rattle.owned_counts.specs.accepted_values.inner.Known.{IsAcceptedBody}
+use Rattle.owned_counts.specs.accepted_values.run_typing.Forms.{Form, OfPlace, OfValue, has_no_storage}
+use Rattle.owned_counts.specs.accepted_values.accepted_modules.sil_types.Typing.FormRules.{has_word_by, has_wrong_qualifier, is_owned_form, is_write_word}
+use Rattle.owned_counts.specs.accepted_values.accepted_modules.sil_types.Typing.OperandTypes.{has_type}
+use Rattle.owned_counts.specs.accepted_values.accepted_modules.sil_types.Typing.RowTypes.{passes, written}
+use Rattle.owned_counts.specs.accepted_values.accepted_modules.sil_types.Typing.Same.{all_pairs}
+use Rattle.owned_counts.specs.accepted_values.accepted_modules.sil_types.Typing.Shapes.{in_unowned, in_weak, is_nontrivial, is_object, is_storage, is_storage_layer, object_at, target, unowned_at, weak_at, where_it}
+use Rattle.owned_counts.specs.accepted_values.accepted_modules.sil_types.Typing.Typed.{BreaksAtPoint, at_point, point}
+use Rattle.owned_counts.specs.accepted_values.accepted_modules.sil_types.Typing.Values.{value_types}
+use Rattle.owned_counts.proofs.accepted_values.Accepted.{in_ownership_form, well_typed}
+use Rattle.owned_counts.proofs.accepted_values.run_typing_laws.Rows.Counting.{placed_at}
+use Rattle.owned_counts.proofs.accepted_values.run_typing_laws.Rows.Finding.{found_behind, never_passes, where_found}
+use Rattle.owned_counts.proofs.accepted_values.run_typing_laws.Rows.Forms.{place_form, typed_form}
+use Rattle.owned_counts.proofs.accepted_values.run_typing_laws.Rows.Known.{Known, known}
+use Rattle.owned_counts.proofs.accepted_values.run_typing_laws.Rows.Layers.{is_unowned, is_weak, unowned_type, weak_type}
+use Rattle.owned_counts.proofs.accepted_values.run_typing_laws.Rows.Memory.{object_place}
+use Rattle.owned_counts.proofs.accepted_values.run_typing_laws.Rows.Points.{is_at}
+use Rattle.owned_counts.proofs.accepted_values.run_typing_laws.Rows.Shares.{of_parts, one_operand, taken_from, two_operands}
+use Rattle.owned_counts.proofs.accepted_values.run_typing_laws.ShapeFacts.{unowned_shape, weak_shape}
+use Rattle.owned_counts.specs.accepted_values.owned_run_typing.run_typing_laws.inner.WellTyped.{IsWellTyped}
+use Rattle.lowered_steps.specs.lowered_run.holder_model.Data.{AddressOf, Datum, ValueOf}
+use Rattle.lowered_steps.specs.lowered_run.holder_model.Effects.{effect_of}
+use Rattle.lowered_steps.specs.lowered_run.holder_model.Standing.{stands_at}
+use Rattle.lowered_steps.specs.lowered_run.holder_model.declared.row_effect.RowEffect.TheVariants as row
+use Rattle.lowered_numbering_laws.specs.lowering_laws.sil_types.Typing.FormRules.{is_at_storage}
+use Rattle.owned_counts.specs.typed_holders.typed_memory.inner.Worlds.{World}
+use Rattle.owned_counts.proofs.typed_holders.Data.{DataAre}
+use Rattle.owned_counts.proofs.typed_holders.TrivialShapes.{trivial_shape}
 use Rattle.stored_runs.specs.inner.WrittenPlaces.{ArePlacesWritten}
 use Rattle.stored_runs.proofs.PlacesFound.{one_place_of}
 use Rattle.stored_runs.proofs.TypedInsts.{given_typed, operand_forms}

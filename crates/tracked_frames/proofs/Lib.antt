@@ -12,3 +12,5 @@ pub use Rattle.typed_holders.proofs.holder_steps as holder_steps
 pub use Rattle.typed_holders.proofs.accepted_premises as accepted_premises
 pub use Rattle.typed_holders.proofs.placed_values as placed_values
 pub use Rattle.typed_holders.proofs.scoped_addresses as scoped_addresses
+pub use Rattle.typed_holders.proofs.accepted_trails as accepted_trails
+pub use Rattle.typed_holders.proofs.owned_run_typing as owned_run_typing

@@ -20,3 +20,5 @@ pub use Rattle.typed_memory.proofs as typed_memory
 pub use Rattle.scoped_addresses.proofs.accepted_premises as accepted_premises
 pub use Rattle.scoped_addresses.proofs.placed_values as placed_values
 pub use Rattle.scoped_addresses.proofs as scoped_addresses
+pub use Rattle.scoped_addresses.proofs.accepted_trails as accepted_trails
+pub use Rattle.scoped_addresses.proofs.owned_run_typing as owned_run_typing

@@ -4,12 +4,12 @@ use Rattle.sil_ast.specs.declared.function.Function.{Function}
 use Rattle.sil_ast.specs.declared.module.Module.{Module}
 use Rattle.sil_ast.specs.declared.place.PointId.{PointId}
 use Rattle.sil_ast.specs.declared.place.ValueId.{ValueId}
-use Rattle.copy_removal.specs.Copies.{IsCopy}
-use Rattle.copy_removal.specs.Optimised.{facts_of}
-use Rattle.copy_removal.specs.Removable.{IsBorrowable}
-use Rattle.copy_removal.specs.Rewritten.{lent, with_function}
+use Rattle.rewriting_laws.specs.copy_removal.Copies.{IsCopy}
+use Rattle.rewriting_laws.specs.copy_removal.Optimised.{facts_of}
+use Rattle.rewriting_laws.specs.copy_removal.Removable.{IsBorrowable}
+use Rattle.rewriting_laws.specs.copy_removal.Rewritten.{lent, with_function}
 use Rattle.lockstep_runs.specs.inner.Agreeing.{RunsAsItDid}
-use Rattle.lent_functions.specs.accepted_values.accepted_modules.inner.Checked.{IsVerified}
+use Rattle.rewriting_laws.specs.lent_functions.accepted_values.accepted_modules.inner.Checked.{IsVerified}
 
 -- where a copy of an accepted module can be a borrow, the module in which it is one runs as it did
 abbrev pub LentRunsAsItDid : Type 0

@@ -1,15 +1,15 @@
 -- A module in which a copy became a move runs as it did.
 use Rattle.std.specs.Prelude.{◌≡◌, ℕ, Some, slice_get}
-use Rattle.accepted_modules.specs.inner.Checked.{IsVerified}
-use Rattle.copy_removal.specs.Copies.{IsCopy}
-use Rattle.copy_removal.specs.Optimised.{facts_of}
-use Rattle.copy_removal.specs.Removable.{IsBorrowable, IsMovable}
-use Rattle.copy_removal.specs.Rewritten.{moved, with_function}
+use Rattle.lent_runs.specs.accepted_modules.inner.Checked.{IsVerified}
+use Rattle.lent_runs.specs.copy_removal.Copies.{IsCopy}
+use Rattle.lent_runs.specs.copy_removal.Optimised.{facts_of}
+use Rattle.lent_runs.specs.copy_removal.Removable.{IsBorrowable, IsMovable}
+use Rattle.lent_runs.specs.copy_removal.Rewritten.{moved, with_function}
 use Rattle.sil_ast.specs.declared.function.Function.{Function}
 use Rattle.sil_ast.specs.declared.module.Module.{Module}
 use Rattle.sil_ast.specs.declared.place.PointId.{PointId}
 use Rattle.sil_ast.specs.declared.place.ValueId.{ValueId}
-use Rattle.lockstep_runs.specs.inner.Agreeing.{RunsAsItDid}
+use Rattle.lent_runs.specs.lockstep_runs.inner.Agreeing.{RunsAsItDid}
 
 -- where a copy of an accepted module can't be a borrow and can be a move, the module in which it is one runs as it did
 abbrev pub MovedRunsAsItDid : Type 0

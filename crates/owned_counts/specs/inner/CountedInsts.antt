@@ -8,23 +8,23 @@ use Rattle.item_operands.specs.Items.{item_defined}
 use Rattle.item_operands.specs.Parts.{inst_at}
 use Rattle.type_definitions.specs.Declarations.{declarations_of}
 use Rattle.run_values.specs.Places.{Place}
-use Rattle.accepted_values.specs.accepted_modules.inner.Checked.{IsVerified}
-use Rattle.accepted_values.specs.run_typing.lowered_run.LowEffects.{stored_behind}
-use Rattle.accepted_values.specs.run_typing.lowered_run.LowStepParts.{numbers_for}
-use Rattle.accepted_values.specs.run_typing.lowered_run.Stored.{each_changed, one_more}
-use Rattle.holder_counts.specs.holder_model.Effects as effects
-use Rattle.holder_counts.specs.holder_model.Effects.{Change}
-use Rattle.holder_counts.specs.holder_model.Frames.{Entry, Frame, Operands, results_put}
-use Rattle.holder_counts.specs.holder_model.HolderStates.{HolderState}
-use Rattle.holder_counts.specs.holder_model.ModuleFacts.{facts_of, facts_told}
-use Rattle.holder_counts.specs.holder_model.ModuleShapes.{shapes_in, shapes_of}
-use Rattle.holder_counts.specs.holder_model.Outcomes.{Numbers}
-use Rattle.holder_counts.specs.holder_model.Standing.{stands_at}
-use Rattle.holder_counts.specs.holder_model.States.{Runs, Task}
-use Rattle.holder_counts.specs.holder_model.Steps.{effect_in}
-use Rattle.holder_counts.specs.holder_steps.inner.Ways.{left_with, moved, operands_in}
+use Rattle.accepted_runs.specs.accepted_values.accepted_modules.inner.Checked.{IsVerified}
+use Rattle.accepted_runs.specs.accepted_values.run_typing.lowered_run.LowEffects.{stored_behind}
+use Rattle.accepted_runs.specs.accepted_values.run_typing.lowered_run.LowStepParts.{numbers_for}
+use Rattle.accepted_runs.specs.accepted_values.run_typing.lowered_run.Stored.{each_changed, one_more}
+use Rattle.stored_counts.specs.holder_counts.holder_model.Effects as effects
+use Rattle.stored_counts.specs.holder_counts.holder_model.Effects.{Change}
+use Rattle.stored_counts.specs.holder_counts.holder_model.Frames.{Entry, Frame, Operands, results_put}
+use Rattle.stored_counts.specs.holder_counts.holder_model.HolderStates.{HolderState}
+use Rattle.stored_counts.specs.holder_counts.holder_model.ModuleFacts.{facts_of, facts_told}
+use Rattle.stored_counts.specs.holder_counts.holder_model.ModuleShapes.{shapes_in, shapes_of}
+use Rattle.stored_counts.specs.holder_counts.holder_model.Outcomes.{Numbers}
+use Rattle.stored_counts.specs.holder_counts.holder_model.Standing.{stands_at}
+use Rattle.stored_counts.specs.holder_counts.holder_model.States.{Runs, Task}
+use Rattle.stored_counts.specs.holder_counts.holder_model.Steps.{effect_in}
+use Rattle.stored_counts.specs.holder_counts.holder_steps.inner.Ways.{left_with, moved, operands_in}
 use Rattle.stored_counts.specs.inner.Numbers.{AreCounts}
-use Rattle.typed_holders.specs.inner.TypedStates.{IsTypedState}
+use Rattle.accepted_runs.specs.typed_holders.inner.TypedStates.{IsTypedState}
 
 -- the first frame's next instruction leaves a change
 pub record MakesChange (m : Module) (bound : ℕ) (s : HolderState) (rest : List (Task Frame)) (frame : Frame) (f : Function) (i : Inst) (ops : Operands) (c : Change)

@@ -19,24 +19,24 @@ use Rattle.run_values.specs.Places.{Place}
 use Rattle.run_values.specs.Shapes.{Shape, Stored}
 use Rattle.run_values.specs.Trivial.{is_trivial}
 use Rattle.value_parts.specs.inner.Storages.{holds_no_storage}
-use Rattle.accepted_values.specs.accepted_modules.ownership_kinds.Facts.{facts_in}
-use Rattle.accepted_values.specs.inner.Known.{IsAcceptedBody}
-use Rattle.accepted_values.specs.run_typing.EndForms.{value_in}
-use Rattle.accepted_values.specs.run_typing.Forms.{OfPlace, OfValue, forms_of}
-use Rattle.accepted_values.specs.run_typing.RowForms.{operation_done}
-use Rattle.accepted_values.specs.run_typing.StorageForms.{IsNamed}
-use Rattle.accepted_values.specs.run_typing.lowered_run.Operation.{Operation}
-use Rattle.holder_counts.specs.holder_model.Data.{AddressOf, Datum}
-use Rattle.holder_counts.specs.holder_model.Effects as effects
-use Rattle.holder_counts.specs.holder_model.Effects.{Change, effect_of}
-use Rattle.holder_counts.specs.holder_model.Frames.{Entry, Operands, operands_of, results_put}
-use Rattle.holder_counts.specs.holder_model.MemoryEffects.{copies_with, effect, takes}
-use Rattle.holder_counts.specs.holder_model.ModuleShapes.{shapes_in, shapes_of}
-use Rattle.holder_counts.specs.holder_model.Outcomes.{Numbers}
-use Rattle.holder_counts.specs.holder_model.declared.row_effect.RowEffect.TheVariants as row
+use Rattle.accepted_runs.specs.accepted_values.accepted_modules.ownership_kinds.Facts.{facts_in}
+use Rattle.accepted_runs.specs.accepted_values.inner.Known.{IsAcceptedBody}
+use Rattle.accepted_runs.specs.accepted_values.run_typing.EndForms.{value_in}
+use Rattle.accepted_runs.specs.accepted_values.run_typing.Forms.{OfPlace, OfValue, forms_of}
+use Rattle.accepted_runs.specs.accepted_values.run_typing.RowForms.{operation_done}
+use Rattle.accepted_runs.specs.accepted_values.run_typing.StorageForms.{IsNamed}
+use Rattle.accepted_runs.specs.accepted_values.run_typing.lowered_run.Operation.{Operation}
+use Rattle.stored_counts.specs.holder_counts.holder_model.Data.{AddressOf, Datum}
+use Rattle.stored_counts.specs.holder_counts.holder_model.Effects as effects
+use Rattle.stored_counts.specs.holder_counts.holder_model.Effects.{Change, effect_of}
+use Rattle.stored_counts.specs.holder_counts.holder_model.Frames.{Entry, Operands, operands_of, results_put}
+use Rattle.stored_counts.specs.holder_counts.holder_model.MemoryEffects.{copies_with, effect, takes}
+use Rattle.stored_counts.specs.holder_counts.holder_model.ModuleShapes.{shapes_in, shapes_of}
+use Rattle.stored_counts.specs.holder_counts.holder_model.Outcomes.{Numbers}
+use Rattle.stored_counts.specs.holder_counts.holder_model.declared.row_effect.RowEffect.TheVariants as row
 use Rattle.stored_counts.specs.inner.Rows.{Owns}
-use Rattle.typed_memory.specs.inner.Worlds.{IsWorldOf, MemoryIs, World}
-use Rattle.typed_holders.specs.inner.TypedStates.{EntriesAre}
+use Rattle.accepted_runs.specs.typed_memory.inner.Worlds.{IsWorldOf, MemoryIs, World}
+use Rattle.accepted_runs.specs.typed_holders.inner.TypedStates.{EntriesAre}
 
 -- what a load does at its place, by its word: it takes or copies what its result then owns, reads what is trivial, or lends
 pub data LoadsBy (d : Declarations) (f : Function) (i : Inst) (o : Operation) (s : Shape) : Type 0 where

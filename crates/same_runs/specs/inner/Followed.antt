@@ -3,18 +3,18 @@ use Rattle.std.specs.Prelude.{◌≡◌, ℕ, ◌-◌, ◌<◌, List, [], ◌∷
 use Rattle.sil_ast.specs.declared.function.Function.{Function}
 use Rattle.sil_ast.specs.declared.module.Module.{Module}
 use Rattle.sil_ast.specs.declared.place.PointId.{PointId}
-use Rattle.lowered_run.specs.holder_model.Faults.{HolderFault}
-use Rattle.lowered_run.specs.holder_model.Frames.{Frame}
-use Rattle.lowered_run.specs.holder_model.HolderStates.{HolderNext, HolderState}
-use Rattle.lowered_run.specs.holder_model.ModuleShapes.{shapes_of}
-use Rattle.lowered_run.specs.holder_model.Outcomes.{Outcome, outcome_at}
-use Rattle.lowered_run.specs.holder_model.Standing.{stands_at}
-use Rattle.lowered_run.specs.holder_model.States.{Drops, Ending, Ends, Finishes, Goes, Runs, Task}
-use Rattle.lowered_run.specs.declared.low_fault.LowFault.{LowFault}
-use Rattle.lowered_run.specs.LowOutcomes.{low_outcome_at}
-use Rattle.lowered_run.specs.LowStepParts.{LowNext, LowState}
-use Rattle.lowered_run.specs.LowSteps as steps
-use Rattle.lowering_laws.specs.lowering_model.LoweredModules.{lowered}
+use Rattle.stored_runs.specs.lowered_run.holder_model.Faults.{HolderFault}
+use Rattle.stored_runs.specs.lowered_run.holder_model.Frames.{Frame}
+use Rattle.stored_runs.specs.lowered_run.holder_model.HolderStates.{HolderNext, HolderState}
+use Rattle.stored_runs.specs.lowered_run.holder_model.ModuleShapes.{shapes_of}
+use Rattle.stored_runs.specs.lowered_run.holder_model.Outcomes.{Outcome, outcome_at}
+use Rattle.stored_runs.specs.lowered_run.holder_model.Standing.{stands_at}
+use Rattle.stored_runs.specs.lowered_run.holder_model.States.{Drops, Ending, Ends, Finishes, Goes, Runs, Task}
+use Rattle.stored_runs.specs.lowered_run.declared.low_fault.LowFault.{LowFault}
+use Rattle.stored_runs.specs.lowered_run.LowOutcomes.{low_outcome_at}
+use Rattle.stored_runs.specs.lowered_run.LowStepParts.{LowNext, LowState}
+use Rattle.stored_runs.specs.lowered_run.LowSteps as steps
+use Rattle.stored_runs.specs.lowering_laws.lowering_model.LoweredModules.{lowered}
 use Rattle.stored_runs.specs.inner.PlaceRows.{LowGoes}
 use Rattle.stored_runs.specs.inner.Points.{insts_of}
 use Rattle.stored_runs.specs.inner.Runs.{IsNextFor, IsOutcomeFor}

@@ -4,14 +4,14 @@ use Rattle.sil_ast.specs.declared.function.Function.{Function}
 use Rattle.sil_ast.specs.declared.module.Module.{Module}
 use Rattle.sil_ast.specs.declared.place.FuncId.{FuncId}
 use Rattle.type_definitions.specs.Declarations.{declarations_of}
-use Rattle.accepted_values.specs.accepted_modules.inner.Checked.{IsVerified}
-use Rattle.lowered_run.specs.holder_model.HolderStates.{HolderState}
-use Rattle.lowered_run.specs.holder_model.ModuleFacts.{facts_of}
-use Rattle.lowered_run.specs.holder_model.Outcomes.{begins, may_start}
-use Rattle.lowered_run.specs.holder_model.Steps as holder_run
-use Rattle.lowered_run.specs.LowOutcomes.{low_begins}
-use Rattle.lowered_run.specs.LowStepParts.{LowState}
-use Rattle.lowering_laws.specs.lowering_model.LoweredModules.{lowered_body}
+use Rattle.stored_runs.specs.accepted_values.accepted_modules.inner.Checked.{IsVerified}
+use Rattle.stored_runs.specs.lowered_run.holder_model.HolderStates.{HolderState}
+use Rattle.stored_runs.specs.lowered_run.holder_model.ModuleFacts.{facts_of}
+use Rattle.stored_runs.specs.lowered_run.holder_model.Outcomes.{begins, may_start}
+use Rattle.stored_runs.specs.lowered_run.holder_model.Steps as holder_run
+use Rattle.stored_runs.specs.lowered_run.LowOutcomes.{low_begins}
+use Rattle.stored_runs.specs.lowered_run.LowStepParts.{LowState}
+use Rattle.stored_runs.specs.lowering_laws.lowering_model.LoweredModules.{lowered_body}
 use Rattle.stored_runs.specs.inner.Runs.{LoweredRunsAreSame}
 use Rattle.stored_runs.specs.inner.TypedSteps.{IsTypedFor}
 use Rattle.same_runs.specs.inner.Followed.{Follows}

@@ -12,28 +12,28 @@ use Rattle.item_operands.specs.Items.{item_defined, item_taken}
 use Rattle.item_operands.specs.Parts.{inst_at}
 use Rattle.run_values.specs.Memory.{is_dead, object_at, with_object}
 use Rattle.run_values.specs.Places.{Place}
-use Rattle.accepted_values.specs.accepted_modules.inner.Checked.{IsVerified}
-use Rattle.accepted_runs.specs.inner.RightStates.{IsRightState}
-use Rattle.lowered_run.specs.holder_model.Calling.{are_as_before}
-use Rattle.lowered_run.specs.holder_model.Data.{Datum}
-use Rattle.lowered_run.specs.holder_model.Dropping.{ended}
-use Rattle.lowered_run.specs.holder_model.Effects as effects
-use Rattle.lowered_run.specs.holder_model.Effects.{Change, effect_of}
-use Rattle.lowered_run.specs.holder_model.Faults.{HolderFault}
-use Rattle.lowered_run.specs.holder_model.Frames.{Entry, Frame, Operands, operands_of, results_put}
-use Rattle.lowered_run.specs.holder_model.HolderStates.{HolderState, strong_holders}
-use Rattle.lowered_run.specs.holder_model.ModuleFacts.{facts_of, facts_told}
-use Rattle.lowered_run.specs.holder_model.Outcomes.{Numbers, begins, may_start, outcome_at, run}
-use Rattle.lowered_run.specs.holder_model.Standing.{stands_at}
-use Rattle.lowered_run.specs.holder_model.States.{Finishes, Goes, Runs, Task, Trapped}
-use Rattle.lowered_run.specs.holder_model.StepParts.{slots_behind}
-use Rattle.lowered_run.specs.holder_model.Steps as holder_run
-use Rattle.lowered_run.specs.holder_model.declared.row_effect.RowEffect.TheVariants as row
-use Rattle.lowered_run.specs.holder_model.declared.trap.Trap.{Trap}
-use Rattle.lowered_run.specs.LowFrames.{LowFrame}
-use Rattle.lowered_run.specs.LowStepParts.{LowState}
-use Rattle.holder_steps.specs.inner.Ways.{left_with, moved}
-use Rattle.stored_counts.specs.inner.Numbers.{AreCounts}
+use Rattle.stored_runs.specs.accepted_values.accepted_modules.inner.Checked.{IsVerified}
+use Rattle.stored_runs.specs.accepted_runs.inner.RightStates.{IsRightState}
+use Rattle.stored_runs.specs.lowered_run.holder_model.Calling.{are_as_before}
+use Rattle.stored_runs.specs.lowered_run.holder_model.Data.{Datum}
+use Rattle.stored_runs.specs.lowered_run.holder_model.Dropping.{ended}
+use Rattle.stored_runs.specs.lowered_run.holder_model.Effects as effects
+use Rattle.stored_runs.specs.lowered_run.holder_model.Effects.{Change, effect_of}
+use Rattle.stored_runs.specs.lowered_run.holder_model.Faults.{HolderFault}
+use Rattle.stored_runs.specs.lowered_run.holder_model.Frames.{Entry, Frame, Operands, operands_of, results_put}
+use Rattle.stored_runs.specs.lowered_run.holder_model.HolderStates.{HolderState, strong_holders}
+use Rattle.stored_runs.specs.lowered_run.holder_model.ModuleFacts.{facts_of, facts_told}
+use Rattle.stored_runs.specs.lowered_run.holder_model.Outcomes.{Numbers, begins, may_start, outcome_at, run}
+use Rattle.stored_runs.specs.lowered_run.holder_model.Standing.{stands_at}
+use Rattle.stored_runs.specs.lowered_run.holder_model.States.{Finishes, Goes, Runs, Task, Trapped}
+use Rattle.stored_runs.specs.lowered_run.holder_model.StepParts.{slots_behind}
+use Rattle.stored_runs.specs.lowered_run.holder_model.Steps as holder_run
+use Rattle.stored_runs.specs.lowered_run.holder_model.declared.row_effect.RowEffect.TheVariants as row
+use Rattle.stored_runs.specs.lowered_run.holder_model.declared.trap.Trap.{Trap}
+use Rattle.stored_runs.specs.lowered_run.LowFrames.{LowFrame}
+use Rattle.stored_runs.specs.lowered_run.LowStepParts.{LowState}
+use Rattle.stored_runs.specs.holder_steps.inner.Ways.{left_with, moved}
+use Rattle.stored_runs.specs.stored_counts.inner.Numbers.{AreCounts}
 use Rattle.stored_runs.specs.inner.CallsAlong.{HandsFullParts}
 use Rattle.stored_runs.specs.inner.Entering.{IsFullPart}
 use Rattle.stored_runs.specs.inner.Frames.{AreTasksFor, HasFullParts}

@@ -5,15 +5,15 @@ use Rattle.sil_ast.specs.declared.function.Function.{Function}
 use Rattle.sil_ast.specs.declared.module.Module.{Module}
 use Rattle.sil_cfg.specs.declared.item.Item.{Item}
 use Rattle.item_operands.specs.Items.{item_taken}
-use Rattle.lowered_run.specs.holder_model.Faults.{HolderFault}
-use Rattle.lowered_run.specs.holder_model.Frames.{Frame, Operands, operands_of}
-use Rattle.lowered_run.specs.holder_model.HolderStates.{HolderNext, HolderState}
-use Rattle.lowered_run.specs.holder_model.ModuleFacts.{facts_of, facts_told}
-use Rattle.lowered_run.specs.holder_model.Outcomes.{Numbers, outcome_at}
-use Rattle.lowered_run.specs.holder_model.States.{Ending, Ends, Faulted, Goes}
-use Rattle.lowered_run.specs.declared.low_fault.LowFault.{LowFault}
-use Rattle.lowered_run.specs.LowOutcomes.{low_outcome_at}
-use Rattle.lowered_run.specs.LowStepParts.{LowNext, LowState}
+use Rattle.lowered_steps.specs.lowered_run.holder_model.Faults.{HolderFault}
+use Rattle.lowered_steps.specs.lowered_run.holder_model.Frames.{Frame, Operands, operands_of}
+use Rattle.lowered_steps.specs.lowered_run.holder_model.HolderStates.{HolderNext, HolderState}
+use Rattle.lowered_steps.specs.lowered_run.holder_model.ModuleFacts.{facts_of, facts_told}
+use Rattle.lowered_steps.specs.lowered_run.holder_model.Outcomes.{Numbers, outcome_at}
+use Rattle.lowered_steps.specs.lowered_run.holder_model.States.{Ending, Ends, Faulted, Goes}
+use Rattle.lowered_steps.specs.lowered_run.declared.low_fault.LowFault.{LowFault}
+use Rattle.lowered_steps.specs.lowered_run.LowOutcomes.{low_outcome_at}
+use Rattle.lowered_steps.specs.lowered_run.LowStepParts.{LowNext, LowState}
 use Rattle.stored_runs.specs.inner.Frames.{AreTasksFor, HasFullParts, IsNoAddress}
 use Rattle.stored_runs.specs.inner.Memories.{IsMemoryFor}
 use Rattle.stored_runs.specs.inner.Runs.{IsOutcomeFor}

@@ -3,13 +3,13 @@ use Rattle.std.specs.Prelude.{◌≡◌, ℕ, List, Some, slice_get}
 use Rattle.sil_ast.specs.declared.function.Function.{Function}
 use Rattle.sil_ast.specs.declared.module.Module.{Module}
 use Rattle.sil_ast.specs.declared.place.FuncId.{FuncId}
-use Rattle.lowered_run.specs.holder_model.Frames.{Frame}
-use Rattle.lowered_run.specs.holder_model.HolderStates.{HolderState}
-use Rattle.lowered_run.specs.holder_model.ModuleFacts.{facts_of}
-use Rattle.lowered_run.specs.holder_model.Outcomes.{begins}
-use Rattle.lowered_run.specs.holder_model.States.{Goes, Task}
-use Rattle.lowered_run.specs.holder_model.Steps.{step}
-use Rattle.holder_steps.specs.inner.Stacks.{Below, Going}
+use Rattle.lowered_steps.specs.lowered_run.holder_model.Frames.{Frame}
+use Rattle.lowered_steps.specs.lowered_run.holder_model.HolderStates.{HolderState}
+use Rattle.lowered_steps.specs.lowered_run.holder_model.ModuleFacts.{facts_of}
+use Rattle.lowered_steps.specs.lowered_run.holder_model.Outcomes.{begins}
+use Rattle.lowered_steps.specs.lowered_run.holder_model.States.{Goes, Task}
+use Rattle.lowered_steps.specs.lowered_run.holder_model.Steps.{step}
+use Rattle.owned_counts.specs.holder_steps.inner.Stacks.{Below, Going}
 use Rattle.stored_runs.specs.inner.Returned.{WaitsAtCall}
 
 module _ (m : Module) where

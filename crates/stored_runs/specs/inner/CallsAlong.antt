@@ -15,21 +15,21 @@ use Rattle.item_operands.specs.Parts.{inst_at}
 use Rattle.type_definitions.specs.Declarations.{declarations_of}
 use Rattle.run_values.specs.Memory.{Memory}
 use Rattle.run_values.specs.Places.{cells_at}
-use Rattle.accepted_trails.specs.run_trails.inner.RunTrails.{IsTurnedTrail}
-use Rattle.lowered_run.specs.holder_model.Calling.{are_as_before, lent_places}
-use Rattle.lowered_run.specs.holder_model.Data.{Datum}
-use Rattle.lowered_run.specs.holder_model.Effects as effects
-use Rattle.lowered_run.specs.holder_model.Frames.{Frame, LentPlace, Operands, has_any, operands_of}
-use Rattle.lowered_run.specs.holder_model.HolderStates.{HolderNext, HolderState}
-use Rattle.lowered_run.specs.holder_model.ModuleFacts.{facts_of, facts_told}
-use Rattle.lowered_run.specs.holder_model.ModuleShapes.{shapes_of}
-use Rattle.lowered_run.specs.holder_model.Standing.{stands_at}
-use Rattle.lowered_run.specs.holder_model.States.{Runs, Task}
-use Rattle.lowered_run.specs.holder_model.Steps as holder_run
-use Rattle.lowered_run.specs.LowFrames.{LowFrame}
-use Rattle.lowered_run.specs.LowStepParts.{LowNext, LowState}
-use Rattle.lowering_laws.specs.lowering_model.LoweredModules.{lowered, lowered_body}
-use Rattle.holder_steps.specs.inner.Ways as holder
+use Rattle.owned_counts.specs.accepted_trails.run_trails.inner.RunTrails.{IsTurnedTrail}
+use Rattle.lowered_steps.specs.lowered_run.holder_model.Calling.{are_as_before, lent_places}
+use Rattle.lowered_steps.specs.lowered_run.holder_model.Data.{Datum}
+use Rattle.lowered_steps.specs.lowered_run.holder_model.Effects as effects
+use Rattle.lowered_steps.specs.lowered_run.holder_model.Frames.{Frame, LentPlace, Operands, has_any, operands_of}
+use Rattle.lowered_steps.specs.lowered_run.holder_model.HolderStates.{HolderNext, HolderState}
+use Rattle.lowered_steps.specs.lowered_run.holder_model.ModuleFacts.{facts_of, facts_told}
+use Rattle.lowered_steps.specs.lowered_run.holder_model.ModuleShapes.{shapes_of}
+use Rattle.lowered_steps.specs.lowered_run.holder_model.Standing.{stands_at}
+use Rattle.lowered_steps.specs.lowered_run.holder_model.States.{Runs, Task}
+use Rattle.lowered_steps.specs.lowered_run.holder_model.Steps as holder_run
+use Rattle.lowered_steps.specs.lowered_run.LowFrames.{LowFrame}
+use Rattle.lowered_steps.specs.lowered_run.LowStepParts.{LowNext, LowState}
+use Rattle.lowered_numbering_laws.specs.lowering_laws.lowering_model.LoweredModules.{lowered, lowered_body}
+use Rattle.owned_counts.specs.holder_steps.inner.Ways as holder
 use Rattle.lowered_steps.specs.inner.LowWays as ways
 use Rattle.stored_runs.specs.inner.Along.{AreTotalsFor, IsNextAlong, IsNoFault}
 use Rattle.stored_runs.specs.inner.Entering.{IsAddressFor, IsFullPart}

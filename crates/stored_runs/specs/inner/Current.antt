@@ -8,12 +8,12 @@ use Rattle.sil_cfg.specs.declared.item.Item.{Item}
 use Rattle.item_operands.specs.Items.{item_taken}
 use Rattle.item_operands.specs.declared.taken.Taken.{Taken}
 use Rattle.type_definitions.specs.Declarations.{Declarations}
-use Rattle.lowering_laws.specs.ownership_origins.Renamings.{renamings_of}
-use Rattle.lowering_laws.specs.lowering_model.Names.{renamed_from}
-use Rattle.accepted_trails.specs.inner.Accepted.{IsAcceptedIn}
-use Rattle.accepted_trails.specs.inner.Bases.{MakesAtStops}
-use Rattle.accepted_trails.specs.inner.Defined.{makes}
-use Rattle.accepted_values.specs.inner.Known.{InAccepted}
+use Rattle.lowered_numbering_laws.specs.lowering_laws.ownership_origins.Renamings.{renamings_of}
+use Rattle.lowered_numbering_laws.specs.lowering_laws.lowering_model.Names.{renamed_from}
+use Rattle.owned_counts.specs.accepted_trails.inner.Accepted.{IsAcceptedIn}
+use Rattle.owned_counts.specs.accepted_trails.inner.Bases.{MakesAtStops}
+use Rattle.owned_counts.specs.accepted_trails.inner.Defined.{makes}
+use Rattle.owned_counts.specs.accepted_values.inner.Known.{InAccepted}
 use Rattle.stored_runs.specs.inner.Names.{AreOperandsCurrent}
 
 -- it is the value that is taken

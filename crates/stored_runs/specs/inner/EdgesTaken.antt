@@ -7,16 +7,16 @@ use Rattle.sil_ast.specs.declared.place.EdgeId.{EdgeId}
 use Rattle.sil_cfg.specs.Items.{IsItem}
 use Rattle.sil_cfg.specs.declared.item.Item.TheVariants as item
 use Rattle.type_definitions.specs.Declarations.{declarations_of}
-use Rattle.accepted_trails.specs.run_trails.inner.RunTrails.{IsTurnedTrail}
-use Rattle.lowered_run.specs.holder_model.Frames.{Frame}
-use Rattle.lowered_run.specs.holder_model.HolderStates.{HolderNext, HolderState}
-use Rattle.lowered_run.specs.holder_model.ModuleFacts.{facts_of}
-use Rattle.lowered_run.specs.holder_model.ModuleShapes.{shapes_of}
-use Rattle.lowered_run.specs.holder_model.States.{Runs, Task}
-use Rattle.lowered_run.specs.LowFrames.{LowFrame}
-use Rattle.lowered_run.specs.LowStepParts.{LowNext, LowState}
-use Rattle.lowering_laws.specs.lowering_model.LoweredModules.{lowered, lowered_body}
-use Rattle.holder_steps.specs.inner.Ways as holder
+use Rattle.owned_counts.specs.accepted_trails.run_trails.inner.RunTrails.{IsTurnedTrail}
+use Rattle.lowered_steps.specs.lowered_run.holder_model.Frames.{Frame}
+use Rattle.lowered_steps.specs.lowered_run.holder_model.HolderStates.{HolderNext, HolderState}
+use Rattle.lowered_steps.specs.lowered_run.holder_model.ModuleFacts.{facts_of}
+use Rattle.lowered_steps.specs.lowered_run.holder_model.ModuleShapes.{shapes_of}
+use Rattle.lowered_steps.specs.lowered_run.holder_model.States.{Runs, Task}
+use Rattle.lowered_steps.specs.lowered_run.LowFrames.{LowFrame}
+use Rattle.lowered_steps.specs.lowered_run.LowStepParts.{LowNext, LowState}
+use Rattle.lowered_numbering_laws.specs.lowering_laws.lowering_model.LoweredModules.{lowered, lowered_body}
+use Rattle.owned_counts.specs.holder_steps.inner.Ways as holder
 use Rattle.lowered_steps.specs.inner.LowWays as ways
 use Rattle.stored_runs.specs.inner.Along.{AreTotalsFor, IsNextAlong, IsNoFault, TakesNoAddress}
 use Rattle.stored_runs.specs.inner.Frames.{AreTasksFor, HasFullParts, IsFrameAt}

@@ -1,9 +1,9 @@
 -- What an instruction does in the lowered run beside what it does in the run by holders.
 use Rattle.std.specs.Prelude.{◌≡◌}
-use Rattle.lowered_run.specs.holder_model.Effects as effects
-use Rattle.lowered_run.specs.holder_model.Effects.{Change, Effect}
-use Rattle.lowered_run.specs.holder_model.Faults.{HolderFault}
-use Rattle.lowered_run.specs.declared.low_fault.LowFault.{LowFault}
+use Rattle.lowered_steps.specs.lowered_run.holder_model.Effects as effects
+use Rattle.lowered_steps.specs.lowered_run.holder_model.Effects.{Change, Effect}
+use Rattle.lowered_steps.specs.lowered_run.holder_model.Faults.{HolderFault}
+use Rattle.lowered_steps.specs.lowered_run.declared.low_fault.LowFault.{LowFault}
 use Rattle.stored_runs.specs.inner.Memories.{IsMemoryFor}
 
 -- it leaves the same, in the memory of the lowered run

@@ -9,18 +9,18 @@ use Rattle.sil_cfg.specs.declared.item.Item.{Item}
 use Rattle.sil_cfg.specs.declared.item.Item.TheVariants as item
 use Rattle.item_operands.specs.Items.{item_taken}
 use Rattle.item_operands.specs.Parts.{inst_at}
-use Rattle.accepted_trails.specs.run_trails.inner.RunTrails.{ComesAt, IsTurnedTrail}
-use Rattle.lowered_run.specs.holder_model.Frames.{Frame, Operands, operands_of}
-use Rattle.lowered_run.specs.holder_model.HolderStates.{HolderNext, HolderState}
-use Rattle.lowered_run.specs.holder_model.ModuleFacts.{facts_of, facts_told}
-use Rattle.lowered_run.specs.holder_model.ModuleShapes.{shapes_of}
-use Rattle.lowered_run.specs.holder_model.Standing.{stands_at}
-use Rattle.lowered_run.specs.holder_model.States.{Runs, Task}
-use Rattle.lowered_run.specs.holder_model.Steps as holder_run
-use Rattle.lowered_run.specs.LowStepParts.{LowNext, LowState}
-use Rattle.lowered_run.specs.LowSteps as steps
-use Rattle.lowering_laws.specs.lowering_model.LoweredModules.{lowered}
-use Rattle.holder_steps.specs.inner.Ways as holder
+use Rattle.owned_counts.specs.accepted_trails.run_trails.inner.RunTrails.{ComesAt, IsTurnedTrail}
+use Rattle.lowered_steps.specs.lowered_run.holder_model.Frames.{Frame, Operands, operands_of}
+use Rattle.lowered_steps.specs.lowered_run.holder_model.HolderStates.{HolderNext, HolderState}
+use Rattle.lowered_steps.specs.lowered_run.holder_model.ModuleFacts.{facts_of, facts_told}
+use Rattle.lowered_steps.specs.lowered_run.holder_model.ModuleShapes.{shapes_of}
+use Rattle.lowered_steps.specs.lowered_run.holder_model.Standing.{stands_at}
+use Rattle.lowered_steps.specs.lowered_run.holder_model.States.{Runs, Task}
+use Rattle.lowered_steps.specs.lowered_run.holder_model.Steps as holder_run
+use Rattle.lowered_steps.specs.lowered_run.LowStepParts.{LowNext, LowState}
+use Rattle.lowered_steps.specs.lowered_run.LowSteps as steps
+use Rattle.lowered_numbering_laws.specs.lowering_laws.lowering_model.LoweredModules.{lowered}
+use Rattle.owned_counts.specs.holder_steps.inner.Ways as holder
 use Rattle.stored_runs.specs.inner.Along.{IsNextAlong, IsNoFault}
 use Rattle.stored_runs.specs.inner.CallsAlong.{CallsRight}
 use Rattle.stored_runs.specs.inner.EndsAlong.{ComesPlain, MayReturnTo}

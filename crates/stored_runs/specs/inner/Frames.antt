@@ -12,15 +12,15 @@ use Rattle.type_definitions.specs.Declarations.{Declarations, declarations_of}
 use Rattle.run_values.specs.Memory.{Memory}
 use Rattle.run_values.specs.Places.{Place, value_at}
 use Rattle.run_values.specs.Shapes.{Shape}
-use Rattle.accepted_trails.specs.inner.Defined.{makes}
-use Rattle.accepted_values.specs.run_typing.Forms.{OfPlace, form_of}
-use Rattle.lowered_run.specs.holder_model.Calling.{as_argument}
-use Rattle.lowered_run.specs.holder_model.Data.{AddressOf, Datum, as_place}
-use Rattle.lowered_run.specs.holder_model.Frames.{Entry, Frame, datum_in, entry_at}
-use Rattle.lowered_run.specs.holder_model.Standing.{stands_at}
-use Rattle.lowered_run.specs.holder_model.States.{Drops, Finishes, Runs, Task}
-use Rattle.lowered_run.specs.LowFrames as low_frames
-use Rattle.lowered_run.specs.LowFrames.{LowFrame}
+use Rattle.owned_counts.specs.accepted_trails.inner.Defined.{makes}
+use Rattle.owned_counts.specs.accepted_values.run_typing.Forms.{OfPlace, form_of}
+use Rattle.lowered_steps.specs.lowered_run.holder_model.Calling.{as_argument}
+use Rattle.lowered_steps.specs.lowered_run.holder_model.Data.{AddressOf, Datum, as_place}
+use Rattle.lowered_steps.specs.lowered_run.holder_model.Frames.{Entry, Frame, datum_in, entry_at}
+use Rattle.lowered_steps.specs.lowered_run.holder_model.Standing.{stands_at}
+use Rattle.lowered_steps.specs.lowered_run.holder_model.States.{Drops, Finishes, Runs, Task}
+use Rattle.lowered_steps.specs.lowered_run.LowFrames as low_frames
+use Rattle.lowered_steps.specs.lowered_run.LowFrames.{LowFrame}
 use Rattle.stored_runs.specs.inner.Names.{IsCurrent, IsOld, lowered_count, lowered_number}
 use Rattle.stored_runs.specs.inner.Points.{lowered_point}
 

@@ -2,7 +2,7 @@
 use Rattle.sil_ast.specs.declared.function.Function.{Function}
 use Rattle.sil_ast.specs.declared.module.Module.{Module}
 use Rattle.sil_ast.specs.declared.place.FuncId.{FuncId}
-use Rattle.accepted_values.specs.inner.Known.{IsAcceptedBody}
+use Rattle.owned_counts.specs.accepted_values.inner.Known.{IsAcceptedBody}
 use Rattle.stored_runs.specs.inner.Lowering.{LowersSo}
 
 abbrev pub AreLoweredSo : Type 0

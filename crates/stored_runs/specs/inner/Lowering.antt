@@ -22,12 +22,12 @@ use Rattle.item_operands.specs.Parts.{edge_at, inst_at, terminator_of}
 use Rattle.item_operands.specs.declared.taken.Taken.{Taken}
 use Rattle.type_definitions.specs.Declarations.{Declarations, declarations_of}
 use Rattle.value_tables.specs.FirstValue.{first_value}
-use Rattle.accepted_trails.specs.inner.Defined.{makes}
-use Rattle.lowered_run.specs.holder_model.Edges.{is_default}
-use Rattle.lowered_run.specs.holder_model.ModuleShapes.{shape_at, shapes_in, shapes_of}
-use Rattle.lowering_laws.specs.ownership_origins.Renamings.{renames, renamings_of}
-use Rattle.lowering_laws.specs.lowering_model.LoweredModules.{lowered, lowered_body}
-use Rattle.lowering_laws.specs.lowering_model.Names.{stands_for}
+use Rattle.owned_counts.specs.accepted_trails.inner.Defined.{makes}
+use Rattle.lowered_steps.specs.lowered_run.holder_model.Edges.{is_default}
+use Rattle.lowered_steps.specs.lowered_run.holder_model.ModuleShapes.{shape_at, shapes_in, shapes_of}
+use Rattle.lowered_numbering_laws.specs.lowering_laws.ownership_origins.Renamings.{renames, renamings_of}
+use Rattle.lowered_numbering_laws.specs.lowering_laws.lowering_model.LoweredModules.{lowered, lowered_body}
+use Rattle.lowered_numbering_laws.specs.lowering_laws.lowering_model.Names.{stands_for}
 use Rattle.stored_runs.specs.inner.Names.{AreNamed, AreOperandsCurrent, IsOld, lowered_number}
 
 abbrev pub IsTakenOld : Function → Taken → Type 0

@@ -8,13 +8,13 @@ use Rattle.numbered_form.specs.Numbering.{values_of}
 use Rattle.item_operands.specs.Items.{item_taken}
 use Rattle.item_operands.specs.declared.taken.Taken.{Taken}
 use Rattle.type_definitions.specs.Declarations.{Declarations}
-use Rattle.lowering_laws.specs.ownership_origins.Renamings.{renamings_of}
-use Rattle.lowering_laws.specs.lowering_model.Names.{renamed_from, stands_for}
-use Rattle.lowering_laws.specs.lowering_model.LoweredModules.{lowered_body}
-use Rattle.lowering_laws.specs.lowering_model.Numbers.{new_number, numbering_of}
-use Rattle.accepted_trails.specs.inner.Defined.{makes}
-use Rattle.accepted_trails.specs.run_trails.inner.RunTrails.{IsTurnedTrail}
-use Rattle.accepted_trails.specs.run_trails.inner.Since.{is_none_since}
+use Rattle.lowered_numbering_laws.specs.lowering_laws.ownership_origins.Renamings.{renamings_of}
+use Rattle.lowered_numbering_laws.specs.lowering_laws.lowering_model.Names.{renamed_from, stands_for}
+use Rattle.lowered_numbering_laws.specs.lowering_laws.lowering_model.LoweredModules.{lowered_body}
+use Rattle.lowered_numbering_laws.specs.lowering_laws.lowering_model.Numbers.{new_number, numbering_of}
+use Rattle.owned_counts.specs.accepted_trails.inner.Defined.{makes}
+use Rattle.owned_counts.specs.accepted_trails.run_trails.inner.RunTrails.{IsTurnedTrail}
+use Rattle.owned_counts.specs.accepted_trails.run_trails.inner.Since.{is_none_since}
 
 -- the value that this one stands for hasn't been made anew since this one was made: so its lowered number still has this one's datum
 abbrev pub IsCurrent : Function → List Item → ValueId → Type 0

@@ -7,10 +7,10 @@ use Rattle.sil_ast.specs.declared.module.Module.{Module}
 use Rattle.sil_ast.specs.declared.operands.Operand.{Operand}
 use Rattle.sil_ast.specs.declared.place.PointId.{PointId}
 use Rattle.sil_cfg.specs.declared.item.Item.TheVariants as item
-use Rattle.accepted_trails.specs.inner.Defined.{makes}
-use Rattle.accepted_values.specs.inner.Known.{IsAcceptedBody}
-use Rattle.lowered_run.specs.holder_model.Effects.{effect_of}
-use Rattle.lowered_run.specs.holder_model.declared.row_effect.RowEffect.TheVariants as row
+use Rattle.owned_counts.specs.accepted_trails.inner.Defined.{makes}
+use Rattle.owned_counts.specs.accepted_values.inner.Known.{IsAcceptedBody}
+use Rattle.lowered_steps.specs.lowered_run.holder_model.Effects.{effect_of}
+use Rattle.lowered_steps.specs.lowered_run.holder_model.declared.row_effect.RowEffect.TheVariants as row
 
 abbrev pub AreSlotsOwn : Type 0
 AreSlotsOwn = (m : Module) (n : ℕ) (f : Function) → IsAcceptedBody m n f → (p : PointId) (i : Inst) → inst_at f p ≡ Some i

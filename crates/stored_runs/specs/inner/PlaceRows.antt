@@ -11,22 +11,22 @@ use Rattle.sil_cfg.specs.declared.item.Item.TheVariants as item
 use Rattle.item_operands.specs.Items.{item_taken}
 use Rattle.item_operands.specs.Parts.{inst_at}
 use Rattle.type_definitions.specs.Declarations.{declarations_of}
-use Rattle.accepted_trails.specs.run_trails.inner.RunTrails.{IsTurnedTrail}
-use Rattle.lowered_run.specs.holder_model.Data.{Datum}
-use Rattle.lowered_run.specs.holder_model.Effects.{Change}
-use Rattle.lowered_run.specs.holder_model.Frames.{Frame, Operands, operands_of}
-use Rattle.lowered_run.specs.holder_model.HolderStates.{HolderState}
-use Rattle.lowered_run.specs.holder_model.ModuleFacts.{facts_of, facts_told}
-use Rattle.lowered_run.specs.holder_model.ModuleShapes.{shapes_in, shapes_of}
-use Rattle.lowered_run.specs.holder_model.Outcomes.{Numbers}
-use Rattle.lowered_run.specs.holder_model.Standing.{stands_at}
-use Rattle.lowered_run.specs.holder_model.States.{Goes, Runs, Task}
-use Rattle.lowered_run.specs.LowEffects.{stored_behind}
-use Rattle.lowered_run.specs.LowFrames.{LowFrame}
-use Rattle.lowered_run.specs.LowStepParts.{LowState, numbers_for, values_taken}
-use Rattle.lowered_run.specs.LowSteps as steps
-use Rattle.lowered_run.specs.Stored.{each_changed, one_more}
-use Rattle.lowering_laws.specs.lowering_model.LoweredModules.{lowered}
+use Rattle.owned_counts.specs.accepted_trails.run_trails.inner.RunTrails.{IsTurnedTrail}
+use Rattle.lowered_steps.specs.lowered_run.holder_model.Data.{Datum}
+use Rattle.lowered_steps.specs.lowered_run.holder_model.Effects.{Change}
+use Rattle.lowered_steps.specs.lowered_run.holder_model.Frames.{Frame, Operands, operands_of}
+use Rattle.lowered_steps.specs.lowered_run.holder_model.HolderStates.{HolderState}
+use Rattle.lowered_steps.specs.lowered_run.holder_model.ModuleFacts.{facts_of, facts_told}
+use Rattle.lowered_steps.specs.lowered_run.holder_model.ModuleShapes.{shapes_in, shapes_of}
+use Rattle.lowered_steps.specs.lowered_run.holder_model.Outcomes.{Numbers}
+use Rattle.lowered_steps.specs.lowered_run.holder_model.Standing.{stands_at}
+use Rattle.lowered_steps.specs.lowered_run.holder_model.States.{Goes, Runs, Task}
+use Rattle.lowered_steps.specs.lowered_run.LowEffects.{stored_behind}
+use Rattle.lowered_steps.specs.lowered_run.LowFrames.{LowFrame}
+use Rattle.lowered_steps.specs.lowered_run.LowStepParts.{LowState, numbers_for, values_taken}
+use Rattle.lowered_steps.specs.lowered_run.LowSteps as steps
+use Rattle.lowered_steps.specs.lowered_run.Stored.{each_changed, one_more}
+use Rattle.lowered_numbering_laws.specs.lowering_laws.lowering_model.LoweredModules.{lowered}
 use Rattle.stored_runs.specs.inner.Along.{AreTotalsFor, IsAlong}
 use Rattle.stored_runs.specs.inner.Frames.{AreTasksFor, HasFullParts, IsFrameAt}
 use Rattle.stored_runs.specs.inner.Lowering.{LowersSo}

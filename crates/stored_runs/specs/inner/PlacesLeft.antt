@@ -6,17 +6,17 @@ use Rattle.sil_ast.specs.declared.module.Module.{Module}
 use Rattle.run_values.specs.Places.{Place, emptied, removed}
 use Rattle.run_values.specs.Shapes.{storage_in}
 use Rattle.run_values.specs.Values.{Value}
-use Rattle.accepted_values.specs.inner.Known.{IsAcceptedBody}
-use Rattle.lowered_run.specs.holder_model.Data.{AddressOf, ValueOf}
-use Rattle.lowered_run.specs.holder_model.Effects.{effect_of}
-use Rattle.lowered_run.specs.holder_model.Frames.{Frame, Operands}
-use Rattle.lowered_run.specs.holder_model.HolderStates.{HolderState}
-use Rattle.lowered_run.specs.holder_model.States.{Task}
-use Rattle.lowered_run.specs.holder_model.declared.row_effect.RowEffect.TheVariants as row
-use Rattle.lowered_run.specs.holder_model.memory_accesses.declared.access.Operation.TheVariants as operation
-use Rattle.lowered_run.specs.LowStepParts.{LowState}
-use Rattle.typed_holders.specs.inner.TypedStates.{FrameIs}
-use Rattle.typed_holders.specs.typed_memory.inner.Worlds.{World}
+use Rattle.owned_counts.specs.accepted_values.inner.Known.{IsAcceptedBody}
+use Rattle.lowered_steps.specs.lowered_run.holder_model.Data.{AddressOf, ValueOf}
+use Rattle.lowered_steps.specs.lowered_run.holder_model.Effects.{effect_of}
+use Rattle.lowered_steps.specs.lowered_run.holder_model.Frames.{Frame, Operands}
+use Rattle.lowered_steps.specs.lowered_run.holder_model.HolderStates.{HolderState}
+use Rattle.lowered_steps.specs.lowered_run.holder_model.States.{Task}
+use Rattle.lowered_steps.specs.lowered_run.holder_model.declared.row_effect.RowEffect.TheVariants as row
+use Rattle.lowered_steps.specs.lowered_run.holder_model.memory_accesses.declared.access.Operation.TheVariants as operation
+use Rattle.lowered_steps.specs.lowered_run.LowStepParts.{LowState}
+use Rattle.owned_counts.specs.typed_holders.inner.TypedStates.{FrameIs}
+use Rattle.owned_counts.specs.typed_holders.typed_memory.inner.Worlds.{World}
 use Rattle.stored_runs.specs.inner.PlaceRows.{StandsAt}
 use Rattle.stored_runs.specs.inner.RowsRight.{ArePartsFull, operation_done}
 use Rattle.stored_runs.specs.inner.TypedRows.{PlacesTold}

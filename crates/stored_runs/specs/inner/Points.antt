@@ -5,8 +5,8 @@ use Rattle.sil_ast.specs.declared.function.Function.{Function}
 use Rattle.sil_ast.specs.declared.inst.Inst.{Inst}
 use Rattle.sil_ast.specs.declared.place.PointId.{PointId}
 use Rattle.type_definitions.specs.Declarations.{Declarations}
-use Rattle.lowering_laws.specs.ownership_origins.Renamings.{renamings_of}
-use Rattle.lowering_laws.specs.lowering_model.LoweredBlocks.{insts_become}
+use Rattle.lowered_numbering_laws.specs.lowering_laws.ownership_origins.Renamings.{renamings_of}
+use Rattle.lowered_numbering_laws.specs.lowering_laws.lowering_model.LoweredBlocks.{insts_become}
 
 abbrev pub insts_of : Option Block → List Inst
 insts_of None = []

@@ -8,19 +8,19 @@ use Rattle.sil_ast.specs.declared.module.Module.{Module}
 use Rattle.sil_ast.specs.declared.place.ObjectId.{ObjectId}
 use Rattle.item_operands.specs.Parts.{inst_at}
 use Rattle.run_values.specs.Values.{Value, references_of}
-use Rattle.lowered_run.specs.holder_model.Data.{Datum, as_value, references_in}
-use Rattle.lowered_run.specs.holder_model.Frames.{Frame, any_dead}
-use Rattle.lowered_run.specs.holder_model.HolderStates.{HolderNext, HolderState}
-use Rattle.lowered_run.specs.holder_model.ModuleFacts.{facts_of}
-use Rattle.lowered_run.specs.holder_model.ModuleShapes.{shapes_of}
-use Rattle.lowered_run.specs.holder_model.Outcomes.{returned_holders}
-use Rattle.lowered_run.specs.holder_model.Standing.{stands_at}
-use Rattle.lowered_run.specs.holder_model.States.{Drops, Finishes, Runs, Task}
-use Rattle.lowered_run.specs.LowFrames.{LowFrame}
-use Rattle.lowered_run.specs.LowStepParts.{LowNext, LowState}
-use Rattle.lowered_run.specs.Stored.{numbers_of}
-use Rattle.lowering_laws.specs.lowering_model.LoweredModules.{lowered}
-use Rattle.holder_steps.specs.inner.Ways as holder
+use Rattle.lowered_steps.specs.lowered_run.holder_model.Data.{Datum, as_value, references_in}
+use Rattle.lowered_steps.specs.lowered_run.holder_model.Frames.{Frame, any_dead}
+use Rattle.lowered_steps.specs.lowered_run.holder_model.HolderStates.{HolderNext, HolderState}
+use Rattle.lowered_steps.specs.lowered_run.holder_model.ModuleFacts.{facts_of}
+use Rattle.lowered_steps.specs.lowered_run.holder_model.ModuleShapes.{shapes_of}
+use Rattle.lowered_steps.specs.lowered_run.holder_model.Outcomes.{returned_holders}
+use Rattle.lowered_steps.specs.lowered_run.holder_model.Standing.{stands_at}
+use Rattle.lowered_steps.specs.lowered_run.holder_model.States.{Drops, Finishes, Runs, Task}
+use Rattle.lowered_steps.specs.lowered_run.LowFrames.{LowFrame}
+use Rattle.lowered_steps.specs.lowered_run.LowStepParts.{LowNext, LowState}
+use Rattle.lowered_steps.specs.lowered_run.Stored.{numbers_of}
+use Rattle.lowered_numbering_laws.specs.lowering_laws.lowering_model.LoweredModules.{lowered}
+use Rattle.owned_counts.specs.holder_steps.inner.Ways as holder
 use Rattle.lowered_steps.specs.inner.LowWays as ways
 use Rattle.stored_runs.specs.inner.Along.{AreTotalsFor, IsNextAlong, IsNoFault}
 use Rattle.stored_runs.specs.inner.Frames.{AreTasksFor, HasFullParts}

@@ -1,7 +1,7 @@
 -- What each row of the run by holders found where it made a change, so that the lowered run does the same: of operands, of places and of values.
-use Rattle.lowered_run.specs.holder_model.declared.trap.Trap.{Trap}
-use Rattle.lowered_run.specs.holder_model.Effects.{Traps, Change, ClosesSlot, Effect, Makes, effect_of, unchanged}
-use Rattle.lowered_run.specs.holder_model.States.{Ends, Trapped, Task}
+use Rattle.lowered_steps.specs.lowered_run.holder_model.declared.trap.Trap.{Trap}
+use Rattle.lowered_steps.specs.lowered_run.holder_model.Effects.{Traps, Change, ClosesSlot, Effect, Makes, effect_of, unchanged}
+use Rattle.lowered_steps.specs.lowered_run.holder_model.States.{Ends, Trapped, Task}
 use Rattle.stored_runs.specs.inner.FrameSteps.{StepsAlong}
 use Rattle.std.specs.Prelude.{◌≡◌, ◌⊎◌, ℕ, List, [], ◌∷◌, ◌==◌, Bool, false, true, cond, is_some, length, map, Some, None, Ok, slice_get, Option}
 use Rattle.std.specs.List.{flat_map, list_any}
@@ -23,30 +23,30 @@ use Rattle.run_values.specs.Memory.{Memory, is_dead}
 use Rattle.run_values.specs.Places.{Place, cells_at, emptied, filled, is_there_at, removed, value_at}
 use Rattle.run_values.specs.Shapes.{storage_in}
 use Rattle.run_values.specs.Values.{Value, members_of, references_of}
-use Rattle.accepted_trails.specs.inner.Defined.{makes}
-use Rattle.lowered_run.specs.holder_model.Data.{AddressOf, ValueOf}
-use Rattle.lowered_run.specs.holder_model.Faults.{HolderFault}
-use Rattle.lowered_run.specs.holder_model.Frames.{Entry, Frame, Operands, results_put}
-use Rattle.lowered_run.specs.holder_model.HolderStates.{HolderState}
-use Rattle.lowered_run.specs.holder_model.MemoryEffects.{copies_with, loaded_name, references_at, takes}
-use Rattle.lowered_run.specs.holder_model.MemoryEffects as holder_effects
-use Rattle.lowered_run.specs.holder_model.ModuleFacts.{facts_of, facts_told}
-use Rattle.lowered_run.specs.holder_model.ModuleShapes.{shapes_in, shapes_of}
-use Rattle.lowered_run.specs.holder_model.Standing.{stands_at}
-use Rattle.lowered_run.specs.holder_model.StepParts as parts
-use Rattle.lowered_run.specs.holder_model.declared.row_effect.RowEffect.{RowEffect}
-use Rattle.lowered_run.specs.holder_model.declared.row_effect.RowEffect.TheVariants as row
-use Rattle.lowered_run.specs.holder_model.memory_accesses.Operations.{access_kind_of, operation_by}
-use Rattle.lowered_run.specs.holder_model.memory_accesses.Sources.{member_place}
-use Rattle.lowered_run.specs.holder_model.memory_accesses.declared.access.Operation.{Operation}
-use Rattle.lowered_run.specs.LowEffects.{is_first_write}
-use Rattle.lowered_run.specs.LowStepParts.{LowState}
-use Rattle.lowering_laws.specs.lowering_model.Extracts.{members_of_struct}
-use Rattle.lowering_laws.specs.lowering_model.LoweredInsts.{lowering_of}
-use Rattle.lowering_laws.specs.lowering_model.declared.lowering.Lowering.TheVariants as lowering
-use Rattle.lowering_laws.specs.ownership_origins.Renamings.{renames}
-use Rattle.lowering_laws.specs.sil_types.Typing.FormRules.{is_at_storage}
-use Rattle.holder_steps.specs.inner.Ways as holder
+use Rattle.owned_counts.specs.accepted_trails.inner.Defined.{makes}
+use Rattle.lowered_steps.specs.lowered_run.holder_model.Data.{AddressOf, ValueOf}
+use Rattle.lowered_steps.specs.lowered_run.holder_model.Faults.{HolderFault}
+use Rattle.lowered_steps.specs.lowered_run.holder_model.Frames.{Entry, Frame, Operands, results_put}
+use Rattle.lowered_steps.specs.lowered_run.holder_model.HolderStates.{HolderState}
+use Rattle.lowered_steps.specs.lowered_run.holder_model.MemoryEffects.{copies_with, loaded_name, references_at, takes}
+use Rattle.lowered_steps.specs.lowered_run.holder_model.MemoryEffects as holder_effects
+use Rattle.lowered_steps.specs.lowered_run.holder_model.ModuleFacts.{facts_of, facts_told}
+use Rattle.lowered_steps.specs.lowered_run.holder_model.ModuleShapes.{shapes_in, shapes_of}
+use Rattle.lowered_steps.specs.lowered_run.holder_model.Standing.{stands_at}
+use Rattle.lowered_steps.specs.lowered_run.holder_model.StepParts as parts
+use Rattle.lowered_steps.specs.lowered_run.holder_model.declared.row_effect.RowEffect.{RowEffect}
+use Rattle.lowered_steps.specs.lowered_run.holder_model.declared.row_effect.RowEffect.TheVariants as row
+use Rattle.lowered_steps.specs.lowered_run.holder_model.memory_accesses.Operations.{access_kind_of, operation_by}
+use Rattle.lowered_steps.specs.lowered_run.holder_model.memory_accesses.Sources.{member_place}
+use Rattle.lowered_steps.specs.lowered_run.holder_model.memory_accesses.declared.access.Operation.{Operation}
+use Rattle.lowered_steps.specs.lowered_run.LowEffects.{is_first_write}
+use Rattle.lowered_steps.specs.lowered_run.LowStepParts.{LowState}
+use Rattle.lowered_numbering_laws.specs.lowering_laws.lowering_model.Extracts.{members_of_struct}
+use Rattle.lowered_numbering_laws.specs.lowering_laws.lowering_model.LoweredInsts.{lowering_of}
+use Rattle.lowered_numbering_laws.specs.lowering_laws.lowering_model.declared.lowering.Lowering.TheVariants as lowering
+use Rattle.lowered_numbering_laws.specs.lowering_laws.ownership_origins.Renamings.{renames}
+use Rattle.lowered_numbering_laws.specs.lowering_laws.sil_types.Typing.FormRules.{is_at_storage}
+use Rattle.owned_counts.specs.holder_steps.inner.Ways as holder
 use Rattle.stored_runs.specs.inner.Frames.{HasFullParts, IsNoAddress}
 use Rattle.stored_runs.specs.inner.Memories.{MayBeTaken}
 use Rattle.stored_runs.specs.inner.Names.{lowered_number}

@@ -4,16 +4,16 @@ use Rattle.sil_ast.specs.declared.function.Function.{Function}
 use Rattle.sil_ast.specs.declared.module.Module.{Module}
 use Rattle.sil_ast.specs.declared.place.FuncId.{FuncId}
 use Rattle.run_values.specs.Values.{Value}
-use Rattle.lowered_run.specs.holder_model.declared.trap.Trap.{Trap}
-use Rattle.lowered_run.specs.holder_model.Faults.{HolderFault}
-use Rattle.lowered_run.specs.holder_model.HolderStates.{HolderNext}
-use Rattle.lowered_run.specs.holder_model.Outcomes.{EndsSo, Outcome, may_start, outcome_at}
-use Rattle.lowered_run.specs.holder_model.States.{Ending, Ends, Goes, OutOfTurns, Returned, Trapped}
-use Rattle.lowered_run.specs.declared.low_fault.LowFault.{LowFault}
-use Rattle.lowered_run.specs.LowOutcomes.{LowEndsSo, low_outcome_at}
-use Rattle.lowered_run.specs.LowStepParts.{LowNext}
-use Rattle.lowering_laws.specs.lowering_model.LoweredModules.{lowered}
-use Rattle.accepted_trails.specs.accepted_modules.inner.Checked.{IsVerified}
+use Rattle.lowered_steps.specs.lowered_run.holder_model.declared.trap.Trap.{Trap}
+use Rattle.lowered_steps.specs.lowered_run.holder_model.Faults.{HolderFault}
+use Rattle.lowered_steps.specs.lowered_run.holder_model.HolderStates.{HolderNext}
+use Rattle.lowered_steps.specs.lowered_run.holder_model.Outcomes.{EndsSo, Outcome, may_start, outcome_at}
+use Rattle.lowered_steps.specs.lowered_run.holder_model.States.{Ending, Ends, Goes, OutOfTurns, Returned, Trapped}
+use Rattle.lowered_steps.specs.lowered_run.declared.low_fault.LowFault.{LowFault}
+use Rattle.lowered_steps.specs.lowered_run.LowOutcomes.{LowEndsSo, low_outcome_at}
+use Rattle.lowered_steps.specs.lowered_run.LowStepParts.{LowNext}
+use Rattle.lowered_numbering_laws.specs.lowering_laws.lowering_model.LoweredModules.{lowered}
+use Rattle.owned_counts.specs.accepted_trails.accepted_modules.inner.Checked.{IsVerified}
 use Rattle.stored_runs.specs.inner.States.{IsStateFor}
 
 -- the same ending, and no fault

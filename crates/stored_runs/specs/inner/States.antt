@@ -2,11 +2,11 @@
 use Rattle.std.specs.Prelude.{◌≡◌}
 use Rattle.numbered_form.specs.Lists.{Each}
 use Rattle.sil_ast.specs.declared.module.Module.{Module}
-use Rattle.lowered_run.specs.holder_model.HolderStates.{HolderState}
-use Rattle.lowered_run.specs.LowStepParts.{LowState}
+use Rattle.lowered_steps.specs.lowered_run.holder_model.HolderStates.{HolderState}
+use Rattle.lowered_steps.specs.lowered_run.LowStepParts.{LowState}
 use Rattle.stored_runs.specs.inner.Frames.{AreTasksFor, HasFullParts}
 use Rattle.stored_runs.specs.inner.Memories.{IsMemoryFor}
-use Rattle.stored_counts.specs.inner.Numbers.{AreCounts}
+use Rattle.owned_counts.specs.stored_counts.inner.Numbers.{AreCounts}
 
 pub record IsStateFor (m : Module) (s : HolderState) (low : LowState) : Type 0 where
   pub tasks : AreTasksFor m s.tasks low.tasks

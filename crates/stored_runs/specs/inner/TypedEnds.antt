@@ -4,13 +4,13 @@ use Rattle.sil_ast.specs.declared.function.Function.{Function}
 use Rattle.sil_ast.specs.declared.module.Module.{Module}
 use Rattle.sil_cfg.specs.declared.item.Item.{Item}
 use Rattle.item_operands.specs.Parts.{inst_at}
-use Rattle.accepted_trails.specs.run_trails.inner.RunTrails.{ComesAt}
-use Rattle.accepted_values.specs.inner.Known.{IsAcceptedBody}
-use Rattle.lowered_run.specs.holder_model.Frames.{Frame}
-use Rattle.lowered_run.specs.holder_model.HolderStates.{HolderState}
-use Rattle.lowered_run.specs.holder_model.Standing.{stands_at}
-use Rattle.typed_holders.specs.inner.TypedStates.{FrameIs}
-use Rattle.typed_holders.specs.typed_memory.inner.Worlds.{World}
+use Rattle.owned_counts.specs.accepted_trails.run_trails.inner.RunTrails.{ComesAt}
+use Rattle.owned_counts.specs.accepted_values.inner.Known.{IsAcceptedBody}
+use Rattle.lowered_steps.specs.lowered_run.holder_model.Frames.{Frame}
+use Rattle.lowered_steps.specs.lowered_run.holder_model.HolderStates.{HolderState}
+use Rattle.lowered_steps.specs.lowered_run.holder_model.Standing.{stands_at}
+use Rattle.owned_counts.specs.typed_holders.inner.TypedStates.{FrameIs}
+use Rattle.owned_counts.specs.typed_holders.typed_memory.inner.Worlds.{World}
 use Rattle.stored_runs.specs.inner.EndsAlong.{ComesPlain}
 
 abbrev pub AreEndsPlain : Type 0

@@ -9,10 +9,10 @@ use Rattle.run_values.specs.Places.{Place, cells_at, is_there_at, value_at}
 use Rattle.run_values.specs.Shapes.{Shape, Stored, storage_in}
 use Rattle.run_values.specs.Values.{Value, references_of}
 use Rattle.run_values.specs.Trivial.{is_trivial}
-use Rattle.lowered_run.specs.holder_model.MemoryEffects.{references_at}
-use Rattle.accepted_values.specs.run_typing.Forms.{has_no_storage}
-use Rattle.accepted_values.specs.run_typing.StorageForms.{IsNamed}
-use Rattle.typed_holders.specs.typed_memory.inner.Worlds.{MemoryIs, PlaceIs, Suits, World}
+use Rattle.lowered_steps.specs.lowered_run.holder_model.MemoryEffects.{references_at}
+use Rattle.owned_counts.specs.accepted_values.run_typing.Forms.{has_no_storage}
+use Rattle.owned_counts.specs.accepted_values.run_typing.StorageForms.{IsNamed}
+use Rattle.owned_counts.specs.typed_holders.typed_memory.inner.Worlds.{MemoryIs, PlaceIs, Suits, World}
 use Rattle.stored_runs.specs.inner.Memories.{MayBeTaken}
 
 module _ (m : Module) (w : World) (memory : Memory) (y : Place) where

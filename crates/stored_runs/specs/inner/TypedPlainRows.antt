@@ -3,16 +3,16 @@ use Rattle.std.specs.Prelude.{◌≡◌, ◌&&◌, List, Bool, true, false, not}
 use Rattle.sil_ast.specs.declared.function.Function.{Function}
 use Rattle.sil_ast.specs.declared.inst.Inst.{Inst}
 use Rattle.sil_ast.specs.declared.module.Module.{Module}
-use Rattle.accepted_values.specs.inner.Known.{IsAcceptedBody}
-use Rattle.lowered_run.specs.holder_model.Effects.{Change, Makes, effect_of}
-use Rattle.lowered_run.specs.holder_model.Frames.{Frame, Operands}
-use Rattle.lowered_run.specs.holder_model.HolderStates.{HolderState}
-use Rattle.lowered_run.specs.holder_model.States.{Task}
-use Rattle.lowered_run.specs.holder_model.declared.row_effect.RowEffect.{RowEffect}
-use Rattle.lowered_run.specs.holder_model.declared.row_effect.RowEffect.TheVariants as row
-use Rattle.lowered_run.specs.LowStepParts.{LowState}
-use Rattle.typed_holders.specs.inner.TypedStates.{FrameIs}
-use Rattle.typed_holders.specs.typed_memory.inner.Worlds.{IsWorldOf, MemoryIs, World}
+use Rattle.owned_counts.specs.accepted_values.inner.Known.{IsAcceptedBody}
+use Rattle.lowered_steps.specs.lowered_run.holder_model.Effects.{Change, Makes, effect_of}
+use Rattle.lowered_steps.specs.lowered_run.holder_model.Frames.{Frame, Operands}
+use Rattle.lowered_steps.specs.lowered_run.holder_model.HolderStates.{HolderState}
+use Rattle.lowered_steps.specs.lowered_run.holder_model.States.{Task}
+use Rattle.lowered_steps.specs.lowered_run.holder_model.declared.row_effect.RowEffect.{RowEffect}
+use Rattle.lowered_steps.specs.lowered_run.holder_model.declared.row_effect.RowEffect.TheVariants as row
+use Rattle.lowered_steps.specs.lowered_run.LowStepParts.{LowState}
+use Rattle.owned_counts.specs.typed_holders.inner.TypedStates.{FrameIs}
+use Rattle.owned_counts.specs.typed_holders.typed_memory.inner.Worlds.{IsWorldOf, MemoryIs, World}
 use Rattle.stored_runs.specs.inner.PlaceRows.{StandsAt}
 use Rattle.stored_runs.specs.inner.RowsRight.{RowRight, held_effect, is_place_row}
 

@@ -11,19 +11,19 @@ use Rattle.run_values.specs.Places.{Place, emptied, removed}
 use Rattle.run_values.specs.Shapes.{storage_in}
 use Rattle.run_values.specs.Trivial.{is_trivial}
 use Rattle.run_values.specs.Values.{Value}
-use Rattle.accepted_trails.specs.inner.Defined.{makes}
-use Rattle.accepted_values.specs.inner.Known.{IsAcceptedBody}
-use Rattle.lowered_run.specs.holder_model.Data.{AddressOf, ValueOf}
-use Rattle.lowered_run.specs.holder_model.Effects.{Change, Makes, effect_of}
-use Rattle.lowered_run.specs.holder_model.Frames.{Frame, Operands}
-use Rattle.lowered_run.specs.holder_model.HolderStates.{HolderState}
-use Rattle.lowered_run.specs.holder_model.States.{Task}
-use Rattle.lowered_run.specs.holder_model.declared.row_effect.RowEffect.TheVariants as row
-use Rattle.lowered_run.specs.holder_model.memory_accesses.declared.access.Operation.TheVariants as operation
-use Rattle.lowered_run.specs.LowStepParts.{LowState}
-use Rattle.lowering_laws.specs.sil_types.Typing.FormRules.{is_at_storage}
-use Rattle.typed_holders.specs.inner.TypedStates.{FrameIs}
-use Rattle.typed_holders.specs.typed_memory.inner.Worlds.{IsWorldOf, MemoryIs, World}
+use Rattle.owned_counts.specs.accepted_trails.inner.Defined.{makes}
+use Rattle.owned_counts.specs.accepted_values.inner.Known.{IsAcceptedBody}
+use Rattle.lowered_steps.specs.lowered_run.holder_model.Data.{AddressOf, ValueOf}
+use Rattle.lowered_steps.specs.lowered_run.holder_model.Effects.{Change, Makes, effect_of}
+use Rattle.lowered_steps.specs.lowered_run.holder_model.Frames.{Frame, Operands}
+use Rattle.lowered_steps.specs.lowered_run.holder_model.HolderStates.{HolderState}
+use Rattle.lowered_steps.specs.lowered_run.holder_model.States.{Task}
+use Rattle.lowered_steps.specs.lowered_run.holder_model.declared.row_effect.RowEffect.TheVariants as row
+use Rattle.lowered_steps.specs.lowered_run.holder_model.memory_accesses.declared.access.Operation.TheVariants as operation
+use Rattle.lowered_steps.specs.lowered_run.LowStepParts.{LowState}
+use Rattle.lowered_numbering_laws.specs.lowering_laws.sil_types.Typing.FormRules.{is_at_storage}
+use Rattle.owned_counts.specs.typed_holders.inner.TypedStates.{FrameIs}
+use Rattle.owned_counts.specs.typed_holders.typed_memory.inner.Worlds.{IsWorldOf, MemoryIs, World}
 use Rattle.stored_runs.specs.inner.PlaceRows.{StandsAt}
 use Rattle.stored_runs.specs.inner.RowsRight.{ArePartsFull, RowRight, held_effect, is_place_row, operation_done}
 

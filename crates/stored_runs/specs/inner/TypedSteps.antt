@@ -13,19 +13,19 @@ use Rattle.item_operands.specs.Items.{item_taken}
 use Rattle.item_operands.specs.Parts.{inst_at, terminator_of}
 use Rattle.run_values.specs.Values as value
 use Rattle.run_values.specs.Values.{Value}
-use Rattle.accepted_values.specs.accepted_modules.inner.Checked.{IsVerified}
-use Rattle.lowered_run.specs.holder_model.Calling.{holds_something}
-use Rattle.lowered_run.specs.holder_model.Data.{Datum, ValueOf, as_value}
-use Rattle.lowered_run.specs.holder_model.Effects.{only}
-use Rattle.lowered_run.specs.holder_model.Frames.{Frame, Operands, operands_of}
-use Rattle.lowered_run.specs.holder_model.HolderStates.{HolderNext, HolderState}
-use Rattle.lowered_run.specs.holder_model.ModuleFacts.{facts_of, facts_told}
-use Rattle.lowered_run.specs.holder_model.Standing.{stands_at}
-use Rattle.lowered_run.specs.holder_model.States.{Finishes, Runs, Task}
-use Rattle.lowered_run.specs.holder_model.Steps as holder_run
-use Rattle.lowered_run.specs.LowStepParts.{LowState}
-use Rattle.holder_steps.specs.inner.Ways as holder
-use Rattle.typed_holders.specs.inner.TypedStates.{IsTypedState}
+use Rattle.owned_counts.specs.accepted_values.accepted_modules.inner.Checked.{IsVerified}
+use Rattle.lowered_steps.specs.lowered_run.holder_model.Calling.{holds_something}
+use Rattle.lowered_steps.specs.lowered_run.holder_model.Data.{Datum, ValueOf, as_value}
+use Rattle.lowered_steps.specs.lowered_run.holder_model.Effects.{only}
+use Rattle.lowered_steps.specs.lowered_run.holder_model.Frames.{Frame, Operands, operands_of}
+use Rattle.lowered_steps.specs.lowered_run.holder_model.HolderStates.{HolderNext, HolderState}
+use Rattle.lowered_steps.specs.lowered_run.holder_model.ModuleFacts.{facts_of, facts_told}
+use Rattle.lowered_steps.specs.lowered_run.holder_model.Standing.{stands_at}
+use Rattle.lowered_steps.specs.lowered_run.holder_model.States.{Finishes, Runs, Task}
+use Rattle.lowered_steps.specs.lowered_run.holder_model.Steps as holder_run
+use Rattle.lowered_steps.specs.lowered_run.LowStepParts.{LowState}
+use Rattle.owned_counts.specs.holder_steps.inner.Ways as holder
+use Rattle.owned_counts.specs.typed_holders.inner.TypedStates.{IsTypedState}
 use Rattle.stored_runs.specs.inner.Along.{IsNoFault}
 use Rattle.stored_runs.specs.inner.Awaited.{AreAwaited}
 use Rattle.stored_runs.specs.inner.CallsAlong.{HandsFullParts}

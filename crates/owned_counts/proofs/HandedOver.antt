@@ -13,18 +13,18 @@ use Rattle.std.specs.Prelude.{ℕ}
 use Rattle.item_operands.specs.Items.{arg_value}
 use Rattle.item_operands.specs.Roles.{by_convention, consumed, taken_each}
 use Rattle.type_definitions.specs.Declarations.{Declarations, declarations_of}
-use Rattle.accepted_values.specs.accepted_modules.ownership_kinds.Facts.{facts_in}
-use Rattle.accepted_values.specs.inner.Handed.{IsHanded, IsToldOf, TakesOver}
-use Rattle.accepted_values.specs.inner.Known.{IsAcceptedBody, type_in}
-use Rattle.accepted_values.specs.run_typing.EndForms.{value_in}
-use Rattle.holder_counts.specs.holder_model.Calling.{as_argument}
-use Rattle.holder_counts.specs.holder_model.Data.{Datum}
-use Rattle.holder_counts.specs.holder_model.Frames.{Entry}
-use Rattle.holder_counts.specs.holder_model.Holders.{of_references}
-use Rattle.holder_counts.specs.inner.Taking.{references_begun, references_ended}
-use Rattle.typed_memory.specs.inner.Worlds.{World}
-use Rattle.typed_holders.proofs.Entries.{FitEach}
-use Rattle.owned_counts.specs.inner.Taken.{IsTakenAs}
+use Rattle.accepted_runs.specs.accepted_values.accepted_modules.ownership_kinds.Facts.{facts_in}
+use Rattle.accepted_runs.specs.accepted_values.inner.Handed.{IsHanded, IsToldOf, TakesOver}
+use Rattle.accepted_runs.specs.accepted_values.inner.Known.{IsAcceptedBody, type_in}
+use Rattle.accepted_runs.specs.accepted_values.run_typing.EndForms.{value_in}
+use Rattle.stored_counts.specs.holder_counts.holder_model.Calling.{as_argument}
+use Rattle.stored_counts.specs.holder_counts.holder_model.Data.{Datum}
+use Rattle.stored_counts.specs.holder_counts.holder_model.Frames.{Entry}
+use Rattle.stored_counts.specs.holder_counts.holder_model.Holders.{of_references}
+use Rattle.stored_counts.specs.holder_counts.inner.Taking.{references_begun, references_ended}
+use Rattle.accepted_runs.specs.typed_memory.inner.Worlds.{World}
+use Rattle.accepted_runs.proofs.typed_holders.Entries.{FitEach}
+use Rattle.owned_counts.proofs.Taken.{IsTakenAs}
 
 abbrev pub HasItsType : Declarations → Function → BlockArg → Type 0
 HasItsType d f a = type_in d f a.value ≡ Some a.ty

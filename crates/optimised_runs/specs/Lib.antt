@@ -1,0 +1,2 @@
+pub mod inner
+pub use Rattle.moved_runs.specs.rewriting_laws as rewriting_laws
