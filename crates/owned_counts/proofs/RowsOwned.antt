@@ -45,7 +45,8 @@ use Rattle.stored_counts.specs.holder_counts.holder_model.Data.{AddressOf, Datum
 use Rattle.stored_counts.specs.holder_counts.holder_model.Effects as effects
 use Rattle.stored_counts.specs.holder_counts.holder_model.Effects.{Change, Effect, Faults, effect_by, effect_of, unchanged}
 use Rattle.stored_counts.specs.holder_counts.holder_model.Faults.{HolderFault, NamesDead, NotLastSlot}
-use Rattle.stored_counts.specs.holder_counts.holder_model.Frames.{Entry, Operands, and_more, any_dead, datum_in, datum_or_fault, ends, entry_at, operand, operand_data, operands_of, unless_dead, used_datum, with_ok}
+use Rattle.stored_counts.specs.holder_counts.holder_model.Frames.{Entry, Operands, and_more, any_dead, datum_in, datum_or_fault, ends}
+use Rattle.stored_counts.specs.holder_counts.holder_model.Frames.{entry_at, operand, operand_data, operands_of, unless_dead, used_datum, with_ok}
 use Rattle.stored_counts.specs.holder_counts.holder_model.Holders.{in_cells, of_references}
 use Rattle.stored_counts.specs.holder_counts.holder_model.MemoryEffects as memory_effects
 use Rattle.stored_counts.specs.holder_counts.holder_model.MemoryEffects.{asked_before, at_places, fault_of, holds, references_at, takes, where_held}
@@ -103,8 +104,11 @@ module _ (facts : ValueId → Option Facts) (memory : Memory) (entries : List En
   alive_data left (t ∷ ts) xs h =
       let first = ok_through (λ x. and_more x (operand_data facts memory entries left ts)) (operand facts memory entries left t) xs h in
       let rest = more_data first.0 (operand_data facts memory entries left ts) xs first.2 in
-      subst (Each (IsAlive memory)) rest.2 (alive_one memory (cond (ends facts t) (datum_or_fault (datum_in (entry_at entries t.value))) (used_datum t.role (entry_at left t.value)))
-      first.0 first.1, alive_data left ts rest.0 rest.1)
+      subst (Each (IsAlive memory)) rest.2 (
+        alive_one memory (cond (ends facts t) (datum_or_fault (datum_in (entry_at entries t.value))) (used_datum t.role (entry_at left t.value)))
+            first.0 first.1,
+        alive_data left ts rest.0 rest.1,
+      )
 
   pub given_alive : (ts : List Taken) (ops : Operands) → operands_of facts memory entries ts ≡ Ok ops → Each (IsAlive memory) ops.given
   given_alive ts ops h = alive_data ops.left ts ops.given (operands_read facts memory ts entries ops h).given
@@ -333,7 +337,7 @@ module _ (m : Module) (g : FuncId) (f : Function) (w : World) (memory : Memory) 
       ended weight [] ys given' heads kinds = absurd given'
       ended weight (u ∷ us) ys given' heads kinds =
           let both : of_references weight (references_ended facts entries (u ∷ us))
-              ≡ of_references weight (references_ended_by facts entries u) + of_references weight (references_ended facts entries us) =
+          ≡ of_references weight (references_ended_by facts entries u) + of_references weight (references_ended facts entries us) =
           total_append weight (references_ended_by facts entries u) (references_ended facts entries us) in
           let first : of_references weight (references_ended_by facts entries u) ≡ of_references weight (references_of x) =
           gives_one facts entries weight u (ValueOf x) given'.0 (ap ends_owned heads.0) (subst (λ r. SuitsRole d f r u.value) heads.0 kinds.0) (x, refl) in
@@ -383,9 +387,11 @@ module _ (m : Module) (g : FuncId) (f : Function) (w : World) (memory : Memory) 
         both.0,
         both.1,
         λ o q op given.
-            let s = words.names is q given in
-            (taken q given, stored_none m w s.how s.other s.inner (cells_at memory q) (subst (λ t. PlaceCells m w t (cells_at memory q)) s.is
-            (place_cells m w memory done.typed q (place_of q given)))),
+            let s = words.names is q given in (
+              taken q given,
+              stored_none m w s.how s.other s.inner (cells_at memory q) (subst (λ t. PlaceCells m w t (cells_at memory q)) s.is
+                  (place_cells m w memory done.typed q (place_of q given))),
+            ),
       )
   rows row.Groups is = forwarding (ap asks_values is) (ap gives_values is) (says row.Groups is)
   rows row.ChoosesCase is = forwarding (ap asks_values is) (ap gives_values is) (says row.ChoosesCase is)

@@ -136,19 +136,19 @@ module _ (m : Module) (bound : ℕ) (s : HolderState) (verified : IsVerified m) 
   pub lent_full : are_as_before s.memory (lent_in x.f x.frame args) ≡ true → (l : LentPlace) → Among l (lent_in x.f x.frame args) → IsFullLent s.memory l
   lent_full before l c part =
       let the_call = placed.call trail_laws typing_laws m verified right.typed.world s.memory x.frame x.rest x.f first (facts_told (facts_of m) x.frame.function) x.i x.ops
-          (shapes_of m) (shapes_in (shapes_of m) x.frame.function) g args callee called in
+      (shapes_of m) (shapes_in (shapes_of m) x.frame.function) g args callee called in
       let now = placed.now trail_laws typing_laws m verified right.typed.world s.memory x.frame x.rest x.f first (facts_told (facts_of m) x.frame.function) x.i x.ops
-          (shapes_of m) (shapes_in (shapes_of m) x.frame.function) g args callee called in
+      (shapes_of m) (shapes_in (shapes_of m) x.frame.function) g args callee called in
       let own = placed.accepted trail_laws typing_laws m verified right.typed.world s.memory x.frame x.rest x.f first (facts_told (facts_of m) x.frame.function) x.i x.ops
-          (shapes_of m) (shapes_in (shapes_of m) x.frame.function) g args callee called in
+      (shapes_of m) (shapes_in (shapes_of m) x.frame.function) g args callee called in
       let o = lent_by_one x.ops.left (operations_of x.i) (lent_in x.f x.frame args) over.lent l c in
       let at = the_call.located o.by o.among in
       let w = operand_within m s.memory x.f left x.rest now.holds o.by.address at.location at.is at.there at.made l.place o.names in
       let inner : is_part at.location ≡ true = ⊎_elim
-          (λ (whole : (is_part at.location ≡ false) × (l.place ≡ w.whole)).
-          absurd (true≢false (sym part ∙ ap (λ (p : Place). p.is_part) whole.1 ∙ root_whole m s.memory x.f left x.rest now.holds at.location.root at.there w.whole w.names)))
-          (λ (inner : (is_part at.location ≡ true) × (l.place.is_part ≡ true)). inner.0)
-          w.how in
+      (λ (whole : (is_part at.location ≡ false) × (l.place ≡ w.whole)).
+      absurd (true≢false (sym part ∙ ap (λ (p : Place). p.is_part) whole.1 ∙ root_whole m s.memory x.f left x.rest now.holds at.location.root at.there w.whole w.names)))
+      (λ (inner : (is_part at.location ≡ true) × (l.place.is_part ≡ true)). inner.0)
+      w.how in
       let keeps = part_full trail_laws m x.frame.function.0 x.f own x.frame.trail (stands_at x.f x.frame.trail) x.i the_call o.by o.among l.row o.operation inner in
       let parts = and_parts (is_there_at s.memory l.place) (holds s.memory l.row.before l.place) (lent_before s.memory (lent_in x.f x.frame args) before l c) in
       ap (λ b. holds s.memory b l.place) (sym (asked_full l.row.before l.row.after keeps)) ∙ parts.1

@@ -178,7 +178,7 @@ module _ (m : Module) (verified : IsVerified m) (w : World) (memory low low' : M
           let g_is : g ≡ h = same_Some g h (sym there ∙ there_h) in
           let of_is : of.f ≡ h = same_Some of.f h (sym of.there ∙ there_h) in
           let home = on_stack m verified w memory frame rest h (subst (λ x. FrameIs m w x frame) f_is is) (subst (λ x. HoldsPlaces m memory x frame rest) g_is holds)
-              lw.values (subst (λ x. AreValuesFor (declarations_of m) x frame.trail frame.entries lw.values) of_is of.frames.values) v p given at in
+          lw.values (subst (λ x. AreValuesFor (declarations_of m) x frame.trail frame.entries lw.values) of_is of.frames.values) v p given at in
           ap is_some (value_still low low' same p home) ∙ full h is_h v p given at part
 
   drops_still : (references : List ObjectId) (u : Task LowFrame) → IsTaskFor m (Drops references) u → HasFullParts m low' u

@@ -236,7 +236,8 @@ module _ (owed : IsOwed) (m : Module) (bound : ℕ) (s : HolderState) (verified 
     ways_followed n same (StepsBy.finishes o rest _ is way) =
         subst (Follows m bound s l) same
         (steps_too n (finishing_followed m bound s l h.related o rest is (finishes_whole m s right o rest is)
-        (object_stored m h.typed.world s.memory h.typed.memory l.numbers h.related.counts.size o (subst (TasksAre m h.typed.world) is h.typed.tasks).0.0) (λ zero lrest. parts_outlive m bound s verified right l o rest lrest h is zero) n way))
+        (object_stored m h.typed.world s.memory h.typed.memory l.numbers h.related.counts.size o (subst (TasksAre m h.typed.world) is h.typed.tasks).0.0)
+        (λ zero lrest. parts_outlive m bound s verified right l o rest lrest h is zero) n way))
     ways_followed n same (StepsBy.calls_deinit g gs o rest f _ is there way) =
         let moves = subst (Enters m told bound (record s { tasks = Finishes gs o ∷ rest }) (Finishes gs o ∷ rest) g f (ValueOf (value.Object o) ∷ [])) same way in
         let first = (subst (TasksAre m h.typed.world) is h.typed.tasks).0.1.0 in

@@ -207,7 +207,8 @@ module _ (m : Module) (bound : ℕ) (s : HolderState) (l : LowState) (frame : Fr
           let all : made m bound s l frame rest f i ops x ≡ plain_load i ∷ retain (declarations_of m) name ∷ [] =
           becomes_so ∙ ap (λ c. loads_by (declarations_of m) spare c i) copy
           ∙ ap₂ (λ rs os. plain_load i ∷ flat_map (retains_loaded (declarations_of m) spare rs) (option_to_list (slice_get os 0))) result one in
-          let last : LowState = at_state (end m bound s l frame rest f i ops x) puts.values (numbers_for l.memory (each_changed one_more (references_of w) numbers_1)) (l.retains + length loaded.retained) in
+          let last : LowState = at_state (end m bound s l frame rest f i ops x) puts.values (numbers_for l.memory (each_changed one_more (references_of w) numbers_1))
+          (l.retains + length loaded.retained) in
           let at_end : last ≡ at_state (suc (suc first)) puts.values (numbers_for l.memory (each_changed one_more (references_of w) numbers_1)) (l.retains + 0 + length (references_of w)) =
           ap₂ (λ n k. at_state n puts.values (numbers_for l.memory (each_changed one_more (references_of w) numbers_1)) k)
           (end_is 2 (ap length all) ∙ omega arith) (ap (λ os. l.retains + length os) refs ∙ omega arith) in

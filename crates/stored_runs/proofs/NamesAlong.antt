@@ -23,7 +23,8 @@ use Rattle.run_values.specs.Shapes.{Shape, storage_in}
 use Rattle.run_values.specs.Values as value
 use Rattle.run_values.specs.Values.{Value, grouped, integer_of, members_of, object_of, references_of}
 use Rattle.lowered_steps.specs.lowered_run.holder_model.Data.{AddressOf, Datum, ValueOf}
-use Rattle.lowered_steps.specs.lowered_run.holder_model.Effects.{Change, Effect, Makes, effect_by, gives, gives_value, part_number, unchanged, with_some, effect_of, Traps, names_member, SameSlots, ClosesSlot}
+use Rattle.lowered_steps.specs.lowered_run.holder_model.Effects.{Change, Effect, Makes, effect_by, gives, gives_value, part_number}
+use Rattle.lowered_steps.specs.lowered_run.holder_model.Effects.{unchanged, with_some, effect_of, Traps, names_member, SameSlots, ClosesSlot}
 use Rattle.lowered_steps.specs.lowered_run.holder_model.Faults.{HolderFault}
 use Rattle.lowered_steps.specs.lowered_run.holder_model.ModuleShapes.{ModuleShapes, shapes_in, shapes_of}
 use Rattle.lowered_steps.specs.lowered_run.holder_model.declared.row_effect.RowEffect.{RowEffect}
@@ -335,7 +336,8 @@ module _ (m : Module) (bound : ℕ) (s : HolderState) (l : LowState) (frame : Fr
         (record { results = refl; dropped = sym empty; retained = refl; slots = refl; memory = memory_filled })
         (by_row row.StoresValue (ValueOf w ∷ AddressOf r ∷ []) (Makes (unchanged (filled l.memory r w))) row_is (both_read_low m s l frame rest f i ops x a b w y both given ∙ same_data) low_does)
         refl frame.slots refl entries put names
-        (λ v p arg at part. filling_keeps l.memory r w p (given_parts m s l frame rest f i ops x v p arg at part)) (parts_kept m l.memory (filled l.memory r w) (filling_keeps l.memory r w) x.lrest x.full.1)
+        (λ v p arg at part. filling_keeps l.memory r w p (given_parts m s l frame rest f i ops x v p arg at part)) (parts_kept m l.memory (filled l.memory r w)
+        (filling_keeps l.memory r w) x.lrest x.full.1)
       where
         same_data : ValueOf w ∷ AddressOf (value_and_place_under m s l frame rest f i ops x a b w y both given).1.place ∷ [] ≡ ValueOf w ∷ AddressOf r ∷ []
         same_data = refl

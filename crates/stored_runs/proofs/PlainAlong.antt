@@ -17,7 +17,10 @@ use Rattle.run_values.specs.Values.{Value, grouped, integer_of, members_of, obje
 use Rattle.lowered_steps.specs.lowered_run.holder_model.Builtins.{builtin_value, is_set}
 use Rattle.lowered_steps.specs.lowered_run.holder_model.Data.{AddressOf, Datum, FunctionOf, ValueOf, all_of, as_function, as_place, as_value, values_of}
 use Rattle.lowered_steps.specs.lowered_run.holder_model.Effects as effects
-use Rattle.lowered_steps.specs.lowered_run.holder_model.Effects.{Change, Effect, Makes, OpensSlot, effect_by, gives, gives_value, only, part_number, part_number_by, unchanged, with_some, effect_of, result_shape, result_shape_of, Calls, Faults, Traps, Unfit, chooses, copies, drops, retains, gives_member, gives_members, names_member, names_field, names_field_of, field_of_object, makes_object, traps_where}
+use Rattle.lowered_steps.specs.lowered_run.holder_model.Effects.{Change, Effect, Makes, OpensSlot, effect_by, gives, gives_value}
+use Rattle.lowered_steps.specs.lowered_run.holder_model.Effects.{only, part_number, part_number_by, unchanged, with_some, effect_of, result_shape, result_shape_of}
+use Rattle.lowered_steps.specs.lowered_run.holder_model.Effects.{Calls, Faults, Traps, Unfit, chooses, copies, drops, retains}
+use Rattle.lowered_steps.specs.lowered_run.holder_model.Effects.{gives_member, gives_members, names_member, names_field, names_field_of, field_of_object, makes_object, traps_where}
 use Rattle.lowered_steps.specs.lowered_run.holder_model.ModuleShapes.{ModuleShapes, case_place, shapes_in, shapes_of}
 use Rattle.lowered_steps.specs.lowered_run.holder_model.declared.row_effect.RowEffect.{RowEffect}
 use Rattle.lowered_steps.specs.lowered_run.holder_model.declared.row_effect.RowEffect.TheVariants as row
@@ -91,7 +94,8 @@ module _ (d : Declarations) (told : ModuleShapes) (values : List Shape) (low : M
   row_keeps row.GivesLiteral xs e = some_keeps low (λ n. gives_value low (value.Int n)) j.number (λ n. same)
   row_keeps row.GivesFunction xs e = some_keeps low (λ g. gives low (FunctionOf g ∷ [])) j.function (λ g. same)
   row_keeps row.Computes xs e = some_keeps low (gives_value low) (option_and_then (builtin_value j.text) (option_and_then (all_of integer_of) (values_of xs))) (λ z. same)
-  row_keeps row.TrapsWhereSet xs e = some_keeps low (λ z. with_some (traps_where d told values low j) (integer_of z)) (option_and_then as_value (only xs)) (λ z. some_keeps low (traps_where d told values low j) (integer_of z) (λ n. either_keeps low (is_set n) _ (gives low []) tt same))
+  row_keeps row.TrapsWhereSet xs e = some_keeps low (λ z. with_some (traps_where d told values low j) (integer_of z)) (option_and_then as_value (only xs)) (λ z. some_keeps low
+      (traps_where d told values low j) (integer_of z) (λ n. either_keeps low (is_set n) _ (gives low []) tt same))
   row_keeps row.MakesObject xs e = some_keeps low (makes_object d told values low j) (class_in (result_shape d told values low j)) (λ c. making_keeps low _)
   row_keeps row.MakesSlot xs e = growing_keeps low (empty_slot (result_shape d told values low j))
   row_keeps row.RemovesSlot xs e = absurd (cc)
@@ -104,11 +108,16 @@ module _ (d : Declarations) (told : ModuleShapes) (values : List Shape) (low : M
   row_keeps row.DestroysPlace xs e = absurd (cc)
   row_keeps row.LoadsName xs e = absurd (cc)
   row_keeps row.Groups xs e = some_keeps low (λ vs. gives_value low (grouped vs)) (values_of xs) (λ vs. same)
-  row_keeps row.ChoosesCase xs e = some_keeps low (λ k. with_some (chooses d told values low j k) (values_of xs)) (case_place (result_shape d told values low j) j.member) (λ k. some_keeps low (chooses d told values low j k) (values_of xs) (chooses_keep k))
-  row_keeps row.GivesMember xs e = some_keeps low (gives_member d told values low j (part_number d j)) (option_and_then as_value (only xs)) (λ z. some_keeps low (gives_value low) (option_and_then (λ k. effects.member_of d told values low j k z) (part_number d j)) (λ y. same))
-  row_keeps row.GivesMembers xs e = some_keeps low (gives_members d told values low j) (option_and_then as_value (only xs)) (λ z. some_keeps low (λ members. gives low (map ValueOf members)) (members_of z) (λ ys. same))
-  row_keeps row.AddressesMember xs e = some_keeps low (names_member d told values low j (part_number d j)) (option_and_then as_place (only xs)) (λ p. some_keeps low (λ q. gives low (AddressOf q ∷ [])) (option_and_then (places.member_place p) (part_number d j)) (λ q. same))
-  row_keeps row.AddressesField xs e = some_keeps low (names_field d told values low j) (option_and_then as_value (only xs)) (λ z. some_keeps low (names_field_of d told values low j j.member (part_number d j)) (object_of z) (field_keeps j.member (part_number d j)))
+  row_keeps row.ChoosesCase xs e = some_keeps low (λ k. with_some (chooses d told values low j k) (values_of xs)) (case_place (result_shape d told values low j) j.member)
+      (λ k. some_keeps low (chooses d told values low j k) (values_of xs) (chooses_keep k))
+  row_keeps row.GivesMember xs e = some_keeps low (gives_member d told values low j (part_number d j)) (option_and_then as_value (only xs)) (λ z. some_keeps low (gives_value low)
+      (option_and_then (λ k. effects.member_of d told values low j k z) (part_number d j)) (λ y. same))
+  row_keeps row.GivesMembers xs e = some_keeps low (gives_members d told values low j) (option_and_then as_value (only xs)) (λ z. some_keeps low (λ members. gives low (map ValueOf members))
+      (members_of z) (λ ys. same))
+  row_keeps row.AddressesMember xs e = some_keeps low (names_member d told values low j (part_number d j)) (option_and_then as_place (only xs)) (λ p. some_keeps low (λ q. gives low
+      (AddressOf q ∷ [])) (option_and_then (places.member_place p) (part_number d j)) (λ q. same))
+  row_keeps row.AddressesField xs e = some_keeps low (names_field d told values low j) (option_and_then as_value (only xs)) (λ z. some_keeps low (names_field_of d told values low j j.member
+      (part_number d j)) (object_of z) (field_keeps j.member (part_number d j)))
   row_keeps row.CallsFunction xs e = calls_keep xs
 
 -- ---- no names begin or cease

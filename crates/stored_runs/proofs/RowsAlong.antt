@@ -122,7 +122,10 @@ module _ (m : Module) (bound : ℕ) (s : HolderState) (l : LowState) (frame : Fr
   row_along _ slots (RowRight.renaming o w r row_is gone renamed one given result) alive left put =
       with_low (record (unchanged s.memory) { results = ValueOf w ∷ [] }) slots left (renaming_along m bound s l frame rest f i ops x o w one given row_is gone r result renamed entries put)
   row_along _ slots (RowRight.copies o w r row_is kept renamed one given result) alive left put =
-      with_low (record (unchanged s.memory) { results = ValueOf w ∷ []; retained = references_of w }) slots left (copying_along m bound s l frame rest f i ops x o w one given row_is kept r result renamed alive entries put)
+      with_low (record (unchanged s.memory) {
+        results = ValueOf w ∷ [];
+        retained = references_of w;
+      }) slots left (copying_along m bound s l frame rest f i ops x o w one given row_is kept r result renamed alive entries put)
   row_along _ slots (RowRight.drops o w row_is released one given none) alive left put =
       with_low (record (unchanged s.memory) { dropped = references_of w }) slots left (destroying_along m bound s l frame rest f i ops x o w one given row_is released none entries put)
   row_along _ slots (RowRight.loads o y r done z row_is loads keeps at result held may) alive left put =

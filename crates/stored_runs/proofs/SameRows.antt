@@ -145,7 +145,8 @@ module _ (d : Declarations) (shapes low_shapes : ModuleShapes) (values low_value
 
   module _ (at : RowEffect → List Datum → Effect HolderFault) (low_at : RowEffect → List Datum → Effect LowFault) where
     -- what the row does beside memory, by its operands. At places it does what is said
-    pub row_for : (r : RowEffect) (xs : List Datum) → IsEffectFor (at r xs) (low_at r xs) → IsEffectFor (effect_by d shapes values m i at r xs) (effect_by d low_shapes low_values low (renumbered_inst number i) low_at r xs)
+    pub row_for : (r : RowEffect) (xs : List Datum) → IsEffectFor (at r xs) (low_at r xs)
+        → IsEffectFor (effect_by d shapes values m i at r xs) (effect_by d low_shapes low_values low (renumbered_inst number i) low_at r xs)
     row_for row.NoEffect xs place = gives_for []
     row_for row.GivesLiteral xs place = some_for (λ n. gives_value m (value.Int n)) (λ n. gives_value low (value.Int n)) i.number i.number refl (λ n. gives_for (ValueOf (value.Int n) ∷ []))
     row_for row.GivesFunction xs place = some_for (λ g. gives m (FunctionOf g ∷ [])) (λ g. gives low (FunctionOf g ∷ [])) i.function i.function refl (λ g. gives_for (FunctionOf g ∷ []))

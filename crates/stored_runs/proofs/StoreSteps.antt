@@ -5,7 +5,8 @@ use Rattle.stored_runs.specs.inner.Spares.{AreSparesApart}
 use Rattle.std.proofs.lemmas.Bool.{cases_Bool}
 use Rattle.stored_runs.specs.inner.Frames.{AreValuesFor, HasFullParts}
 use Rattle.lowered_steps.specs.lowered_run.LowFrames.{put_all}
-use Rattle.std.proofs.Common.{◌≡◌, ℕ, suc, ◌+◌, List, [], ◌∷◌, map, length, arith, refl, sym, ap, ◌∙◌, subst, Bool, true, false, cond, Option, Some, None, Ok, ap₂, not, ◌⊎◌, inl, inr, ◌||◌, length-set}
+use Rattle.std.proofs.Common.{◌≡◌, ℕ, suc, ◌+◌, List, [], ◌∷◌, map, length, arith, refl, sym, ap, ◌∙◌, subst}
+use Rattle.std.proofs.Common.{Bool, true, false, cond, Option, Some, None, Ok, ap₂, not, ◌⊎◌, inl, inr, ◌||◌, length-set}
 use Rattle.std.specs.Prelude.{is_some, slice_get}
 use Rattle.std.proofs.lemmas.Option.{same_Some}
 use Rattle.instruction_table.specs.Forms.{roles_of}
@@ -111,7 +112,8 @@ module _ (m : Module) (bound : ℕ) (s : HolderState) (l : LowState) (frame : Fr
 
   store_effect : low_effect d told shapes l.memory (renumbered_inst number store) (ValueOf w ∷ AddressOf q ∷ []) ≡ Makes (unchanged (filled l.memory q w))
   store_effect =
-      ap (λ o. accessed d told shapes l.memory (renumbered_inst number store) q (cond (is_some o) (references_of w) []) (cond (is_some o) true q.is_part) (Makes (unchanged (filled l.memory q w)))) bare_below
+      ap (λ o. accessed d told shapes l.memory (renumbered_inst number store) q (cond (is_some o) (references_of w) []) (cond (is_some o) true q.is_part) (Makes (unchanged
+      (filled l.memory q w)))) bare_below
       ∙ accessed_so d told shapes l.memory (renumbered_inst number store) q [] q.is_part (Makes (unchanged (filled l.memory q w)))
       (there_below m bound s l frame rest f i ops x b.value y under.1 there) refl under.1.alive (ok q.is_part refl)
     where

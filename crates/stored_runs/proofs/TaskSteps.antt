@@ -71,7 +71,8 @@ module _ (m : Module) (bound : ℕ) (s : HolderState) (l : LowState) (related : 
 
   module _ (counted : (p : ObjectId) → strong_holders s1 p + one_object p o ≡ strong_holders s p)
       (deinit_counted : is_live s.memory o ≡ true → (p : ObjectId) → holders_of (holder.deinitialising m (facts_of m) bound s1 o) p ≡ holders_of s1 p)
-      (parts_stay : (tasks : List (Task LowFrame)) → Each (HasFullParts m l.memory) tasks → Each (HasFullParts m (ways.deinitialising (lowered m) (shapes_of (lowered m)) bound l o).memory) tasks) where
+      (parts_stay : (tasks : List (Task LowFrame)) → Each (HasFullParts m l.memory) tasks
+      → Each (HasFullParts m (ways.deinitialising (lowered m) (shapes_of (lowered m)) bound l o).memory) tasks) where
     top : DropsTop m (o ∷ os) rest l
     top = drops_top m (o ∷ os) rest s.tasks l related.tasks is
 

@@ -200,7 +200,8 @@ module _ (m : Module) (bound : ℕ) (s : HolderState) (w : World) (frame : Frame
       (fit_data m w f taken) (result_told m frame.function f is.is s.memory i)
 
   module _ (g : FuncId) (callee : Function) (args : List Datum) (there : slice_get m.functions g.0 ≡ Some callee) (bodied : has_any callee.blocks ≡ true)
-      (before : are_as_before s.memory (lent_in f frame args) ≡ true) (full : AllZip (IsAddressFor (declarations_of m) callee) (item_defined callee item.Entry) args → are_as_before s.memory (lent_in f frame args) ≡ true
+      (before : are_as_before s.memory (lent_in f frame args) ≡ true) (full : AllZip (IsAddressFor (declarations_of m) callee) (item_defined callee item.Entry) args
+      → are_as_before s.memory (lent_in f frame args) ≡ true
       → Each (IsFullPart s.memory) args) where
     right : (forms : List Form) (e : Effect HolderFault) → EffectFits m w i.op ops.given forms e → e ≡ effects.Calls g args → HandsRight m s frame f g callee args
     right forms _ (EffectFits.calls h xs other called body typed_as form owned) same =

@@ -61,7 +61,8 @@ use Rattle.owned_counts.proofs.typed_holders.Data.{DataAre}
 use Rattle.stored_runs.specs.inner.TypedPlaces.{IsPlainPlace}
 use Rattle.stored_runs.specs.inner.TypedRows.{AreTypedPlaceRows, PlacesTold}
 use Rattle.stored_runs.proofs.TypedPlaces.{are_plain_places, are_storage_places, are_trivial_places}
-use Rattle.stored_runs.proofs.PlacesFound.{HeldSo, ValueAndPlace, destroys_op, destroys_so, empty_held, full_of, loads_op, loads_so, names_op, names_so, no_result, one_of, one_place_of, one_result, removes_op, removes_so, some_made, stores_op, stores_so, two_of, value_and_place_of}
+use Rattle.stored_runs.proofs.PlacesFound.{HeldSo, ValueAndPlace, destroys_op, destroys_so, empty_held, full_of, loads_op, loads_so, names_op, names_so}
+use Rattle.stored_runs.proofs.PlacesFound.{no_result, one_of, one_place_of, one_result, removes_op, removes_so, some_made, stores_op, stores_so, two_of, value_and_place_of}
 
 -- ---- typed rows
 

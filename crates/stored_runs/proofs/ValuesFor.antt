@@ -20,7 +20,8 @@ use Rattle.run_values.specs.Values.{references_of}
 use Rattle.lowered_steps.specs.lowered_run.holder_model.Data.{AddressOf, Datum, FunctionOf, ValueOf, references_in}
 use Rattle.lowered_steps.specs.lowered_run.holder_model.Faults.{ConsumesLent, HolderFault, NamesDead, NoEntry, OverwritesHeld, WrongShape}
 use Rattle.lowered_steps.specs.lowered_run.holder_model.Frames.{Entry, Gone, Held, Lent, Plain, Operands, and_more, any_dead, datum_in, datum_or_fault, ended_entry, ends, entry_at, has_any}
-use Rattle.lowered_steps.specs.lowered_run.holder_model.Frames.{is_consumed, is_held, made_entry, operand, plain_address, operand_data, operands_of, plain_entry, put_entry, results_put, unless_dead, used_datum, with_ok, without_ended}
+use Rattle.lowered_steps.specs.lowered_run.holder_model.Frames.{is_consumed, is_held, made_entry, operand, plain_address, operand_data, operands_of}
+use Rattle.lowered_steps.specs.lowered_run.holder_model.Frames.{plain_entry, put_entry, results_put, unless_dead, used_datum, with_ok, without_ended}
 use Rattle.lowered_steps.specs.lowered_run.LowFrames as low_frames
 use Rattle.lowered_steps.specs.lowered_run.LowFrames.{and_others, put_all, read_all, there}
 

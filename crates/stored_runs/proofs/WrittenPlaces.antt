@@ -31,7 +31,8 @@ use Rattle.owned_counts.specs.accepted_values.accepted_modules.sil_types.Typing.
 use Rattle.owned_counts.specs.accepted_values.accepted_modules.sil_types.Typing.OperandTypes.{has_type}
 use Rattle.owned_counts.specs.accepted_values.accepted_modules.sil_types.Typing.RowTypes.{passes, written}
 use Rattle.owned_counts.specs.accepted_values.accepted_modules.sil_types.Typing.Same.{all_pairs}
-use Rattle.owned_counts.specs.accepted_values.accepted_modules.sil_types.Typing.Shapes.{in_unowned, in_weak, is_nontrivial, is_object, is_storage, is_storage_layer, object_at, target, unowned_at, weak_at, where_it}
+use Rattle.owned_counts.specs.accepted_values.accepted_modules.sil_types.Typing.Shapes.{in_unowned, in_weak, is_nontrivial, is_object, is_storage}
+use Rattle.owned_counts.specs.accepted_values.accepted_modules.sil_types.Typing.Shapes.{is_storage_layer, object_at, target, unowned_at, weak_at, where_it}
 use Rattle.owned_counts.specs.accepted_values.accepted_modules.sil_types.Typing.Typed.{BreaksAtPoint, at_point, point}
 use Rattle.owned_counts.specs.accepted_values.accepted_modules.sil_types.Typing.Values.{value_types}
 use Rattle.owned_counts.proofs.accepted_values.Accepted.{in_ownership_form, well_typed}
@@ -139,7 +140,7 @@ module _ (m : Module) (n : ℕ) (f : Function) (a : IsAcceptedBody m n f) (p : P
         inner = shape_of d it.0;
         value = typed_form d it.0;
         forms = two_operands m f i op.StoreWeak k (of_parts _ k.operands) it.0 at.0 at.1 asked
-        ∙ ap (λ y. typed_form d it.0 ∷ y ∷ []) (place_form d at.0 (type.Weak it.0) (behind.1 ∙ ap Some (weak_type behind.0 it.0 behind.2)) ∙ ap OfPlace (weak_shape m it.0));
+            ∙ ap (λ y. typed_form d it.0 ∷ y ∷ []) (place_form d at.0 (type.Weak it.0) (behind.1 ∙ ap Some (weak_type behind.0 it.0 behind.2)) ∙ ap OfPlace (weak_shape m it.0));
       }
 
   unowned_stored : i.op ≡ op.StoreUnowned → NameStoredSo
@@ -154,7 +155,7 @@ module _ (m : Module) (n : ℕ) (f : Function) (a : IsAcceptedBody m n f) (p : P
         inner = shape_of d it.0;
         value = typed_form d it.0;
         forms = two_operands m f i op.StoreUnowned k (of_parts _ k.operands) it.0 at.0 at.1 asked
-        ∙ ap (λ y. typed_form d it.0 ∷ y ∷ []) (place_form d at.0 (type.Unowned it.0) (behind.1 ∙ ap Some (unowned_type behind.0 it.0 behind.2)) ∙ ap OfPlace (unowned_shape m it.0));
+            ∙ ap (λ y. typed_form d it.0 ∷ y ∷ []) (place_form d at.0 (type.Unowned it.0) (behind.1 ∙ ap Some (unowned_type behind.0 it.0 behind.2)) ∙ ap OfPlace (unowned_shape m it.0));
       }
 
   -- the shape of storage
@@ -240,8 +241,11 @@ module _ (m : Module) (n : ℕ) (f : Function) (a : IsAcceptedBody m n f) (p : P
         by (WordSo.init q) = inl q
         by (WordSo.assign q) = inr (inl q)
         by (WordSo.trivial q t) =
-            inr (inr (q, λ v y e. ap is_trivial (stored_shape (shape_of d (stored_so is).ty) _ (stored_so is).forms v y e)
-            ∙ trivial_shape d (stored_so is).ty t))
+            inr (inr (
+              q,
+              λ v y e. ap is_trivial (stored_shape (shape_of d (stored_so is).ty) _ (stored_so is).forms v y e)
+                  ∙ trivial_shape d (stored_so is).ty t,
+            ))
 
     store_bare : (v : Value) (y : Place) → xs ≡ ValueOf v ∷ AddressOf y ∷ [] → i.op ≡ op.Store → storage_in y.shape ≡ None
     store_bare v y e is =

@@ -73,14 +73,16 @@ pub fn calls_are_awaited()
     ensures steps { AreStepsAwaited }
 {}
 
-/// Where an instruction finds what its row needs, the lowered run goes along with it, in as many steps as it has instructions for the row. Spare values, which lowering makes for what a place held, have numbers of their own.
+/// Where an instruction finds what its row needs, the lowered run goes along with it, in as many steps as it has instructions for the row. Spare
+/// values, which lowering makes for what a place held, have numbers of their own.
 pub fn rows_go_along()
     ensures rows { AreRowsAlong }
     ensures traps { AreTrapsAlong }
     ensures spares { AreAcceptedSparesApart }
 {}
 
-/// In typed memory a place with no storage in its shape has what rows ask of it; storage and trivial places hold no references. So rows at places of typed states find what they need, but for what parts, slots and words in brackets tell.
+/// In typed memory a place with no storage in its shape has what rows ask of it; storage and trivial places hold no references. So rows at places of
+/// typed states find what they need, but for what parts, slots and words in brackets tell.
 pub fn typed_places_serve()
     ensures plain { ArePlainPlaces }
     ensures storage { AreStoragePlaces }
@@ -88,7 +90,8 @@ pub fn typed_places_serve()
     ensures rows { AreTypedPlaceRows }
 {}
 
-/// Rows of typed states that do nothing at places, call nothing and take nothing apart find what they need, and so do rows that trap. Written types tell which words a store may have, and where storage is.
+/// Rows of typed states that do nothing at places, call nothing and take nothing apart find what they need, and so do rows that trap. Written types
+/// tell which words a store may have, and where storage is.
 pub fn typed_rows_serve()
     ensures rows { AreTypedPlainRows }
     ensures traps { AreTypedTraps }

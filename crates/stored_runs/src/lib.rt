@@ -5,6 +5,5 @@ mod laws;
 
 pub use laws::{
     calls_and_ends_go_along, calls_are_awaited, full_places_are_read, functions_lower_so,
-    operands_are_current, rows_go_along, typed_frames_serve, typed_places_serve,
-    typed_rows_serve,
+    operands_are_current, rows_go_along, typed_frames_serve, typed_places_serve, typed_rows_serve,
 };

@@ -119,7 +119,8 @@ module _ (m m' : Module) (told told' : ModuleFacts) (bound : ℕ) (First Second 
       pub stands : inst_at f' (stands_at f' trail') ≡ Some other
       pub taken : (ops : Operands) → takes told g f inst_here h.memory entries ≡ Ok ops
           → (ops' : Operands) × (takes told' g f' inst_there r.memory entries' ≡ Ok ops')
-          × AreEffectsAlike trail trail' inst_here inst_there ops.left ops'.left rest (does m told g h.memory i ops.given) (does m' told' g r.memory other ops'.given)
+          × AreEffectsAlike trail trail' inst_here inst_there ops.left ops'.left rest (does m told g h.memory i ops.given)
+          (does m' told' g r.memory other ops'.given)
 
     -- an edge of the block
     pub record AreCarriedAlike (e e' : EdgeId) (ops : Operands) (carried : List Datum) : Type 0 where

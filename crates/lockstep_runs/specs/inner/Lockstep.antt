@@ -36,7 +36,8 @@ module _ (Like : FuncId → List Item → List Entry → List Item → List Entr
     runs : (g : FuncId) (slots : List Place) (lent : List LentPlace) (trail trail' : List Item) (entries entries' : List Entry) (rest rest' : List (Task Frame))
         → Like g trail entries trail' entries' → AreTasksLike rest rest'
         → AreTasksLike (Runs (frame_at g slots lent trail entries) ∷ rest) (Runs (frame_at g slots lent trail' entries') ∷ rest')
-    drops : (references : List ObjectId) (rest rest' : List (Task Frame)) → AreTasksLike rest rest' → AreTasksLike (Drops references ∷ rest) (Drops references ∷ rest')
+    drops : (references : List ObjectId) (rest rest' : List (Task Frame)) → AreTasksLike rest rest'
+        → AreTasksLike (Drops references ∷ rest) (Drops references ∷ rest')
     finishes : (deinits : List FuncId) (o : ObjectId) (rest rest' : List (Task Frame)) → AreTasksLike rest rest'
         → AreTasksLike (Finishes deinits o ∷ rest) (Finishes deinits o ∷ rest')
 

@@ -56,7 +56,8 @@ module _ (m m' : Module) (told told' : ModuleFacts) (bound : ℕ) where
   module _ (First Second : HolderState → Type 0) (Like : FuncId → List Item → List Entry → List Item → List Entry → Type 0)
       (Alone : FuncId → List Item → Type 0) where
     -- two states, and the frames of a function that go on in them
-    pub record AreFramesOn (h r : HolderState) (g : FuncId) (slots : List Place) (lent : List LentPlace) (trail trail' : List Item) (entries entries' : List Entry)
+    pub record AreFramesOn (h r : HolderState) (g : FuncId) (slots : List Place) (lent : List LentPlace) (trail trail' : List Item)
+        (entries entries' : List Entry)
         (rest rest' : List (Task Frame)) : Type 0 where
       pub first : First h
       pub second : Second r

@@ -27,7 +27,8 @@ use Rattle.stored_counts.specs.inner.Numbers.{AreCounts}
 use Rattle.accepted_runs.specs.typed_holders.inner.TypedStates.{IsTypedState}
 
 -- the first frame's next instruction leaves a change
-pub record MakesChange (m : Module) (bound : ℕ) (s : HolderState) (rest : List (Task Frame)) (frame : Frame) (f : Function) (i : Inst) (ops : Operands) (c : Change)
+pub record MakesChange (m : Module) (bound : ℕ) (s : HolderState) (rest : List (Task Frame)) (frame : Frame) (f : Function) (i : Inst)
+    (ops : Operands) (c : Change)
     (entries : List Entry) : Type 0 where
   pub verified : IsVerified m
   pub typed : IsTypedState m s

@@ -45,10 +45,12 @@ AreReturnsCounted = (m : Module) (bound : ℕ) (s : HolderState) (rest : List (T
     → ReturnsFrom m bound s (Runs frame ∷ rest) callee body i ops x → slice_get m.functions frame.function.0 ≡ Some f
     → results_put (facts_told (facts_of m) frame.function) (item_defined f (item.Inst (stands_at f frame.trail))) (x ∷ []) frame.entries ≡ Ok entries
     → AreCounts s stored
-    → AreCounts (moved m (facts_of m) bound s rest frame (item.Inst (stands_at f frame.trail)) (record (unchanged s.memory) { results = x ∷ [] }) slots entries) stored
+    → AreCounts (moved m (facts_of m) bound s rest frame (item.Inst (stands_at f frame.trail)) (record
+    (unchanged s.memory) { results = x ∷ [] }) slots entries) stored
 
 -- out of the run
 abbrev pub AreLeftCounted : Type 0
-AreLeftCounted = (m : Module) (bound : ℕ) (s : HolderState) (frame : Frame) (f : Function) (i : Inst) (ops : Operands) (x : Datum) (v : Value) (stored : List Numbers)
+AreLeftCounted = (m : Module) (bound : ℕ) (s : HolderState) (frame : Frame) (f : Function) (i : Inst) (ops : Operands) (x : Datum) (v : Value)
+    (stored : List Numbers)
     → ReturnsFrom m bound s [] frame f i ops x → as_value x ≡ Some v → AreCounts s stored
     → (o : ObjectId) → numbers_of stored o ≡ returned_holders (record s { tasks = [] }) (references_of v) o

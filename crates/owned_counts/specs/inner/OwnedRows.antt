@@ -49,7 +49,8 @@ pub data LoadsBy (d : Declarations) (f : Function) (i : Inst) (o : Operation) (s
 pub data StoresBy (d : Declarations) (f : Function) (i : Inst) : Type 0 where
   strongly : (s : Shape) → roles_of i.op ≡ role.Consumed ∷ role.AddressRole ∷ [] → forms_of d f (map value_in i.operands) ≡ OfValue s ∷ OfPlace s ∷ []
       → holds_no_storage s ≡ true → StoresBy d f i
-  weakly : (how : Storage) (s : Shape) → roles_of i.op ≡ role.Used ∷ role.AddressRole ∷ [] → forms_of d f (map value_in i.operands) ≡ OfValue s ∷ OfPlace (Stored how s) ∷ []
+  weakly : (how : Storage) (s : Shape) → roles_of i.op ≡ role.Used ∷ role.AddressRole ∷ []
+      → forms_of d f (map value_in i.operands) ≡ OfValue s ∷ OfPlace (Stored how s) ∷ []
       → IsNamed how s → StoresBy d f i
 
 -- weak or unowned storage
@@ -80,12 +81,14 @@ pub record IsDone (m : Module) (g : FuncId) (f : Function) (w : World) (memory :
   pub put : results_put (facts_in (declarations_of m) f) (item_defined f (item.Inst p)) c.results ops.left ≡ Ok behind
 
 abbrev pub AreRowsOwned : Type 0
-AreRowsOwned = (m : Module) (g : FuncId) (f : Function) (w : World) (memory : Memory) (entries : List Entry) (p : PointId) (i : Inst) (ops : Operands) (c : Change)
+AreRowsOwned = (m : Module) (g : FuncId) (f : Function) (w : World) (memory : Memory) (entries : List Entry) (p : PointId) (i : Inst) (ops : Operands)
+    (c : Change)
     (stored : List Numbers) → IsDone m g f w memory entries p i ops c → HasItsWords (declarations_of m) f i ops.given → length stored ≡ length memory.objects
     → Owns (facts_in (declarations_of m) f) entries (item_taken f (item.Inst p)) (item_defined f (item.Inst p)) (declarations_of m) (shapes_of m)
     (shapes_in (shapes_of m) g) memory i ops.given stored (effect_of i.op) c.results
 
 -- and it has its words
 abbrev pub HaveTheirWords : Type 0
-HaveTheirWords = (m : Module) (g : FuncId) (f : Function) (w : World) (memory : Memory) (entries : List Entry) (p : PointId) (i : Inst) (ops : Operands) (c : Change)
+HaveTheirWords = (m : Module) (g : FuncId) (f : Function) (w : World) (memory : Memory) (entries : List Entry) (p : PointId) (i : Inst)
+    (ops : Operands) (c : Change)
     → IsDone m g f w memory entries p i ops c → HasItsWords (declarations_of m) f i ops.given

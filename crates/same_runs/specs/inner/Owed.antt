@@ -38,6 +38,7 @@ use Rattle.stored_runs.specs.inner.CallsAlong.{HandsFullParts}
 use Rattle.stored_runs.specs.inner.Entering.{IsFullPart}
 use Rattle.stored_runs.specs.inner.Frames.{AreTasksFor, HasFullParts}
 use Rattle.stored_runs.specs.inner.PlaceRows.{GoesAlong, stored_for}
+use Rattle.stored_runs.specs.inner.PlacesLeft.{PlacesLeft}
 use Rattle.stored_runs.specs.inner.RowsRight.{RowRight, TrapRight}
 use Rattle.stored_runs.specs.inner.TypedSteps.{IsTypedFor}
 use Rattle.same_runs.specs.inner.Followed.{EndsToo}
@@ -66,7 +67,8 @@ module _ (m : Module) (bound : ℕ) (s : HolderState) (x : AtInst m s) where
   pub record LeavesSo (c : Change) (slots : List Place) (entries : List Entry) : Type 0 where
     pub makes : effect_there ≡ effects.Makes c
     pub slots_left : slots_behind c.slots x.frame.slots ≡ Ok slots
-    pub put : results_put (facts_told (facts_of m) x.frame.function) (item_defined x.f (item.Inst (stands_at x.f x.frame.trail))) c.results x.ops.left ≡ Ok entries
+    pub put : results_put (facts_told (facts_of m) x.frame.function) (item_defined x.f (item.Inst
+        (stands_at x.f x.frame.trail))) c.results x.ops.left ≡ Ok entries
 
   abbrev pub behind_it : Change → List Place → List Entry → HolderState
   behind_it c slots entries =
@@ -106,6 +108,16 @@ abbrev pub RowsAreRight : Type 0
 RowsAreRight = OnRightStates (λ m bound s. (l : LowState) (x : AtInst m s) → IsTypedFor m s l → IsNoCall m bound s x
     → (c : Change) (slots : List Place) (entries : List Entry) → LeavesSo m bound s x c slots entries
     → RowRight m s l x.frame x.f x.i x.ops c × (list_any (is_dead s.memory) c.retained ≡ false))
+
+-- what it is that stays open of places, where written types have told the rest
+abbrev pub ArePlacesLeft : Type 0
+ArePlacesLeft = OnRightStates (λ m bound s. (l : LowState) (x : AtInst m s) → IsTypedFor m s l → IsNoCall m bound s x
+    → (c : Change) (slots : List Place) (entries : List Entry) → LeavesSo m bound s x c slots entries → PlacesLeft m s l x.frame x.f x.i x.ops)
+
+-- no dead object is retained
+abbrev pub AreRetainedAlive : Type 0
+AreRetainedAlive = OnRightStates (λ m bound s. (x : AtInst m s) → IsNoCall m bound s x
+    → (c : Change) (slots : List Place) (entries : List Entry) → LeavesSo m bound s x c slots entries → list_any (is_dead s.memory) c.retained ≡ false)
 
 abbrev pub TrapsAreRight : Type 0
 TrapsAreRight = OnRightStates (λ m bound s. (l : LowState) (x : AtInst m s) → IsTypedFor m s l → IsNoCall m bound s x

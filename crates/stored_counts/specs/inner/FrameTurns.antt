@@ -49,14 +49,16 @@ module _ (m : Module) (told : ModuleFacts) (bound : ℕ) where
 
   -- ---- edges, and calls of functions without bodies
 
-  pub record HandsOver (s : HolderState) (rest : List (Task Frame)) (frame : Frame) (f : Function) (i : Item) (ops : Operands) (xs : List Datum) (entries : List Entry) : Type 0 where
+  pub record HandsOver (s : HolderState) (rest : List (Task Frame)) (frame : Frame) (f : Function) (i : Item) (ops : Operands) (xs : List Datum)
+      (entries : List Entry) : Type 0 where
     pub reads : Reads s rest frame f i ops
     pub put : results_put (facts_told told frame.function) (item_defined f i) xs ops.left ≡ Ok entries
     pub each : Each (IsBelow (length ops.left)) (item_defined f i)
     pub same : (o : ObjectId) → begun_in frame.function f i xs o ≡ ended_in frame f i o
 
   abbrev pub AreHandedStored : Type 0
-  AreHandedStored = (s : HolderState) (rest : List (Task Frame)) (frame : Frame) (f : Function) (i : Item) (ops : Operands) (xs : List Datum) (slots : List Place)
+  AreHandedStored = (s : HolderState) (rest : List (Task Frame)) (frame : Frame) (f : Function) (i : Item) (ops : Operands) (xs : List Datum)
+      (slots : List Place)
       (entries : List Entry) (stored : List Numbers) → HandsOver s rest frame f i ops xs entries → AreCounts s stored
       → AreCounts (moved m told bound s rest (left_with m told bound frame ops) i (record (unchanged s.memory) { results = xs }) slots entries) stored
 
@@ -105,8 +107,10 @@ module _ (m : Module) (told : ModuleFacts) (bound : ℕ) where
     pub same : (o : ObjectId) → begun_in frame.function f call (x ∷ []) o ≡ ended_in callee body i o
 
   abbrev pub AreReturnsStored : Type 0
-  AreReturnsStored = (s : HolderState) (rest : List (Task Frame)) (callee : Frame) (body : Function) (i : Item) (ops : Operands) (x : Datum) (frame : Frame) (f : Function)
-      (call : Item) (slots : List Place) (entries : List Entry) (stored : List Numbers) → Resumes s rest callee body i ops x frame f call entries → AreCounts s stored
+  AreReturnsStored = (s : HolderState) (rest : List (Task Frame)) (callee : Frame) (body : Function) (i : Item) (ops : Operands) (x : Datum)
+      (frame : Frame) (f : Function)
+      (call : Item) (slots : List Place) (entries : List Entry) (stored : List Numbers) → Resumes s rest callee body i ops x frame f call entries
+      → AreCounts s stored
       → AreCounts (moved m told bound s rest frame call (record (unchanged s.memory) { results = x ∷ [] }) slots entries) stored
 
   -- from a deinitialiser

@@ -95,7 +95,8 @@ module _ (facts : ValueId → Option Facts) (entries : List Entry) (ts : List Ta
   -- the value's cells hold strongly what the operand held that ended
   pub record Stores (o : Operation) (x : Value) (p : Place) : Type 0 where
     pub written : IsWritten m stored o x p
-    pub held : (weight : ObjectId → ℕ) → of_references weight (references_ended facts entries ts) ≡ in_cells weight storage.Strong ((cells.in_cells p.shape).cells x)
+    pub held : (weight : ObjectId → ℕ)
+        → of_references weight (references_ended facts entries ts) ≡ in_cells weight storage.Strong ((cells.in_cells p.shape).cells x)
 
   -- at the one operand's place, by the operation that is done there
   abbrev pub AtPlace : (Operation → Place → Type 0) → Type 0
@@ -116,7 +117,8 @@ module _ (facts : ValueId → Option Facts) (entries : List Entry) (ts : List Ta
   Owns row.RetainsOperand rs = ⊥
   Owns row.DropsOperand rs = TakesAll facts entries ts vs xs
   Owns row.LoadsValue rs = TakesNone facts entries ts vs xs × AtPlace (λ o p. Loads o p rs)
-  Owns row.StoresValue rs = (o : Operation) (x : Value) (p : Place) → operation_done d shapes values m i ≡ Some o → xs ≡ ValueOf x ∷ AddressOf p ∷ [] → Stores o x p
+  Owns row.StoresValue rs = (o : Operation) (x : Value) (p : Place) → operation_done d shapes values m i ≡ Some o → xs ≡ ValueOf x ∷ AddressOf p ∷ []
+      → Stores o x p
   Owns row.DestroysPlace rs = TakesNone facts entries ts vs xs × AtPlace (λ o p. (takes o ≡ true) × IsTaken m stored p)
   Owns row.LoadsName rs = TakesNone facts entries ts vs xs × BringsAll facts entries ts vs xs rs
       × AtPlace (λ o p. IsTaken m stored p × KeepNone storage.Strong (cells_at m p))

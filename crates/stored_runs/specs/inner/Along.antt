@@ -42,4 +42,5 @@ IsNoFault next = (x : HolderFault) (last : HolderState) → next ≡ Ends (Fault
 
 -- what the item takes in the frame is no address
 abbrev pub TakesNoAddress : Module → HolderState → Frame → Function → Item → Type 0
-TakesNoAddress m s frame f i = (ops : Operands) → operands_of (facts_told (facts_of m) frame.function) s.memory frame.entries (item_taken f i) ≡ Ok ops → Each IsNoAddress ops.given
+TakesNoAddress m s frame f i = (ops : Operands)
+    → operands_of (facts_told (facts_of m) frame.function) s.memory frame.entries (item_taken f i) ≡ Ok ops → Each IsNoAddress ops.given

@@ -44,7 +44,8 @@ EndsStep = (m : Module) (bound : ℕ) (s : HolderState) (l : LowState) (frame : 
 
 -- calls
 abbrev pub CallsStep : Type 0
-CallsStep = (m : Module) (bound : ℕ) (s : HolderState) (l : LowState) (frame : Frame) (rest : List (Task Frame)) (f : Function) (i : Inst) (ops : Operands) (next : HolderNext)
+CallsStep = (m : Module) (bound : ℕ) (s : HolderState) (l : LowState) (frame : Frame) (rest : List (Task Frame)) (f : Function) (i : Inst)
+    (ops : Operands) (next : HolderNext)
     → IsStateFor m s l → s.tasks ≡ Runs frame ∷ rest → slice_get m.functions frame.function.0 ≡ Some f → LowersSo m frame.function f
     → inst_at f (stands_at f frame.trail) ≡ Some i → i.op ≡ op.Apply
     → IsItem f (item.Inst (stands_at f frame.trail)) → IsTurnedTrail f (item.Inst (stands_at f frame.trail) ∷ frame.trail)

@@ -30,7 +30,8 @@ pub record IsGivenPlace (d : Declarations) (f : Function) (v : ValueId) : Type 0
   pub shape : Shape
   pub is : form_of d f v ≡ OfPlace shape
 
--- the datum of a lowered value beside that of the entry. To the callee the place of an argument is a whole one, and in the lowered run it still says that it is a part
+-- the datum of a lowered value beside that of the entry. To the callee the place of an argument is a whole one, and in the lowered run it still says
+-- that it is a part
 abbrev pub IsDatumFor : Declarations → Function → ValueId → Datum → Datum → Type 0
 IsDatumFor d f v x low = (low ≡ x) ⊎ (IsGivenPlace d f v × (as_argument low ≡ x))
 

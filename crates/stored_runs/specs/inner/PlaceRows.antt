@@ -48,7 +48,8 @@ abbrev pub operand_value : Operand → ValueId
 operand_value o = o.value
 
 -- both runs stand at the instruction, and have its operands
-pub record StandsAt (m : Module) (s : HolderState) (l : LowState) (frame : Frame) (rest : List (Task Frame)) (f : Function) (i : Inst) (ops : Operands) : Type 0 where
+pub record StandsAt (m : Module) (s : HolderState) (l : LowState) (frame : Frame) (rest : List (Task Frame)) (f : Function) (i : Inst)
+    (ops : Operands) : Type 0 where
   pub totals : AreTotalsFor s l
   pub memory : IsMemoryFor s.memory l.memory
   pub size : length l.numbers ≡ length s.memory.objects
@@ -66,7 +67,8 @@ pub record StandsAt (m : Module) (s : HolderState) (l : LowState) (frame : Frame
   pub found : operands_of (facts_told (facts_of m) frame.function) s.memory frame.entries (item_taken f (item.Inst (stands_at f frame.trail))) ≡ Ok ops
   pub takes : values_taken f (item.Inst (stands_at f frame.trail)) ≡ map operand_value i.operands
 
--- what becomes of stored numbers behind an instruction, in the words of the run by holders: where references are made, and where storage begins or ceases to name an object
+-- what becomes of stored numbers behind an instruction, in the words of the run by holders: where references are made, and where storage begins or
+-- ceases to name an object
 abbrev pub stored_for : Module → HolderState → Frame → Inst → List Datum → Change → List Numbers → List Numbers
 stored_for m s frame i xs c stored =
     numbers_for c.memory (each_changed one_more c.retained

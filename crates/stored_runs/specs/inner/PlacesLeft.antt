@@ -1,4 +1,5 @@
--- What is left of `PlacesTold` where written types have told the rest: that parts that frames were given keep their cells, and that a part isn't written for the first time.
+-- What is left of `PlacesTold` where written types have told the rest: that parts that frames were given keep their cells, and that a part isn't
+-- written for the first time.
 use Rattle.std.specs.Prelude.{◌≡◌, List, [], ◌∷◌, Some, false, is_some, true}
 use Rattle.sil_ast.specs.declared.function.Function.{Function}
 use Rattle.sil_ast.specs.declared.inst.Inst.{Inst}
@@ -26,8 +27,10 @@ pub record PlacesLeft (m : Module) (s : HolderState) (l : LowState) (frame : Fra
   pub emptied : (y : Place) → ops.given ≡ AddressOf y ∷ [] → is_some (storage_in y.shape) ≡ true → ArePartsFull m s l frame f i ops (emptied l.memory y)
   pub removed : (y : Place) → ops.given ≡ AddressOf y ∷ [] → effect_of i.op ≡ row.RemovesSlot → ArePartsFull m s l frame f i ops (removed l.memory y)
   -- a part isn't written for the first time
-  pub whole : (w : Value) (y : Place) → ops.given ≡ ValueOf w ∷ AddressOf y ∷ [] → operation_done m s l frame f i ops ≡ Some operation.FirstWrite → y.is_part ≡ false
+  pub whole : (w : Value) (y : Place) → ops.given ≡ ValueOf w ∷ AddressOf y ∷ [] → operation_done m s l frame f i ops ≡ Some operation.FirstWrite
+      → y.is_part ≡ false
 
 abbrev pub ArePlacesTold : Type 0
 ArePlacesTold = (m : Module) (s : HolderState) (l : LowState) (w : World) (frame : Frame) (rest : List (Task Frame)) (f : Function) (i : Inst) (ops : Operands)
-    → IsAcceptedBody m frame.function.0 f → FrameIs m w f frame → StandsAt m s l frame rest f i ops → PlacesLeft m s l frame f i ops → PlacesTold m s l frame f i ops
+    → IsAcceptedBody m frame.function.0 f → FrameIs m w f frame → StandsAt m s l frame rest f i ops → PlacesLeft m s l frame f i ops
+    → PlacesTold m s l frame f i ops

@@ -46,7 +46,8 @@ module _ (m : Module) (s : HolderState) (l : LowState) (x : Datum) where
   TakesResult (Finishes deinits o ∷ rest) = Unit {0}
 
 abbrev pub AreReturned : Type 0
-AreReturned = (m : Module) (bound : ℕ) (s : HolderState) (l : LowState) (x : Datum) (rest : List (Task Frame)) (lrest : List (Task LowFrame)) (next : HolderNext)
+AreReturned = (m : Module) (bound : ℕ) (s : HolderState) (l : LowState) (x : Datum) (rest : List (Task Frame)) (lrest : List (Task LowFrame))
+    (next : HolderNext)
     → AreTotalsFor s l → IsMemoryFor s.memory l.memory → length l.numbers ≡ length s.memory.objects
     → AreTasksFor m rest lrest → Each (HasFullParts m l.memory) lrest
     → any_dead s.memory (references_in x) ≡ false → TakesResult m s l x rest

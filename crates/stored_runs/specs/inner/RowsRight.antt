@@ -150,11 +150,13 @@ module _ (m : Module) (s : HolderState) (l : LowState) (frame : Frame) (f : Func
     drops : (o : Operand) (w : Value) → effect_of i.op ≡ row.DropsOperand → lowering_of i.op ≡ lowering.Releases
         → i.operands ≡ o ∷ [] → ops.given ≡ ValueOf w ∷ [] → i.results ≡ [] → RowRight (record (unchanged s.memory) { dropped = references_of w })
     -- loads
-    loads : (o : Operand) (y : Place) (r : ValueId) (done : Operation) (z : Value) → effect_of i.op ≡ row.LoadsValue → lowering_of i.op ≡ lowering.Loads → renames i.op ≡ false
+    loads : (o : Operand) (y : Place) (r : ValueId) (done : Operation) (z : Value) → effect_of i.op ≡ row.LoadsValue
+        → lowering_of i.op ≡ lowering.Loads → renames i.op ≡ false
         → AtPlace o y → i.results ≡ r ∷ [] → value_at s.memory y ≡ Some z → (takes done ≡ true → Each MayBeTaken (cells_at s.memory y))
         → RowRight (record (unchanged (memory_after done y)) { results = ValueOf z ∷ []; retained = cond (copies_with i.qualifier) (references_of z) [] })
     -- stores: the place held nothing, or what it held is dropped
-    fills : (a b : Operand) (w : Value) (y : Place) → StoresStrong a b w y → (i.qualifier ≡ word.Init) ⊎ (i.qualifier ≡ word.Trivial) → references_at s.memory y ≡ []
+    fills : (a b : Operand) (w : Value) (y : Place) → StoresStrong a b w y → (i.qualifier ≡ word.Init) ⊎ (i.qualifier ≡ word.Trivial)
+        → references_at s.memory y ≡ []
         → RowRight (record (unchanged (filled s.memory y w)) { dropped = references_at s.memory y })
     assigns : (a b : Operand) (w : Value) (y : Place) (z : Value) → StoresStrong a b w y → i.qualifier ≡ word.Assign → Holds y z
         → RowRight (record (unchanged (filled s.memory y w)) { dropped = references_at s.memory y })
@@ -162,14 +164,18 @@ module _ (m : Module) (s : HolderState) (l : LowState) (frame : Frame) (f : Func
         → is_at_storage i ≡ false → i.results ≡ [] → AtPlace o y → Holds y z
         → RowRight (record (unchanged (emptied s.memory y)) { dropped = references_at s.memory y })
     -- weak and unowned storage
-    names : (c : Change) (o : Operand) (y : Place) (done : Operation) (z : Value) → effect_of i.op ≡ row.LoadsName → lowering_of i.op ≡ lowering.Stays → renames i.op ≡ false
+    names : (c : Change) (o : Operand) (y : Place) (done : Operation) (z : Value) → effect_of i.op ≡ row.LoadsName
+        → lowering_of i.op ≡ lowering.Stays → renames i.op ≡ false
         → AtPlace o y → operation_done ≡ Some done → value_at s.memory y ≡ Some z
         → ◌≡◌ {A = Effect HolderFault} (loaded_name (storage_in y.shape) s.memory (memory_after done y) z) (Makes c)
         → ArePartsFull (cond (takes done) (emptied l.memory y) l.memory) → RowRight c
-    stores_name : (a b : Operand) (w : Value) (y : Place) (done : Operation) → effect_of i.op ≡ row.StoresValue → lowering_of i.op ≡ lowering.Stays → renames i.op ≡ false
-        → Stores a b w y → operation_done ≡ Some done → is_some (storage_in y.shape) ≡ true → (is_first_write done ≡ false → is_some (value_at s.memory y) ≡ true)
+    stores_name : (a b : Operand) (w : Value) (y : Place) (done : Operation) → effect_of i.op ≡ row.StoresValue → lowering_of i.op ≡ lowering.Stays
+        → renames i.op ≡ false
+        → Stores a b w y → operation_done ≡ Some done → is_some (storage_in y.shape) ≡ true → (is_first_write done ≡ false
+        → is_some (value_at s.memory y) ≡ true)
         → references_at s.memory y ≡ [] → RowRight (record (unchanged (filled s.memory y w)) { dropped = references_at s.memory y })
-    destroys_storage : (o : Operand) (y : Place) (done : Operation) (z : Value) → effect_of i.op ≡ row.DestroysPlace → lowering_of i.op ≡ lowering.Destroys → renames i.op ≡ false
+    destroys_storage : (o : Operand) (y : Place) (done : Operation) (z : Value) → effect_of i.op ≡ row.DestroysPlace
+        → lowering_of i.op ≡ lowering.Destroys → renames i.op ≡ false
         → is_at_storage i ≡ true → AtPlace o y → operation_done ≡ Some done → value_at s.memory y ≡ Some z → references_at s.memory y ≡ []
         → ArePartsFull (cond (takes done) (emptied l.memory y) l.memory)
         → RowRight (record (unchanged (memory_after done y)) { dropped = references_at s.memory y })
@@ -184,7 +190,8 @@ module _ (m : Module) (s : HolderState) (l : LowState) (frame : Frame) (f : Func
     tuple_apart : (o : Operand) (w : Value) (ys : List Value) → effect_of i.op ≡ row.GivesMembers → renames i.op ≡ false → TakesApart o w ys
         → lowering_of i.op ≡ lowering.ExtractsElements → RowRight (record (unchanged s.memory) { results = map ValueOf ys })
 
--- where a row finds what it needs, the lowered run does the same: to a state that goes along, with parts that stay full, and the stored numbers are those of the row
+-- where a row finds what it needs, the lowered run does the same: to a state that goes along, with parts that stay full, and the stored numbers are
+-- those of the row
 abbrev pub AreRowsAlong : Type 0
 AreRowsAlong = (m : Module) (bound : ℕ) (s : HolderState) (l : LowState) (frame : Frame) (rest : List (Task Frame)) (f : Function) (i : Inst) (ops : Operands)
     (c : Change) (slots : List Place) (entries : List Entry) → StandsAt m s l frame rest f i ops → AreSparesApart (declarations_of m) f
@@ -197,13 +204,16 @@ AreRowsAlong = (m : Module) (bound : ℕ) (s : HolderState) (l : LowState) (fram
 pub data TrapRight (m : Module) (s : HolderState) (frame : Frame) (i : Inst) (ops : Operands) : Trap → Type 0 where
   plain : (t : Trap)
       → holder_effects.effect (declarations_of m) (shapes_of m) (shapes_in (shapes_of m) frame.function) s.memory i ops.given ≡ Traps t
-      → lowering_of i.op ≡ lowering.Stays → renames i.op ≡ false → is_place_row (effect_of i.op) ≡ false → Each IsNoAddress ops.given → TrapRight m s frame i ops t
-  name : (t : Trap) (o : Operand) (y : Place) (done : Operation) (z : Value) → effect_of i.op ≡ row.LoadsName → lowering_of i.op ≡ lowering.Stays → renames i.op ≡ false
+      → lowering_of i.op ≡ lowering.Stays → renames i.op ≡ false → is_place_row (effect_of i.op) ≡ false → Each IsNoAddress ops.given
+      → TrapRight m s frame i ops t
+  name : (t : Trap) (o : Operand) (y : Place) (done : Operation) (z : Value) → effect_of i.op ≡ row.LoadsName → lowering_of i.op ≡ lowering.Stays
+      → renames i.op ≡ false
       → i.operands ≡ o ∷ [] → ops.given ≡ AddressOf y ∷ [] → is_there_at s.memory y ≡ true → operation_by (access_kind_of i.op) i.qualifier ≡ Some done
       → value_at s.memory y ≡ Some z
       → ◌≡◌ {A = Effect HolderFault} (loaded_name (storage_in y.shape) s.memory (cond (takes done) (emptied s.memory y) s.memory) z) (Traps t)
       → TrapRight m s frame i ops t
 
 abbrev pub AreTrapsAlong : Type 0
-AreTrapsAlong = (m : Module) (bound : ℕ) (s : HolderState) (l : LowState) (frame : Frame) (rest : List (Task Frame)) (f : Function) (i : Inst) (ops : Operands) (t : Trap)
+AreTrapsAlong = (m : Module) (bound : ℕ) (s : HolderState) (l : LowState) (frame : Frame) (rest : List (Task Frame)) (f : Function) (i : Inst)
+    (ops : Operands) (t : Trap)
     → StandsAt m s l frame rest f i ops → TrapRight m s frame i ops t → StepsAlong m bound l (Ends (Trapped t) s)

@@ -42,4 +42,5 @@ pub record AreRunsSame (m : Module) (e : FuncId) (bound : ℕ) : Type 0 where
   pub back : (low : Outcome LowFault) → LowEndsSo (lowered m) e bound low → (o : Outcome HolderFault) × EndsSo m e bound o × IsOutcomeFor o low
 
 abbrev pub LoweredRunsAreSame : Type 0
-LoweredRunsAreSame = (m : Module) (e : FuncId) (f : Function) (bound : ℕ) → IsVerified m → slice_get m.functions e.0 ≡ Some f → may_start f ≡ true → AreRunsSame m e bound
+LoweredRunsAreSame = (m : Module) (e : FuncId) (f : Function) (bound : ℕ) → IsVerified m → slice_get m.functions e.0 ≡ Some f → may_start f ≡ true
+    → AreRunsSame m e bound

@@ -23,7 +23,8 @@ module _ (m : Module) (w : World) (memory : Memory) (y : Place) where
     pub new : (x : Value) → Suits m w y.shape x → Each MayBeTaken ((in_cells y.shape).cells x)
 
 abbrev pub ArePlainPlaces : Type 0
-ArePlainPlaces = (m : Module) (w : World) (memory : Memory) (y : Place) → MemoryIs m w memory → PlaceIs m w y → has_no_storage y.shape ≡ true → IsPlainPlace m w memory y
+ArePlainPlaces = (m : Module) (w : World) (memory : Memory) (y : Place) → MemoryIs m w memory → PlaceIs m w y → has_no_storage y.shape ≡ true
+    → IsPlainPlace m w memory y
 
 -- storage holds no references
 abbrev pub AreStoragePlaces : Type 0
@@ -32,4 +33,5 @@ AreStoragePlaces = (m : Module) (w : World) (memory : Memory) (y : Place) (how :
 
 -- nor does a place of a trivial shape
 abbrev pub AreTrivialPlaces : Type 0
-AreTrivialPlaces = (m : Module) (w : World) (memory : Memory) (y : Place) → MemoryIs m w memory → PlaceIs m w y → is_trivial y.shape ≡ true → references_at memory y ≡ []
+AreTrivialPlaces = (m : Module) (w : World) (memory : Memory) (y : Place) → MemoryIs m w memory → PlaceIs m w y → is_trivial y.shape ≡ true
+    → references_at memory y ≡ []

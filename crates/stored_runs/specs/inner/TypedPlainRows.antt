@@ -25,6 +25,7 @@ abbrev pub is_plain_row : RowEffect → Bool
 is_plain_row r = not (is_place_row r) && not (calls_or_parts r)
 
 abbrev pub AreTypedPlainRows : Type 0
-AreTypedPlainRows = (m : Module) (s : HolderState) (l : LowState) (w : World) (frame : Frame) (rest : List (Task Frame)) (f : Function) (i : Inst) (ops : Operands) (c : Change)
+AreTypedPlainRows = (m : Module) (s : HolderState) (l : LowState) (w : World) (frame : Frame) (rest : List (Task Frame)) (f : Function) (i : Inst)
+    (ops : Operands) (c : Change)
     → IsAcceptedBody m frame.function.0 f → IsWorldOf m w → MemoryIs m w s.memory → FrameIs m w f frame → StandsAt m s l frame rest f i ops
     → is_plain_row (effect_of i.op) ≡ true → held_effect m s l frame f i ops ≡ Makes c → RowRight m s l frame f i ops c

@@ -34,18 +34,21 @@ pub record PlacesTold (m : Module) (s : HolderState) (l : LowState) (frame : Fra
   -- what is deallocated is no argument
   pub own_slot : (o : Operand) → i.operands ≡ o ∷ [] → effect_of i.op ≡ row.RemovesSlot → makes f o.value item.Entry ≡ false
   -- a part isn't written for the first time
-  pub whole : (w : Value) (y : Place) → ops.given ≡ ValueOf w ∷ AddressOf y ∷ [] → operation_done m s l frame f i ops ≡ Some operation.FirstWrite → y.is_part ≡ false
+  pub whole : (w : Value) (y : Place) → ops.given ≡ ValueOf w ∷ AddressOf y ∷ [] → operation_done m s l frame f i ops ≡ Some operation.FirstWrite
+      → y.is_part ≡ false
   -- the word of a store, and `[trivial]` at trivial places alone
   pub words : i.op ≡ op.Store
       → (i.qualifier ≡ word.Init) ⊎ (i.qualifier ≡ word.Assign)
       ⊎ ((i.qualifier ≡ word.Trivial) × ((w : Value) (y : Place) → ops.given ≡ ValueOf w ∷ AddressOf y ∷ [] → is_trivial y.shape ≡ true))
   -- a `store` is at a place that is no storage, and what stores there is a `store`
   pub store_bare : (w : Value) (y : Place) → ops.given ≡ ValueOf w ∷ AddressOf y ∷ [] → i.op ≡ op.Store → storage_in y.shape ≡ None
-  pub bare_store : (w : Value) (y : Place) → ops.given ≡ ValueOf w ∷ AddressOf y ∷ [] → effect_of i.op ≡ row.StoresValue → storage_in y.shape ≡ None → i.op ≡ op.Store
+  pub bare_store : (w : Value) (y : Place) → ops.given ≡ ValueOf w ∷ AddressOf y ∷ [] → effect_of i.op ≡ row.StoresValue → storage_in y.shape ≡ None
+      → i.op ≡ op.Store
   -- the written type of what is destroyed
   pub at_storage : (y : Place) → ops.given ≡ AddressOf y ∷ [] → effect_of i.op ≡ row.DestroysPlace → is_at_storage i ≡ is_some (storage_in y.shape)
 
 abbrev pub AreTypedPlaceRows : Type 0
-AreTypedPlaceRows = (m : Module) (s : HolderState) (l : LowState) (w : World) (frame : Frame) (rest : List (Task Frame)) (f : Function) (i : Inst) (ops : Operands) (c : Change)
+AreTypedPlaceRows = (m : Module) (s : HolderState) (l : LowState) (w : World) (frame : Frame) (rest : List (Task Frame)) (f : Function) (i : Inst)
+    (ops : Operands) (c : Change)
     → IsAcceptedBody m frame.function.0 f → IsWorldOf m w → MemoryIs m w s.memory → FrameIs m w f frame → StandsAt m s l frame rest f i ops
     → PlacesTold m s l frame f i ops → is_place_row (effect_of i.op) ≡ true → held_effect m s l frame f i ops ≡ Makes c → RowRight m s l frame f i ops c

@@ -57,7 +57,8 @@ TypedEndsStep = (m : Module) (bound : ℕ) (s : HolderState) (l : LowState) (fra
 
 -- at a call. A part that is handed over has to be full
 abbrev pub TypedCallsStep : Type 0
-TypedCallsStep = (m : Module) (bound : ℕ) (s : HolderState) (l : LowState) (frame : Frame) (rest : List (Task Frame)) (f : Function) (i : Inst) (ops : Operands) (next : HolderNext)
+TypedCallsStep = (m : Module) (bound : ℕ) (s : HolderState) (l : LowState) (frame : Frame) (rest : List (Task Frame)) (f : Function) (i : Inst)
+    (ops : Operands) (next : HolderNext)
     → IsTypedFor m s l → s.tasks ≡ Runs frame ∷ rest → slice_get m.functions frame.function.0 ≡ Some f
     → inst_at f (stands_at f frame.trail) ≡ Some i → i.op ≡ op.Apply
     → operands_of (facts_told (facts_of m) frame.function) s.memory frame.entries (item_taken f (item.Inst (stands_at f frame.trail))) ≡ Ok ops
@@ -68,7 +69,8 @@ TypedCallsStep = (m : Module) (bound : ℕ) (s : HolderState) (l : LowState) (fr
 
 -- a deinitialiser that waits is called
 abbrev pub TypedDeinitsStep : Type 0
-TypedDeinitsStep = (m : Module) (bound : ℕ) (s : HolderState) (l : LowState) (g : FuncId) (gs : List FuncId) (o : ObjectId) (rest : List (Task Frame)) (f : Function) (next : HolderNext)
+TypedDeinitsStep = (m : Module) (bound : ℕ) (s : HolderState) (l : LowState) (g : FuncId) (gs : List FuncId) (o : ObjectId) (rest : List (Task Frame))
+    (f : Function) (next : HolderNext)
     → IsTypedFor m s l → s.tasks ≡ Finishes (g ∷ gs) o ∷ rest → slice_get m.functions g.0 ≡ Some f
     → holder.Enters m (facts_of m) bound (record s { tasks = Finishes gs o ∷ rest }) (Finishes gs o ∷ rest) g f (ValueOf (value.Object o) ∷ []) next
     → IsNoFault next → StepsAlong m bound l next

@@ -16,6 +16,7 @@ use Rattle.stored_runs.specs.inner.PlaceRows.{StandsAt}
 use Rattle.stored_runs.specs.inner.RowsRight.{TrapRight, held_effect}
 
 abbrev pub AreTypedTraps : Type 0
-AreTypedTraps = (m : Module) (s : HolderState) (l : LowState) (w : World) (frame : Frame) (rest : List (Task Frame)) (f : Function) (i : Inst) (ops : Operands) (t : Trap)
+AreTypedTraps = (m : Module) (s : HolderState) (l : LowState) (w : World) (frame : Frame) (rest : List (Task Frame)) (f : Function) (i : Inst)
+    (ops : Operands) (t : Trap)
     → IsAcceptedBody m frame.function.0 f → FrameIs m w f frame → StandsAt m s l frame rest f i ops
     → held_effect m s l frame f i ops ≡ Traps t → TrapRight m s frame i ops t

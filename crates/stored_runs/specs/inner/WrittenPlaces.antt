@@ -30,10 +30,12 @@ pub record PlacesWritten (i : Inst) (ops : Operands) : Type 0 where
       ⊎ ((i.qualifier ≡ word.Trivial) × ((w : Value) (y : Place) → ops.given ≡ ValueOf w ∷ AddressOf y ∷ [] → is_trivial y.shape ≡ true))
   -- a `store` is at a place that is no storage, and what stores there is a `store`
   pub store_bare : (w : Value) (y : Place) → ops.given ≡ ValueOf w ∷ AddressOf y ∷ [] → i.op ≡ op.Store → storage_in y.shape ≡ None
-  pub bare_store : (w : Value) (y : Place) → ops.given ≡ ValueOf w ∷ AddressOf y ∷ [] → effect_of i.op ≡ row.StoresValue → storage_in y.shape ≡ None → i.op ≡ op.Store
+  pub bare_store : (w : Value) (y : Place) → ops.given ≡ ValueOf w ∷ AddressOf y ∷ [] → effect_of i.op ≡ row.StoresValue → storage_in y.shape ≡ None
+      → i.op ≡ op.Store
   -- the written type of what is destroyed
   pub at_storage : (y : Place) → ops.given ≡ AddressOf y ∷ [] → effect_of i.op ≡ row.DestroysPlace → is_at_storage i ≡ is_some (storage_in y.shape)
 
 abbrev pub ArePlacesWritten : Type 0
-ArePlacesWritten = (m : Module) (s : HolderState) (l : LowState) (w : World) (frame : Frame) (rest : List (Task Frame)) (f : Function) (i : Inst) (ops : Operands)
+ArePlacesWritten = (m : Module) (s : HolderState) (l : LowState) (w : World) (frame : Frame) (rest : List (Task Frame)) (f : Function) (i : Inst)
+    (ops : Operands)
     → IsAcceptedBody m frame.function.0 f → FrameIs m w f frame → StandsAt m s l frame rest f i ops → PlacesWritten i ops
