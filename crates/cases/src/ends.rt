@@ -2,7 +2,7 @@
 
 ghost use Rattle.std.specs.Prelude.{◌≤◌};
 
-use case_calls::{Answer, add, line};
+use crate::answer::{Answer, add, line};
 use sil_ast::Exhausted;
 use sil_command::command;
 use sil_io::{MemorySink, MemorySource, NullSink, SteadySource};

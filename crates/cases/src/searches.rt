@@ -1,7 +1,8 @@
 //! What the searches answer, for one switch or for three together, on a function of these blocks.
 
+use crate::answer::{Answer, add, line};
 use crate::marked::{MARKS, Switch, Switches};
-use case_calls::{Answer, add, line, module_of};
+use crate::modules::module_of;
 use reach_engine::{Found, FoundAll, search, search_all};
 use sil_ast::{BlockId, EdgeId, Exhausted, Function};
 use sil_cfg::{Graph, has_graph};

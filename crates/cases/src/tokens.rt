@@ -1,6 +1,6 @@
 //! The tokens of a text, with their places.
 
-use case_calls::{Answer, add};
+use crate::answer::{Answer, add};
 use sil_ast::{Exhausted, Place};
 use sil_lexer::LexRefusal::{BadByte, NameTooLong, UnclosedText};
 use sil_lexer::{LexRefusal, TokenKind, end_place, lex, place_at};

@@ -1,6 +1,7 @@
 //! What the check of types answers to a text. It goes into lowered functions too, which `check` refuses as a whole.
 
-use case_calls::{Answer, add, line, module_of, table_of};
+use crate::answer::{Answer, add, line};
+use crate::modules::{module_of, table_of};
 use sil_ast::{Exhausted, FuncId, PointId};
 use sil_rules::Rule;
 use std::alloc::{AllocError, Global};

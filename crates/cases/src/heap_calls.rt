@@ -3,7 +3,7 @@
 ghost use Rattle.std.specs.Prelude.{◌≡◌, ◌<◌, ◌^◌, false, true};
 ghost use Rattle.heap_model.specs.HeapViews.{is_dead_in};
 
-use case_calls::{Answer, add};
+use crate::answer::{Answer, add};
 use count_heap::{Heap, Totals};
 use heap_model::Released;
 use run_values::Phase;
@@ -30,7 +30,7 @@ const NOT_MADE: Given = Given::Word(" isn't made");
 
 /// A line for each word: the word, and what its call gives. `slots` and `totals` are words of their own, each other one is a
 /// call and a number: of a class behind `allocate`, and else of an object.
-pub fn answer_on_heap(
+pub(crate) fn answer_on_heap(
     alloc: Global,
     words: &[&str],
     table: &TypeTable,

@@ -11,7 +11,7 @@ use sil_types::{TypeRefusal, TypeTable};
 use std::alloc::Global;
 
 /// The module, or nothing where the text is none or is past a limit.
-pub fn module_of(alloc: Global, text: &[u8]) -> Result<Option<Module>, Exhausted>
+pub(crate) fn module_of(alloc: Global, text: &[u8]) -> Result<Option<Module>, Exhausted>
     ensures { IfOk result (λ m. IfSome m IsNumbered) }
 {
     if limits::TEXT_BYTES < text.len() {
@@ -25,7 +25,7 @@ pub fn module_of(alloc: Global, text: &[u8]) -> Result<Option<Module>, Exhausted
 }
 
 /// The type table, or nothing where 101 to 104, or a limit on types, is broken.
-pub fn table_of(alloc: Global, m: &Module) -> Result<Option<TypeTable>, Exhausted>
+pub(crate) fn table_of(alloc: Global, m: &Module) -> Result<Option<TypeTable>, Exhausted>
     requires { IsNumbered m.now }
     ensures { IfOk result (λ table. IfSome table (λ t. AreDeclarationsOf t m.now)) }
 {

@@ -1,6 +1,7 @@
-//! A program that makes the call which its words name.
+//! The words of the program and its text, and what is answered.
 
 use crate::answer::Answer;
+use crate::calls::answer;
 use sil_ast::Exhausted;
 use sil_io::{Sink, Source, read_all, write_all};
 use sil_rules::{Status, limits};
@@ -8,15 +9,8 @@ use std::alloc::{AllocError, Global};
 use std::env::Args;
 use std::io;
 
-/// The calls that a program can make.
-pub trait Calls {
-    /// What the call that these words name answers to a text. The first of the words is the program's name.
-    fn answer(&self, alloc: Global, words: &[&str], text: &[u8]) -> Result<Answer, Exhausted>;
-}
-
 /// Answers what the words ask of the text in the source, and gives the status.
-pub fn run<C: Calls, S: Source, K: Sink>(
-    calls: &C,
+pub(crate) fn run<S: Source, K: Sink>(
     alloc: Global,
     args: io::Result<Args>,
     source: &mut S,
@@ -28,7 +22,7 @@ pub fn run<C: Calls, S: Source, K: Sink>(
     let Ok(text) = read_all(alloc, source, limits::TEXT_BYTES) else {
         return Status::ReadFault.code();
     };
-    match answer_to(calls, alloc, args, text.as_slice()) {
+    match answer_to(alloc, args, text.as_slice()) {
         Ok(answer) => match write_all(out, answer.written.as_slice()) {
             Ok(()) => answer.status,
             Err(_fault) => Status::WriteFault.code(),
@@ -38,18 +32,13 @@ pub fn run<C: Calls, S: Source, K: Sink>(
 }
 
 /// What the words ask of a text.
-fn answer_to<C: Calls>(
-    calls: &C,
-    alloc: Global,
-    args: Args,
-    text: &[u8],
-) -> Result<Answer, Exhausted> {
+fn answer_to(alloc: Global, args: Args, text: &[u8]) -> Result<Answer, Exhausted> {
     let mut words = Vec::new(alloc);
     for word in args {
         words.push(word)?;
     }
     let texts = texts_of(alloc, words.as_slice())?;
-    calls.answer(alloc, texts.as_slice(), text)
+    answer(alloc, texts.as_slice(), text)
 }
 
 /// The texts of these words.

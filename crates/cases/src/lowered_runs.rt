@@ -8,9 +8,9 @@ ghost use Rattle.numbered_form.specs.inner.NumberedForm.{IsNumbered};
 ghost use Rattle.report_writing.specs.run_typing.Runnable.{IsNotOwned, IsRunnable};
 ghost use Rattle.type_definitions.specs.Rules.{AreDeclarationsOf};
 
+use crate::answer::{Answer, line};
 use crate::run_reports::answer_of_run;
 use argument_conventions::argument_count;
-use case_calls::{Answer, line};
 use count_machine::run;
 use sil_ast::{Boxed, Exhausted, Form, FuncId, Function, List, Module, TryClone, TypeName};
 use sil_types::TypeTable;
@@ -21,7 +21,7 @@ use type_check::{CheckRefusal, check};
 const TURNS: u32 = 1_000_000;
 
 /// What the run of `@main` tells, for a bound on turns; or, with status 1, why there is none. The events are told or left out.
-pub fn answer_on_run(
+pub(crate) fn answer_on_run(
     alloc: Global,
     turns: &str,
     m: &Module,

@@ -4,7 +4,7 @@ ghost use Rattle.std.specs.Prelude.{◌≡◌};
 ghost use Rattle.report_writing.specs.run_typing.Runnable.{IsRunnable};
 ghost use Rattle.type_definitions.specs.Declarations.{declarations_of};
 
-use case_calls::Answer;
+use crate::answer::Answer;
 use count_machine::{LowEnd, LowRun};
 use report_writing::{Ending, RunOutcome, write_report};
 use sil_ast::{Exhausted, Module, TypeName};
@@ -12,7 +12,7 @@ use sil_types::TypeTable;
 use std::alloc::Global;
 
 /// The report of a run that began at a function which gives this type. The events are told or left out.
-pub fn answer_of_run(
+pub(crate) fn answer_of_run(
     alloc: Global,
     m: &Module,
     table: &TypeTable,
