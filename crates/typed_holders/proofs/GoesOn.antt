@@ -1,31 +1,31 @@
 -- A frame goes on behind an item, or a function is entered: typed data lead to a typed state.
 use Rattle.std.proofs.Common.{◌≡◌, ◌<◌, ℕ, List, [], ◌∷◌, length, refl, subst, arith, true}
 use Rattle.std.specs.Prelude.{Err, Ok, Some, slice_get}
-use Rattle.scoped_addresses.specs.accepted_values.inner.Known.{IsAcceptedBody}
-use Rattle.scoped_addresses.specs.accepted_values.run_typing.Forms.{entry_forms}
-use Rattle.scoped_addresses.specs.accepted_values.accepted_modules.inner.Checked.{IsVerified}
-use Rattle.scoped_addresses.specs.accepted_values.accepted_modules.Refusals.{lowered}
-use Rattle.scoped_addresses.proofs.accepted_values.Accepted.{well_typed}
-use Rattle.scoped_addresses.proofs.accepted_values.Facts.{run_facts}
+use Rattle.accepted_facts.specs.accepted_values.inner.Known.{IsAcceptedBody}
+use Rattle.accepted_facts.specs.accepted_values.run_typing.Forms.{entry_forms}
+use Rattle.accepted_facts.specs.accepted_values.accepted_modules.inner.Checked.{IsVerified}
+use Rattle.accepted_facts.specs.accepted_values.accepted_modules.Refusals.{lowered}
+use Rattle.accepted_facts.proofs.accepted_values.Accepted.{well_typed}
+use Rattle.accepted_facts.proofs.accepted_values.Facts.{run_facts}
 use Rattle.holder_steps.specs.inner.Ways.{Enters, GoesBehind}
 use Rattle.holder_steps.proofs.WhichFaults.{slots_err}
 use Rattle.item_operands.specs.Items.{item_defined}
 use Rattle.numbered_form.specs.Lists.{Each}
-use Rattle.scoped_addresses.proofs.accepted_values.owned_run_typing.OwnedIsTyped.{owned_is_typed}
-use Rattle.scoped_addresses.specs.accepted_values.owned_run_typing.inner.OwnedTyped.{OwnedFunction, OwnedTyped}
-use Rattle.scoped_addresses.proofs.held_entries.accepted_trails.run_trails.WalkEdges.{are_next}
-use Rattle.scoped_addresses.specs.held_entries.holder_model.Calling.{value_count}
-use Rattle.scoped_addresses.specs.held_entries.holder_model.Data.{Datum}
-use Rattle.scoped_addresses.specs.held_entries.holder_model.Effects.{Change, SlotChange}
-use Rattle.scoped_addresses.specs.held_entries.holder_model.Faults.{HolderFault, NotLastSlot, WrongShape}
-use Rattle.scoped_addresses.specs.held_entries.holder_model.Frames.{Frame, has_any, no_entries, results_put}
-use Rattle.scoped_addresses.specs.held_entries.holder_model.HolderStates.{HolderNext, HolderState}
-use Rattle.scoped_addresses.specs.held_entries.holder_model.ModuleFacts.{facts_of}
-use Rattle.scoped_addresses.specs.held_entries.holder_model.Standing.{stands_at}
-use Rattle.scoped_addresses.specs.held_entries.holder_model.StepParts.{fault, new_frame, slots_behind}
-use Rattle.scoped_addresses.specs.held_entries.holder_model.States.{Ending, Ends, Faulted, Goes, OutOfTurns, Runs, Task, Trapped}
-use Rattle.scoped_addresses.specs.held_entries.holder_model.declared.trap.Trap.TheVariants as trap
-use Rattle.scoped_addresses.specs.held_entries.accepted_trails.run_trails.inner.RunTrails.{ComesAt, GoesOn}
+use Rattle.accepted_facts.proofs.accepted_values.owned_run_typing.OwnedIsTyped.{owned_is_typed}
+use Rattle.accepted_facts.specs.accepted_values.owned_run_typing.inner.OwnedTyped.{OwnedFunction, OwnedTyped}
+use Rattle.accepted_facts.proofs.held_entries.accepted_trails.run_trails.WalkEdges.{are_next}
+use Rattle.accepted_facts.specs.held_entries.holder_model.Calling.{value_count}
+use Rattle.accepted_facts.specs.held_entries.holder_model.Data.{Datum}
+use Rattle.accepted_facts.specs.held_entries.holder_model.Effects.{Change, SlotChange}
+use Rattle.accepted_facts.specs.held_entries.holder_model.Faults.{HolderFault, NotLastSlot, WrongShape}
+use Rattle.accepted_facts.specs.held_entries.holder_model.Frames.{Frame, has_any, no_entries, results_put}
+use Rattle.accepted_facts.specs.held_entries.holder_model.HolderStates.{HolderNext, HolderState}
+use Rattle.accepted_facts.specs.held_entries.holder_model.ModuleFacts.{facts_of}
+use Rattle.accepted_facts.specs.held_entries.holder_model.Standing.{stands_at}
+use Rattle.accepted_facts.specs.held_entries.holder_model.StepParts.{fault, new_frame, slots_behind}
+use Rattle.accepted_facts.specs.held_entries.holder_model.States.{Ending, Ends, Faulted, Goes, OutOfTurns, Runs, Task, Trapped}
+use Rattle.accepted_facts.specs.held_entries.holder_model.declared.trap.Trap.TheVariants as trap
+use Rattle.accepted_facts.specs.held_entries.accepted_trails.run_trails.inner.RunTrails.{ComesAt, GoesOn}
 use Rattle.run_values.specs.Places.{Place}
 use Rattle.sil_ast.specs.declared.function.Block.{Block}
 use Rattle.sil_ast.specs.declared.function.Function.{Function}

@@ -2,22 +2,22 @@
 use Rattle.std.proofs.Common.{◌≡◌, ◌<◌, ◌⊎◌, inl, inr, ℕ, List, [], ◌∷◌, map, refl, sym, ap, ◌∙◌, subst, Bool, true, false, cond, Option, Some, None}
 use Rattle.std.specs.Prelude.{Contains, slice_get}
 use Rattle.std.proofs.lemmas.Option.{same_Some}
-use Rattle.scoped_addresses.specs.accepted_values.inner.Known.{IsAcceptedBody, kind_at, type_in}
-use Rattle.scoped_addresses.specs.accepted_values.inner.Nones.{WhyPlain, address, made, trivial, untyped}
-use Rattle.scoped_addresses.specs.accepted_values.inner.Operands.{HasNoOwner, kind_by_row, kind_together}
-use Rattle.scoped_addresses.specs.accepted_values.run_typing.CallForms.{IsOf}
-use Rattle.scoped_addresses.specs.accepted_values.run_typing.Forms.{Form, OfPlace, OfValue, form_by, form_of, form_with, forms_of}
-use Rattle.scoped_addresses.proofs.accepted_values.Accepted.{counted}
-use Rattle.scoped_addresses.proofs.accepted_values.Counted.{stands}
-use Rattle.scoped_addresses.proofs.accepted_values.Nones.{plain_told}
-use Rattle.scoped_addresses.proofs.accepted_values.Places.{IsArgumentOf, no_argument_and_result, results_once}
-use Rattle.scoped_addresses.proofs.accepted_values.Suited.{results_of_kinds}
-use Rattle.scoped_addresses.proofs.accepted_values.lowering_laws.Lowerable.{contained}
-use Rattle.scoped_addresses.proofs.accepted_values.run_typing_laws.Declared.{each_from}
-use Rattle.scoped_addresses.proofs.accepted_values.run_typing_laws.ItemFacts.{values_counted}
-use Rattle.scoped_addresses.proofs.accepted_values.run_typing_laws.Rows.Points.{is_at}
-use Rattle.scoped_addresses.specs.accepted_values.accepted_modules.sil_types.Typing.Shapes.{target}
-use Rattle.scoped_addresses.specs.accepted_values.accepted_modules.sil_types.Typing.Values.{function_at, value_functions}
+use Rattle.accepted_facts.specs.accepted_values.inner.Known.{IsAcceptedBody, kind_at, type_in}
+use Rattle.accepted_facts.specs.accepted_values.inner.Nones.{WhyPlain, address, made, trivial, untyped}
+use Rattle.accepted_facts.specs.accepted_values.inner.Operands.{HasNoOwner, kind_by_row, kind_together}
+use Rattle.accepted_facts.specs.accepted_values.run_typing.CallForms.{IsOf}
+use Rattle.accepted_facts.specs.accepted_values.run_typing.Forms.{Form, OfPlace, OfValue, form_by, form_of, form_with, forms_of}
+use Rattle.accepted_facts.proofs.accepted_values.Accepted.{counted}
+use Rattle.accepted_facts.proofs.accepted_values.Counted.{stands}
+use Rattle.accepted_facts.proofs.accepted_values.Nones.{plain_told}
+use Rattle.accepted_facts.proofs.accepted_values.Places.{IsArgumentOf, no_argument_and_result, results_once}
+use Rattle.accepted_facts.proofs.accepted_values.Suited.{results_of_kinds}
+use Rattle.accepted_facts.proofs.accepted_values.lowering_laws.Lowerable.{contained}
+use Rattle.accepted_facts.proofs.accepted_values.run_typing_laws.Declared.{each_from}
+use Rattle.accepted_facts.proofs.accepted_values.run_typing_laws.ItemFacts.{values_counted}
+use Rattle.accepted_facts.proofs.accepted_values.run_typing_laws.Rows.Points.{is_at}
+use Rattle.accepted_facts.specs.accepted_values.accepted_modules.sil_types.Typing.Shapes.{target}
+use Rattle.accepted_facts.specs.accepted_values.accepted_modules.sil_types.Typing.Values.{function_at, value_functions}
 use Rattle.instruction_table.specs.Forms.{result_kind_of}
 use Rattle.instruction_table.specs.declared.entries.ResultKind.{ResultKind}
 use Rattle.instruction_table.specs.declared.entries.ResultKind.TheVariants.{OwnedResult, ScopeResult}
@@ -26,9 +26,9 @@ use Rattle.item_operands.specs.Items.{arg_value}
 use Rattle.item_operands.specs.Parts.{inst_at}
 use Rattle.numbered_form.specs.Insts.{insts_of}
 use Rattle.numbered_form.specs.Lists.{Each}
-use Rattle.scoped_addresses.specs.accepted_values.owned_run_typing.ownership_origins.Origins.{is_trivial_or_untyped}
+use Rattle.accepted_facts.specs.accepted_values.owned_run_typing.ownership_origins.Origins.{is_trivial_or_untyped}
 use Rattle.point_checks.specs.Points.{IsAt}
-use Rattle.scoped_addresses.specs.held_entries.holder_model.Data.{Datum}
+use Rattle.accepted_facts.specs.held_entries.holder_model.Data.{Datum}
 use Rattle.run_values.specs.Shapes.{Shape, shape_of}
 use Rattle.run_values.specs.Trivial.{is_trivial}
 use Rattle.sil_ast.specs.Blocks.{args_of}
