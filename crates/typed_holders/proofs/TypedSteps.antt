@@ -8,7 +8,7 @@ use Rattle.accepted_facts.specs.accepted_values.run_typing.EndForms.{EndForms, v
 use Rattle.accepted_facts.specs.accepted_values.run_typing.Forms.{OfValue}
 use Rattle.accepted_facts.specs.accepted_values.run_typing.lowered_run.LowStepParts.{values_taken}
 use Rattle.accepted_facts.specs.accepted_values.accepted_modules.inner.Checked.{IsVerified}
-use Rattle.accepted_facts.proofs.accepted_values.Accepted.{well_typed}
+use Rattle.accepted_facts.proofs.Facts.{accepted_facts}
 use Rattle.accepted_facts.proofs.accepted_values.run_typing_laws.BlockFacts.{block_there}
 use Rattle.accepted_facts.proofs.accepted_values.run_typing_laws.FunctionFacts.{TypedFunction, typed_function}
 use Rattle.argument_conventions.specs.Arguments.{arguments_of}
@@ -204,7 +204,7 @@ module _ (m : Module) (v : IsVerified m) (bound : ℕ) (s : HolderState) (rest :
       not_inside (OwnedEndForms.also_lowered other (EndForms.unreachable is')) = cc
       not_inside (OwnedEndForms.cases shape is' operands is_enum all) = cc
   acts _ (Acts.no_terminator behind none) =
-      let function = typed_function m (well_typed m v) frame.function.0 f r.typed.is in
+      let function = typed_function m (accepted_facts.modules_are_well_typed m v) frame.function.0 f r.typed.is in
       let block = stands_in_block m f function (has_blocks f.blocks r.typed.bodied) frame.trail r.typed.trail r.typed.goes in
       absurd (none-some block.0 (sym none ∙ block.1))
 

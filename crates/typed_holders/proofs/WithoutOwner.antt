@@ -9,9 +9,8 @@ use Rattle.accepted_facts.specs.accepted_values.run_typing.CallForms.{IsOf}
 use Rattle.accepted_facts.specs.accepted_values.run_typing.Forms.{Form, OfPlace, OfValue, form_by, form_of, form_with, forms_of}
 use Rattle.accepted_facts.proofs.accepted_values.Accepted.{counted}
 use Rattle.accepted_facts.proofs.accepted_values.Counted.{stands}
-use Rattle.accepted_facts.proofs.accepted_values.Nones.{plain_told}
+use Rattle.accepted_facts.proofs.Facts.{accepted_facts}
 use Rattle.accepted_facts.proofs.accepted_values.Places.{IsArgumentOf, no_argument_and_result, results_once}
-use Rattle.accepted_facts.proofs.accepted_values.Suited.{results_of_kinds}
 use Rattle.accepted_facts.proofs.accepted_values.lowering_laws.Lowerable.{contained}
 use Rattle.accepted_facts.proofs.accepted_values.run_typing_laws.Declared.{each_from}
 use Rattle.accepted_facts.proofs.accepted_values.run_typing_laws.ItemFacts.{values_counted}
@@ -99,7 +98,7 @@ module _ (m : Module) (n : ℕ) (f : Function) (a : IsAcceptedBody m n f) where
   why v (made block index k i here at plain) = inr (record { block = block; index = index; i = i; here = here; gives = contained i.results k v at; plain = plain })
 
   reason : (v : ValueId) → IsOf f v → kind_at d f v ≡ kind.Plain → IsTrivialValue v ⊎ MadeOfPlain v
-  reason v of plain = why v (plain_told m n f a v (subst (λ c. v.0 < c) (values_counted f) of) plain)
+  reason v of plain = why v (accepted_facts.plain_are_told m n f a v (subst (λ c. v.0 < c) (values_counted f) of) plain)
 
   module _ (w : World) where
     -- ---- an argument of a block
@@ -128,7 +127,7 @@ module _ (m : Module) (n : ℕ) (f : Function) (a : IsAcceptedBody m n f) where
       owning_trivial : (v : ValueId) → Contains i.results v → IsOwningRow i.op → kind_at d f v ≡ kind.Plain → IsTrivialValue v
       owning_trivial v gives owning plain =
           let at = stands i.results v gives in
-          by (is_trivial_or_untyped d (type_in d f v)) refl (sym (results_of_kinds m n f a p.block.0 p.index at.0 i v (is_at f p i there) at.1) ∙ plain)
+          by (is_trivial_or_untyped d (type_in d f v)) refl (sym (accepted_facts.results_have_kinds m n f a p.block.0 p.index at.0 i v (is_at f p i there) at.1) ∙ plain)
         where
           no : (r : ResultKind) → result_kind_of i.op ≡ r → kind_by_row r (kind_together d f i) ≡ kind.Owned ⊎ kind_by_row r (kind_together d f i) ≡ kind.Guaranteed
               → kind_by_row (result_kind_of i.op) (kind_together d f i) ≡ kind.Plain → ⊥
@@ -148,7 +147,7 @@ module _ (m : Module) (n : ℕ) (f : Function) (a : IsAcceptedBody m n f) where
           → (kind_at d f v ≡ kind.Owned) ⊎ ((kind_at d f v ≡ kind.Plain) × (is_trivial s ≡ true))
       owned_or_trivial v gives owned s form =
           let at = stands i.results v gives in
-          by (is_trivial_or_untyped d (type_in d f v)) refl (results_of_kinds m n f a p.block.0 p.index at.0 i v (is_at f p i there) at.1)
+          by (is_trivial_or_untyped d (type_in d f v)) refl (accepted_facts.results_have_kinds m n f a p.block.0 p.index at.0 i v (is_at f p i there) at.1)
         where
           by : (b : Bool) → is_trivial_or_untyped d (type_in d f v) ≡ b → kind_at d f v ≡ cond b kind.Plain (kind_by_row (result_kind_of i.op) (kind_together d f i))
               → (kind_at d f v ≡ kind.Owned) ⊎ ((kind_at d f v ≡ kind.Plain) × (is_trivial s ≡ true))
