@@ -171,6 +171,7 @@ accepted_facts = record {
   slots_are_opened = slots_opened;
   slots_are_closed = slots_closed;
   none_are_left = none_left_over;
+  -- operations on places
   operations_have_rows = rows_right;
   deallocated_are_slots = of_slots;
   -- values that are Plain, told apart by their types

@@ -83,7 +83,7 @@ pub record AcceptedFacts : Type 0 where
   pub begun_are_told : AreBegunTold
   -- each value is made by an instruction, by the entry, or by the edges into a block
   pub values_are_made_somewhere : AreMadeSomewhere
-  -- and by no other item
+  -- by each item that is there, and by no other
   pub values_are_made_there : AreMadeThere
   -- so it is made by one item, or by all edges into one block
   pub values_are_made_at_stops : AreMadeAtStops
@@ -158,13 +158,13 @@ pub record AcceptedFacts : Type 0 where
   pub bases_are_handed_on : AreHandedOn
   -- an address has the bases of its operands
   pub addresses_have_bases : AreBasesOfAddresses
-  -- the bases of an operand were made when it was or before, and not anew since
+  -- the bases of an operand were made when it was or before, and not anew since, as values are made at stops and have bases of what is taken
   pub bases_are_as_made : AreBasesAsMade
   -- while a scope is open what it borrows from doesn't end
   pub bases_are_kept : AreBasesKept
-  -- an Owned value that it borrows is held, and hasn't begun anew
+  -- an Owned value that it borrows is held, and hasn't begun anew, if what opens the scope uses it
   pub borrowed_are_held : AreBorrowedHeld
-  -- a scope that it borrows from is open, and hasn't begun anew
+  -- a scope that it borrows from is open, and hasn't begun anew, if what opens the scope uses it
   pub borrowed_are_open : AreBorrowedOpen
   -- the scopes of an address are open where the next item takes it
   pub addresses_are_in_scopes : AreAddressesInScopes
@@ -251,7 +251,7 @@ pub record AcceptedFacts : Type 0 where
 
   -- ---- what doesn't overlap
 
-  -- two parts of a shape of which neither is within the other have no leaf in common
+  -- two parts of a shape of which neither is within the other have no cell in common
   pub parts_are_apart : AreApartByCells
   -- two addresses that an item hands over don't overlap, unless both are shared
   pub handed_are_apart : AreApart
@@ -274,6 +274,9 @@ pub record AcceptedFacts : Type 0 where
   pub slots_are_closed : AreSlotsClosed
   -- at a `return` there is none
   pub none_are_left : AreNoneLeft
+
+  -- ---- operations on places
+
   -- each operation is one that the row of its location has
   pub operations_have_rows : AreRowsRight
   -- what is deallocated is a slot
@@ -283,7 +286,7 @@ pub record AcceptedFacts : Type 0 where
 
   -- an accepted module keeps the rules on types that a run relies on
   pub modules_are_well_typed : AreWellTyped
-  -- so each operand and each result is a value of a shape, an address, a function or nothing, as its row asks
+  -- so each operand and each result is a value of a shape, an address, a function or nothing, as its row asks, where no function is lowered
   pub values_have_forms : OwnedIsTyped
   -- a value of a trivial type, and one without a type, is Plain
   pub trivial_are_plain : AreTrivialPlain
