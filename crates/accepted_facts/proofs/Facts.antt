@@ -181,5 +181,5 @@ accepted_facts = record {
   addresses_are_plain = addresses_plain;
   plain_are_told = plain_told;
   plain_in_scopes_are_named = plain_in_scopes_named;
-  slots_have_no_bases = slots_no_bases
+  slots_have_no_bases = slots_no_bases;
 }

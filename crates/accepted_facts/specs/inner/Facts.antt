@@ -37,7 +37,6 @@ use Rattle.scoped_addresses.specs.inner.Addresses.{AreAddressesInScopes, AreBorr
 
 pub record AcceptedFacts : Type 0 where
   -- ---- marks on the trails of items
-
   -- in a function with a body of an accepted module no rule on values is broken, and no edge goes back to the entry block
   pub functions_are_accepted : AreAccepted
   -- in a function that is ready for its graph no edge goes back to the entry block
@@ -66,9 +65,7 @@ pub record AcceptedFacts : Type 0 where
   pub accesses_find_parts_right : AreAccessesRight
   -- and so does a `return`
   pub returns_find_parts_right : AreReturnsRight
-
   -- ---- the facts of a value, and where it is made
-
   -- each value has a kind and bases: those that its origin tells by those of its operands
   pub facts_are_known : AreFactsKnown
   -- a run is told just these
@@ -111,16 +108,12 @@ pub record AcceptedFacts : Type 0 where
   pub switches_hand_over : AreSwitched
   -- a `return` gives what the signature tells of
   pub returns_give : AreGiven
-
   -- ---- operands are defined
-
   -- what the next item takes is defined on the trail
   pub operands_are_defined : AreOperandsDefined
   -- where an a precedes each b and a b each c, no a has come since the last b where a c comes next
   pub trails_are_spliced : AreSpliced
-
   -- ---- Owned operands are held
-
   -- an Owned value is its own base, and has no other
   pub owned_are_own_bases : AreOwnedOwnBases
   -- what an item ends is an Owned value, or a scope that is its own base
@@ -137,9 +130,7 @@ pub record AcceptedFacts : Type 0 where
   pub entries_go_on : AreTrackedBehind
   -- behind the ends of a `return` no Owned value is held
   pub none_is_held_at_return : NoneHeldAtReturn
-
   -- ---- the bases of a lent operand: what they are, that they are open, and haven't begun anew since it was made
-
   -- a borrow and a `@guaranteed` argument of the entry are their own bases, and have no others
   pub lenders_are_own_bases : AreLendersOwnBases
   -- the bases of a Guaranteed value are such borrows and arguments
@@ -168,9 +159,7 @@ pub record AcceptedFacts : Type 0 where
   pub borrowed_are_open : AreBorrowedOpen
   -- the scopes of an address are open where the next item takes it
   pub addresses_are_in_scopes : AreAddressesInScopes
-
   -- ---- addresses: their locations, and the slots and scopes in which these lie
-
   -- an address is a root, or a member of what is at another one
   pub addresses_are_named : AreAddressesNamed
   -- a root is a location of its own
@@ -199,9 +188,7 @@ pub record AcceptedFacts : Type 0 where
   pub arguments_are_whole : AreArgumentsWhole
   -- a slot and an argument are told to be trivial as their types are
   pub roots_are_trivial : AreRootsTrivial
-
   -- ---- places: allocated and full, allocated and empty, or not there
-
   -- a slot, and an argument that nobody shares, has a cell that is followed
   pub roots_are_followed : AreRootsFollowed
   -- each operation finds its cell full or empty, as its row needs it, and leaves it as its row says
@@ -220,9 +207,7 @@ pub record AcceptedFacts : Type 0 where
   pub arguments_are_returned_so : AreReturnedSo
   -- an argument of a trivial type stays full where it was given full
   pub trivial_arguments_stay_full : AreTrivialFull
-
   -- ---- the fields of a new object: unwritten just while they are being built
-
   -- each field of a new object has a cell that is followed
   pub fields_are_followed : AreFieldsFollowed
   -- and of each it is followed whether it is to be written
@@ -235,9 +220,7 @@ pub record AcceptedFacts : Type 0 where
   pub fields_are_written_once : AreWrittenOnce
   -- while a field is to be written the object is taken only where the row of the item allows it
   pub unfinished_are_allowed : AreUnfinishedAllowed
-
   -- ---- what is lent
-
   -- what a scope borrows of a location is followed
   pub loans_are_followed : AreLoansFollowed
   -- it is lent just while the scope is open
@@ -248,16 +231,12 @@ pub record AcceptedFacts : Type 0 where
   pub loans_are_unwritten : AreLoansUnwritten
   -- nor is its slot deallocated
   pub loans_are_there : AreLoansThere
-
   -- ---- what doesn't overlap
-
   -- two parts of a shape of which neither is within the other have no cell in common
   pub parts_are_apart : AreApartByCells
   -- two addresses that an item hands over don't overlap, unless both are shared
   pub handed_are_apart : AreApart
-
   -- ---- the slots that are allocated: one stack, which is popped at its top
-
   -- a slot is on the stack just while it is allocated
   pub slots_are_allocated : AreSlotsAllocated
   -- nothing else is on it
@@ -274,16 +253,12 @@ pub record AcceptedFacts : Type 0 where
   pub slots_are_closed : AreSlotsClosed
   -- at a `return` there is none
   pub none_are_left : AreNoneLeft
-
   -- ---- operations on places
-
   -- each operation is one that the row of its location has
   pub operations_have_rows : AreRowsRight
   -- what is deallocated is a slot
   pub deallocated_are_slots : AreOfSlots
-
   -- ---- values that are Plain, told apart by their types
-
   -- an accepted module keeps the rules on types that a run relies on
   pub modules_are_well_typed : AreWellTyped
   -- so each operand and each result is a value of a shape, an address, a function or nothing, as its row asks, where no function is lowered
