@@ -1,11 +1,11 @@
 -- Data of a form: what they are, and where they name no object.
 use Rattle.std.proofs.Common.{◌≡◌, List, [], ◌∷◌, map, refl, ap, subst, true, false}
 use Rattle.std.specs.Prelude.{Err, Ok, cond}
-use Rattle.scoped_addresses.specs.accepted_values.run_typing.Forms.{Form, OfFunction, OfPlace, OfValue}
-use Rattle.scoped_addresses.specs.held_entries.holder_model.Calling.{as_argument}
-use Rattle.scoped_addresses.specs.held_entries.holder_model.Data.{AddressOf, Datum, FunctionOf, ValueOf}
-use Rattle.scoped_addresses.specs.held_entries.holder_model.Faults.{WrongShape}
-use Rattle.scoped_addresses.specs.held_entries.holder_model.Frames.{Entry, Plain, has_any, plain_address, plain_entry}
+use Rattle.accepted_facts.specs.accepted_values.run_typing.Forms.{Form, OfFunction, OfPlace, OfValue}
+use Rattle.accepted_facts.specs.held_entries.holder_model.Calling.{as_argument}
+use Rattle.accepted_facts.specs.held_entries.holder_model.Data.{AddressOf, Datum, FunctionOf, ValueOf}
+use Rattle.accepted_facts.specs.held_entries.holder_model.Faults.{WrongShape}
+use Rattle.accepted_facts.specs.held_entries.holder_model.Frames.{Entry, Plain, has_any, plain_address, plain_entry}
 use Rattle.run_values.specs.Places.{Place}
 use Rattle.run_values.specs.Shapes.{Shape}
 use Rattle.run_values.specs.Trivial.{is_trivial}

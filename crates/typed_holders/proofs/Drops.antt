@@ -6,22 +6,22 @@ use Rattle.std.specs.Option.{option_to_list}
 use Rattle.std.proofs.lemmas.Bool.{false≢true, or_left, or_right}
 use Rattle.std.proofs.lemmas.Option.{same_Some}
 use Rattle.std.proofs.lemmas.Slice.Eq.{bytes_eq-Decides}
-use Rattle.scoped_addresses.specs.accepted_values.run_typing.CallForms.{IsDeinitOf}
-use Rattle.scoped_addresses.specs.accepted_values.run_typing.Classes.{ClassesAreSound, is_a}
-use Rattle.scoped_addresses.specs.accepted_values.run_typing.Forms.{OfValue, entry_forms}
-use Rattle.scoped_addresses.specs.accepted_values.accepted_modules.inner.Checked.{IsVerified}
-use Rattle.scoped_addresses.proofs.accepted_values.lowering_laws.Lists.{each_weaker}
-use Rattle.scoped_addresses.proofs.accepted_values.run_typing_laws.Declared.{each_append}
+use Rattle.accepted_facts.specs.accepted_values.run_typing.CallForms.{IsDeinitOf}
+use Rattle.accepted_facts.specs.accepted_values.run_typing.Classes.{ClassesAreSound, is_a}
+use Rattle.accepted_facts.specs.accepted_values.run_typing.Forms.{OfValue, entry_forms}
+use Rattle.accepted_facts.specs.accepted_values.accepted_modules.inner.Checked.{IsVerified}
+use Rattle.accepted_facts.proofs.accepted_values.lowering_laws.Lists.{each_weaker}
+use Rattle.accepted_facts.proofs.accepted_values.run_typing_laws.Declared.{each_append}
 use Rattle.holder_steps.specs.inner.Ways.{DropsOne, Enters, FinishesOne, with_tasks}
 use Rattle.numbered_form.specs.Lists.{Each}
 use Rattle.numbered_form.specs.Names.{Name}
-use Rattle.scoped_addresses.specs.held_entries.holder_model.Data.{ValueOf}
-use Rattle.scoped_addresses.specs.held_entries.holder_model.Dropping.{deinits_of, deinits_of_class, field_references}
-use Rattle.scoped_addresses.specs.held_entries.holder_model.Frames.{Frame, has_any}
-use Rattle.scoped_addresses.specs.held_entries.holder_model.HolderStates.{HolderNext, HolderState}
-use Rattle.scoped_addresses.specs.held_entries.holder_model.ModuleFacts.{facts_of}
-use Rattle.scoped_addresses.specs.held_entries.holder_model.States.{Finishes, OutOfTurns, Task, Trapped}
-use Rattle.scoped_addresses.specs.held_entries.holder_model.declared.trap.Trap.TheVariants as trap
+use Rattle.accepted_facts.specs.held_entries.holder_model.Data.{ValueOf}
+use Rattle.accepted_facts.specs.held_entries.holder_model.Dropping.{deinits_of, deinits_of_class, field_references}
+use Rattle.accepted_facts.specs.held_entries.holder_model.Frames.{Frame, has_any}
+use Rattle.accepted_facts.specs.held_entries.holder_model.HolderStates.{HolderNext, HolderState}
+use Rattle.accepted_facts.specs.held_entries.holder_model.ModuleFacts.{facts_of}
+use Rattle.accepted_facts.specs.held_entries.holder_model.States.{Finishes, OutOfTurns, Task, Trapped}
+use Rattle.accepted_facts.specs.held_entries.holder_model.declared.trap.Trap.TheVariants as trap
 use Rattle.run_values.specs.declared.phase.Phase.{Phase}
 use Rattle.run_values.specs.declared.phase.Phase.TheVariants as phase
 use Rattle.run_values.specs.Memory.{is_dead_phase, is_live_phase, object_at, phase_of}

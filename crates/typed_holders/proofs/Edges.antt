@@ -4,12 +4,12 @@ use Rattle.std.specs.Prelude.{◌==◌, Ok, cond, option_and_then, option_map, s
 use Rattle.std.proofs.lemmas.Bool.{eqb-true}
 use Rattle.std.proofs.lemmas.List.{length-map, map-append}
 use Rattle.std.proofs.lemmas.Option.{none-some, same_Some, slice_get_within}
-use Rattle.scoped_addresses.specs.accepted_values.run_typing.CallForms.{IsOf}
-use Rattle.scoped_addresses.specs.accepted_values.run_typing.EndForms.{EdgeForms, EndForms, arguments_at, handed_over, operand_forms, payload_forms, value_in}
-use Rattle.scoped_addresses.specs.accepted_values.run_typing.Forms.{Form, OfValue, form_of, forms_of}
-use Rattle.scoped_addresses.specs.accepted_values.run_typing.RowForms.{IsEnum, bit}
-use Rattle.scoped_addresses.specs.accepted_values.run_typing.lowered_run.LowStepParts.{taken_value, values_taken}
-use Rattle.scoped_addresses.specs.accepted_values.accepted_modules.inner.Checked.{IsVerified}
+use Rattle.accepted_facts.specs.accepted_values.run_typing.CallForms.{IsOf}
+use Rattle.accepted_facts.specs.accepted_values.run_typing.EndForms.{EdgeForms, EndForms, arguments_at, handed_over, operand_forms, payload_forms, value_in}
+use Rattle.accepted_facts.specs.accepted_values.run_typing.Forms.{Form, OfValue, form_of, forms_of}
+use Rattle.accepted_facts.specs.accepted_values.run_typing.RowForms.{IsEnum, bit}
+use Rattle.accepted_facts.specs.accepted_values.run_typing.lowered_run.LowStepParts.{taken_value, values_taken}
+use Rattle.accepted_facts.specs.accepted_values.accepted_modules.inner.Checked.{IsVerified}
 use Rattle.holder_steps.specs.inner.Ways.{Chooses, StandsAtEnd, TakesEdge, left_with, operands_in, turned}
 use Rattle.instruction_table.specs.Forms.{ending_of}
 use Rattle.instruction_table.specs.declared.entries.Ending.TheVariants as ending
@@ -18,22 +18,22 @@ use Rattle.item_operands.specs.Parts.{args_behind, edge_at, edge_in, item_operan
 use Rattle.item_operands.specs.Roles.{consumed, taken_along, taken_by}
 use Rattle.item_operands.specs.declared.taken.Taken.{Taken}
 use Rattle.numbered_form.specs.Lists.{Each}
-use Rattle.scoped_addresses.specs.accepted_values.owned_run_typing.inner.OwnedEnds.{OwnedCase, OwnedEndForms}
-use Rattle.scoped_addresses.specs.accepted_values.owned_run_typing.inner.OwnedTyped.{OwnedFunction}
+use Rattle.accepted_facts.specs.accepted_values.owned_run_typing.inner.OwnedEnds.{OwnedCase, OwnedEndForms}
+use Rattle.accepted_facts.specs.accepted_values.owned_run_typing.inner.OwnedTyped.{OwnedFunction}
 use Rattle.ownership_chains.specs.declared.facts.Facts.{Facts}
-use Rattle.scoped_addresses.specs.held_entries.holder_model.Builtins.{is_set}
-use Rattle.scoped_addresses.specs.held_entries.holder_model.Data.{Datum, ValueOf}
-use Rattle.scoped_addresses.specs.held_entries.holder_model.Edges.{branch_of, carried_along, carried_by, case_edge, edge_for, edge_of, is_default, payload_data, switched_data}
-use Rattle.scoped_addresses.specs.held_entries.holder_model.Effects.{unchanged}
-use Rattle.scoped_addresses.specs.held_entries.holder_model.Frames.{Frame, Operands, datum_in, entry_at, operands_of}
-use Rattle.scoped_addresses.specs.held_entries.holder_model.HolderStates.{HolderNext, HolderState}
-use Rattle.scoped_addresses.specs.held_entries.holder_model.ModuleFacts.{facts_of, facts_told}
-use Rattle.scoped_addresses.specs.held_entries.holder_model.ModuleShapes.{shape_at, shapes_in, shapes_of}
-use Rattle.scoped_addresses.specs.held_entries.holder_model.Standing.{stands_at}
-use Rattle.scoped_addresses.specs.held_entries.holder_model.StepParts.{switched_shape}
-use Rattle.scoped_addresses.specs.held_entries.holder_model.States.{OutOfTurns, Task}
-use Rattle.scoped_addresses.specs.held_entries.holder_model.Steps.{switch_edge}
-use Rattle.scoped_addresses.specs.held_entries.accepted_trails.run_trails.inner.RunTrails.{ComesAt}
+use Rattle.accepted_facts.specs.held_entries.holder_model.Builtins.{is_set}
+use Rattle.accepted_facts.specs.held_entries.holder_model.Data.{Datum, ValueOf}
+use Rattle.accepted_facts.specs.held_entries.holder_model.Edges.{branch_of, carried_along, carried_by, case_edge, edge_for, edge_of, is_default, payload_data, switched_data}
+use Rattle.accepted_facts.specs.held_entries.holder_model.Effects.{unchanged}
+use Rattle.accepted_facts.specs.held_entries.holder_model.Frames.{Frame, Operands, datum_in, entry_at, operands_of}
+use Rattle.accepted_facts.specs.held_entries.holder_model.HolderStates.{HolderNext, HolderState}
+use Rattle.accepted_facts.specs.held_entries.holder_model.ModuleFacts.{facts_of, facts_told}
+use Rattle.accepted_facts.specs.held_entries.holder_model.ModuleShapes.{shape_at, shapes_in, shapes_of}
+use Rattle.accepted_facts.specs.held_entries.holder_model.Standing.{stands_at}
+use Rattle.accepted_facts.specs.held_entries.holder_model.StepParts.{switched_shape}
+use Rattle.accepted_facts.specs.held_entries.holder_model.States.{OutOfTurns, Task}
+use Rattle.accepted_facts.specs.held_entries.holder_model.Steps.{switch_edge}
+use Rattle.accepted_facts.specs.held_entries.accepted_trails.run_trails.inner.RunTrails.{ComesAt}
 use Rattle.run_values.specs.Layers.{CaseLayer}
 use Rattle.run_values.specs.Shapes.{Shape, Unknown, case_shapes}
 use Rattle.run_values.specs.Values.{Value}

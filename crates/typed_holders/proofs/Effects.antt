@@ -1,21 +1,21 @@
 -- What an instruction with typed operands does: it leaves typed results and typed memory, calls what takes its operands, traps, or meets another fault.
 use Rattle.std.proofs.Common.{◌≡◌, ◌⊎◌, inl, ℤ, List, [], ◌∷◌, refl, sym, subst, Bool, true, false, Option, Some, None}
 use Rattle.std.specs.Prelude.{cond, is_some, option_and_then, slice_get}
-use Rattle.scoped_addresses.specs.accepted_values.run_typing.Forms.{Form, OfValue, entry_forms, given_shape}
+use Rattle.accepted_facts.specs.accepted_values.run_typing.Forms.{Form, OfValue, entry_forms, given_shape}
 use Rattle.argument_conventions.specs.declared.row.Content.{Content}
 use Rattle.argument_conventions.specs.declared.row.Content.TheVariants as content
 use Rattle.instruction_table.specs.Forms.{result_kind_of}
 use Rattle.instruction_table.specs.declared.entries.ResultKind.TheVariants.{OwnedResult}
 use Rattle.instruction_table.specs.declared.op.Op.{Op}
 use Rattle.numbered_form.specs.Lists.{Each}
-use Rattle.scoped_addresses.specs.held_entries.holder_model.Data.{Datum, all_of, values_of}
-use Rattle.scoped_addresses.specs.held_entries.holder_model.Effects.{Calls, Change, Effect, Faults, Makes, Traps, effect_by, effect_of, gives, result_shape_of, unchanged}
-use Rattle.scoped_addresses.specs.held_entries.holder_model.Faults.{HolderFault, NotLastSlot}
-use Rattle.scoped_addresses.specs.held_entries.holder_model.Frames.{has_any}
-use Rattle.scoped_addresses.specs.held_entries.holder_model.MemoryEffects.{at_places, fault_of, holds, where_held}
-use Rattle.scoped_addresses.specs.held_entries.holder_model.ModuleShapes.{shapes_of}
-use Rattle.scoped_addresses.specs.held_entries.holder_model.declared.row_effect.RowEffect.{RowEffect}
-use Rattle.scoped_addresses.specs.held_entries.holder_model.declared.trap.Trap.{Trap}
+use Rattle.accepted_facts.specs.held_entries.holder_model.Data.{Datum, all_of, values_of}
+use Rattle.accepted_facts.specs.held_entries.holder_model.Effects.{Calls, Change, Effect, Faults, Makes, Traps, effect_by, effect_of, gives, result_shape_of, unchanged}
+use Rattle.accepted_facts.specs.held_entries.holder_model.Faults.{HolderFault, NotLastSlot}
+use Rattle.accepted_facts.specs.held_entries.holder_model.Frames.{has_any}
+use Rattle.accepted_facts.specs.held_entries.holder_model.MemoryEffects.{at_places, fault_of, holds, where_held}
+use Rattle.accepted_facts.specs.held_entries.holder_model.ModuleShapes.{shapes_of}
+use Rattle.accepted_facts.specs.held_entries.holder_model.declared.row_effect.RowEffect.{RowEffect}
+use Rattle.accepted_facts.specs.held_entries.holder_model.declared.trap.Trap.{Trap}
 use Rattle.run_values.specs.Memory.{Memory}
 use Rattle.run_values.specs.Places.{Place, is_there_at}
 use Rattle.run_values.specs.Shapes.{NoMember, Shape, Tuple}

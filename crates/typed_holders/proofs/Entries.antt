@@ -5,21 +5,21 @@ use Rattle.std.specs.declared.result.Result.{Result}
 use Rattle.std.proofs.lemmas.Bool.{cases_Bool, eqb-true}
 use Rattle.std.proofs.lemmas.List.{length-replicate, length-set}
 use Rattle.std.proofs.lemmas.Option.{same_Some}
-use Rattle.scoped_addresses.specs.accepted_values.inner.Known.{kind_at}
-use Rattle.scoped_addresses.specs.accepted_values.run_typing.CallForms.{IsOf}
-use Rattle.scoped_addresses.specs.accepted_values.run_typing.Forms.{Form, form_of, forms_of}
-use Rattle.scoped_addresses.specs.accepted_values.run_typing.lowered_run.LowStepParts.{taken_value}
-use Rattle.scoped_addresses.specs.accepted_values.accepted_modules.ownership_kinds.Facts.{facts_in}
-use Rattle.scoped_addresses.proofs.held_entries.EntriesEnded.{entry_set_other, entry_set_same}
+use Rattle.accepted_facts.specs.accepted_values.inner.Known.{kind_at}
+use Rattle.accepted_facts.specs.accepted_values.run_typing.CallForms.{IsOf}
+use Rattle.accepted_facts.specs.accepted_values.run_typing.Forms.{Form, form_of, forms_of}
+use Rattle.accepted_facts.specs.accepted_values.run_typing.lowered_run.LowStepParts.{taken_value}
+use Rattle.accepted_facts.specs.accepted_values.accepted_modules.ownership_kinds.Facts.{facts_in}
+use Rattle.accepted_facts.proofs.held_entries.EntriesEnded.{entry_set_other, entry_set_same}
 use Rattle.item_operands.specs.declared.taken.Taken.{Taken}
 use Rattle.numbered_form.specs.Lists.{Each}
 use Rattle.ownership_chains.specs.declared.facts.Facts.{Facts}
-use Rattle.scoped_addresses.specs.held_entries.holder_model.Calling.{value_count}
-use Rattle.scoped_addresses.specs.held_entries.holder_model.Data.{AddressOf, Datum, FunctionOf, ValueOf}
-use Rattle.scoped_addresses.specs.held_entries.holder_model.Faults.{HolderFault, OverwritesHeld, WrongShape}
-use Rattle.scoped_addresses.specs.held_entries.holder_model.Frames.{Entry, Gone, Held, Lent, Operands, Plain, datum_in, ended_entry, ends, entry_at}
-use Rattle.scoped_addresses.specs.held_entries.holder_model.Frames.{has_any, is_held, made_entry, no_entries, operand, operand_data, operands_of, plain_address, plain_entry, put_entry}
-use Rattle.scoped_addresses.specs.held_entries.holder_model.Frames.{results_put, with_ok, without_ended}
+use Rattle.accepted_facts.specs.held_entries.holder_model.Calling.{value_count}
+use Rattle.accepted_facts.specs.held_entries.holder_model.Data.{AddressOf, Datum, FunctionOf, ValueOf}
+use Rattle.accepted_facts.specs.held_entries.holder_model.Faults.{HolderFault, OverwritesHeld, WrongShape}
+use Rattle.accepted_facts.specs.held_entries.holder_model.Frames.{Entry, Gone, Held, Lent, Operands, Plain, datum_in, ended_entry, ends, entry_at}
+use Rattle.accepted_facts.specs.held_entries.holder_model.Frames.{has_any, is_held, made_entry, no_entries, operand, operand_data, operands_of, plain_address, plain_entry, put_entry}
+use Rattle.accepted_facts.specs.held_entries.holder_model.Frames.{results_put, with_ok, without_ended}
 use Rattle.run_values.specs.Memory.{Memory}
 use Rattle.run_values.specs.Places.{Home, Inside, OnStack}
 use Rattle.run_values.specs.Values.{references_of}

@@ -1,31 +1,28 @@
 -- A frame goes on behind an item, or a function is entered: typed data lead to a typed state.
 use Rattle.std.proofs.Common.{◌≡◌, ◌<◌, ℕ, List, [], ◌∷◌, length, refl, subst, arith, true}
 use Rattle.std.specs.Prelude.{Err, Ok, Some, slice_get}
-use Rattle.scoped_addresses.specs.accepted_values.inner.Known.{IsAcceptedBody}
-use Rattle.scoped_addresses.specs.accepted_values.run_typing.Forms.{entry_forms}
-use Rattle.scoped_addresses.specs.accepted_values.accepted_modules.inner.Checked.{IsVerified}
-use Rattle.scoped_addresses.specs.accepted_values.accepted_modules.Refusals.{lowered}
-use Rattle.scoped_addresses.proofs.accepted_values.Accepted.{well_typed}
-use Rattle.scoped_addresses.proofs.accepted_values.Facts.{run_facts}
+use Rattle.accepted_facts.specs.accepted_values.inner.Known.{IsAcceptedBody}
+use Rattle.accepted_facts.specs.accepted_values.run_typing.Forms.{entry_forms}
+use Rattle.accepted_facts.specs.accepted_values.accepted_modules.inner.Checked.{IsVerified}
+use Rattle.accepted_facts.specs.accepted_values.accepted_modules.Refusals.{lowered}
+use Rattle.accepted_facts.proofs.Facts.{accepted_facts}
 use Rattle.holder_steps.specs.inner.Ways.{Enters, GoesBehind}
 use Rattle.holder_steps.proofs.WhichFaults.{slots_err}
 use Rattle.item_operands.specs.Items.{item_defined}
 use Rattle.numbered_form.specs.Lists.{Each}
-use Rattle.scoped_addresses.proofs.accepted_values.owned_run_typing.OwnedIsTyped.{owned_is_typed}
-use Rattle.scoped_addresses.specs.accepted_values.owned_run_typing.inner.OwnedTyped.{OwnedFunction, OwnedTyped}
-use Rattle.scoped_addresses.proofs.held_entries.accepted_trails.run_trails.WalkEdges.{are_next}
-use Rattle.scoped_addresses.specs.held_entries.holder_model.Calling.{value_count}
-use Rattle.scoped_addresses.specs.held_entries.holder_model.Data.{Datum}
-use Rattle.scoped_addresses.specs.held_entries.holder_model.Effects.{Change, SlotChange}
-use Rattle.scoped_addresses.specs.held_entries.holder_model.Faults.{HolderFault, NotLastSlot, WrongShape}
-use Rattle.scoped_addresses.specs.held_entries.holder_model.Frames.{Frame, has_any, no_entries, results_put}
-use Rattle.scoped_addresses.specs.held_entries.holder_model.HolderStates.{HolderNext, HolderState}
-use Rattle.scoped_addresses.specs.held_entries.holder_model.ModuleFacts.{facts_of}
-use Rattle.scoped_addresses.specs.held_entries.holder_model.Standing.{stands_at}
-use Rattle.scoped_addresses.specs.held_entries.holder_model.StepParts.{fault, new_frame, slots_behind}
-use Rattle.scoped_addresses.specs.held_entries.holder_model.States.{Ending, Ends, Faulted, Goes, OutOfTurns, Runs, Task, Trapped}
-use Rattle.scoped_addresses.specs.held_entries.holder_model.declared.trap.Trap.TheVariants as trap
-use Rattle.scoped_addresses.specs.held_entries.accepted_trails.run_trails.inner.RunTrails.{ComesAt, GoesOn}
+use Rattle.accepted_facts.specs.accepted_values.owned_run_typing.inner.OwnedTyped.{OwnedFunction, OwnedTyped}
+use Rattle.accepted_facts.specs.held_entries.holder_model.Calling.{value_count}
+use Rattle.accepted_facts.specs.held_entries.holder_model.Data.{Datum}
+use Rattle.accepted_facts.specs.held_entries.holder_model.Effects.{Change, SlotChange}
+use Rattle.accepted_facts.specs.held_entries.holder_model.Faults.{HolderFault, NotLastSlot, WrongShape}
+use Rattle.accepted_facts.specs.held_entries.holder_model.Frames.{Frame, has_any, no_entries, results_put}
+use Rattle.accepted_facts.specs.held_entries.holder_model.HolderStates.{HolderNext, HolderState}
+use Rattle.accepted_facts.specs.held_entries.holder_model.ModuleFacts.{facts_of}
+use Rattle.accepted_facts.specs.held_entries.holder_model.Standing.{stands_at}
+use Rattle.accepted_facts.specs.held_entries.holder_model.StepParts.{fault, new_frame, slots_behind}
+use Rattle.accepted_facts.specs.held_entries.holder_model.States.{Ending, Ends, Faulted, Goes, OutOfTurns, Runs, Task, Trapped}
+use Rattle.accepted_facts.specs.held_entries.holder_model.declared.trap.Trap.TheVariants as trap
+use Rattle.accepted_facts.specs.held_entries.accepted_trails.run_trails.inner.RunTrails.{ComesAt, GoesOn}
 use Rattle.run_values.specs.Places.{Place}
 use Rattle.sil_ast.specs.declared.function.Block.{Block}
 use Rattle.sil_ast.specs.declared.function.Function.{Function}
@@ -52,7 +49,7 @@ other_fault m s x other = ends (Faulted x) s (λ e. let same : x ≡ WrongShape 
 
 -- an accepted module is typed in the words of a run
 pub typed_module : (m : Module) → IsVerified m → OwnedTyped m
-typed_module m v = owned_is_typed m (well_typed m v) (λ n f there form. v.accepted.types.owned _ (lowered n f there form))
+typed_module m v = accepted_facts.values_have_forms m (accepted_facts.modules_are_well_typed m v) (λ n f there form. v.accepted.types.owned _ (lowered n f there form))
 
 pub has_blocks : (bs : List Block) → has_any bs ≡ true → 0 < length bs
 has_blocks [] e = absurd (cc)
@@ -89,10 +86,10 @@ module _ (m : Module) (v : IsVerified m) (bound : ℕ) where
               record {
                 is = typed.is;
                 bodied = typed.bodied;
-                trail = (are_next f frame.trail i typed.goes comes, typed.trail);
+                trail = (accepted_facts.next_items_come_next f frame.trail i typed.goes comes, typed.trail);
                 goes = going frame.trail;
                 entries = results_typed m w f fits frame.entries entries typed.entries
-                    (subst (λ fs. results_put fs (item_defined f i) c.results frame.entries ≡ Ok entries) (run_facts m frame.function f typed.is) put);
+                    (subst (λ fs. results_put fs (item_defined f i) c.results frame.entries ≡ Ok entries) (accepted_facts.run_facts_are_facts m frame.function f typed.is) put);
               },
             ),
             below_same m w frame behind rest refl below,
@@ -103,7 +100,8 @@ module _ (m : Module) (v : IsVerified m) (bound : ℕ) where
         behind = record frame { trail = i ∷ frame.trail; entries = entries; slots = slots; lent = [] }
     goes_behind s rest frame f typed below i comes going c memory fits dropped _ (GoesBehind.wrong_slot x e) = other_fault m s x (slot_other c.slots frame.slots x e)
     goes_behind s rest frame f typed below i comes going c memory fits dropped _ (GoesBehind.wrong_result slots x slots_is put) =
-        other_fault m s x (results_other m w f fits frame.entries x (subst (λ fs. results_put fs (item_defined f i) c.results frame.entries ≡ Err x) (run_facts m frame.function f typed.is) put))
+        let facts = accepted_facts.run_facts_are_facts m frame.function f typed.is in
+        other_fault m s x (results_other m w f fits frame.entries x (subst (λ fs. results_put fs (item_defined f i) c.results frame.entries ≡ Err x) facts put))
 
     -- a function with a body is entered
     pub enters : (s : HolderState) → MemoryIs m w s.memory → (rest : List (Task Frame)) (g : FuncId) (callee : Function) → slice_get m.functions g.0 ≡ Some callee
@@ -131,7 +129,7 @@ module _ (m : Module) (v : IsVerified m) (bound : ℕ) where
                 trail = (has_blocks callee.blocks bodied, tt);
                 goes = tt;
                 entries = results_typed m w callee fits (no_entries (value_count callee)) entries (no_entries_typed m w callee)
-                    (subst (λ fs. results_put fs (item_defined callee item.Entry) args (no_entries (value_count callee)) ≡ Ok entries) (run_facts m g callee there) put);
+                    (subst (λ fs. results_put fs (item_defined callee item.Entry) args (no_entries (value_count callee)) ≡ Ok entries) (accepted_facts.run_facts_are_facts m g callee there) put);
               },
             ),
             below (new_frame g entries) refl,
@@ -139,6 +137,6 @@ module _ (m : Module) (v : IsVerified m) (bound : ℕ) where
         })
         by _ (Enters.wrong_argument x put) =
             other_fault m s x (results_other m w callee fits (no_entries (value_count callee)) x
-            (subst (λ fs. results_put fs (item_defined callee item.Entry) args (no_entries (value_count callee)) ≡ Err x) (run_facts m g callee there) put))
+            (subst (λ fs. results_put fs (item_defined callee item.Entry) args (no_entries (value_count callee)) ≡ Err x) (accepted_facts.run_facts_are_facts m g callee there) put))
         by _ (Enters.too_deep depth) = ends (Trapped trap.Depth) s (λ e. cc)
         by _ (Enters.no_turn depth turn) = ends OutOfTurns s (λ e. cc)

@@ -17,8 +17,8 @@ pub mod Drops
 pub mod TypedSteps
 pub use Rattle.holder_steps.proofs as holder_steps
 pub use Rattle.typed_memory.proofs as typed_memory
-pub use Rattle.scoped_addresses.proofs.accepted_premises as accepted_premises
-pub use Rattle.scoped_addresses.proofs.placed_values as placed_values
-pub use Rattle.scoped_addresses.proofs as scoped_addresses
-pub use Rattle.scoped_addresses.proofs.accepted_trails as accepted_trails
-pub use Rattle.scoped_addresses.proofs.owned_run_typing as owned_run_typing
+pub use Rattle.accepted_facts.proofs.accepted_premises as accepted_premises
+pub use Rattle.accepted_facts.proofs.placed_values as placed_values
+pub use Rattle.accepted_facts.proofs.scoped_addresses as scoped_addresses
+pub use Rattle.accepted_facts.proofs.accepted_trails as accepted_trails
+pub use Rattle.accepted_facts.proofs.owned_run_typing as owned_run_typing

@@ -6,10 +6,10 @@ use Rattle.holder_steps.proofs.WhichFaults.{IsOperandFault, operands_err}
 use Rattle.item_operands.specs.declared.taken.Taken.{Taken}
 use Rattle.instruction_table.specs.declared.entries.Role.{Role}
 use Rattle.ownership_chains.specs.declared.facts.Facts.{Facts}
-use Rattle.scoped_addresses.specs.held_entries.holder_model.Data.{Datum, references_in}
-use Rattle.scoped_addresses.specs.held_entries.holder_model.Faults.{ConsumesLent, HolderFault, NamesDead, WrongShape}
-use Rattle.scoped_addresses.specs.held_entries.holder_model.Frames.{Entry, Gone, Held, Lent, Operands, Plain, and_more, any_dead, datum_in, datum_or_fault, ended_entry, ends, entry_at}
-use Rattle.scoped_addresses.specs.held_entries.holder_model.Frames.{is_consumed, operand, operand_data, operands_of, unless_dead, used_datum, with_ok, without_ended}
+use Rattle.accepted_facts.specs.held_entries.holder_model.Data.{Datum, references_in}
+use Rattle.accepted_facts.specs.held_entries.holder_model.Faults.{ConsumesLent, HolderFault, NamesDead, WrongShape}
+use Rattle.accepted_facts.specs.held_entries.holder_model.Frames.{Entry, Gone, Held, Lent, Operands, Plain, and_more, any_dead, datum_in, datum_or_fault, ended_entry, ends, entry_at}
+use Rattle.accepted_facts.specs.held_entries.holder_model.Frames.{is_consumed, operand, operand_data, operands_of, unless_dead, used_datum, with_ok, without_ended}
 use Rattle.run_values.specs.Memory.{Memory}
 use Rattle.sil_ast.specs.declared.place.ValueId.{ValueId}
 

@@ -3,11 +3,11 @@ use Rattle.std.proofs.Common.{◌≡◌, ◌∙◌, ◌⊎◌, inl, inr, ℕ, Li
 use Rattle.std.specs.Prelude.{Contains, drop, slice_get}
 use Rattle.std.proofs.lemmas.Bool.{true≢false}
 use Rattle.std.proofs.lemmas.Option.{same_Some}
-use Rattle.scoped_addresses.specs.accepted_values.inner.Known.{IsAcceptedBody}
-use Rattle.scoped_addresses.specs.accepted_values.run_typing.CallForms.{IsOf}
-use Rattle.scoped_addresses.specs.accepted_values.run_typing.Forms.{Form, OfValue, form_of, forms_of, given_shape}
-use Rattle.scoped_addresses.specs.accepted_values.accepted_modules.inner.Checked.{IsVerified}
-use Rattle.scoped_addresses.proofs.accepted_values.lowering_laws.Lowerable.{contained}
+use Rattle.accepted_facts.specs.accepted_values.inner.Known.{IsAcceptedBody}
+use Rattle.accepted_facts.specs.accepted_values.run_typing.CallForms.{IsOf}
+use Rattle.accepted_facts.specs.accepted_values.run_typing.Forms.{Form, OfValue, form_of, forms_of, given_shape}
+use Rattle.accepted_facts.specs.accepted_values.accepted_modules.inner.Checked.{IsVerified}
+use Rattle.accepted_facts.proofs.accepted_values.lowering_laws.Lowerable.{contained}
 use Rattle.argument_conventions.specs.declared.row.AddressRow.{AddressRow}
 use Rattle.argument_conventions.specs.declared.row.Content.{Content}
 use Rattle.argument_conventions.specs.declared.row.Content.TheVariants as content
@@ -18,15 +18,15 @@ use Rattle.item_operands.specs.Items.{item_defined, item_taken}
 use Rattle.item_operands.specs.Parts.{inst_at, results_in}
 use Rattle.item_operands.specs.declared.taken.Taken.{Taken}
 use Rattle.numbered_form.specs.Lists.{Each}
-use Rattle.scoped_addresses.specs.held_entries.holder_model.Calling.{as_argument, handed_over, emptied_for, lent_places, lent_with}
-use Rattle.scoped_addresses.specs.held_entries.holder_model.Data.{Datum, ValueOf, as_place}
-use Rattle.scoped_addresses.specs.held_entries.holder_model.Effects.{Calls, Effect, unchanged}
-use Rattle.scoped_addresses.specs.held_entries.holder_model.Faults.{HolderFault, PlaceNotAsAsked}
-use Rattle.scoped_addresses.specs.held_entries.holder_model.Frames.{Frame, LentPlace, has_any}
-use Rattle.scoped_addresses.specs.held_entries.holder_model.HolderStates.{HolderNext, HolderState}
-use Rattle.scoped_addresses.specs.held_entries.holder_model.ModuleFacts.{facts_of}
-use Rattle.scoped_addresses.specs.held_entries.holder_model.Standing.{stands_at}
-use Rattle.scoped_addresses.specs.held_entries.holder_model.States.{OutOfTurns, Runs, Task, Trapped}
+use Rattle.accepted_facts.specs.held_entries.holder_model.Calling.{as_argument, handed_over, emptied_for, lent_places, lent_with}
+use Rattle.accepted_facts.specs.held_entries.holder_model.Data.{Datum, ValueOf, as_place}
+use Rattle.accepted_facts.specs.held_entries.holder_model.Effects.{Calls, Effect, unchanged}
+use Rattle.accepted_facts.specs.held_entries.holder_model.Faults.{HolderFault, PlaceNotAsAsked}
+use Rattle.accepted_facts.specs.held_entries.holder_model.Frames.{Frame, LentPlace, has_any}
+use Rattle.accepted_facts.specs.held_entries.holder_model.HolderStates.{HolderNext, HolderState}
+use Rattle.accepted_facts.specs.held_entries.holder_model.ModuleFacts.{facts_of}
+use Rattle.accepted_facts.specs.held_entries.holder_model.Standing.{stands_at}
+use Rattle.accepted_facts.specs.held_entries.holder_model.States.{OutOfTurns, Runs, Task, Trapped}
 use Rattle.run_values.specs.Memory.{Memory}
 use Rattle.run_values.specs.Shapes.{NoMember, Tuple}
 use Rattle.run_values.specs.Values as value

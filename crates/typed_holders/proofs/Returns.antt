@@ -2,25 +2,25 @@
 use Rattle.std.proofs.Common.{◌≡◌, ◌∙◌, ◌⊎◌, inl, inr, ℕ, List, [], ◌∷◌, map, refl, sym, ap, subst, true, Some, None}
 use Rattle.std.specs.Prelude.{Ok, slice_get}
 use Rattle.std.proofs.lemmas.Option.{none-some, same_Some}
-use Rattle.scoped_addresses.specs.accepted_values.inner.Known.{kind_at}
-use Rattle.scoped_addresses.specs.accepted_values.run_typing.CallForms.{IsOf}
-use Rattle.scoped_addresses.specs.accepted_values.run_typing.EndForms.{EndForms, operand_forms, value_in}
-use Rattle.scoped_addresses.specs.accepted_values.run_typing.Forms.{OfValue, form_of, given_shape}
-use Rattle.scoped_addresses.specs.accepted_values.accepted_modules.inner.Checked.{IsVerified}
+use Rattle.accepted_facts.specs.accepted_values.inner.Known.{kind_at}
+use Rattle.accepted_facts.specs.accepted_values.run_typing.CallForms.{IsOf}
+use Rattle.accepted_facts.specs.accepted_values.run_typing.EndForms.{EndForms, operand_forms, value_in}
+use Rattle.accepted_facts.specs.accepted_values.run_typing.Forms.{OfValue, form_of, given_shape}
+use Rattle.accepted_facts.specs.accepted_values.accepted_modules.inner.Checked.{IsVerified}
 use Rattle.holder_steps.specs.inner.Ways.{GoesBehind, Leaves, Reaches, StandsAtEnd, operands_in}
 use Rattle.instruction_table.specs.Forms.{ending_of}
 use Rattle.instruction_table.specs.declared.entries.Ending.TheVariants as ending
 use Rattle.item_operands.specs.Items.{item_taken}
 use Rattle.numbered_form.specs.Lists.{Each}
-use Rattle.scoped_addresses.specs.accepted_values.owned_run_typing.inner.OwnedEnds.{OwnedEndForms}
-use Rattle.scoped_addresses.specs.held_entries.holder_model.Data.{Datum, as_value}
-use Rattle.scoped_addresses.specs.held_entries.holder_model.Effects.{only, unchanged}
-use Rattle.scoped_addresses.specs.held_entries.holder_model.Faults.{LeavesHeld, LeavesPlace, LeavesSlot}
-use Rattle.scoped_addresses.specs.held_entries.holder_model.Frames.{Frame, Operands}
-use Rattle.scoped_addresses.specs.held_entries.holder_model.HolderStates.{HolderNext, HolderState}
-use Rattle.scoped_addresses.specs.held_entries.holder_model.ModuleFacts.{facts_of, facts_told}
-use Rattle.scoped_addresses.specs.held_entries.holder_model.Standing.{stands_at}
-use Rattle.scoped_addresses.specs.held_entries.holder_model.States.{Returned, Task}
+use Rattle.accepted_facts.specs.accepted_values.owned_run_typing.inner.OwnedEnds.{OwnedEndForms}
+use Rattle.accepted_facts.specs.held_entries.holder_model.Data.{Datum, as_value}
+use Rattle.accepted_facts.specs.held_entries.holder_model.Effects.{only, unchanged}
+use Rattle.accepted_facts.specs.held_entries.holder_model.Faults.{LeavesHeld, LeavesPlace, LeavesSlot}
+use Rattle.accepted_facts.specs.held_entries.holder_model.Frames.{Frame, Operands}
+use Rattle.accepted_facts.specs.held_entries.holder_model.HolderStates.{HolderNext, HolderState}
+use Rattle.accepted_facts.specs.held_entries.holder_model.ModuleFacts.{facts_of, facts_told}
+use Rattle.accepted_facts.specs.held_entries.holder_model.Standing.{stands_at}
+use Rattle.accepted_facts.specs.held_entries.holder_model.States.{Returned, Task}
 use Rattle.run_values.specs.Trivial.{is_trivial}
 use Rattle.sil_ast.specs.declared.function.Function.{Function}
 use Rattle.sil_ast.specs.declared.inst.Inst.{Inst}

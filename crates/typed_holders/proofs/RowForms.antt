@@ -1,16 +1,16 @@
 -- Each row of an instruction in ownership form, on operands of its forms, does what leaves all typed.
 use Rattle.std.proofs.Common.{◌≡◌, ◌∙◌, ℕ, List, [], ◌∷◌, map, refl, sym, ap, subst, Some}
 use Rattle.std.specs.Prelude.{option_and_then, slice_get}
-use Rattle.scoped_addresses.specs.accepted_values.run_typing.Classes.{ClassesAreSound}
-use Rattle.scoped_addresses.specs.accepted_values.run_typing.Forms.{Form, OfFunction, OfValue}
-use Rattle.scoped_addresses.specs.accepted_values.run_typing.RowForms as lowered
-use Rattle.scoped_addresses.specs.accepted_values.run_typing.RowForms.{RowForms}
-use Rattle.scoped_addresses.specs.accepted_values.owned_run_typing.inner.OwnedRows as owned
-use Rattle.scoped_addresses.specs.accepted_values.owned_run_typing.inner.OwnedRows.{OwnedRowForms}
-use Rattle.scoped_addresses.specs.held_entries.holder_model.Data.{Datum, all_of}
-use Rattle.scoped_addresses.specs.held_entries.holder_model.Effects.{Calls, effect_of}
-use Rattle.scoped_addresses.specs.held_entries.holder_model.ModuleShapes.{field_shapes, shapes_of}
-use Rattle.scoped_addresses.specs.held_entries.holder_model.declared.row_effect.RowEffect.TheVariants as row
+use Rattle.accepted_facts.specs.accepted_values.run_typing.Classes.{ClassesAreSound}
+use Rattle.accepted_facts.specs.accepted_values.run_typing.Forms.{Form, OfFunction, OfValue}
+use Rattle.accepted_facts.specs.accepted_values.run_typing.RowForms as lowered
+use Rattle.accepted_facts.specs.accepted_values.run_typing.RowForms.{RowForms}
+use Rattle.accepted_facts.specs.accepted_values.owned_run_typing.inner.OwnedRows as owned
+use Rattle.accepted_facts.specs.accepted_values.owned_run_typing.inner.OwnedRows.{OwnedRowForms}
+use Rattle.accepted_facts.specs.held_entries.holder_model.Data.{Datum, all_of}
+use Rattle.accepted_facts.specs.held_entries.holder_model.Effects.{Calls, effect_of}
+use Rattle.accepted_facts.specs.held_entries.holder_model.ModuleShapes.{field_shapes, shapes_of}
+use Rattle.accepted_facts.specs.held_entries.holder_model.declared.row_effect.RowEffect.TheVariants as row
 use Rattle.run_values.specs.Shapes.{Integer, Reference}
 use Rattle.run_values.specs.Values.{integer_of}
 use Rattle.sil_ast.specs.declared.module.Module.{Module}

@@ -1,9 +1,9 @@
 -- Rows that make objects and slots, read and write places, or name parts of them.
 use Rattle.std.proofs.Common.{◌≡◌, inl, inr, ℕ, List, [], ◌∷◌, ◌++◌, length, refl, sym, ap, ◌∙◌, subst, Bool, true, false, Option, Some}
 use Rattle.std.specs.Prelude.{cond, slice_get}
-use Rattle.scoped_addresses.specs.accepted_values.run_typing.Classes.{ClassesAreSound}
-use Rattle.scoped_addresses.specs.accepted_values.run_typing.Forms.{Form, OfPlace, OfValue}
-use Rattle.scoped_addresses.specs.accepted_values.run_typing.StorageForms.{IsNamed}
+use Rattle.accepted_facts.specs.accepted_values.run_typing.Classes.{ClassesAreSound}
+use Rattle.accepted_facts.specs.accepted_values.run_typing.Forms.{Form, OfPlace, OfValue}
+use Rattle.accepted_facts.specs.accepted_values.run_typing.StorageForms.{IsNamed}
 use Rattle.argument_conventions.specs.declared.row.Content.{Content}
 use Rattle.argument_conventions.specs.declared.row.Content.TheVariants as content
 use Rattle.instruction_table.specs.Forms.{result_kind_of}
@@ -12,18 +12,18 @@ use Rattle.instruction_table.specs.declared.op.Op.{Op}
 use Rattle.instruction_table.specs.declared.op.Op.TheVariants as op
 use Rattle.numbered_form.specs.Lists.{Each}
 use Rattle.numbered_form.specs.Names.{Name}
-use Rattle.scoped_addresses.specs.accepted_values.owned_run_typing.inner.OwnedRows.{IsReadOf}
-use Rattle.scoped_addresses.specs.accepted_values.run_typing.RowForms.{IsLoadOf}
-use Rattle.scoped_addresses.specs.held_entries.holder_model.Data.{AddressOf, Datum, ValueOf}
-use Rattle.scoped_addresses.specs.held_entries.holder_model.Effects.{ClosesSlot, Effect, Makes, OpensSlot, Traps, effect_of, gives, gives_value, makes_object, names_field_of, names_member}
-use Rattle.scoped_addresses.specs.held_entries.holder_model.Effects.{part_number, unchanged, with_some}
-use Rattle.scoped_addresses.specs.held_entries.holder_model.Faults.{HolderFault}
-use Rattle.scoped_addresses.specs.held_entries.holder_model.MemoryEffects.{after, all_live, asked_before, at_place, destroys_by, loaded_name, loads_by, named_again, names_by}
-use Rattle.scoped_addresses.specs.held_entries.holder_model.MemoryEffects.{operation_done, where_held, references_at, stores_by, takes}
-use Rattle.scoped_addresses.specs.held_entries.holder_model.ModuleShapes.{field_shapes, shapes_of}
-use Rattle.scoped_addresses.specs.held_entries.holder_model.declared.row_effect.RowEffect.TheVariants as row
-use Rattle.scoped_addresses.specs.held_entries.holder_model.declared.trap.Trap.TheVariants as trap
-use Rattle.scoped_addresses.specs.held_entries.holder_model.Operation.{Operation}
+use Rattle.accepted_facts.specs.accepted_values.owned_run_typing.inner.OwnedRows.{IsReadOf}
+use Rattle.accepted_facts.specs.accepted_values.run_typing.RowForms.{IsLoadOf}
+use Rattle.accepted_facts.specs.held_entries.holder_model.Data.{AddressOf, Datum, ValueOf}
+use Rattle.accepted_facts.specs.held_entries.holder_model.Effects.{ClosesSlot, Effect, Makes, OpensSlot, Traps, effect_of, gives, gives_value, makes_object, names_field_of, names_member}
+use Rattle.accepted_facts.specs.held_entries.holder_model.Effects.{part_number, unchanged, with_some}
+use Rattle.accepted_facts.specs.held_entries.holder_model.Faults.{HolderFault}
+use Rattle.accepted_facts.specs.held_entries.holder_model.MemoryEffects.{after, all_live, asked_before, at_place, destroys_by, loaded_name, loads_by, named_again, names_by}
+use Rattle.accepted_facts.specs.held_entries.holder_model.MemoryEffects.{operation_done, where_held, references_at, stores_by, takes}
+use Rattle.accepted_facts.specs.held_entries.holder_model.ModuleShapes.{field_shapes, shapes_of}
+use Rattle.accepted_facts.specs.held_entries.holder_model.declared.row_effect.RowEffect.TheVariants as row
+use Rattle.accepted_facts.specs.held_entries.holder_model.declared.trap.Trap.TheVariants as trap
+use Rattle.accepted_facts.specs.held_entries.holder_model.Operation.{Operation}
 use Rattle.run_values.specs.Memory.{Memory, new_object}
 use Rattle.run_values.specs.Places.{OnStack, Place, emptied, empty_slot, field_in, filled, part_of, removed, value_at}
 use Rattle.run_values.specs.Shapes.{Reference, Shape, Stored, class_in, member_shapes, storage_in}

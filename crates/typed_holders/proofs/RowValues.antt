@@ -3,19 +3,19 @@ use Rattle.std.proofs.Common.{◌≡◌, inl, ℕ, zero, suc, ℤ, List, [], ◌
 use Rattle.std.specs.Prelude.{cond, option_and_then, slice_get, unwrap_or}
 use Rattle.std.proofs.lemmas.Bool.{and_from, and_parts}
 use Rattle.std.proofs.lemmas.Option.{none-some, same_Some}
-use Rattle.scoped_addresses.specs.accepted_values.run_typing.Classes.{ClassesAreSound, is_a}
-use Rattle.scoped_addresses.specs.accepted_values.run_typing.Forms.{Form, OfFunction, OfValue}
-use Rattle.scoped_addresses.specs.accepted_values.run_typing.RowForms.{IsGroup, bit, computed_shape, operand_shapes, shape_by}
-use Rattle.scoped_addresses.specs.accepted_values.accepted_modules.sil_types.Typing.Builtins.{Builtin, Sort, bits, builtin_named, combining, comparing, overflowing, sort_of}
+use Rattle.accepted_facts.specs.accepted_values.run_typing.Classes.{ClassesAreSound, is_a}
+use Rattle.accepted_facts.specs.accepted_values.run_typing.Forms.{Form, OfFunction, OfValue}
+use Rattle.accepted_facts.specs.accepted_values.run_typing.RowForms.{IsGroup, bit, computed_shape, operand_shapes, shape_by}
+use Rattle.accepted_facts.specs.accepted_values.accepted_modules.sil_types.Typing.Builtins.{Builtin, Sort, bits, builtin_named, combining, comparing, overflowing, sort_of}
 use Rattle.numbered_form.specs.Lists.{Each}
 use Rattle.numbered_form.specs.Names.{Name}
 use Rattle.numbered_form.specs.inner.Literals.{is_residue}
-use Rattle.scoped_addresses.specs.held_entries.holder_model.Builtins.{builtin_value, is_set}
-use Rattle.scoped_addresses.specs.held_entries.holder_model.Data.{Datum, FunctionOf, ValueOf, all_of, as_value, references_in, values_of, with_first}
-use Rattle.scoped_addresses.specs.held_entries.holder_model.Effects.{Traps, chooses, effect_of, gives, gives_member, gives_value, part_number, unchanged, with_some}
-use Rattle.scoped_addresses.specs.held_entries.holder_model.ModuleShapes.{case_place, shapes_of}
-use Rattle.scoped_addresses.specs.held_entries.holder_model.declared.row_effect.RowEffect.TheVariants as row
-use Rattle.scoped_addresses.specs.held_entries.holder_model.declared.trap.Trap.TheVariants as trap
+use Rattle.accepted_facts.specs.held_entries.holder_model.Builtins.{builtin_value, is_set}
+use Rattle.accepted_facts.specs.held_entries.holder_model.Data.{Datum, FunctionOf, ValueOf, all_of, as_value, references_in, values_of, with_first}
+use Rattle.accepted_facts.specs.held_entries.holder_model.Effects.{Traps, chooses, effect_of, gives, gives_member, gives_value, part_number, unchanged, with_some}
+use Rattle.accepted_facts.specs.held_entries.holder_model.ModuleShapes.{case_place, shapes_of}
+use Rattle.accepted_facts.specs.held_entries.holder_model.declared.row_effect.RowEffect.TheVariants as row
+use Rattle.accepted_facts.specs.held_entries.holder_model.declared.trap.Trap.TheVariants as trap
 use Rattle.run_values.specs.Fits.{fit_each}
 use Rattle.run_values.specs.Layers.{CaseLayer}
 use Rattle.run_values.specs.Shapes.{Integer, Reference, Shape, case_shapes, member_shapes}

@@ -2,11 +2,11 @@
 use Rattle.std.proofs.Common.{◌≡◌, ◌∙◌, List, [], ◌∷◌, None, Option, Some, refl, sym, ap}
 use Rattle.std.proofs.lemmas.Option.{slice_get-map}
 use Rattle.std.specs.Prelude.{option_map, slice_get, unwrap_or}
-use Rattle.scoped_addresses.specs.accepted_values.run_typing.Forms.{Form, OfFunction, OfNothing, OfPlace, OfValue, form_by, form_of, form_with, forms_of}
-use Rattle.scoped_addresses.specs.accepted_values.accepted_modules.sil_types.Typing.Shapes.{target}
-use Rattle.scoped_addresses.specs.accepted_values.accepted_modules.sil_types.Typing.Values.{function_at, type_at, value_functions, value_types}
-use Rattle.scoped_addresses.specs.held_entries.holder_model.Effects.{result_shape_of}
-use Rattle.scoped_addresses.specs.held_entries.holder_model.ModuleShapes.{function_shapes, shape_at, shapes_in, shapes_of, value_shape}
+use Rattle.accepted_facts.specs.accepted_values.run_typing.Forms.{Form, OfFunction, OfNothing, OfPlace, OfValue, form_by, form_of, form_with, forms_of}
+use Rattle.accepted_facts.specs.accepted_values.accepted_modules.sil_types.Typing.Shapes.{target}
+use Rattle.accepted_facts.specs.accepted_values.accepted_modules.sil_types.Typing.Values.{function_at, type_at, value_functions, value_types}
+use Rattle.accepted_facts.specs.held_entries.holder_model.Effects.{result_shape_of}
+use Rattle.accepted_facts.specs.held_entries.holder_model.ModuleShapes.{function_shapes, shape_at, shapes_in, shapes_of, value_shape}
 use Rattle.run_values.specs.Memory.{Memory}
 use Rattle.run_values.specs.Shapes.{Shape, Unknown, shape_of}
 use Rattle.sil_ast.specs.declared.function.Function.{Function}

@@ -1,13 +1,13 @@
 -- Tasks that are typed stay so while the world grows, and while the frame on top changes but its function.
 use Rattle.std.proofs.Common.{◌≡◌, ◌∙◌, List, sym, ap}
 use Rattle.std.specs.Prelude.{slice_get}
-use Rattle.scoped_addresses.proofs.accepted_values.lowering_laws.Lists.{each_weaker}
-use Rattle.scoped_addresses.specs.accepted_values.run_typing.Forms.{Form}
+use Rattle.accepted_facts.proofs.accepted_values.lowering_laws.Lists.{each_weaker}
+use Rattle.accepted_facts.specs.accepted_values.run_typing.Forms.{Form}
 use Rattle.holder_steps.specs.inner.Stacks.{Below}
 use Rattle.holder_steps.proofs.TaskStacks.{below_another, below_over, going_dropping, going_over}
 use Rattle.numbered_form.specs.Lists.{Each}
-use Rattle.scoped_addresses.specs.held_entries.holder_model.Frames.{Entry, Frame}
-use Rattle.scoped_addresses.specs.held_entries.holder_model.States.{Task, dropping}
+use Rattle.accepted_facts.specs.held_entries.holder_model.Frames.{Entry, Frame}
+use Rattle.accepted_facts.specs.held_entries.holder_model.States.{Task, dropping}
 use Rattle.sil_ast.specs.declared.function.Function.{Function}
 use Rattle.sil_ast.specs.declared.module.Module.{Module}
 use Rattle.sil_ast.specs.declared.place.FuncId.{FuncId}

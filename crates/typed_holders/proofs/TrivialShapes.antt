@@ -4,7 +4,7 @@ use Rattle.std.specs.Prelude.{option_map, unwrap_or}
 use Rattle.std.specs.List.{flat_map, list_all}
 use Rattle.std.specs.Option.{option_to_list}
 use Rattle.std.proofs.lemmas.Bool.{and_from, and_parts, false≢true}
-use Rattle.scoped_addresses.proofs.accepted_values.run_typing_laws.Opened.{Proved, by_layer, type_in, types_in}
+use Rattle.accepted_facts.proofs.accepted_values.run_typing_laws.Opened.{Proved, by_layer, type_in, types_in}
 use Rattle.numbered_form.specs.Names.{Name}
 use Rattle.run_values.specs.Layers.{case_with, decl_with, field_with, named_within, over, type_with}
 use Rattle.run_values.specs.Shapes.{CaseShapes, Shape, cases_by_layers, cases_of, each_by_layers, members_of, shape_of, shape_with, with_case}

@@ -3,36 +3,36 @@ use Rattle.std.proofs.Common.{◌≡◌, ◌∙◌, ◌<◌, ℕ, zero, suc, Lis
 use Rattle.std.specs.Prelude.{Ok, slice_get, not}
 use Rattle.std.proofs.lemmas.Bool.{and_parts}
 use Rattle.std.proofs.lemmas.Option.{none-some, same_Some}
-use Rattle.scoped_addresses.specs.accepted_values.run_typing.CallForms.{IsOf}
-use Rattle.scoped_addresses.specs.accepted_values.run_typing.EndForms.{EndForms, value_in}
-use Rattle.scoped_addresses.specs.accepted_values.run_typing.Forms.{OfValue}
-use Rattle.scoped_addresses.specs.accepted_values.run_typing.lowered_run.LowStepParts.{values_taken}
-use Rattle.scoped_addresses.specs.accepted_values.accepted_modules.inner.Checked.{IsVerified}
-use Rattle.scoped_addresses.proofs.accepted_values.Accepted.{well_typed}
-use Rattle.scoped_addresses.proofs.accepted_values.run_typing_laws.BlockFacts.{block_there}
-use Rattle.scoped_addresses.proofs.accepted_values.run_typing_laws.FunctionFacts.{TypedFunction, typed_function}
+use Rattle.accepted_facts.specs.accepted_values.run_typing.CallForms.{IsOf}
+use Rattle.accepted_facts.specs.accepted_values.run_typing.EndForms.{EndForms, value_in}
+use Rattle.accepted_facts.specs.accepted_values.run_typing.Forms.{OfValue}
+use Rattle.accepted_facts.specs.accepted_values.run_typing.lowered_run.LowStepParts.{values_taken}
+use Rattle.accepted_facts.specs.accepted_values.accepted_modules.inner.Checked.{IsVerified}
+use Rattle.accepted_facts.proofs.Facts.{accepted_facts}
+use Rattle.accepted_facts.proofs.accepted_values.run_typing_laws.BlockFacts.{block_there}
+use Rattle.accepted_facts.proofs.accepted_values.run_typing_laws.FunctionFacts.{TypedFunction, typed_function}
 use Rattle.argument_conventions.specs.Arguments.{arguments_of}
 use Rattle.holder_steps.specs.inner.Ways.{Acts, Performs, StandsAtEnd, StepsBy, TakesEdge, left_with}
 use Rattle.holder_steps.proofs.StepsTold.{steps_told}
 use Rattle.item_operands.specs.Items.{item_taken}
 use Rattle.item_operands.specs.Parts.{edge_at, edge_in, inst_at, inst_in, terminator_in, terminator_of}
 use Rattle.numbered_form.specs.Lists.{Each}
-use Rattle.scoped_addresses.specs.accepted_values.owned_run_typing.inner.OwnedEnds.{OwnedEndForms}
-use Rattle.scoped_addresses.specs.accepted_values.owned_run_typing.inner.OwnedTyped.{OwnedFunction, OwnedInst}
+use Rattle.accepted_facts.specs.accepted_values.owned_run_typing.inner.OwnedEnds.{OwnedEndForms}
+use Rattle.accepted_facts.specs.accepted_values.owned_run_typing.inner.OwnedTyped.{OwnedFunction, OwnedInst}
 use Rattle.ownership_chains.specs.declared.facts.Facts.{Facts}
-use Rattle.scoped_addresses.specs.held_entries.holder_model.Data.{Datum, ValueOf, as_value}
-use Rattle.scoped_addresses.specs.held_entries.holder_model.Edges.{edge_of}
-use Rattle.scoped_addresses.specs.held_entries.holder_model.Faults.{HolderFault, NoEntry, WrongShape}
-use Rattle.scoped_addresses.specs.held_entries.holder_model.Frames.{Frame, Operands, datum_in, entry_at, has_any, operands_of}
-use Rattle.scoped_addresses.specs.held_entries.holder_model.HolderStates.{HolderNext, HolderState}
-use Rattle.scoped_addresses.specs.held_entries.holder_model.ModuleFacts.{facts_of, facts_told}
-use Rattle.scoped_addresses.specs.held_entries.holder_model.ModuleShapes.{shapes_in, shapes_of}
-use Rattle.scoped_addresses.specs.held_entries.holder_model.Standing.{stands_at, target_of}
-use Rattle.scoped_addresses.specs.held_entries.holder_model.States.{Drops, Ends, Faulted, Finishes, Goes, Runs, Task, Trapped}
-use Rattle.scoped_addresses.specs.held_entries.holder_model.Steps.{effect_in, step}
-use Rattle.scoped_addresses.specs.held_entries.holder_model.declared.trap.Trap.TheVariants as trap
-use Rattle.scoped_addresses.specs.held_entries.accepted_trails.run_trails.inner.RunTrails.{GoesOn, IsNext, IsRunTrail}
-use Rattle.scoped_addresses.specs.held_entries.accepted_trails.run_trails.inner.RunTrails as trails
+use Rattle.accepted_facts.specs.held_entries.holder_model.Data.{Datum, ValueOf, as_value}
+use Rattle.accepted_facts.specs.held_entries.holder_model.Edges.{edge_of}
+use Rattle.accepted_facts.specs.held_entries.holder_model.Faults.{HolderFault, NoEntry, WrongShape}
+use Rattle.accepted_facts.specs.held_entries.holder_model.Frames.{Frame, Operands, datum_in, entry_at, has_any, operands_of}
+use Rattle.accepted_facts.specs.held_entries.holder_model.HolderStates.{HolderNext, HolderState}
+use Rattle.accepted_facts.specs.held_entries.holder_model.ModuleFacts.{facts_of, facts_told}
+use Rattle.accepted_facts.specs.held_entries.holder_model.ModuleShapes.{shapes_in, shapes_of}
+use Rattle.accepted_facts.specs.held_entries.holder_model.Standing.{stands_at, target_of}
+use Rattle.accepted_facts.specs.held_entries.holder_model.States.{Drops, Ends, Faulted, Finishes, Goes, Runs, Task, Trapped}
+use Rattle.accepted_facts.specs.held_entries.holder_model.Steps.{effect_in, step}
+use Rattle.accepted_facts.specs.held_entries.holder_model.declared.trap.Trap.TheVariants as trap
+use Rattle.accepted_facts.specs.held_entries.accepted_trails.run_trails.inner.RunTrails.{GoesOn, IsNext, IsRunTrail}
+use Rattle.accepted_facts.specs.held_entries.accepted_trails.run_trails.inner.RunTrails as trails
 use Rattle.run_values.specs.Values.{Value}
 use Rattle.sil_ast.specs.declared.function.Block.{Block}
 use Rattle.sil_ast.specs.declared.function.Function.{Function}
@@ -204,7 +204,7 @@ module _ (m : Module) (v : IsVerified m) (bound : ℕ) (s : HolderState) (rest :
       not_inside (OwnedEndForms.also_lowered other (EndForms.unreachable is')) = cc
       not_inside (OwnedEndForms.cases shape is' operands is_enum all) = cc
   acts _ (Acts.no_terminator behind none) =
-      let function = typed_function m (well_typed m v) frame.function.0 f r.typed.is in
+      let function = typed_function m (accepted_facts.modules_are_well_typed m v) frame.function.0 f r.typed.is in
       let block = stands_in_block m f function (has_blocks f.blocks r.typed.bodied) frame.trail r.typed.trail r.typed.goes in
       absurd (none-some block.0 (sym none ∙ block.1))
 

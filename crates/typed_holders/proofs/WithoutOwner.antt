@@ -2,22 +2,21 @@
 use Rattle.std.proofs.Common.{◌≡◌, ◌<◌, ◌⊎◌, inl, inr, ℕ, List, [], ◌∷◌, map, refl, sym, ap, ◌∙◌, subst, Bool, true, false, cond, Option, Some, None}
 use Rattle.std.specs.Prelude.{Contains, slice_get}
 use Rattle.std.proofs.lemmas.Option.{same_Some}
-use Rattle.scoped_addresses.specs.accepted_values.inner.Known.{IsAcceptedBody, kind_at, type_in}
-use Rattle.scoped_addresses.specs.accepted_values.inner.Nones.{WhyPlain, address, made, trivial, untyped}
-use Rattle.scoped_addresses.specs.accepted_values.inner.Operands.{HasNoOwner, kind_by_row, kind_together}
-use Rattle.scoped_addresses.specs.accepted_values.run_typing.CallForms.{IsOf}
-use Rattle.scoped_addresses.specs.accepted_values.run_typing.Forms.{Form, OfPlace, OfValue, form_by, form_of, form_with, forms_of}
-use Rattle.scoped_addresses.proofs.accepted_values.Accepted.{counted}
-use Rattle.scoped_addresses.proofs.accepted_values.Counted.{stands}
-use Rattle.scoped_addresses.proofs.accepted_values.Nones.{plain_told}
-use Rattle.scoped_addresses.proofs.accepted_values.Places.{IsArgumentOf, no_argument_and_result, results_once}
-use Rattle.scoped_addresses.proofs.accepted_values.Suited.{results_of_kinds}
-use Rattle.scoped_addresses.proofs.accepted_values.lowering_laws.Lowerable.{contained}
-use Rattle.scoped_addresses.proofs.accepted_values.run_typing_laws.Declared.{each_from}
-use Rattle.scoped_addresses.proofs.accepted_values.run_typing_laws.ItemFacts.{values_counted}
-use Rattle.scoped_addresses.proofs.accepted_values.run_typing_laws.Rows.Points.{is_at}
-use Rattle.scoped_addresses.specs.accepted_values.accepted_modules.sil_types.Typing.Shapes.{target}
-use Rattle.scoped_addresses.specs.accepted_values.accepted_modules.sil_types.Typing.Values.{function_at, value_functions}
+use Rattle.accepted_facts.specs.accepted_values.inner.Known.{IsAcceptedBody, kind_at, type_in}
+use Rattle.accepted_facts.specs.accepted_values.inner.Nones.{WhyPlain, address, made, trivial, untyped}
+use Rattle.accepted_facts.specs.accepted_values.inner.Operands.{HasNoOwner, kind_by_row, kind_together}
+use Rattle.accepted_facts.specs.accepted_values.run_typing.CallForms.{IsOf}
+use Rattle.accepted_facts.specs.accepted_values.run_typing.Forms.{Form, OfPlace, OfValue, form_by, form_of, form_with, forms_of}
+use Rattle.accepted_facts.proofs.accepted_values.Accepted.{counted}
+use Rattle.accepted_facts.proofs.accepted_values.Counted.{stands}
+use Rattle.accepted_facts.proofs.Facts.{accepted_facts}
+use Rattle.accepted_facts.proofs.accepted_values.Places.{IsArgumentOf, no_argument_and_result, results_once}
+use Rattle.accepted_facts.proofs.accepted_values.lowering_laws.Lowerable.{contained}
+use Rattle.accepted_facts.proofs.accepted_values.run_typing_laws.Declared.{each_from}
+use Rattle.accepted_facts.proofs.accepted_values.run_typing_laws.ItemFacts.{values_counted}
+use Rattle.accepted_facts.proofs.accepted_values.run_typing_laws.Rows.Points.{is_at}
+use Rattle.accepted_facts.specs.accepted_values.accepted_modules.sil_types.Typing.Shapes.{target}
+use Rattle.accepted_facts.specs.accepted_values.accepted_modules.sil_types.Typing.Values.{function_at, value_functions}
 use Rattle.instruction_table.specs.Forms.{result_kind_of}
 use Rattle.instruction_table.specs.declared.entries.ResultKind.{ResultKind}
 use Rattle.instruction_table.specs.declared.entries.ResultKind.TheVariants.{OwnedResult, ScopeResult}
@@ -26,9 +25,9 @@ use Rattle.item_operands.specs.Items.{arg_value}
 use Rattle.item_operands.specs.Parts.{inst_at}
 use Rattle.numbered_form.specs.Insts.{insts_of}
 use Rattle.numbered_form.specs.Lists.{Each}
-use Rattle.scoped_addresses.specs.accepted_values.owned_run_typing.ownership_origins.Origins.{is_trivial_or_untyped}
+use Rattle.accepted_facts.specs.accepted_values.owned_run_typing.ownership_origins.Origins.{is_trivial_or_untyped}
 use Rattle.point_checks.specs.Points.{IsAt}
-use Rattle.scoped_addresses.specs.held_entries.holder_model.Data.{Datum}
+use Rattle.accepted_facts.specs.held_entries.holder_model.Data.{Datum}
 use Rattle.run_values.specs.Shapes.{Shape, shape_of}
 use Rattle.run_values.specs.Trivial.{is_trivial}
 use Rattle.sil_ast.specs.Blocks.{args_of}
@@ -99,7 +98,7 @@ module _ (m : Module) (n : ℕ) (f : Function) (a : IsAcceptedBody m n f) where
   why v (made block index k i here at plain) = inr (record { block = block; index = index; i = i; here = here; gives = contained i.results k v at; plain = plain })
 
   reason : (v : ValueId) → IsOf f v → kind_at d f v ≡ kind.Plain → IsTrivialValue v ⊎ MadeOfPlain v
-  reason v of plain = why v (plain_told m n f a v (subst (λ c. v.0 < c) (values_counted f) of) plain)
+  reason v of plain = why v (accepted_facts.plain_are_told m n f a v (subst (λ c. v.0 < c) (values_counted f) of) plain)
 
   module _ (w : World) where
     -- ---- an argument of a block
@@ -128,7 +127,7 @@ module _ (m : Module) (n : ℕ) (f : Function) (a : IsAcceptedBody m n f) where
       owning_trivial : (v : ValueId) → Contains i.results v → IsOwningRow i.op → kind_at d f v ≡ kind.Plain → IsTrivialValue v
       owning_trivial v gives owning plain =
           let at = stands i.results v gives in
-          by (is_trivial_or_untyped d (type_in d f v)) refl (sym (results_of_kinds m n f a p.block.0 p.index at.0 i v (is_at f p i there) at.1) ∙ plain)
+          by (is_trivial_or_untyped d (type_in d f v)) refl (sym (accepted_facts.results_have_kinds m n f a p.block.0 p.index at.0 i v (is_at f p i there) at.1) ∙ plain)
         where
           no : (r : ResultKind) → result_kind_of i.op ≡ r → kind_by_row r (kind_together d f i) ≡ kind.Owned ⊎ kind_by_row r (kind_together d f i) ≡ kind.Guaranteed
               → kind_by_row (result_kind_of i.op) (kind_together d f i) ≡ kind.Plain → ⊥
@@ -148,7 +147,7 @@ module _ (m : Module) (n : ℕ) (f : Function) (a : IsAcceptedBody m n f) where
           → (kind_at d f v ≡ kind.Owned) ⊎ ((kind_at d f v ≡ kind.Plain) × (is_trivial s ≡ true))
       owned_or_trivial v gives owned s form =
           let at = stands i.results v gives in
-          by (is_trivial_or_untyped d (type_in d f v)) refl (results_of_kinds m n f a p.block.0 p.index at.0 i v (is_at f p i there) at.1)
+          by (is_trivial_or_untyped d (type_in d f v)) refl (accepted_facts.results_have_kinds m n f a p.block.0 p.index at.0 i v (is_at f p i there) at.1)
         where
           by : (b : Bool) → is_trivial_or_untyped d (type_in d f v) ≡ b → kind_at d f v ≡ cond b kind.Plain (kind_by_row (result_kind_of i.op) (kind_together d f i))
               → (kind_at d f v ≡ kind.Owned) ⊎ ((kind_at d f v ≡ kind.Plain) × (is_trivial s ≡ true))

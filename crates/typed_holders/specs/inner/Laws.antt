@@ -3,13 +3,13 @@ use Rattle.std.specs.Prelude.{◌≡◌, ℕ, true, Some, slice_get}
 use Rattle.sil_ast.specs.declared.function.Function.{Function}
 use Rattle.sil_ast.specs.declared.module.Module.{Module}
 use Rattle.sil_ast.specs.declared.place.FuncId.{FuncId}
-use Rattle.scoped_addresses.specs.held_entries.holder_model.Faults.{HolderFault, WrongShape}
-use Rattle.scoped_addresses.specs.held_entries.holder_model.HolderStates.{HolderState}
-use Rattle.scoped_addresses.specs.held_entries.holder_model.ModuleFacts.{facts_of}
-use Rattle.scoped_addresses.specs.held_entries.holder_model.Outcomes.{begins, may_start}
-use Rattle.scoped_addresses.specs.held_entries.holder_model.States.{Ends, Faulted, Goes}
-use Rattle.scoped_addresses.specs.held_entries.holder_model.Steps.{step}
-use Rattle.scoped_addresses.specs.accepted_values.accepted_modules.inner.Checked.{IsVerified}
+use Rattle.accepted_facts.specs.held_entries.holder_model.Faults.{HolderFault, WrongShape}
+use Rattle.accepted_facts.specs.held_entries.holder_model.HolderStates.{HolderState}
+use Rattle.accepted_facts.specs.held_entries.holder_model.ModuleFacts.{facts_of}
+use Rattle.accepted_facts.specs.held_entries.holder_model.Outcomes.{begins, may_start}
+use Rattle.accepted_facts.specs.held_entries.holder_model.States.{Ends, Faulted, Goes}
+use Rattle.accepted_facts.specs.held_entries.holder_model.Steps.{step}
+use Rattle.accepted_facts.specs.accepted_values.accepted_modules.inner.Checked.{IsVerified}
 use Rattle.typed_holders.specs.inner.TypedStates.{IsTypedState}
 
 -- a run begins in a typed state

@@ -14,16 +14,16 @@ use Rattle.type_definitions.specs.Lookups.{deinit_of}
 use Rattle.type_definitions.specs.declared.kind.Kind.{Kind}
 use Rattle.type_definitions.specs.declared.kind.Kind.TheVariants as kind
 use Rattle.run_values.specs.Trivial.{is_trivial}
-use Rattle.scoped_addresses.specs.held_entries.holder_model.Calling.{value_count}
-use Rattle.scoped_addresses.specs.held_entries.holder_model.Data.{Datum}
-use Rattle.scoped_addresses.specs.held_entries.holder_model.Frames.{Entry, Frame, Gone, entry_at, has_any, made_entry}
-use Rattle.scoped_addresses.specs.held_entries.holder_model.HolderStates.{HolderState}
-use Rattle.scoped_addresses.specs.held_entries.holder_model.Standing.{stands_at}
-use Rattle.scoped_addresses.specs.held_entries.holder_model.States.{Task}
-use Rattle.scoped_addresses.specs.accepted_values.run_typing.CallForms.{IsOf}
-use Rattle.scoped_addresses.specs.accepted_values.run_typing.Forms.{Form, OfValue, form_of, given_shape}
-use Rattle.scoped_addresses.specs.held_entries.accepted_trails.run_trails.inner.RunTrails.{GoesOn, IsRunTrail}
-use Rattle.scoped_addresses.specs.accepted_values.inner.Known.{kind_at}
+use Rattle.accepted_facts.specs.held_entries.holder_model.Calling.{value_count}
+use Rattle.accepted_facts.specs.held_entries.holder_model.Data.{Datum}
+use Rattle.accepted_facts.specs.held_entries.holder_model.Frames.{Entry, Frame, Gone, entry_at, has_any, made_entry}
+use Rattle.accepted_facts.specs.held_entries.holder_model.HolderStates.{HolderState}
+use Rattle.accepted_facts.specs.held_entries.holder_model.Standing.{stands_at}
+use Rattle.accepted_facts.specs.held_entries.holder_model.States.{Task}
+use Rattle.accepted_facts.specs.accepted_values.run_typing.CallForms.{IsOf}
+use Rattle.accepted_facts.specs.accepted_values.run_typing.Forms.{Form, OfValue, form_of, given_shape}
+use Rattle.accepted_facts.specs.held_entries.accepted_trails.run_trails.inner.RunTrails.{GoesOn, IsRunTrail}
+use Rattle.accepted_facts.specs.accepted_values.inner.Known.{kind_at}
 use Rattle.holder_steps.specs.inner.Stacks.{Going}
 use Rattle.typed_memory.specs.inner.Worlds.{DatumIs, IsWorldOf, MemoryIs, World, names}
 
