@@ -97,10 +97,14 @@ function_end m new n b p most h =
     let fewer : length (blocks_at new n) ≤ b = omega (arith, h.shape.blocks n) in
     record { verified = h.verified; declarations = h.declarations; shape = h.shape; none = λ before. function_passed new n b fewer (h.none before); leads = h.leads }
 
-pub optimised_by : (m new : Module) → ArePassed m 0 (point_at 0 0) new (length m.functions) (point_at 0 0) → IsOptimised m new
+optimised_by : (m new : Module) → ArePassed m 0 (point_at 0 0) new (length m.functions) (point_at 0 0) → IsOptimised m new
 optimised_by m new h =
     let all : length new.functions ≤ length m.functions = omega (arith, h.shape.functions) in
     h.leads (none_at_first m) new (done new (none_left new (length m.functions) all (h.none (none_at_first m))))
+
+-- so it is where a copy of the module was passed
+pub optimised_copy : (m copy new : Module) → copy ≡ m → ArePassed copy 0 (point_at 0 0) new (length copy.functions) (point_at 0 0) → IsOptimised m new
+optimised_copy m copy new same h = subst (λ (x : Module). IsOptimised x new) same (optimised_by copy new h)
 
 -- the table serves the new module too
 pub declared_again : (m new : Module) (table : Declarations) → IsVerified new → declarations_of new ≡ declarations_of m → table ≡ declarations_of m → AreDeclarationsOf table new

@@ -3,9 +3,11 @@
 ghost use Rattle.std.specs.Prelude.{◌≡◌, IfErr, IfOk};
 ghost use Rattle.type_definitions.specs.Declarations.{declarations_of};
 ghost use Rattle.copy_removal.specs.Optimised.{IsOptimised};
+ghost use Rattle.optimised_runs.specs.lockstep_runs.inner.Agreeing.{RunsAsItDid};
 ghost use Rattle.sil_verifier.specs.accepted_modules.inner.Checked.{IsVerified};
 
 use crate::passes::pass_module;
+use optimised_runs::optimised_runs_as_it_did;
 use sil_ast::{Exhausted, Module};
 use sil_verifier::Checked;
 use std::alloc::Global;
@@ -19,9 +21,11 @@ pub struct Unfinished {
 /// The optimised module, made of a copy.
 fn optimized_copy(alloc: Global, c: &Checked) -> Result<Module, Exhausted>
     ensures optimised { IfOk result (IsOptimised c.now) }
+    ensures runs { IfOk result (RunsAsItDid c.now) }
     ensures verified { IfOk result IsVerified }
     ensures declarations { IfOk result (λ m. declarations_of m ≡ declarations_of c.now) }
 {
+    optimised_runs_as_it_did();
     let mut m = c.module().try_clone(alloc)?;
     pass_module(alloc, c.table(), &mut m)?;
     Ok(m)
@@ -29,8 +33,12 @@ fn optimized_copy(alloc: Global, c: &Checked) -> Result<Module, Exhausted>
 
 /// Makes a borrow or a move of each copy that can go, one after another, until none can
 /// ([docs/OPTIMISER.md](../../../docs/OPTIMISER.md)). Where memory runs out, the module is handed back unchanged.
+/// The optimised module runs by holders as the module does, from each entry and for each bound on turns: where one of the two runs
+/// ends the other one does, with the same events, ending, memory and turns, and the same unfreed objects with all their numbers;
+/// and that of the optimised module has no more retains and no more releases.
 pub fn optimize(alloc: Global, c: Checked) -> Result<Checked, Unfinished>
     ensures ok { IfOk result (λ k. IsOptimised c k) }
+    ensures runs { IfOk result (λ k. RunsAsItDid c k) }
     ensures err { IfErr result (λ u. u.checked ≡ c) }
 {
     match optimized_copy(alloc, &c) {

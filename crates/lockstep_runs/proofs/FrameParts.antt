@@ -36,7 +36,6 @@ use Rattle.lockstep_runs.specs.inner.Laws.{AreFramesInLockstep}
 use Rattle.lockstep_runs.specs.inner.Lockstep.{AreInStep, AreLevel, AreTasksLike, IsKeptBy, frame_at}
 use Rattle.lockstep_runs.specs.inner.Parts.{AreFramesOn, FramesAgree, HasFunctions}
 use Rattle.lockstep_runs.proofs.Alike as alike
-use Rattle.lockstep_runs.proofs.Alike.{dropping_alike}
 use Rattle.lockstep_runs.proofs.FrameSteps.{effects_alike, returned_alike}
 use Rattle.lockstep_runs.proofs.Locked.{runs_in_lockstep}
 

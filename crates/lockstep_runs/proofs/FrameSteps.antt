@@ -10,7 +10,7 @@ use Rattle.holder_counts.specs.holder_model.declared.event.Event.TheVariants as 
 use Rattle.holder_counts.specs.holder_model.Calling.{are_as_before, as_argument, handed_over}
 use Rattle.holder_counts.specs.holder_model.Data.{Datum, as_value}
 use Rattle.holder_counts.specs.holder_model.Effects as effects
-use Rattle.holder_counts.specs.holder_model.Effects.{Change, Effect, only, unchanged}
+use Rattle.holder_counts.specs.holder_model.Effects.{Change, Effect, unchanged}
 use Rattle.holder_counts.specs.holder_model.Faults.{HolderFault, PlaceNotAsAsked}
 use Rattle.holder_counts.specs.holder_model.Frames.{Entry, Frame, LentPlace, has_any}
 use Rattle.holder_counts.specs.holder_model.HolderStates.{HolderNext, HolderState}
@@ -23,7 +23,6 @@ use Rattle.lockstep_runs.specs.inner.Frames.{AreSpared, AreCallsAlike, AreChange
 use Rattle.lockstep_runs.specs.inner.Lockstep.{AreInStep, AreLevel, ArePutAlike, AreTasksLike, IsKeptBy, frame_at}
 use Rattle.lockstep_runs.specs.inner.Parts.{HasFunctions, call_at, puts}
 use Rattle.lockstep_runs.proofs.Alike as alike
-use Rattle.lockstep_runs.proofs.Alike.{dropping_alike}
 use Rattle.lockstep_runs.proofs.Drained.{in_step_drained}
 
 module _ (m m' : Module) (told told' : ModuleFacts) (bound : ℕ) (First Second : HolderState → Type 0)

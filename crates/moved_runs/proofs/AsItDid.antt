@@ -12,28 +12,17 @@ use Rattle.ownership_chains.specs.Facts.{is_owned, known_or}
 use Rattle.ownership_marks.specs.Marks.{marks_of}
 use Rattle.lent_runs.specs.accepted_modules.inner.Checked.{IsVerified}
 use Rattle.lent_runs.specs.accepted_runs.inner.RightStates.{IsRightState}
-use Rattle.lent_runs.proofs.accepted_runs.RightRuns.{each_excluded, right_kept}
 use Rattle.lent_runs.specs.copy_removal.ownership_kinds.Facts.{facts_in}
 use Rattle.lent_runs.specs.copy_removal.Removable.{concerns}
 use Rattle.lent_runs.specs.copy_removal.Optimised.{moves}
 use Rattle.lent_runs.specs.copy_removal.Rewritten.{moved, with_function}
 use Rattle.lent_runs.specs.rewriting_laws.inner.Laws.{RewritingKeepsVerified}
 use Rattle.lent_runs.specs.lockstep_runs.inner.Agreeing.{RunsAsItDid}
-use Rattle.lent_runs.specs.lockstep_runs.inner.Laws.{HoldsOnRuns}
+use Rattle.lent_runs.proofs.AsItDid.{right_on_runs}
 use Rattle.lent_runs.proofs.moved_functions.Split.{IsSplit, split}
 use Rattle.moved_runs.specs.inner.Laws.{MovedRunsAsItDid}
 use Rattle.moved_runs.proofs.InRuns.{moved_as_it_did}
 use Rattle.moved_runs.proofs.KnownFrames.{known_frames}
-
--- states of runs of an accepted module are right
-right_on_runs : (m : Module) → IsVerified m → HoldsOnRuns m (λ bound. IsRightState m)
-right_on_runs m verified = record {
-  begin = λ bound e f there may. right_kept.begin m e f verified there may;
-  kept = λ bound. record {
-    goes = λ s next is by. right_kept.goes m bound s next verified tt tt is by;
-    faultless = λ s last x is by. each_excluded x (right_kept.faults m bound s last x verified tt is by);
-  };
-}
 
 module _ (m : Module) (n : ℕ) (f : Function) (verified : IsVerified m) (there : slice_get m.functions n ≡ Some f) {p : PointId} {last : ℕ} {c v : ValueId} (s : IsSplit f p last c v)
     (owned : is_owned (known_or (facts_in (declarations_of m) f) v).kind ≡ true)

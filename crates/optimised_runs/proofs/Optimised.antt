@@ -1,7 +1,7 @@
 -- An optimised module runs as it did: each rewriting keeps runs, and leaves an accepted module.
 use Rattle.std.specs.Prelude.{ℕ}
-use Rattle.moved_runs.specs.rewriting_laws.accepted_modules.inner.Checked.{IsVerified}
-use Rattle.moved_runs.specs.rewriting_laws.copy_removal.Optimised.{IsOptimised, Rewrites, done, lends, more, moves}
+use Rattle.moved_runs.specs.lent_runs.accepted_modules.inner.Checked.{IsVerified}
+use Rattle.moved_runs.specs.rewriting_laws.copy_removal.Optimised.{Rewrites, done, lends, more, moves}
 use Rattle.moved_runs.specs.lent_runs.inner.Laws.{LentRunsAsItDid}
 use Rattle.lockstep_runs.specs.inner.Agreeing.{RunsAsItDid}
 use Rattle.lockstep_runs.specs.inner.Laws.{AreOutcomesInLockstep, IsAsItDidAgain}

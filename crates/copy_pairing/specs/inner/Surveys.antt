@@ -1,5 +1,5 @@
 -- What is found of a function once for all its copies, and what stays so where copies of it are rewritten.
-use Rattle.std.specs.Prelude.{◌≡◌, ℕ, length, Option, Some, slice_get, IfSome, IsSomeAnd}
+use Rattle.std.specs.Prelude.{◌≡◌, ℕ, length, Option, Some, slice_get, IfSome}
 use Rattle.sil_ast.specs.declared.function.Function.{Function}
 use Rattle.sil_ast.specs.declared.module.Module.{Module}
 use Rattle.sil_ast.specs.declared.place.ValueId.{ValueId}

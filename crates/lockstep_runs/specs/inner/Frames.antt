@@ -23,7 +23,7 @@ use Rattle.holder_counts.specs.holder_model.Calling.{holds_something, lent_place
 use Rattle.holder_counts.specs.holder_model.Data.{Datum, ValueOf}
 use Rattle.holder_counts.specs.holder_model.Edges.{carried_along, edge_of}
 use Rattle.holder_counts.specs.holder_model.Effects as effects
-use Rattle.holder_counts.specs.holder_model.Effects.{Change, Effect, only}
+use Rattle.holder_counts.specs.holder_model.Effects.{Change, Effect}
 use Rattle.holder_counts.specs.holder_model.Faults.{HolderFault}
 use Rattle.holder_counts.specs.holder_model.Frames.{Entry, Frame, LentPlace, Operands, datum_in, entry_at, no_entries, operands_of}
 use Rattle.holder_counts.specs.holder_model.Holders.{in_memory, of_references, one_object}

@@ -1,6 +1,6 @@
 -- An optimised module runs as it did.
 use Rattle.std.specs.Prelude.{ℕ}
-use Rattle.moved_runs.specs.rewriting_laws.accepted_modules.inner.Checked.{IsVerified}
+use Rattle.moved_runs.specs.lent_runs.accepted_modules.inner.Checked.{IsVerified}
 use Rattle.moved_runs.specs.rewriting_laws.copy_removal.Optimised.{IsOptimised}
 use Rattle.lockstep_runs.specs.inner.Agreeing.{MayStartAt, OutcomesAgree, RunsAsItDid}
 use Rattle.sil_ast.specs.declared.module.Module.{Module}
