@@ -54,7 +54,8 @@ use Rattle.stored_runs.specs.holder_steps.inner.Ways as ways
 use Rattle.stored_runs.specs.holder_steps.inner.Ways.{StandsAtEnd}
 use Rattle.stored_runs.proofs.owned_counts.BroughtOwned.{HoldsNothing, MayHold, brings_all, brings_none}
 use Rattle.stored_runs.proofs.owned_counts.GivenOwned.{given_as}
-use Rattle.stored_runs.proofs.owned_counts.TakenOwned.{GivesUp, IsTakenAs, IsValue, Keeps, gives_one, keeps_one, takes_all}
+use Rattle.stored_runs.proofs.owned_counts.Taken.{IsTakenAs}
+use Rattle.stored_runs.proofs.owned_counts.TakenOwned.{GivesUp, IsValue, Keeps, gives_one, keeps_one, takes_all}
 use Rattle.stored_runs.proofs.typed_holders.GoesOn.{Running, accepted_body}
 
 -- ---- lists

@@ -1,5 +1,5 @@
 -- What is left of places: storage that is emptied and a slot that goes have no cell of a part that a frame was given, and a part isn't written first.
-use Rattle.std.proofs.Common.{◌≡◌, ◌==◌, ◌⊎◌, ⊎_elim, ℕ, List, [], ◌∷◌, Bool, true, false, cond, Contains, Some, replicate, refl, sym, ap, ◌∙◌, subst, eqb-true}
+use Rattle.std.proofs.Common.{◌≡◌, ◌==◌, ⊎_elim, ℕ, List, [], ◌∷◌, Bool, true, false, cond, Contains, Some, replicate, refl, sym, ap, ◌∙◌, subst, eqb-true}
 use Rattle.std.specs.Prelude.{is_some}
 use Rattle.std.proofs.lemmas.Bool.{and_right, false_from_ne_true, false≢true, true≢false}
 use Rattle.std.proofs.lemmas.List.{length-replicate}
