@@ -16,3 +16,10 @@ pub mod RowsFound
 pub mod Outlive
 pub mod HandedFull
 pub mod TrapsRight
+pub mod PlacesLeftBare
+pub mod PlacesLeftCells
+pub mod PlacesLeftTasks
+pub mod PlacesLeftBelow
+pub mod PlacesLeftTyped
+pub mod PlacesLeft
+pub mod RetainedAlive

@@ -13,13 +13,13 @@ use Rattle.stored_runs.specs.accepted_runs.inner.RightStates.{IsRightState}
 use Rattle.stored_runs.specs.followed_objects.inner.Said.{said}
 use Rattle.stored_runs.specs.guarded_entries.inner.GuardedStates.{finishes_of, is_deiniting_phase}
 use Rattle.stored_runs.specs.held_objects.inner.ObjectStates.{TasksBuild}
-use Rattle.stored_runs.proofs.stored_counts.Turns.{one_itself}
+use Rattle.stored_runs.proofs.guarded_entries.Named.{counts_itself}
 use Rattle.same_runs.proofs.Finishing.{FinishesWhole}
 
 module _ (m : Module) (s : HolderState) (right : IsRightState m s) (o : ObjectId) (rest : List (Task Frame)) (is : s.tasks ≡ Finishes [] o ∷ rest) where
   -- it is deinitialising
   alive : is_dead s.memory o ≡ false
-  alive = at (phase_of s.memory o) (sym (ap (finishes_of o) is) ∙ right.guarded.finishes o) (one_itself o)
+  alive = at (phase_of s.memory o) (sym (ap (finishes_of o) is) ∙ right.guarded.finishes o) (counts_itself o)
     where
       at : (phase : Phase) → one_object o o + finishes_of o rest ≡ cond (is_deiniting_phase phase) 1 0 → one_object o o ≡ 1 → is_dead_phase phase ≡ false
       at Live e one = refl

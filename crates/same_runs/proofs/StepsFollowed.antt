@@ -33,7 +33,7 @@ use Rattle.stored_runs.proofs.holder_counts.Moves.{drops_counted}
 use Rattle.stored_runs.specs.typed_holders.inner.TypedStates.{FrameIs, TasksAre}
 use Rattle.stored_runs.proofs.typed_holders.GoesOn.{Running, typed_module}
 use Rattle.stored_runs.specs.stored_counts.inner.Numbers.{AreCounts}
-use Rattle.stored_runs.proofs.stored_counts.Turns.{one_itself}
+use Rattle.stored_runs.proofs.guarded_entries.Named.{counts_itself}
 use Rattle.stored_runs.specs.inner.Along.{IsNextAlong, IsNoFault}
 use Rattle.stored_runs.specs.inner.FrameSteps.{StepsAlong}
 use Rattle.stored_runs.specs.inner.PlaceRows.{LowGoes}
@@ -226,7 +226,7 @@ module _ (owed : IsOwed) (m : Module) (bound : ℕ) (s : HolderState) (verified 
         at (inl dead) =
             let n : strong_holders s o ≡ 0 = right.guarded.dead o dead in
             let k = drops_counted m told bound (one_object o) s o os rest is in
-            let one = one_itself o in absurd (omega (arith, n, k, one))
+            let one = counts_itself o in absurd (omega (arith, n, k, one))
 
     ways_followed : (n : HolderNext) → n ≡ next → StepsBy m told bound s n → Follows m bound s l next
     ways_followed n same (StepsBy.runs frame rest f _ is there way) = frame_followed frame rest f is there (subst (Acts m told bound s rest frame f) same way)

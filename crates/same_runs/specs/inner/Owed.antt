@@ -14,8 +14,6 @@ use Rattle.run_values.specs.Memory.{is_dead, object_at, with_object}
 use Rattle.run_values.specs.Places.{Place}
 use Rattle.stored_runs.specs.accepted_values.accepted_modules.inner.Checked.{IsVerified}
 use Rattle.stored_runs.specs.accepted_runs.inner.RightStates.{IsRightState}
-use Rattle.stored_runs.specs.lowered_run.holder_model.Calling.{are_as_before}
-use Rattle.stored_runs.specs.lowered_run.holder_model.Data.{Datum}
 use Rattle.stored_runs.specs.lowered_run.holder_model.Dropping.{ended}
 use Rattle.stored_runs.specs.lowered_run.holder_model.Effects as effects
 use Rattle.stored_runs.specs.lowered_run.holder_model.Effects.{Change, effect_of}
@@ -35,7 +33,6 @@ use Rattle.stored_runs.specs.lowered_run.LowStepParts.{LowState}
 use Rattle.stored_runs.specs.holder_steps.inner.Ways.{left_with, moved}
 use Rattle.stored_runs.specs.stored_counts.inner.Numbers.{AreCounts}
 use Rattle.stored_runs.specs.inner.CallsAlong.{HandsFullParts}
-use Rattle.stored_runs.specs.inner.Entering.{IsFullPart}
 use Rattle.stored_runs.specs.inner.Frames.{AreTasksFor, HasFullParts}
 use Rattle.stored_runs.specs.inner.PlaceRows.{GoesAlong, stored_for}
 use Rattle.stored_runs.specs.inner.PlacesLeft.{PlacesLeft}
