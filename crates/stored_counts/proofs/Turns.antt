@@ -45,7 +45,7 @@ tasks_stored s tasks stored same counts =
 
 -- ---- drops
 
-pub one_itself : (o : ObjectId) → one_object o o ≡ 1
+one_itself : (o : ObjectId) → one_object o o ≡ 1
 one_itself o = ap (λ b. cond b 1 0) (eq-eqb o.0 o.0 refl)
 
 pub drops_stored : (m : Module) (told : ModuleFacts) (bound : ℕ) → AreDropsStored m told bound
