@@ -230,10 +230,14 @@ module _ (m : Module) (g : FuncId) (f : Function) (a : IsAcceptedBody m g.0 f) (
     pub arguments_hold : (weight : ObjectId → ℕ) → of_references weight (references_ended facts entries all)
         ≡ of_references weight (references_begun (facts_in (declarations_of m) callee) (item_defined callee item.Entry) (map as_argument args))
     arguments_hold weight =
-        let parts = ap (λ ts. of_references weight (references_ended facts entries ts)) taken_are in
         let both : of_references weight (references_ended facts entries (t ∷ others))
         ≡ of_references weight (references_ended_by facts entries t) + of_references weight (references_ended facts entries others) =
         total_append weight (references_ended_by facts entries t) (references_ended facts entries others) in
         let none = keeps_one facts entries weight t first given_each.0 (inl refl) in
-        let rest = arguments_handed m g h f callee b w entries tolds c.handed (args_of callee 0) args handed parameters have_types given_each.1 args_fit weight in
-        omega (arith, parts, both, none, rest)
+        let rest : of_references weight (references_ended facts entries others)
+        ≡ of_references weight (references_begun (facts_in (declarations_of m) callee) (item_defined callee item.Entry) (map as_argument args)) =
+        arguments_handed m g h f callee b w entries tolds c.handed (args_of callee 0) args handed parameters have_types given_each.1 args_fit weight in
+        let split : of_references weight (references_ended facts entries (t ∷ others))
+        ≡ of_references weight (references_begun (facts_in (declarations_of m) callee) (item_defined callee item.Entry) (map as_argument args)) =
+        omega (arith, both, none, rest) in
+        ap (λ ts. of_references weight (references_ended facts entries ts)) taken_are ∙ split
