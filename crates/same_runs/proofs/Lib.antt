@@ -23,3 +23,6 @@ pub mod PlacesLeftBelow
 pub mod PlacesLeftTyped
 pub mod PlacesLeft
 pub mod RetainedAlive
+pub mod CallsCountedPlaces
+pub mod CallsCountedArguments
+pub mod CallsCounted
