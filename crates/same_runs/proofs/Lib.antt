@@ -16,3 +16,4 @@ pub mod RowsFound
 pub mod Outlive
 pub mod HandedFull
 pub mod TrapsRight
+pub mod BetweenTurns

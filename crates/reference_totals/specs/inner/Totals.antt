@@ -11,7 +11,6 @@ use Rattle.lowered_steps.specs.lowered_run.holder_model.ModuleShapes.{ModuleShap
 use Rattle.lowered_steps.specs.lowered_run.holder_model.Outcomes.{Numbers, Outcome, run}
 use Rattle.lowered_steps.specs.lowered_run.holder_model.States.{Ends, Goes, Returned}
 use Rattle.lowered_steps.specs.lowered_run.holder_model.declared.left_object.LeftObject.{LeftObject}
-use Rattle.lowered_steps.specs.lowered_run.declared.low_fault.LowFault.{LowFault}
 use Rattle.lowered_steps.specs.lowered_run.LowOutcomes.{low_begins, low_outcome_at}
 use Rattle.lowered_steps.specs.lowered_run.LowStepParts.{LowNext, LowState}
 use Rattle.lowered_steps.specs.lowered_run.LowSteps.{low_step}
@@ -53,7 +52,7 @@ AreTotalsStored = (m : Module) (told : ModuleShapes) (bound : ℕ) (e : FuncId) 
     → AreTotalsOf (come_to (run (low_step m told bound) steps (low_begins e f)))
 
 -- what was made is what an outcome tells and what was released, with so many objects allocated
-abbrev pub AreTotalsIn : ℕ → Outcome LowFault → Type 0
+abbrev pub AreTotalsIn : {X : Type 0} → ℕ → Outcome X → Type 0
 AreTotalsIn allocated o = allocated + o.retains ≡ strong_told o.left + o.releases
 
 -- a run that has returned tells all references that are left: an object that is freed, and so isn't told, has none
