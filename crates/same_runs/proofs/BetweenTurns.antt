@@ -4,8 +4,6 @@ use Rattle.std.proofs.Common.{◌≡◌, ◌+◌, ℕ, zero, suc, List, [], ◌�
 use Rattle.std.specs.Prelude.{slice_get}
 use Rattle.std.specs.List.{range_with_len}
 use Rattle.std.proofs.lemmas.List.Sums.{sum_by-cons}
-use Rattle.std.proofs.lemmas.Option.{same_Some}
-use Rattle.instruction_table.specs.Forms.{ending_of}
 use Rattle.sil_ast.specs.declared.function.Function.{Function}
 use Rattle.sil_ast.specs.declared.inst.Inst.{Inst}
 use Rattle.sil_ast.specs.declared.module.Module.{Module}
@@ -42,6 +40,7 @@ use Rattle.stored_runs.proofs.holder_steps.StepsTold.{steps_told}
 use Rattle.stored_runs.specs.stored_counts.inner.Numbers.{AreCounts}
 use Rattle.stored_runs.specs.owned_counts.inner.CountedReturns.{ReturnsFrom}
 use Rattle.stored_runs.proofs.owned_counts.CountedReturns.{left_counted}
+use Rattle.stored_runs.specs.typed_holders.inner.TypedStates.{IsTypedState}
 use Rattle.stored_runs.proofs.typed_holders.TypedSteps.{steps_typed}
 use Rattle.stored_runs.specs.inner.PlaceRows.{LowGoes}
 use Rattle.stored_runs.specs.inner.States.{IsStateFor}
@@ -166,7 +165,7 @@ all_held s stored counts =
 
 -- ---- the step that returns from the run
 
-module _ (m : Module) (bound : ℕ) (s : HolderState) (x : Value) (last : HolderState) where
+module _ (m : Module) (bound : ℕ) (s : HolderState) (verified : IsVerified m) (typed : IsTypedState m s) (x : Value) (last : HolderState) where
   abbrev told : ModuleFacts
   told = facts_of m
 
@@ -177,7 +176,7 @@ module _ (m : Module) (bound : ℕ) (s : HolderState) (x : Value) (last : Holder
     pub i : Inst
     pub ops : Operands
     pub y : Datum
-    pub returns : (verified : IsVerified m) (l : LowState) → IsTypedFor m s l → ReturnsFrom m bound s [] frame f i ops y
+    pub returns : ReturnsFrom m bound s [] frame f i ops y
     pub worth : as_value y ≡ Some x
     pub ends : record s { tasks = [] } ≡ last
 
@@ -247,9 +246,9 @@ module _ (m : Module) (bound : ℕ) (s : HolderState) (x : Value) (last : Holder
           i = i;
           ops = ops;
           y = y;
-          returns = λ verified l h. record {
+          returns = record {
             verified = verified;
-            typed = h.typed;
+            typed = typed;
             at = is ∙ ap (λ r. Runs frame ∷ r) r.0;
             there = there;
             stands = stands;
@@ -309,12 +308,12 @@ module _ (owed : IsOwed) (m : Module) (bound : ℕ) (verified : IsVerified m) wh
       typed : IsTypedFor m s (come_along m bound owed verified s c).low
       typed = (come_along m bound owed verified s c).typed
 
-      r : ReturnsSo m bound s x last
-      r = step_returns m bound s x last (step m bound s) (steps_told m (facts_of m) bound s) is
+      r : ReturnsSo m bound s verified typed.typed x last
+      r = step_returns m bound s verified typed.typed x last (step m bound s) (steps_told m (facts_of m) bound s) is
 
       counted : (o : ObjectId) → numbers_of stored o ≡ returned_holders (record s { tasks = [] }) (references_of x) o
       counted =
-          left_counted m bound s r.frame r.f r.i r.ops r.y x stored (r.returns verified (come_along m bound owed verified s c).low typed) r.worth typed.related.counts
+          left_counted m bound s r.frame r.f r.i r.ops r.y x stored r.returns r.worth typed.related.counts
 
       right : IsRightState m s
       right = comes_right m bound s verified c
