@@ -1,8 +1,7 @@
 -- What an instruction of lowered code makes of the objects of memory: at most one that is new, and none that was dead comes back.
-use Rattle.std.proofs.Common.{◌≡◌, ℕ, ◌++◌, List, [], ◌∷◌, length, refl, Bool, true, false, cond, not, is_some, Option, Some, None, option_and_then, unwrap_or, slice_get, find}
+use Rattle.std.proofs.Common.{◌≡◌, ℕ, ◌++◌, ◌||◌, List, [], ◌∷◌, length, refl, Bool, true, false, cond, not, is_some, Option, Some, None, option_and_then, unwrap_or, subst}
 use Rattle.std.specs.Prelude.{ℤ}
 use Rattle.std.proofs.lemmas.List.{length-set}
-use Rattle.instruction_table.specs.declared.op.Op.{Op}
 use Rattle.sil_ast.specs.declared.decl.Storage.{Storage}
 use Rattle.sil_ast.specs.declared.decl.Storage.TheVariants as storage
 use Rattle.sil_ast.specs.declared.inst.Inst.{Inst}

@@ -1,5 +1,6 @@
 -- Each step of a run of lowered code keeps its totals even, and so they are even in each state that the run comes to.
-use Rattle.std.proofs.Common.{◌≡◌, ℕ, zero, suc, ◌+◌, ◌-◌, ◌<◌, ◌≢◌, ◌++◌, ◌⊎◌, ⊎_elim, List, [], ◌∷◌, length, set, get_or, arith, refl, sym, ap, ◌∙◌, subst, Bool, true, false, cond, Option, Some, None, find, sum_by}
+use Rattle.std.proofs.Common.{◌≡◌, ℕ, zero, suc, ◌+◌, ◌-◌, ◌<◌, ◌≢◌, ◌++◌, ⊎_elim, List, [], ◌∷◌, length, set, get_or, arith, refl, sym, ap, ◌∙◌, subst, Bool, true, false, cond}
+use Rattle.std.proofs.Common.{Option, Some, None, find, sum_by}
 use Rattle.std.specs.Prelude.{◌==◌}
 use Rattle.std.proofs.lemmas.Bool.{cases_eq, eqb-false, eqb-true, false≢true}
 use Rattle.std.proofs.lemmas.List.{get_or-set_other, length-set, length-append}
@@ -61,8 +62,8 @@ totals_of l h = record {
 
 -- the number of an object that isn't dead changes
 module _ (memory : Memory) (ks : List ℕ) (retains releases : ℕ) (h : AreEven memory ks retains releases) (o : ObjectId) (alive : is_dead memory o ≡ false) where
-  there : o.0 < length ks
-  there = let lt = alive_within memory.objects o.0 alive in omega (arith, lt, h.size)
+  has_number : o.0 < length ks
+  has_number = let lt = alive_within memory.objects o.0 alive in omega (arith, lt, h.size)
 
   still_dead : (k : ℕ) (p : ObjectId) → is_dead memory p ≡ true → get_or (set ks o.0 k) p.0 0 ≡ 0
   still_dead k p is = get_or-set_other ks o.0 p.0 k 0 apart ∙ h.dead p is
@@ -76,14 +77,14 @@ module _ (memory : Memory) (ks : List ℕ) (retains releases : ℕ) (h : AreEven
   one_retained : AreEven memory (set ks o.0 (get_or ks o.0 0 + 1)) (retains + 1) releases
   one_retained = record {
     size = length-set ks o.0 _ ∙ h.size;
-    even = let more = set_sum ks o.0 (get_or ks o.0 0 + 1) there in omega (arith, more, h.even);
+    even = let more = set_sum ks o.0 (get_or ks o.0 0 + 1) has_number in omega (arith, more, h.even);
     dead = still_dead (get_or ks o.0 0 + 1);
   }
 
   one_released : (left : ℕ) → get_or ks o.0 0 ≡ suc left → AreEven memory (set ks o.0 left) retains (releases + 1)
   one_released left is = record {
     size = length-set ks o.0 _ ∙ h.size;
-    even = let less = set_sum ks o.0 left there in omega (arith, less, is, h.even);
+    even = let less = set_sum ks o.0 left has_number in omega (arith, less, is, h.even);
     dead = still_dead left;
   }
 
@@ -134,6 +135,9 @@ module _ (m later : Memory) (stored : List Numbers) (retains releases : ℕ) (h 
     dead = λ o is. h.dead o (dead o is);
   })
 
+  abbrev ks : List ℕ
+  ks = strongs stored
+
   behind_one : (x : Object) → is_dead_phase x.phase ≡ false → later.objects ≡ m.objects ++ x ∷ [] → AreEven later (strongs (numbers_for later stored)) retains releases
   behind_one x alive is =
       subst (λ ns. AreEven later (strongs ns) retains releases) (sym (one_larger m later stored sized larger))
@@ -143,9 +147,6 @@ module _ (m later : Memory) (stored : List Numbers) (retains releases : ℕ) (h 
         dead = none_stored;
       }))
     where
-      abbrev ks : List ℕ
-      ks = strongs stored
-
       larger : length later.objects ≡ suc (length m.objects)
       larger = ap length is ∙ length-append m.objects (x ∷ []) ∙ omega arith
 
@@ -288,11 +289,12 @@ module _ (m : Module) (told : ModuleShapes) (bound : ℕ) where
 
   pub come_kept : (k : ℕ) (s : LowState) → AreTotalsOf s → AreTotalsOf (come_to (run (low_step m told bound) k s))
   come_kept zero s h = h
-  come_kept (suc k) s h = at (low_step m told bound s) (kept s h)
+  come_kept (suc k) s h = at (low_step m told bound s) (kept s h) (λ t. come_kept k t)
     where
-      at : (n : LowNext) → AreTotalsOf (come_to n) → AreTotalsOf (come_to (step_on (run (low_step m told bound) k) n))
-      at (Goes t) g = come_kept k t g
-      at (Ends e t) g = g
+      at : (n : LowNext) → AreTotalsOf (come_to n) → ((t : LowState) → AreTotalsOf t → AreTotalsOf (come_to (run (low_step m told bound) k t)))
+          → AreTotalsOf (come_to (step_on (run (low_step m told bound) k) n))
+      at (Goes t) g on = on t g
+      at (Ends e t) g on = g
 
 pub totals_kept : AreTotalsKept
 totals_kept m told bound l h = kept m told bound l h

@@ -21,24 +21,23 @@ module _ (memory : Memory) (numbers : ObjectId → Numbers) (dead : (o : ObjectI
   abbrev told_at : ℕ → Option LeftObject
   told_at k = unfreed memory (object_number k) (numbers (object_number k))
 
+  abbrev told_as : ℕ → LeftObject
+  told_as k = left_object memory (object_number k) (numbers (object_number k))
+
   -- an object is told with its strong number, or has none
   one_told : (k : ℕ) (rest : List LeftObject) → strong_told (cons_option (told_at k) rest) ≡ (numbers (object_number k)).strong + strong_told rest
   one_told k rest = by_death (is_dead memory (object_number k)) refl
     where
-      abbrev n : Numbers
-      n = numbers (object_number k)
-
-      abbrev x : LeftObject
-      x = left_object memory (object_number k) n
-
-      by_name : (b : Bool) → n.strong ≡ 0 → strong_told (cons_option (cond b (Some x) None) rest) ≡ n.strong + strong_told rest
-      by_name true none = sum_by-cons told_strong x rest
+      by_name : (b : Bool) → (numbers (object_number k)).strong ≡ 0
+          → strong_told (cons_option (cond b (Some (told_as k)) None) rest) ≡ (numbers (object_number k)).strong + strong_told rest
+      by_name true none = sum_by-cons told_strong (told_as k) rest
       by_name false none = omega (arith, none)
 
       by_death : (b : Bool) → is_dead memory (object_number k) ≡ b
-          → strong_told (cons_option (cond (not b || is_named n) (Some x) None) rest) ≡ n.strong + strong_told rest
-      by_death true is = by_name (is_named n) (dead (object_number k) is)
-      by_death false is = sum_by-cons told_strong x rest
+          → strong_told (cons_option (cond (not b || is_named (numbers (object_number k))) (Some (told_as k)) None) rest)
+          ≡ (numbers (object_number k)).strong + strong_told rest
+      by_death true is = by_name (is_named (numbers (object_number k))) (dead (object_number k) is)
+      by_death false is = sum_by-cons told_strong (told_as k) rest
 
   -- from one number on
   told_from : (rest : List Numbers) (a : ℕ) → ((k : ℕ) → numbers (object_number (a + k)) ≡ unwrap_or (slice_get rest k) no_numbers)

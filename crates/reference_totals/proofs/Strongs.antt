@@ -1,5 +1,6 @@
 -- The strong numbers among those that are stored: which changes leave them, and what a retain, a release and a new object make of their sum.
-use Rattle.std.proofs.Common.{◌≡◌, ℕ, zero, suc, ◌+◌, ◌<◌, ◌⊎◌, ⊎_elim, inl, inr, List, [], ◌∷◌, ◌++◌, map, length, set, get_or, arith, refl, ap, ◌∙◌, Bool, true, false, cond, Option, Some, None, slice_get, unwrap_or, option_and_then, sum_by}
+use Rattle.std.proofs.Common.{◌≡◌, ℕ, zero, suc, ◌+◌, ◌<◌, ◌⊎◌, ⊎_elim, inl, inr, List, [], ◌∷◌, ◌++◌, map, length, set, get_or, arith, refl, ap, ◌∙◌}
+use Rattle.std.proofs.Common.{Bool, true, false, cond, Option, Some, None, slice_get, unwrap_or, option_and_then, sum_by}
 use Rattle.std.proofs.lemmas.List.{length-map, map-set}
 use Rattle.std.proofs.lemmas.List.Sums.{sum_by-cons, sum_by-set, sum_by_push}
 use Rattle.sil_ast.specs.declared.inst.Inst.{Inst}

@@ -1,4 +1,5 @@
--- What the totals of a run of lowered code have to do with stored numbers. A reference is made where an object is allocated and by each retain, and a release ends one.
+-- What the totals of a run of lowered code have to do with stored numbers. A reference is made where an object is allocated and by each retain, and a release
+-- ends one.
 use Rattle.std.specs.Prelude.{◌≡◌, ℕ, ◌+◌, List, true, length}
 use Rattle.std.specs.List.{sum_by}
 use Rattle.sil_ast.specs.declared.function.Function.{Function}
