@@ -6,7 +6,6 @@ use Rattle.sil_ast.specs.declared.decl.Storage.{Storage}
 use Rattle.sil_ast.specs.declared.decl.Storage.TheVariants as storage
 use Rattle.sil_ast.specs.declared.inst.Inst.{Inst}
 use Rattle.sil_ast.specs.declared.member.Member.{Member}
-use Rattle.sil_ast.specs.declared.place.FuncId.{FuncId}
 use Rattle.sil_ast.specs.declared.place.ObjectId.{ObjectId}
 use Rattle.type_definitions.specs.Declarations.{Declarations}
 use Rattle.run_values.specs.Cells.{Cell}
@@ -17,10 +16,10 @@ use Rattle.run_values.specs.Shapes.{Shape, class_in, storage_in}
 use Rattle.run_values.specs.Values as value
 use Rattle.run_values.specs.Values.{Value}
 use Rattle.lowered_steps.specs.lowered_run.holder_model.Builtins.{builtin_value, is_set}
-use Rattle.lowered_steps.specs.lowered_run.holder_model.Data.{Datum, FunctionOf, all_of, as_function, as_place, as_value, home_references, values_of}
+use Rattle.lowered_steps.specs.lowered_run.holder_model.Data.{Datum, all_of, as_function, as_place, as_value, home_references, values_of}
 use Rattle.lowered_steps.specs.lowered_run.holder_model.Effects as effects
 use Rattle.lowered_steps.specs.lowered_run.holder_model.Effects.{Calls, Effect, Faults, Makes, Traps, Unfit, effect_by, effect_of, only, with_some}
-use Rattle.lowered_steps.specs.lowered_run.holder_model.MemoryEffects.{all_live, loaded_name, named_again, takes, two, value_and_place}
+use Rattle.lowered_steps.specs.lowered_run.holder_model.MemoryEffects.{all_live, loaded_name, takes, two, value_and_place}
 use Rattle.lowered_steps.specs.lowered_run.holder_model.ModuleShapes.{ModuleShapes, case_place}
 use Rattle.lowered_steps.specs.lowered_run.holder_model.Operation.{Operation}
 use Rattle.lowered_steps.specs.lowered_run.holder_model.declared.row_effect.RowEffect.{RowEffect}

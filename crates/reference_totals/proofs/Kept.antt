@@ -2,7 +2,7 @@
 use Rattle.std.proofs.Common.{◌≡◌, ℕ, zero, suc, ◌+◌, ◌-◌, ◌<◌, ◌≢◌, ◌++◌, ⊎_elim, List, [], ◌∷◌, length, set, get_or, arith, refl, sym, ap, ◌∙◌, subst, Bool, true, false, cond}
 use Rattle.std.proofs.Common.{Option, Some, None, find, sum_by}
 use Rattle.std.specs.Prelude.{◌==◌}
-use Rattle.std.proofs.lemmas.Bool.{cases_eq, eqb-false, eqb-true, false≢true}
+use Rattle.std.proofs.lemmas.Bool.{eqb-false, eqb-true, false≢true}
 use Rattle.std.proofs.lemmas.List.{get_or-set_other, length-set, length-append}
 use Rattle.sil_ast.specs.declared.function.Function.{Function}
 use Rattle.sil_ast.specs.declared.inst.Inst.{Inst}
@@ -27,12 +27,12 @@ use Rattle.lowered_steps.specs.lowered_run.LowSteps.{low_step}
 use Rattle.lowered_steps.specs.lowered_run.LowSteps as steps
 use Rattle.lowered_steps.specs.lowered_run.Stored.{changed, new_numbers, numbers_of, one_less, one_more, unnamed}
 use Rattle.lowered_steps.specs.inner.LowWays.{Acts, Enters, Falls, FinishesOne, GoesBehind, Performs, Reaches, ReleasesOne, StepsBy, TakesEdge}
-use Rattle.lowered_steps.specs.inner.LowWays.{deinitialising, effect_in, released, retained, turned, with_tasks}
+use Rattle.lowered_steps.specs.inner.LowWays.{deinitialising, released, retained}
 use Rattle.lowered_steps.proofs.LowTold.{low_told}
-use Rattle.reference_totals.specs.inner.Totals.{AreTotals, AreTotalsKept, AreTotalsOf, AreTotalsStored, BeginWithTotals, come_to, strong_sum}
+use Rattle.reference_totals.specs.inner.Totals.{AreTotalsKept, AreTotalsOf, AreTotalsStored, BeginWithTotals, come_to}
 use Rattle.reference_totals.proofs.Grown.{Grown, GrownBy, effect_grown, stays}
 use Rattle.reference_totals.proofs.Objects.{alive_within, dead_at, pushed_alive, set_alive, set_any}
-use Rattle.reference_totals.proofs.Strongs.{changed_strongs, insts_left, joined_strongs, push_sum, pushed, set_sum, strong_at, strongs, strongs_length, strongs_sum, unnamed_left, within}
+use Rattle.reference_totals.proofs.Strongs.{changed_strongs, insts_left, joined_strongs, push_sum, pushed, set_sum, strong_at, strongs, strongs_length, strongs_sum, unnamed_left}
 
 -- ---- totals by the strong numbers alone
 

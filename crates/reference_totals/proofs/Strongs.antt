@@ -143,12 +143,6 @@ set_sum ks i k lt = sum_by-set (λ (n : ℕ). n) ks i k 0 lt
 pub push_sum : (ks : List ℕ) (k : ℕ) → sum_by (λ n. n) (ks ++ k ∷ []) ≡ sum_by (λ n. n) ks + k
 push_sum ks k = sum_by_push (λ (n : ℕ). n) ks k
 
--- a number that isn't 0 stands in the list
-pub within : (ks : List ℕ) (i k : ℕ) → get_or ks i 0 ≡ suc k → i < length ks
-within [] i k e = absurd (omega (arith, e))
-within (x ∷ ks) zero k e = omega arith
-within (x ∷ ks) (suc i) k e = let lt = within ks i k e in omega (arith, lt)
-
 -- an element behind a new last one
 pub pushed : (ks : List ℕ) (k i : ℕ) → (get_or (ks ++ k ∷ []) i 0 ≡ get_or ks i 0) ⊎ (i ≡ length ks)
 pushed [] k zero = inr refl
