@@ -18,7 +18,6 @@ use Rattle.reference_totals.specs.inner.Totals.{AreTotalsIn, AreTotalsOf, come_t
 use Rattle.reference_totals.proofs.Kept.{totals_stored}
 use Rattle.reference_totals.proofs.Left.{all_told}
 use Rattle.stored_runs.specs.accepted_values.accepted_modules.inner.Checked.{IsVerified}
-use Rattle.stored_runs.specs.accepted_runs.inner.RightStates.{IsRightState}
 use Rattle.stored_runs.specs.lowered_run.holder_model.Data.{Datum, as_value}
 use Rattle.stored_runs.specs.lowered_run.holder_model.Effects as effects
 use Rattle.stored_runs.specs.lowered_run.holder_model.Effects.{Change}
@@ -296,34 +295,29 @@ module _ (m : Module) (bound : ℕ) (s : HolderState) (verified : IsVerified m) 
 
 -- ---- the laws
 
+-- at the state before a return
+module _ (m : Module) (bound : ℕ) (s : HolderState) (verified : IsVerified m) (comes : IsComeTo m bound s) (low : LowState) (typed : IsTypedFor m s low)
+    (even : length s.memory.objects + s.retains ≡ strong_sum low.numbers + s.releases) (x : Value) (last : HolderState) (is : step m bound s ≡ Ends (Returned x) last) where
+  r : ReturnsSo m bound s verified typed.typed x last
+  r = step_returns m bound s verified typed.typed x last (step m bound s) (steps_told m (facts_of m) bound s) is
+
+  abbrev counted_then : ObjectId → Numbers
+  counted_then o = returned_holders (record s { tasks = [] }) (references_of x) o
+
+  counted : (o : ObjectId) → numbers_of low.numbers o ≡ counted_then o
+  counted = left_counted m bound s r.frame r.f r.i r.ops r.y x low.numbers r.returns r.worth typed.related.counts
+
+  none_dead : (o : ObjectId) → is_dead s.memory o ≡ true → (counted_then o).strong ≡ 0
+  none_dead o dead = ap (λ (n : Numbers). n.strong) (sym (counted o) ∙ typed.related.counts.each o) ∙ (comes_right m bound s verified comes).guarded.dead o dead
+
+  left_told : strong_told (left_objects s.memory counted_then) ≡ strong_sum low.numbers
+  left_told = all_told s.memory counted_then none_dead low.numbers typed.related.counts.size (λ o. sym (counted o))
+
+  returned_even : AreTotalsIn (length last.memory.objects) (outcome_at (Returned x) last)
+  returned_even =
+      subst (λ t. AreTotalsIn (length t.memory.objects) (outcome_at (Returned x) t)) r.ends (even ∙ ap (λ n. n + s.releases) (sym left_told))
+
 module _ (owed : IsOwed) (m : Module) (bound : ℕ) (verified : IsVerified m) where
-  returned_even : (s : HolderState) (c : IsComeTo m bound s) (x : Value) (last : HolderState) → step m bound s ≡ Ends (Returned x) last
-      → AreTotalsIn (length last.memory.objects) (outcome_at (Returned x) last)
-  returned_even s c x last is =
-      subst (λ t. AreTotalsIn (length t.memory.objects) (outcome_at (Returned x) t)) r.ends (even_there m bound owed verified s c ∙ ap (λ n. n + s.releases) (sym told))
-    where
-      abbrev stored : List Numbers
-      stored = (come_along m bound owed verified s c).low.numbers
-
-      typed : IsTypedFor m s (come_along m bound owed verified s c).low
-      typed = (come_along m bound owed verified s c).typed
-
-      r : ReturnsSo m bound s verified typed.typed x last
-      r = step_returns m bound s verified typed.typed x last (step m bound s) (steps_told m (facts_of m) bound s) is
-
-      counted : (o : ObjectId) → numbers_of stored o ≡ returned_holders (record s { tasks = [] }) (references_of x) o
-      counted =
-          left_counted m bound s r.frame r.f r.i r.ops r.y x stored r.returns r.worth typed.related.counts
-
-      right : IsRightState m s
-      right = comes_right m bound s verified c
-
-      dead : (o : ObjectId) → is_dead s.memory o ≡ true → (returned_holders (record s { tasks = [] }) (references_of x) o).strong ≡ 0
-      dead o is = ap (λ (n : Numbers). n.strong) (sym (counted o) ∙ typed.related.counts.each o) ∙ right.guarded.dead o is
-
-      told : strong_told (left_objects s.memory (returned_holders (record s { tasks = [] }) (references_of x))) ≡ strong_sum stored
-      told = all_told s.memory (returned_holders (record s { tasks = [] }) (references_of x)) dead stored typed.related.counts.size (λ o. sym (counted o))
-
   -- the last step of a run
   run_even : (k : ℕ) (s : HolderState) → IsComeTo m bound s → (x : Value) (last : HolderState) → run (step m bound) k s ≡ Ends (Returned x) last
       → AreTotalsIn (length last.memory.objects) (outcome_at (Returned x) last)
@@ -335,7 +329,9 @@ module _ (owed : IsOwed) (m : Module) (bound : ℕ) (verified : IsVerified m) wh
           → AreTotalsIn (length last.memory.objects) (outcome_at (Returned x) last))
           → AreTotalsIn (length last.memory.objects) (outcome_at (Returned x) last)
       at (Goes t) is later = later t (comes_on m bound s t c is) x last (sym (ap (step_on (run (step m bound) k)) is) ∙ ran)
-      at (Ends e t) is later = returned_even s c x last (is ∙ (sym (ap (step_on (run (step m bound) k)) is) ∙ ran))
+      at (Ends e t) is later =
+          let d = come_along m bound owed verified s c in
+          returned_even m bound s verified c d.low d.typed (even_there m bound owed verified s c) x last (is ∙ (sym (ap (step_on (run (step m bound) k)) is) ∙ ran))
 
 pub numbers_counts : AreNumbersCounts
 numbers_counts owed m bound s verified c =
