@@ -26,3 +26,4 @@ pub mod RetainedAlive
 pub mod CallsCountedPlaces
 pub mod CallsCountedArguments
 pub mod CallsCounted
+pub mod BetweenTurns

@@ -1,3 +1,4 @@
 pub mod Followed
 pub mod Owed
 pub mod Laws
+pub mod BetweenTurns

@@ -1,5 +1,6 @@
 //! Laws of lowered runs beside runs by holders, on calls that do nothing. The lemmas behind them are in `proofs/`.
 
+ghost use Rattle.same_runs.specs.inner.BetweenTurns.{AreNumbersCounts, AreTotalsHeld, AreTotalsTold};
 ghost use Rattle.same_runs.specs.inner.Laws.{AreRunsSameWhereOwed, AreStepsFollowed, BeginTypedFor};
 ghost use Rattle.same_runs.specs.inner.Owed.{TrapsAreRight};
 
@@ -21,4 +22,19 @@ pub fn runs_are_same()
 /// What is owed of rows that trap.
 pub fn traps_find_what_they_need()
     ensures { TrapsAreRight }
+{}
+
+/// Whenever a turn of the run by holders begins, the numbers that the lowered run stores of each object are the counts of its holders.
+pub fn numbers_are_counts()
+    ensures { AreNumbersCounts }
+{}
+
+/// Each reference that was made by then, with an object or by a retain, is held or was released.
+pub fn totals_are_held()
+    ensures { AreTotalsHeld }
+{}
+
+/// After a return it is told of an object that is left, or it was released.
+pub fn totals_are_told()
+    ensures { AreTotalsTold }
 {}

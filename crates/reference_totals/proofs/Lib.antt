@@ -1,0 +1,5 @@
+pub mod Strongs
+pub mod Objects
+pub mod Grown
+pub mod Kept
+pub mod Left
