@@ -9,8 +9,8 @@ mod optimising;
 mod report;
 mod runner;
 
+pub use holder_model::runs_end_once;
 pub use laws::{names_have_one_entry, one_module_is_lowered};
-pub use lowered_run::lowered_runs_end_once;
 pub use optimising::optimised_if;
 pub use ownership_lowering::lower;
 pub use report::{RunReport, report_text};

@@ -1,5 +1,6 @@
 //! Laws of lowered runs beside runs by holders, on calls that do nothing. The lemmas behind them are in `proofs/`.
 
+ghost use Rattle.stored_runs.specs.inner.Runs.{LoweredRunsAreSame};
 ghost use Rattle.same_runs.specs.inner.Laws.{AreRunsSameWhereOwed, AreStepsFollowed, BeginTypedFor};
 ghost use Rattle.same_runs.specs.inner.Owed.{TrapsAreRight};
 
@@ -16,6 +17,11 @@ pub fn runs_begin_along()
 /// Where one of both runs ends, the other does so too, with the same outcome.
 pub fn runs_are_same()
     ensures { AreRunsSameWhereOwed }
+{}
+
+/// The lowered run of an accepted module ends as the run by holders does, and the other way round.
+pub fn lowered_runs_are_same()
+    ensures { LoweredRunsAreSame }
 {}
 
 /// What is owed of rows that trap.

@@ -3,4 +3,7 @@
 
 mod laws;
 
-pub use laws::{runs_are_same, runs_begin_along, steps_are_followed, traps_find_what_they_need};
+pub use laws::{
+    lowered_runs_are_same, runs_are_same, runs_begin_along, steps_are_followed,
+    traps_find_what_they_need,
+};
