@@ -2,5 +2,5 @@ mod Entering
 mod Stays
 mod OneEntry
 mod Reported
-mod AsItself
+mod LeftRuns
 mod LoweredReports
