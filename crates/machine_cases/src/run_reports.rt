@@ -80,7 +80,7 @@ fn with_fault(alloc: Global, report: &[u8], fault: LowFault) -> Result<Vec<u8>, 
             written.push_str(counts)?;
         }
     }
-    Vec::from_slice(alloc, written.as_bytes())
+    Ok(Vec::from_slice(alloc, written.as_bytes())?)
 }
 
 /// Adds `fault underflow #0 count 0`, `fault dead #0`, `fault empty`, `fault missing %0` or `fault slot`.
