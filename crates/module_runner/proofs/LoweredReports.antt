@@ -6,8 +6,10 @@ use Rattle.std.specs.List.{flat_map}
 use Rattle.std.proofs.lemmas.Option.{slice_get-map}
 use Rattle.holder_model.specs.Faults.{HolderFault}
 use Rattle.holder_model.specs.Outcomes.{Outcome}
+use Rattle.holder_model.specs.States.{Ending, Faulted, OutOfTurns, Returned, Trapped}
 use Rattle.holder_model.specs.declared.event.Event.{Event}
 use Rattle.holder_model.specs.declared.event.Event.TheVariants as event
+use Rattle.holder_model.specs.declared.left_object.LeftObject.{LeftObject}
 use Rattle.numbered_form.specs.Names.{function_name}
 use Rattle.ownership_lowering.specs.lowering_model.LoweredModules.{lowered, lowered_by, lowered_function}
 use Rattle.report_writing.specs.run_report.ReportLines.{count_line, ending_lines, event_line, name_of, report}
@@ -44,5 +46,12 @@ module _ (m : Module) where
   events_lowered [] = refl
   events_lowered (x ∷ xs) = ap₂ (λ a b. a ++ b) (event_lowered x) (events_lowered xs)
 
+  ending_lowered : (S : Shape) (x : Ending HolderFault) (left : List LeftObject) → ending_lines (lowered m) S x left ≡ ending_lines m S x left
+  ending_lowered S (Returned x) left = refl
+  ending_lowered S (Trapped t) left = refl
+  ending_lowered S OutOfTurns left = refl
+  ending_lowered S (Faulted x) left = refl
+
   pub report_lowered : (S : Shape) (o : Outcome HolderFault) → report (lowered m) S o ≡ report m S o
-  report_lowered S o = ap (λ l. l ++ ending_lines m S o.ending o.left ++ count_line o.retains o.releases) (events_lowered o.events)
+  report_lowered S o =
+      ap₂ (λ a b. a ++ b ++ count_line o.retains o.releases) (events_lowered o.events) (ending_lowered S o.ending o.left)

@@ -1,5 +1,5 @@
 -- What is reported is how the run by holders ended, and the lowered run too.
-use Rattle.std.proofs.Common.{◌≡◌, ◌∙◌, ℕ, refl, sym, ap, subst}
+use Rattle.std.proofs.Common.{◌≡◌, ◌∙◌, ℕ, List, refl, sym, ap, subst}
 use Rattle.count_machine.specs.declared.low_run.LowEnd.{LowEnd}
 use Rattle.count_machine.specs.declared.low_run.LowEnd.TheVariants as end
 use Rattle.count_machine.specs.declared.low_run.LowRun.{LowRun}
@@ -8,6 +8,8 @@ use Rattle.count_machine.specs.LowRuns.{EndsAsTold, ending_told}
 use Rattle.holder_model.specs.Faults.{HolderFault}
 use Rattle.holder_model.specs.Outcomes.{EndsSo, Outcome}
 use Rattle.holder_model.specs.States.{Ending, Faulted, OutOfTurns, Returned, Trapped}
+use Rattle.holder_model.specs.declared.event.Event.{Event}
+use Rattle.holder_model.specs.declared.left_object.LeftObject.{LeftObject}
 use Rattle.lowered_run.specs.declared.low_fault.LowFault.{LowFault}
 use Rattle.lowered_run.specs.LowOutcomes.{LowEndsSo}
 use Rattle.ownership_lowering.specs.lowering_model.LoweredModules.{lowered}
@@ -70,15 +72,18 @@ not_faulted _ _ x out_of_turns is = absurd (cc)
 abbrev outcome_with : {X : Type 0} → LowRun → told.Ending → Outcome X
 outcome_with run x = record { events = run.events; ending = ending_of x; left = run.left; retains = run.retains; releases = run.releases }
 
+abbrev outcome_by : List Event → Ending HolderFault → List LeftObject → ℕ → ℕ → Outcome HolderFault
+outcome_by events ending left retains releases = record { events = events; ending = ending; left = left; retains = retains; releases = releases }
+
 same_outcome : (o : Outcome HolderFault) (run : LowRun) (x : told.Ending) (low : Ending LowFault) → ending_of x ≡ low → IsOutcomeFor o (runs.outcome_of run low)
     → o ≡ outcome_with run x
 same_outcome o run x low is same =
     let ending : o.ending ≡ ending_of x = sym (ending_for o.ending low same.ending) ∙ ap by_holders (sym is) ∙ holders_reported x in
-    let events : run.events ≡ o.events = same.events in
-    let left : run.left ≡ o.left = same.left in
-    let retains : run.retains ≡ o.retains = same.retains in
-    let releases : run.releases ≡ o.releases = same.releases in
-    cc
+    ap (λ e. outcome_by e o.ending o.left o.retains o.releases) (sym same.events)
+    ∙ ap (λ e. outcome_by run.events e o.left o.retains o.releases) ending
+    ∙ ap (λ l. outcome_by run.events (ending_of x) l o.retains o.releases) (sym same.left)
+    ∙ ap (λ n. outcome_by run.events (ending_of x) run.left n o.releases) (sym same.retains)
+    ∙ ap (outcome_by run.events (ending_of x) run.left run.retains) (sym same.releases)
 
 -- the lowered run of a module of which it is known that both runs end alike
 module _ (left made : Module) (e : FuncId) (bound : ℕ) (same : AreRunsSame left e bound) where

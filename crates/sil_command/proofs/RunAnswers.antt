@@ -33,7 +33,7 @@ module _ (m : Module) (name : List ℕ) (bound : ℕ) (optimises : Bool) (report
   abbrev shape : Module → Shape
   shape k = shape_of (declarations_of k) (given_type tells.function.signature)
 
-  text_told : text_of report ≡ lines.report left (shape left) (outcome_of report)
+  text_told : text_of report ≡ lines.report {X = HolderFault} left (shape left) (outcome_of report)
   text_told =
       ap (λ k. lines.report {X = HolderFault} k (shape_of (declarations_of k) report.result_type) (outcome_of report)) tells.tells.ran
       ∙ ap (λ t. lines.report {X = HolderFault} (lowered left) (shape_of (declarations_of left) t) (outcome_of report)) tells.tells.result_type
