@@ -22,14 +22,14 @@ pub reported-requires : goal.reported-requires
 reported-requires c =
     let made = c.in_ok-module.ensures in
     let same = left_same c.rewriting_keeps_verified.ensures c.lowered_runs_are_same.ensures c.args.optimise c.args.c.now made.left c.requires.entry.0
-        c.args.entry.id c.args.entry.function.now c.args.turns made.optimised c.requires.verified c.requires.entry.1 in
+    c.args.entry.id c.args.entry.function.now c.args.turns made.optimised c.requires.verified c.requires.entry.1 in
     no_fault made.left c.in_ok-module.module c.args.entry.id c.args.turns same c.in_ok-events.field-0 made.lowered c.in_ok-events.ensures.outcome
 
 pub returns-clause-run : goal.returns-clause-run
 returns-clause-run c =
     let made = c.in_ok-module.ensures in
     let same = left_same c.rewriting_keeps_verified.ensures c.lowered_runs_are_same.ensures c.args.optimise c.args.c.now made.left c.requires.entry.0
-        c.args.entry.id c.args.entry.function.now c.args.turns made.optimised c.requires.verified c.requires.entry.1 in
+    c.args.entry.id c.args.entry.function.now c.args.turns made.optimised c.requires.verified c.requires.entry.1 in
     record {
       left = made.left;
       optimised = made.optimised;
@@ -46,9 +46,9 @@ pub returns-clause-optimised : goal.returns-clause-optimised
 returns-clause-optimised c =
     let made = c.in_ok-module.ensures in
     let same = left_same c.rewriting_keeps_verified.ensures c.lowered_runs_are_same.ensures c.args.optimise c.args.c.now made.left c.requires.entry.0
-        c.args.entry.id c.args.entry.function.now c.args.turns made.optimised c.requires.verified c.requires.entry.1 in
+    c.args.entry.id c.args.entry.function.now c.args.turns made.optimised c.requires.verified c.requires.entry.1 in
     let ends = ends_reported made.left c.in_ok-module.module c.args.entry.id c.args.turns same c.in_ok-events.field-0 made.lowered
-        c.in_ok-events.ensures.outcome c.reported.result c.reported.ensures in
+    c.in_ok-events.ensures.outcome c.reported.result c.reported.ensures in
     let itself = as_itself c.optimised_outcomes_agree.ensures c.args.optimise c.args.c.now made.left c.args.entry.id c.args.entry.function.now
-        c.args.turns _ made.optimised c.requires.verified c.requires.entry.1.there c.requires.entry.1.starts ends in
+    c.args.turns _ made.optimised c.requires.verified c.requires.entry.1.there c.requires.entry.1.starts ends in
     record { itself = itself.0; ends = itself.1; as_it_did = itself.2 }
