@@ -1,7 +1,7 @@
 //! Laws of lowered runs beside runs by holders, on calls that do nothing. The lemmas behind them are in `proofs/`.
 
 ghost use Rattle.stored_runs.specs.inner.Runs.{LoweredRunsAreSame};
-ghost use Rattle.same_runs.specs.inner.Laws.{AreRunsSameWhereOwed, AreStepsFollowed, BeginTypedFor};
+ghost use Rattle.same_runs.specs.inner.Laws.{AreNumbersCounts, AreRunsSameWhereOwed, AreStepsFollowed, BeginTypedFor};
 ghost use Rattle.same_runs.specs.inner.Owed.{TrapsAreRight};
 
 /// Each step of the run by holders is followed by the lowered run.
@@ -22,6 +22,11 @@ pub fn runs_are_same()
 /// The lowered run of an accepted module ends as the run by holders does, and the other way round.
 pub fn lowered_runs_are_same()
     ensures { LoweredRunsAreSame }
+{}
+
+/// Wherever the run by holders comes to, the numbers that the lowered run stores are the counts of holders.
+pub fn numbers_are_counts()
+    ensures { AreNumbersCounts }
 {}
 
 /// What is owed of rows that trap.

@@ -4,6 +4,6 @@
 mod laws;
 
 pub use laws::{
-    lowered_runs_are_same, runs_are_same, runs_begin_along, steps_are_followed,
+    lowered_runs_are_same, numbers_are_counts, runs_are_same, runs_begin_along, steps_are_followed,
     traps_find_what_they_need,
 };
