@@ -1,5 +1,5 @@
 -- Runs of what is lowered of a module.
-use Rattle.std.specs.Prelude.{◌≡◌, ℕ, ⊥}
+use Rattle.std.specs.Prelude.{◌≡◌, ℕ}
 use Rattle.holder_model.specs.Outcomes.{Outcome}
 use Rattle.holder_model.specs.States.{Faulted}
 use Rattle.lowered_run.specs.LowOutcomes.{LowEndsSo}

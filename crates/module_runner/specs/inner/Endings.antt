@@ -1,5 +1,5 @@
 -- The ending that is reported of a run of lowered code. A fault has none.
-use Rattle.std.specs.Prelude.{⊤, ⊥}
+use Rattle.std.specs.Prelude.{⊤}
 use Rattle.count_machine.specs.declared.low_run.LowEnd.{LowEnd}
 use Rattle.count_machine.specs.declared.low_run.LowEnd.TheVariants as end
 use Rattle.report_writing.specs.declared.outcome.Ending.{Ending}
