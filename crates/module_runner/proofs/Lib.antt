@@ -3,4 +3,4 @@ mod Stays
 mod OneEntry
 mod Reported
 mod LeftRuns
-mod LoweredReports
+pub mod LoweredReports
