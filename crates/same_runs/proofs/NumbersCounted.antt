@@ -1,14 +1,12 @@
 -- Where the run by holders comes to a state, the lowered run comes to one in which the stored numbers are the counts of holders.
-use Rattle.std.proofs.Common.{◌≡◌, ℕ, zero, suc, refl, sym, ap, ◌∙◌, subst, true, Some}
-use Rattle.std.specs.Prelude.{slice_get}
+use Rattle.std.proofs.Common.{◌≡◌, ℕ, zero, suc, refl, sym, ap, ◌∙◌, subst}
 use Rattle.sil_ast.specs.declared.function.Function.{Function}
 use Rattle.sil_ast.specs.declared.module.Module.{Module}
-use Rattle.sil_ast.specs.declared.place.FuncId.{FuncId}
 use Rattle.type_definitions.specs.Declarations.{declarations_of}
 use Rattle.stored_runs.specs.accepted_values.accepted_modules.inner.Checked.{IsVerified}
 use Rattle.stored_runs.specs.lowered_run.holder_model.HolderStates.{HolderNext, HolderState}
 use Rattle.stored_runs.specs.lowered_run.holder_model.ModuleFacts.{facts_of}
-use Rattle.stored_runs.specs.lowered_run.holder_model.Outcomes.{begins, may_start, run}
+use Rattle.stored_runs.specs.lowered_run.holder_model.Outcomes.{begins, run}
 use Rattle.stored_runs.specs.lowered_run.holder_model.States.{Ends, Goes, step_on}
 use Rattle.stored_runs.specs.lowered_run.holder_model.Steps as holder_run
 use Rattle.stored_runs.specs.lowered_run.LowOutcomes.{low_begins}
