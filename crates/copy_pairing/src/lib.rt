@@ -11,5 +11,6 @@ mod surveys;
 mod turns;
 
 pub use copy_removal::Removal;
+pub use optimised_runs::{optimised_outcomes_agree, rewriting_keeps_verified};
 pub use optimiser::{Unfinished, optimize};
 pub use removals::removable;

@@ -2,3 +2,5 @@ mod Entering
 mod Stays
 mod OneEntry
 mod Reported
+mod LeftRuns
+pub mod LoweredReports

@@ -9,10 +9,11 @@ mod optimising;
 mod report;
 mod runner;
 
+pub use holder_model::runs_end_once;
 pub use laws::{names_have_one_entry, one_module_is_lowered};
-pub use lowered_run::lowered_runs_end_once;
 pub use optimising::optimised_if;
 pub use ownership_lowering::lower;
 pub use report::{RunReport, report_text};
 pub use report_writing::Ending;
 pub use runner::{RunEnd, run_checked};
+pub use same_runs::{lowered_runs_are_same, numbers_are_counts};

@@ -3,14 +3,18 @@
 ghost use Rattle.std.specs.Prelude.{◌≡◌, ◌≤◌, ◌↔◌, ℕ, Err, IfOk, List};
 ghost use Rattle.type_definitions.specs.Mentions as mentions;
 ghost use Rattle.module_runner.specs.Entries.{HasEntry, IsEntry};
-ghost use Rattle.module_runner.specs.inner.RunReports.{HeapIsAsTold, IsReportable, TellsOfRun, TellsOfRunFrom};
+ghost use Rattle.module_runner.specs.inner.RunReports.{HeapIsAsTold, IsReportable, TellsAsItself, TellsAsItselfFrom};
+ghost use Rattle.module_runner.specs.inner.RunReports.{TellsOfRun, TellsOfRunFrom};
+ghost use Rattle.sil_verifier.specs.accepted_modules.inner.Checked.{IsVerified};
 ghost use Rattle.module_runner.specs.declared.runner.RunEnd.TheVariants.{NoEntry};
 
 use crate::ending::reported;
 use crate::entry::{Entry, entry_named};
 use crate::optimising::lowered_if;
 use crate::report::RunReport;
+use copy_pairing::{optimised_outcomes_agree, rewriting_keeps_verified};
 use count_machine::{LowRun, run};
+use same_runs::lowered_runs_are_same;
 use sil_ast::{Boxed, Exhausted, Given, List, Signature, TryClone, TypeName};
 use sil_types::only_direct_type;
 use sil_verifier::Checked;
@@ -26,7 +30,8 @@ pub enum RunEnd {
 }
 
 /// Lowers an accepted module, optimised first where that is asked for, and runs the lowered one from the function with the name
-/// `entry`, for a bound on turns.
+/// `entry`, for a bound on turns. What is reported is the run by holders, of the module that was lowered: a lowered run ends as that one
+/// does.
 pub fn run_checked<'c>(
     alloc: Global,
     c: &'c Checked,
@@ -36,6 +41,7 @@ pub fn run_checked<'c>(
 ) -> Result<RunReport<'c>, RunEnd>
     requires { 1 ≤ turns }
     ensures run { IfOk result (TellsOfRun c.now entry.now turns optimise) }
+    ensures optimised { IfOk result (TellsAsItself c.now entry.now turns) }
     ensures heap { IfOk result HeapIsAsTold }
     ensures reportable { IfOk result IsReportable }
     ensures no_entry { (result ≡ Err NoEntry) ↔ ¬ HasEntry c.now entry.now }
@@ -56,12 +62,17 @@ fn run_from<'c>(
     turns: u32,
     optimise: bool,
 ) -> Result<RunReport<'c>, Exhausted>
+    requires verified { IsVerified c.now }
     requires entry { (name : List ℕ) × IsEntry c.now name entry.id entry.function.now }
     requires some_turns { 1 ≤ turns }
     ensures run { IfOk result (TellsOfRunFrom c.now entry.entry.id entry.entry.function.now turns optimise) }
+    ensures optimised { IfOk result (TellsAsItselfFrom c.now entry.entry.id turns) }
     ensures heap { IfOk result HeapIsAsTold }
     ensures reportable { IfOk result IsReportable }
 {
+    rewriting_keeps_verified();
+    optimised_outcomes_agree();
+    lowered_runs_are_same();
     let result_type = given_type(alloc, &entry.function.signature)?;
     let module = lowered_if(alloc, c, optimise)?;
     let LowRun {

@@ -2,30 +2,29 @@
 use Rattle.std.proofs.Common.{◌≡◌, ◌∙◌, ℕ, List, [], ◌++◌, refl, ap, ap₂}
 use Rattle.std.specs.Prelude.{IfOk, Result, Ok, Err}
 use Rattle.std.specs.List.{flat_map}
+use Rattle.holder_model.specs.Faults.{HolderFault}
 use Rattle.holder_model.specs.declared.left_object.LeftObject.{LeftObject}
-use Rattle.run_report.specs.ReportLines.{count_line, event_line}
+use Rattle.run_report.specs.ReportLines.{count_line, ending_lines, event_line, report}
 use Rattle.run_values.specs.Shapes.{shape_of}
 use Rattle.sil_ast.specs.declared.module.Module.{Module}
 use Rattle.sil_ast.specs.declared.type_name.TypeName.{TypeName}
 use Rattle.type_definitions.specs.Declarations.{Declarations}
-use Rattle.report_writing.specs.LowReports.{low_ending_lines, low_report}
 use Rattle.report_writing.specs.RunOutcomes.{ending_of, outcome_of}
 use Rattle.report_writing.specs.declared.outcome.Ending.{Ending}
-use Rattle.report_writing.specs.declared.outcome.Ending.TheVariants.{Returned, Trap, OutOfTurns, Fault}
+use Rattle.report_writing.specs.declared.outcome.Ending.TheVariants.{Returned, Trap, OutOfTurns}
 use Rattle.report_writing.specs.declared.outcome.RunOutcome.{RunOutcome}
 use Rattle.report_writing.specs.inner.Texts.{ending_text}
 
 module _ (m : Module) (d : Declarations) (t : TypeName) where
-  ending_is : (left : List LeftObject) (e : Ending) → ending_text d left t e ≡ low_ending_lines m (shape_of d t) (ending_of e) left
+  ending_is : (left : List LeftObject) (e : Ending) → ending_text d left t e ≡ ending_lines {X = HolderFault} m (shape_of d t) (ending_of e) left
   ending_is left (Returned v) = refl
   ending_is left (Trap reason) = refl
   ending_is left OutOfTurns = refl
-  ending_is left (Fault x) = refl
 
   pub whole : {E : Type 0} (result : Result (List ℕ) E) (r : RunOutcome) (start told ended counted : List ℕ) → start ≡ []
       → told ≡ start ++ flat_map (event_line m) r.events.now → ended ≡ told ++ ending_text d r.left.now t r.ending.now
       → counted ≡ ended ++ count_line r.retains r.releases → IfOk result (λ text. text ≡ counted)
-      → IfOk result (λ text. text ≡ low_report m (shape_of d t) (outcome_of r))
+      → IfOk result (λ text. text ≡ report m (shape_of d t) (outcome_of r))
   whole (Ok text) r start told ended counted at_start at_told at_ended at_counted made =
       let events = flat_map (event_line m) r.events.now in
       let counts = count_line r.retains r.releases in

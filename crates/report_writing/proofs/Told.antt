@@ -1,20 +1,11 @@
 -- The values that a program has: what each stands for, form by form, and that a value told to a program is that value again.
-use Rattle.std.proofs.Common.{◌≡◌, ◌∙◌, ℕ, ℤ, List, ◌++◌, None, Some, Option, map, refl, sym, ap, ap₂}
+use Rattle.std.proofs.Common.{◌≡◌, ◌∙◌, ℕ, ℤ, List, None, Some, Option, map, refl, sym, ap, ap₂}
 use Rattle.std.specs.Prelude.{option_map}
-use Rattle.std.specs.List.{flat_map}
-use Rattle.holder_model.specs.Outcomes.{Outcome}
-use Rattle.holder_model.specs.States.{Ending, Faulted, OutOfTurns, Returned, Trapped}
-use Rattle.holder_model.specs.declared.left_object.LeftObject.{LeftObject}
-use Rattle.lowered_run.specs.declared.low_fault.LowFault.{LowFault}
-use Rattle.run_report.specs.ReportLines.{count_line, ending_lines, event_line, report}
-use Rattle.run_values.specs.Shapes.{Shape}
 use Rattle.run_values.specs.Values.{Value, Values, Int, Object, Group, Case, Full, NoValue, More, chosen, grouped, val_of, vals_of, values_of}
 use Rattle.run_values.specs.declared.value.Val.{Val, Val-F, fold-roll-Val}
 use Rattle.run_values.specs.declared.value.Val.TheVariants as val
 use Rattle.run_values.specs.declared.value.Val.TheVariants.{rolls-Int, rolls-Object, rolls-Group, rolls-Chosen}
-use Rattle.sil_ast.specs.declared.module.Module.{Module}
 use Rattle.sil_ast.specs.declared.place.ObjectId.{ObjectId}
-use Rattle.report_writing.specs.LowReports.{low_ending_lines, low_report}
 use Rattle.report_writing.specs.RunOutcomes.{value_of, value_over}
 
 pub value-Int : (n : ℤ) → value_of (val.Int n) ≡ Int n
@@ -42,16 +33,3 @@ mutual
   pub values_told : (xs : Values) → values_of (map value_of (vals_of xs)) ≡ xs
   values_told NoValue = refl
   values_told (More x xs) = ap₂ More (value_told x) (values_told xs)
-
--- where a run doesn't end in a fault, its report is as that of any run
-
-same_lines : (m : Module) (S : Shape) (e : Ending LowFault) (left : List LeftObject) → ((x : LowFault) → e ≡ Faulted x → ⊥)
-    → low_ending_lines m S e left ≡ ending_lines m S e left
-same_lines m S (Returned x) left other = refl
-same_lines m S (Trapped t) left other = refl
-same_lines m S OutOfTurns left other = refl
-same_lines m S (Faulted x) left other = absurd (other x refl)
-
-pub report_without_fault : (m : Module) (S : Shape) (o : Outcome LowFault) → ((x : LowFault) → o.ending ≡ Faulted x → ⊥) → low_report m S o ≡ report m S o
-report_without_fault m S o other =
-    ap (λ l. flat_map (event_line m) o.events ++ l ++ count_line o.retains o.releases) (same_lines m S o.ending o.left other)

@@ -1,5 +1,5 @@
 pub mod RunOutcomes
-pub mod LowReports
 pub mod inner
 pub use Rattle.run_typing_laws.specs.run_typing as run_typing
 pub use Rattle.holder_model.specs as holder_model
+pub use Rattle.run_report.specs as run_report

@@ -1,13 +1,13 @@
 -- What an outcome stands for, as a program has it.
+use Rattle.holder_model.specs.Faults.{HolderFault}
 use Rattle.holder_model.specs.Outcomes.{Outcome}
 use Rattle.holder_model.specs.States as ending
-use Rattle.lowered_run.specs.declared.low_fault.LowFault.{LowFault}
 use Rattle.run_values.specs.Values.{Value, chosen, grouped}
 use Rattle.run_values.specs.Values as value
 use Rattle.run_values.specs.declared.value.Val.{Val, Val-F, fold-Val}
 use Rattle.run_values.specs.declared.value.Val.TheOpen.{Int, Object, Group, Chosen}
 use Rattle.report_writing.specs.declared.outcome.Ending.{Ending}
-use Rattle.report_writing.specs.declared.outcome.Ending.TheVariants.{Returned, Trap, OutOfTurns, Fault}
+use Rattle.report_writing.specs.declared.outcome.Ending.TheVariants.{Returned, Trap, OutOfTurns}
 use Rattle.report_writing.specs.declared.outcome.RunOutcome.{RunOutcome}
 
 abbrev pub value_over : Val-F Value → Value
@@ -20,12 +20,12 @@ value_over (Chosen case_index payload) = chosen case_index payload
 abbrev pub value_of : Val → Value
 value_of v = fold-Val Value value_over v
 
-abbrev pub ending_of : Ending → ending.Ending LowFault
+-- its ending, which is no fault, of whichever kind the faults of a run are
+abbrev pub ending_of : {X : Type 0} → Ending → ending.Ending X
 ending_of (Returned v) = ending.Returned (value_of v)
 ending_of (Trap t) = ending.Trapped t
 ending_of OutOfTurns = ending.OutOfTurns
-ending_of (Fault x) = ending.Faulted x
 
--- the outcome that a program has
-abbrev pub outcome_of : RunOutcome → Outcome LowFault
+-- the outcome that a program has, as that of a run by holders
+abbrev pub outcome_of : RunOutcome → Outcome HolderFault
 outcome_of r = record { events = r.events.now; ending = ending_of r.ending.now; left = r.left.now; retains = r.retains; releases = r.releases }

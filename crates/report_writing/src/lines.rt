@@ -1,17 +1,15 @@
 //! The lines of a report but for that of a returned value.
 
-ghost use Rattle.std.specs.Prelude.{◌≡◌, ◌++◌, OnOk, codes, decimal};
+ghost use Rattle.std.specs.Prelude.{◌≡◌, ◌++◌, OnOk, codes};
 ghost use Rattle.std.specs.Fmt.{signed_decimal};
 ghost use Rattle.std.specs.List.{flat_map};
 ghost use Rattle.run_report.specs.ReportLines.{count_line, event_line, left_lines, name_of, object_line, phase_words, trap_words};
 ghost use Rattle.sil_printer.specs.Words.{in_parens, line};
-ghost use Rattle.report_writing.specs.LowReports.{fault_line};
 
 use crate::pieces::{push_bytes, push_number, push_separator, push_signed};
 use crate::values::push_object;
 use holder_model::{Event, LeftObject, Trap};
-use lowered_run::LowFault;
-use sil_ast::{Exhausted, FuncId, Module, ObjectId};
+use sil_ast::{Exhausted, FuncId, Module};
 
 pub(crate) fn push_events(out: &mut Vec<u8>, m: &Module, events: &[Event]) -> Result<(), Exhausted>
     ensures { OnOk result (out.new.items ≡ out.old.items ++ flat_map (event_line m.now) events.now) }
@@ -75,33 +73,6 @@ pub(crate) fn push_trap(out: &mut Vec<u8>, trap: &Trap) -> Result<(), Exhausted>
         Trap::Escaped => push_bytes(out, b"trap escaped\n"),
         Trap::Depth => push_bytes(out, b"trap depth\n"),
     }
-}
-
-pub(crate) fn push_fault(out: &mut Vec<u8>, fault: LowFault) -> Result<(), Exhausted>
-    ensures { OnOk result (out.new.items ≡ out.old.items ++ fault_line fault) }
-{
-    match fault {
-        LowFault::Underflow { object, count } => push_underflow(out, object, count),
-        LowFault::Dead { object } => {
-            push_number(out, b"fault dead #", object.0)?;
-            push_bytes(out, b"\n")
-        }
-        LowFault::Empty => push_bytes(out, b"fault empty\n"),
-        LowFault::Missing { value } => {
-            push_number(out, b"fault missing %", u64::from(value.0))?;
-            push_bytes(out, b"\n")
-        }
-        LowFault::Slot => push_bytes(out, b"fault slot\n"),
-    }
-}
-
-/// Puts `fault underflow #0 count 0`.
-fn push_underflow(out: &mut Vec<u8>, object: ObjectId, count: u64) -> Result<(), Exhausted>
-    ensures { OnOk result (out.new.items ≡ out.old.items ++ line (codes "fault underflow #" ++ decimal object.0 ++ codes " count " ++ decimal count)) }
-{
-    push_number(out, b"fault underflow #", object.0)?;
-    push_number(out, b" count ", count)?;
-    push_bytes(out, b"\n")
 }
 
 /// Puts how many objects are left, and a line for each.

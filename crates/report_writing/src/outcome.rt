@@ -1,18 +1,15 @@
 //! What a report tells of a run.
 
 use holder_model::{Event, LeftObject, Trap};
-use lowered_run::LowFault;
 use run_values::Val;
 
-/// How a run of a lowered module ends.
+/// How a run of an accepted module ends.
 #[derive(Drop)]
 pub enum Ending {
     Returned(Val),
     Trap(Trap),
     /// The turn that would be past the bound wasn't begun.
     OutOfTurns,
-    /// An accepted module is meant to have no such run, which isn't proved.
-    Fault(LowFault),
 }
 
 /// What a run shows that has ended.

@@ -4,11 +4,11 @@ ghost use Rattle.std.specs.Prelude.{◌≡◌, ◌++◌, IfOk, OnOk};
 ghost use Rattle.run_typing_laws.specs.run_typing.Runnable.{IsRunnable};
 ghost use Rattle.run_values.specs.Shapes.{shape_of};
 ghost use Rattle.type_definitions.specs.Declarations.{declarations_of};
-ghost use Rattle.report_writing.specs.LowReports.{low_report};
+ghost use Rattle.run_report.specs.ReportLines.{report};
 ghost use Rattle.report_writing.specs.RunOutcomes.{outcome_of};
 ghost use Rattle.report_writing.specs.inner.Texts.{AreOfRunnable, ending_text, returned_text};
 
-use crate::lines::{push_counts, push_events, push_fault, push_left, push_trap};
+use crate::lines::{push_counts, push_events, push_left, push_trap};
 use crate::outcome::{Ending, RunOutcome};
 use crate::pieces::push_bytes;
 use crate::values::{Names, push_value};
@@ -17,7 +17,7 @@ use sil_ast::{Exhausted, Module, Text, TypeName};
 use sil_types::TypeTable;
 use std::alloc::Global;
 
-/// The report of a run of a lowered module, as `docs/RUNS.md` has it under "The report". A value that was returned is written as one of
+/// The report of a run, as `docs/RUNS.md` has it under "The report". A value that was returned is written as one of
 /// `result_type`, the type of what the entry function gives. Fails where memory runs out.
 pub fn write_report(
     alloc: Global,
@@ -28,7 +28,7 @@ pub fn write_report(
 ) -> Result<Text, Exhausted>
     requires runnable { IsRunnable m.now }
     requires of_it { table.now ≡ declarations_of m.now }
-    ensures { IfOk result (λ text. text ≡ low_report m.now (shape_of table.now result_type.now) (outcome_of outcome.now)) }
+    ensures { IfOk result (λ text. text ≡ report m.now (shape_of table.now result_type.now) (outcome_of outcome.now)) }
 {
     let mut out = Vec::new(alloc);
     let names = Names {
@@ -55,7 +55,6 @@ fn push_ending(
         Ending::Returned(value) => push_returned(out, names, result_type, value),
         Ending::Trap(trap) => push_trap(out, trap),
         Ending::OutOfTurns => push_bytes(out, b"out of turns\n"),
-        Ending::Fault(fault) => push_fault(out, *fault),
     }
 }
 

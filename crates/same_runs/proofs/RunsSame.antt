@@ -47,7 +47,7 @@ module _ (m : Module) (bound : ℕ) where
     pub count : ℕ
     pub is : run low_step count l ≡ n
 
-  onward : (before l : LowState) → LowGoes m bound before l → (n : LowNext) → RunsOn before n → RunsOn l n
+  pub onward : (before l : LowState) → LowGoes m bound before l → (n : LowNext) → RunsOn before n → RunsOn l n
   onward before _ LowGoes.there n on = on
   onward before _ (LowGoes.more l behind is steps) n on =
       let more = onward before behind steps n on in
@@ -100,10 +100,10 @@ module _ (m : Module) (bound : ℕ) where
       at (Goes x) e more = ap (step_on (run step (suc k))) e ∙ more x (sym (ap (step_on (run step k)) e) ∙ is)
       at (Ends e x) g more = absurd (ends_nowhere e x t (step_on (run step k) (step s)) (sym (ap (step_on (run step k)) g)) is)
 
-  comes_on : (s t : HolderState) → IsComeTo m bound s → step s ≡ Goes t → IsComeTo m bound t
+  pub comes_on : (s t : HolderState) → IsComeTo m bound s → step s ≡ Goes t → IsComeTo m bound t
   comes_on s t c is = record { e = c.e; f = c.f; there = c.there; may = c.may; steps = suc c.steps; comes = run_on c.steps (begins c.e c.f) s c.comes ∙ is }
 
-  next_typed : (s t : HolderState) (l : LowState) (last : LowState) → IsTypedFor m s l → step s ≡ Goes t → IsStateFor m t last → IsTypedFor m t last
+  pub next_typed : (s t : HolderState) (l : LowState) (last : LowState) → IsTypedFor m s l → step s ≡ Goes t → IsStateFor m t last → IsTypedFor m t last
   next_typed s t l last h is related = record {
     verified = h.verified;
     related = related;
@@ -123,7 +123,7 @@ module _ (m : Module) (bound : ℕ) where
   one_step l e last is = record { count = 1; is = ap (step_on (run low_step 0)) is }
 
   module _ (owed : IsOwed) (verified : IsVerified m) where
-    follows : (s : HolderState) (l : LowState) → IsComeTo m bound s → IsTypedFor m s l → (n : HolderNext) → step s ≡ n → Follows m bound s l n
+    pub follows : (s : HolderState) (l : LowState) → IsComeTo m bound s → IsTypedFor m s l → (n : HolderNext) → step s ≡ n → Follows m bound s l n
     follows s l comes h n is = subst (Follows m bound s l) is (steps_followed owed m bound s verified comes l h)
 
     -- runs of so many steps

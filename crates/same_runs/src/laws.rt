@@ -1,7 +1,8 @@
 //! Laws of lowered runs beside runs by holders, on calls that do nothing. The lemmas behind them are in `proofs/`.
 
-ghost use Rattle.same_runs.specs.inner.BetweenTurns.{AreNumbersCounts, AreTotalsHeld, AreTotalsTold};
-ghost use Rattle.same_runs.specs.inner.Laws.{AreRunsSameWhereOwed, AreStepsFollowed, BeginTypedFor};
+ghost use Rattle.stored_runs.specs.inner.Runs.{LoweredRunsAreSame};
+ghost use Rattle.same_runs.specs.inner.BetweenTurns.{AreTotalsHeld, AreTotalsTold};
+ghost use Rattle.same_runs.specs.inner.Laws.{AreNumbersCounts, AreRunsSameWhereOwed, AreStepsFollowed, BeginTypedFor};
 ghost use Rattle.same_runs.specs.inner.Owed.{TrapsAreRight};
 
 /// Each step of the run by holders is followed by the lowered run.
@@ -19,14 +20,19 @@ pub fn runs_are_same()
     ensures { AreRunsSameWhereOwed }
 {}
 
+/// The lowered run of an accepted module ends as the run by holders does, and the other way round.
+pub fn lowered_runs_are_same()
+    ensures { LoweredRunsAreSame }
+{}
+
+/// Wherever the run by holders comes to, the numbers that the lowered run stores are the counts of holders.
+pub fn numbers_are_counts()
+    ensures { AreNumbersCounts }
+{}
+
 /// What is owed of rows that trap.
 pub fn traps_find_what_they_need()
     ensures { TrapsAreRight }
-{}
-
-/// Whenever a turn of the run by holders begins, the numbers that the lowered run stores of each object are the counts of its holders.
-pub fn numbers_are_counts()
-    ensures { AreNumbersCounts }
 {}
 
 /// Each reference that was made by then, with an object or by a retain, is held or was released.

@@ -1,25 +1,26 @@
 -- What follows from how a call of the command ends: the clauses of the public call.
-use Rattle.std.proofs.Common.{◌≡◌, ◌⊎◌, inl, inr, ℕ, ◌<◌, Bool, true, List, refl, arith}
+use Rattle.std.proofs.Common.{◌≡◌, ◌⊎◌, inl, inr, ℕ, ◌<◌, Bool, true, List, refl, sym, subst, arith}
 use Rattle.module_runner.specs.States as ending
 use Rattle.module_runner.specs.States.{Ending}
-use Rattle.module_runner.specs.LowFault.{LowFault}
+use Rattle.module_runner.specs.Faults.{HolderFault}
 use Rattle.sil_ast.specs.declared.module.Module.{Module}
 use Rattle.sil_io.specs.Count.{MayFail}
-use Rattle.sil_command.specs.declared.status.Status.TheVariants.{Done, Refused, Usage, NotAModule, ReadFault, WriteFault, Trapped, OutOfTurns, Limit, OutOfMemory, NoEntry, Faulted}
+use Rattle.sil_command.specs.declared.status.Status.{Status}
+use Rattle.sil_command.specs.declared.status.Status.TheVariants.{Done, Refused, Usage, NotAModule, ReadFault, WriteFault, Trapped, OutOfTurns, Limit, OutOfMemory, NoEntry}
 use Rattle.sil_command.specs.Statuses.{code_of}
 use Rattle.sil_command.specs.Texts.{read_fault_text}
 use Rattle.sil_command.specs.declared.words.Mode.{Mode}
 use Rattle.sil_command.specs.declared.words.Mode.TheVariants.{Check, Lower, Optimize, Print, Run}
 use Rattle.sil_command.specs.Answers.{Answers, usage, in_mode, AnswersText, too_long, unread, spelled, AnswersModule, AnswersChecked, AnswersRun, AnswersWrong, limit_passed, refused, wrong, accepted}
-use Rattle.sil_command.specs.Answers.{Writes, WritesOf, written, no_entry, ran, status_of}
+use Rattle.sil_command.specs.Answers.{HasStatus, Writes, WritesOf, written, no_entry, ran}
 use Rattle.sil_command.specs.Ends.{Call, Ends, answered, read_failed, exhausted, whole, front, WritesAnswer, Exhausts, WritesWhole, WritesFrontOfAnswer, IsStatus}
 use Rattle.sil_command.proofs.Unread.{unread_status}
 
--- the statuses of answers: neither a fault nor want of memory
+-- the statuses of answers: no failed read or write, and not want of memory
 abbrev IsAnswerStatus : ℕ → Type 0
 IsAnswerStatus status =
     (status ≡ code_of Done) ⊎ (status ≡ code_of Refused) ⊎ (status ≡ code_of Usage) ⊎ (status ≡ code_of NotAModule) ⊎ (status ≡ code_of Limit)
-    ⊎ (status ≡ code_of Trapped) ⊎ (status ≡ code_of OutOfTurns) ⊎ (status ≡ code_of NoEntry) ⊎ (status ≡ code_of Faulted)
+    ⊎ (status ≡ code_of Trapped) ⊎ (status ≡ code_of OutOfTurns) ⊎ (status ≡ code_of NoEntry)
 
 zero_is : IsAnswerStatus (code_of Done)
 zero_is = inl refl
@@ -40,10 +41,7 @@ seven_is : IsAnswerStatus (code_of OutOfTurns)
 seven_is = inr (inr (inr (inr (inr (inr (inl refl))))))
 
 ten_is : IsAnswerStatus (code_of NoEntry)
-ten_is = inr (inr (inr (inr (inr (inr (inr (inl refl)))))))
-
-twelve_is : IsAnswerStatus (code_of Faulted)
-twelve_is = inr (inr (inr (inr (inr (inr (inr (inr refl)))))))
+ten_is = inr (inr (inr (inr (inr (inr (inr refl))))))
 
 wrong_status : (m : Module) (answer : List ℕ) (status : ℕ) → AnswersWrong m answer status → IsAnswerStatus status
 wrong_status m _ _ (refused x first rule) = one_is
@@ -60,16 +58,16 @@ checked_status : (m : Module) (AnswersAccepted : List ℕ → ℕ → Type 0) �
 checked_status m A of_accepted answer status (wrong _ _ answers) = wrong_status m answer status answers
 checked_status m A of_accepted answer status (accepted _ _ all answers) = of_accepted answer status answers
 
-ending_status : (x : Ending LowFault) → IsAnswerStatus (code_of (status_of x))
-ending_status (ending.Returned x) = zero_is
-ending_status (ending.Trapped t) = six_is
-ending_status ending.OutOfTurns = seven_is
-ending_status (ending.Faulted x) = twelve_is
+ending_status : (x : Ending HolderFault) (s : Status) → HasStatus x s → IsAnswerStatus (code_of s)
+ending_status (ending.Returned x) s is = subst (λ t. IsAnswerStatus (code_of t)) (sym is) zero_is
+ending_status (ending.Trapped t) s is = subst (λ t. IsAnswerStatus (code_of t)) (sym is) six_is
+ending_status ending.OutOfTurns s is = subst (λ t. IsAnswerStatus (code_of t)) (sym is) seven_is
+ending_status (ending.Faulted x) s is = absurd is
 
 run_status : (m : Module) (name : List ℕ) (bound : ℕ) (optimises : Bool) (answer : List ℕ) (status : ℕ) → AnswersRun m name bound optimises answer status
     → IsAnswerStatus status
 run_status m name bound optimises _ _ (no_entry none) = ten_is
-run_status m name bound optimises _ _ (ran k e f x left entry ends) = ending_status x.ending
+run_status m name bound optimises _ _ (ran k e f x s left entry ends has never) = ending_status x.ending s has
 
 module_status : (mode : Mode) (m : Module) (answer : List ℕ) (status : ℕ) → AnswersModule mode m answer status → IsAnswerStatus status
 module_status Check m = checked_status m _ (written_status _)
@@ -100,8 +98,7 @@ all_statuses status (inr (inr (inr (inl three)))) = (NotAModule, three)
 all_statuses status (inr (inr (inr (inr (inl eight))))) = (Limit, eight)
 all_statuses status (inr (inr (inr (inr (inr (inl six)))))) = (Trapped, six)
 all_statuses status (inr (inr (inr (inr (inr (inr (inl seven))))))) = (OutOfTurns, seven)
-all_statuses status (inr (inr (inr (inr (inr (inr (inr (inl ten)))))))) = (NoEntry, ten)
-all_statuses status (inr (inr (inr (inr (inr (inr (inr (inr twelve)))))))) = (Faulted, twelve)
+all_statuses status (inr (inr (inr (inr (inr (inr (inr ten))))))) = (NoEntry, ten)
 
 four_is : IsStatus (code_of ReadFault)
 four_is = (ReadFault, refl)

@@ -1,21 +1,22 @@
 -- For the laws on refusals: what `check` writes of a module, and which texts are answered as no module.
-use Rattle.std.proofs.Common.{◌≡◌, ℕ, ◌≤◌, Bool, true, List, length, refl, sym, subst, arith}
+use Rattle.std.proofs.Common.{◌≡◌, ℕ, ◌≤◌, Bool, true, List, length, refl, sym, ap, subst, arith}
 use Rattle.command_words.specs.inner.Laws.{SayOneThing}
 use Rattle.module_runner.specs.LoweredModules.{lowered}
 use Rattle.module_runner.specs.States as ending
 use Rattle.module_runner.specs.States.{Ending}
-use Rattle.module_runner.specs.LowFault.{LowFault}
+use Rattle.module_runner.specs.Faults.{HolderFault}
 use Rattle.sil_ast.specs.declared.module.Module.{Module}
 use Rattle.sil_grammar.specs.Refusals.{SpellsNone}
 use Rattle.sil_grammar.specs.Spells.{Spells}
 use Rattle.sil_grammar.specs.inner.Laws.{AreSpelledOnce}
 use Rattle.sil_printer.specs.CanonicalModules.{canonical_text}
 use Rattle.sil_rules.specs.declared.limits.TheConstants.{TEXT_BYTES}
+use Rattle.sil_command.specs.declared.status.Status.{Status}
 use Rattle.sil_command.specs.declared.status.Status.TheVariants.{NotAModule}
 use Rattle.sil_command.specs.Statuses.{code_of}
 use Rattle.sil_command.specs.declared.words.Mode.{Mode}
 use Rattle.sil_command.specs.declared.words.Mode.TheVariants.{Check, Lower, Optimize, Print, Run}
-use Rattle.sil_command.specs.Answers.{AnswersChecked, AnswersModule, AnswersRun, AnswersText, AnswersWrong, Writes, WritesOf, status_of}
+use Rattle.sil_command.specs.Answers.{AnswersChecked, AnswersModule, AnswersRun, AnswersText, AnswersWrong, HasStatus, Writes, WritesOf}
 use Rattle.sil_command.specs.Answers.{limit_passed, refused, wrong, accepted, written, no_entry, ran, too_long, unread, spelled}
 use Rattle.sil_command.specs.Laws.{AreRefusedForTheFirst, AreReportedRightly, ChecksRules}
 use Rattle.sil_command.specs.RefusalTexts.{refusal_text}
@@ -73,16 +74,16 @@ of_reported : (text : Module → List ℕ) (optimises : Bool) (m : Module) (answ
     → status ≡ code_of NotAModule → ⊥
 of_reported text optimises m answer status (k, left, writes) = written_reported (text k) answer status writes
 
-ending_reported : (x : Ending LowFault) → code_of (status_of x) ≡ code_of NotAModule → ⊥
-ending_reported (ending.Returned x) three = omega arith
-ending_reported (ending.Trapped t) three = omega arith
-ending_reported ending.OutOfTurns three = omega arith
-ending_reported (ending.Faulted x) three = omega arith
+ending_reported : (x : Ending HolderFault) (s : Status) → HasStatus x s → code_of s ≡ code_of NotAModule → ⊥
+ending_reported (ending.Returned x) s is three = omega (arith, three, ap code_of is)
+ending_reported (ending.Trapped t) s is three = omega (arith, three, ap code_of is)
+ending_reported ending.OutOfTurns s is three = omega (arith, three, ap code_of is)
+ending_reported (ending.Faulted x) s is three = is
 
 run_reported : (m : Module) (name : List ℕ) (bound : ℕ) (optimises : Bool) (answer : List ℕ) (status : ℕ) → AnswersRun m name bound optimises answer status
     → status ≡ code_of NotAModule → ⊥
 run_reported m name bound optimises _ _ (no_entry none) three = omega arith
-run_reported m name bound optimises _ _ (ran k e f x left entry ends) three = ending_reported x.ending three
+run_reported m name bound optimises _ _ (ran k e f x s left entry ends has never) three = ending_reported x.ending s has three
 
 module_reported : (mode : Mode) (m : Module) (answer : List ℕ) (status : ℕ) → AnswersModule mode m answer status → status ≡ code_of NotAModule → ⊥
 module_reported Check m = checked_reported m _ (written_reported _)

@@ -1,21 +1,22 @@
 -- The answer of `run`, by what is reported of the run.
 use Rattle.std.proofs.Common.{◌≡◌, ◌∙◌, ◌≤◌, ℕ, Bool, List, Option, Some, None, Result, ap, arith, subst, sym}
-use Rattle.std.specs.Prelude.{IfOk}
+use Rattle.std.specs.Prelude.{IfOk, Ok, Err}
 use Rattle.module_runner.specs.Declarations.{declarations_of}
-use Rattle.module_runner.specs.LowReports.{low_report}
+use Rattle.module_runner.specs.Faults.{HolderFault}
 use Rattle.module_runner.specs.LoweredModules.{lowered}
 use Rattle.module_runner.specs.Mentions.{given_type}
+use Rattle.module_runner.specs.ReportLines as lines
 use Rattle.module_runner.specs.RunOutcomes.{ending_of}
 use Rattle.module_runner.specs.inner.RunReports.{TellsOfRun, outcome_of, text_of}
-use Rattle.module_runner.specs.Shapes.{shape_of}
+use Rattle.module_runner.specs.Shapes.{Shape, shape_of}
 use Rattle.module_runner.specs.declared.report.RunReport.{RunReport}
+use Rattle.module_runner.proofs.LoweredReports.{report_lowered}
 use Rattle.sil_ast.specs.declared.module.Module.{Module}
-use Rattle.sil_command.specs.Answers.{AnswersRun, ran, status_of}
+use Rattle.sil_command.specs.Answers.{AnswersRun, HasStatus, ran}
 use Rattle.sil_command.specs.Statuses.{code_of}
 use Rattle.sil_command.specs.Words.{IsAskedFor, IsBoundBy}
 use Rattle.sil_command.specs.declared.answer.Answer.{Answer}
 use Rattle.sil_command.specs.declared.words.Mode.TheVariants.{Run}
-use Rattle.sil_command.proofs.AnswerLemmas.{told_line}
 
 bound_some : (turns : Option (List ℕ)) (bound : ℕ) → IsBoundBy turns bound → 1 ≤ bound
 bound_some None bound is = omega (arith, is)
@@ -29,15 +30,18 @@ module _ (m : Module) (name : List ℕ) (bound : ℕ) (optimises : Bool) (report
   abbrev left : Module
   left = tells.tells.left
 
-  text_told : text_of report ≡ low_report (lowered left) (shape_of (declarations_of (lowered left)) (given_type tells.function.signature)) (outcome_of report)
+  abbrev shape : Module → Shape
+  shape k = shape_of (declarations_of k) (given_type tells.function.signature)
+
+  text_told : text_of report ≡ lines.report {X = HolderFault} left (shape left) (outcome_of report)
   text_told =
-      ap (λ k. low_report k (shape_of (declarations_of k) report.result_type) (outcome_of report)) tells.tells.ran
-      ∙ ap (λ t. low_report (lowered left) (shape_of (declarations_of (lowered left)) t) (outcome_of report)) tells.tells.result_type
+      ap (λ k. lines.report {X = HolderFault} k (shape_of (declarations_of k) report.result_type) (outcome_of report)) tells.tells.ran
+      ∙ ap (λ t. lines.report {X = HolderFault} (lowered left) (shape_of (declarations_of left) t) (outcome_of report)) tells.tells.result_type
+      ∙ report_lowered left (shape left) (outcome_of report)
 
   pub reported_answer : {E : Type 0} (r : Result Answer E) → IfOk r (λ a. a.text.items ≡ text_of report)
-      → IfOk r (λ a. a.status ≡ status_of (ending_of report.ending)) → IfOk r (λ a. AnswersRun m name bound optimises a.text.items (code_of a.status))
-  reported_answer r text status =
-      told_line (AnswersRun m name bound optimises) r (status_of (ending_of report.ending))
-      (subst (λ t. AnswersRun m name bound optimises t (code_of (status_of (ending_of report.ending)))) (sym text_told)
-      (ran left tells.entry tells.function (outcome_of report) tells.tells.optimised tells.begins tells.tells.ends))
-      text status
+      → IfOk r (λ a. HasStatus (ending_of report.ending) a.status) → IfOk r (λ a. AnswersRun m name bound optimises a.text.items (code_of a.status))
+  reported_answer (Ok a) text status =
+      subst (λ t. AnswersRun m name bound optimises t (code_of a.status)) (sym (text ∙ text_told))
+      (ran left tells.entry tells.function (outcome_of report) a.status tells.tells.optimised tells.begins tells.tells.ends status tells.tells.never_faults)
+  reported_answer (Err e) text status = tt

@@ -1,13 +1,12 @@
 -- For the laws on the statuses of `run`: which texts it answers with the status of an ending, and which with that of no entry function.
-use Rattle.std.proofs.Common.{◌≡◌, ◌↔◌, ◌⊎◌, ◌∙◌, inl, inr, ℕ, Bool, List, refl, ap, subst₂, arith}
+use Rattle.std.proofs.Common.{◌≡◌, ◌↔◌, ◌⊎◌, ◌∙◌, inl, inr, ℕ, ◌==◌, Bool, List, refl, sym, ap, subst, subst₂, arith}
+use Rattle.std.specs.Prelude.{cond}
 use Rattle.command_words.specs.inner.Laws.{SayOneThing}
-use Rattle.module_runner.specs.Outcomes.{Outcome}
+use Rattle.module_runner.specs.Faults.{HolderFault}
+use Rattle.module_runner.specs.Outcomes.{EndsSo, Outcome}
 use Rattle.module_runner.specs.States as ending
 use Rattle.module_runner.specs.States.{Ending}
-use Rattle.module_runner.specs.LowOutcomes.{LowEndsSo}
-use Rattle.module_runner.specs.LowFault.{LowFault}
-use Rattle.module_runner.specs.Laws.{LoweredRunsEndOnce}
-use Rattle.module_runner.specs.LoweredModules.{lowered}
+use Rattle.module_runner.specs.Laws.{RunsEndOnce}
 use Rattle.module_runner.specs.Entries.{HasEntry, IsEntry}
 use Rattle.module_runner.specs.Optimising.{IsOptimisedIf}
 use Rattle.module_runner.specs.inner.Laws.{HaveOneEntry, IsOne}
@@ -16,43 +15,45 @@ use Rattle.sil_ast.specs.declared.function.Function.{Function}
 use Rattle.sil_ast.specs.declared.module.Module.{Module}
 use Rattle.sil_ast.specs.declared.place.FuncId.{FuncId}
 use Rattle.sil_grammar.specs.inner.Laws.{AreSpelledNumbered, AreSpelledOnce}
-use Rattle.sil_command.specs.declared.status.Status.TheVariants.{Refused, Limit, NoEntry}
+use Rattle.sil_command.specs.declared.status.Status.{Status}
+use Rattle.sil_command.specs.declared.status.Status.TheVariants.{Done, Refused, Trapped, OutOfTurns, Limit, NoEntry}
 use Rattle.sil_command.specs.Statuses.{code_of}
 use Rattle.accepted_modules.specs.Findings.{Accepted, limit as found_limit}
 use Rattle.accepted_modules.specs.inner.Laws.{AreAcceptedWhereNothingIsFound}
 use Rattle.sil_command.specs.declared.words.Mode.TheVariants.{Run}
-use Rattle.sil_command.specs.Answers.{AnswersModule, AnswersRun, AnswersWrong, limit_passed, refused, wrong, accepted, no_entry, ran, status_of}
+use Rattle.sil_command.specs.Answers.{AnswersModule, AnswersRun, AnswersWrong, limit_passed, refused, wrong, accepted, HasStatus, no_entry, ran}
 use Rattle.sil_command.specs.Laws.{AreRunExactly, HaveNoEntryExactly, RunsTo}
 use Rattle.sil_command.proofs.StatusLemmas.{answers_exactly}
 
-ending_code : (x : Ending LowFault) → (code_of (status_of x) ≡ 0) ⊎ (code_of (status_of x) ≡ 6) ⊎ (code_of (status_of x) ≡ 7) ⊎ (code_of (status_of x) ≡ 12)
-ending_code (ending.Returned x) = inl refl
-ending_code (ending.Trapped t) = inr (inl refl)
-ending_code ending.OutOfTurns = inr (inr (inl refl))
-ending_code (ending.Faulted x) = inr (inr (inr refl))
+ending_code : (x : Ending HolderFault) (s : Status) → HasStatus x s → (code_of s ≡ 0) ⊎ (code_of s ≡ 6) ⊎ (code_of s ≡ 7)
+ending_code (ending.Returned x) s is = inl (ap code_of is)
+ending_code (ending.Trapped t) s is = inr (inl (ap code_of is))
+ending_code ending.OutOfTurns s is = inr (inr (ap code_of is))
+ending_code (ending.Faulted x) s is = absurd is
 
 wrong_code : (m : Module) (answer : List ℕ) (status : ℕ) → AnswersWrong m answer status → (status ≡ code_of Refused) ⊎ (status ≡ code_of Limit)
 wrong_code m _ _ (refused x first rule) = inl refl
 wrong_code m _ _ (limit_passed what first) = inr refl
 
+one_status : (x : Ending HolderFault) (s t : Status) → HasStatus x s → HasStatus x t → s ≡ t
+one_status (ending.Returned x) s t is so = is ∙ sym so
+one_status (ending.Trapped x) s t is so = is ∙ sym so
+one_status ending.OutOfTurns s t is so = is ∙ sym so
+one_status (ending.Faulted x) s t is so = absurd is
+
+-- the status of an ending, by its code
+abbrev status_at : ℕ → Status
+status_at n = cond (n == 0) Done (cond (n == 6) Trapped OutOfTurns)
+
+at_code : (x : Ending HolderFault) (s : Status) → HasStatus x s → status_at (code_of s) ≡ s
+at_code (ending.Returned x) s is = ap (λ t. status_at (code_of t)) is ∙ sym is
+at_code (ending.Trapped x) s is = ap (λ t. status_at (code_of t)) is ∙ sym is
+at_code ending.OutOfTurns s is = ap (λ t. status_at (code_of t)) is ∙ sym is
+at_code (ending.Faulted x) s is = absurd is
+
 -- endings whose statuses have one code have one status
-same_status : (x y : Ending LowFault) → code_of (status_of x) ≡ code_of (status_of y) → status_of x ≡ status_of y
-same_status (ending.Returned x) (ending.Returned y) same = refl
-same_status (ending.Returned x) (ending.Trapped t) same = absurd (omega arith)
-same_status (ending.Returned x) ending.OutOfTurns same = absurd (omega arith)
-same_status (ending.Returned x) (ending.Faulted y) same = absurd (omega arith)
-same_status (ending.Trapped t) (ending.Returned y) same = absurd (omega arith)
-same_status (ending.Trapped t) (ending.Trapped u) same = refl
-same_status (ending.Trapped t) ending.OutOfTurns same = absurd (omega arith)
-same_status (ending.Trapped t) (ending.Faulted y) same = absurd (omega arith)
-same_status ending.OutOfTurns (ending.Returned y) same = absurd (omega arith)
-same_status ending.OutOfTurns (ending.Trapped t) same = absurd (omega arith)
-same_status ending.OutOfTurns ending.OutOfTurns same = refl
-same_status ending.OutOfTurns (ending.Faulted y) same = absurd (omega arith)
-same_status (ending.Faulted x) (ending.Returned y) same = absurd (omega arith)
-same_status (ending.Faulted x) (ending.Trapped t) same = absurd (omega arith)
-same_status (ending.Faulted x) ending.OutOfTurns same = absurd (omega arith)
-same_status (ending.Faulted x) (ending.Faulted y) same = refl
+same_status : (x y : Ending HolderFault) (s t : Status) → HasStatus x s → HasStatus y t → code_of s ≡ code_of t → s ≡ t
+same_status x y s t is so same = sym (at_code x s is) ∙ ap status_at same ∙ at_code y t so
 
 module _ (law : AreAcceptedWhereNothingIsFound) where
   never_wrong : (m : Module) (answer : List ℕ) (status : ℕ) → AnswersWrong m answer status → Accepted m → ⊥
@@ -61,25 +62,30 @@ module _ (law : AreAcceptedWhereNothingIsFound) where
 
   module _ (name : List ℕ) (bound : ℕ) (optimises : Bool) where
     -- a run of which an ending is told ends with its status
-    module _ (one_entry : HaveOneEntry) (is_one : IsOne) (once : LoweredRunsEndOnce) (x : Ending LowFault) (m : Module) (numbered : IsNumbered m) where
-      ends_same : (k : Module) (e : FuncId) (f : Function) (y : Outcome LowFault) → IsOptimisedIf optimises m k → IsEntry m name e f → LowEndsSo (lowered k) e bound y
-          → RunsTo name bound optimises (status_of x) m → code_of (status_of y.ending) ≡ code_of (status_of x)
-      ends_same k e f y left entry ends (other, i, g, z, also_left, again, ends_so, same) =
+    module _ (one_entry : HaveOneEntry) (is_one : IsOne) (once : RunsEndOnce) (x : Ending HolderFault) (s : Status) (has : HasStatus x s)
+        (m : Module) (numbered : IsNumbered m) where
+      ends_same : (k : Module) (e : FuncId) (f : Function) (y : Outcome HolderFault) (t : Status) → IsOptimisedIf optimises m k → IsEntry m name e f
+          → EndsSo k e bound y → HasStatus y.ending t → RunsTo name bound optimises s m → code_of t ≡ code_of s
+      ends_same k e f y t left entry ends so (other, i, g, z, also_left, again, ends_so, also) =
           let number : i ≡ e = (one_entry m name e i f g numbered entry again).0 in
           let run : other ≡ k = is_one optimises m other k also_left left in
-          let outcome : y ≡ z = once (lowered k) e bound y z ends (subst₂ (λ l n. LowEndsSo (lowered l) n bound z) run number ends_so) in
-          ap (λ (o : Outcome LowFault). code_of (status_of o.ending)) outcome ∙ ap code_of same
+          let outcome : z ≡ y = once k e bound z y (subst₂ (λ l n. EndsSo l n bound z) run number ends_so) ends in
+          ap code_of (one_status y.ending t s so (subst (λ (o : Outcome HolderFault). HasStatus o.ending s) outcome also))
 
       run_tells : (answer : List ℕ) (status : ℕ) → AnswersRun m name bound optimises answer status
-          → RunsTo name bound optimises (status_of x) m ↔ (status ≡ code_of (status_of x))
-      run_tells _ _ (no_entry none) = (λ known. absurd (none (known.1, known.2, known.5)), λ ten. absurd (omega (arith, ten, ending_code x)))
-      run_tells _ _ (ran k e f y left entry ends) =
-          (ends_same k e f y left entry ends, λ same. (k, e, f, y, left, entry, ends, same_status y.ending x same))
+          → RunsTo name bound optimises s m ↔ (status ≡ code_of s)
+      run_tells _ _ (no_entry none) = (λ known. absurd (none (known.1, known.2, known.5)), λ ten. absurd (omega (arith, ten, ending_code x s has)))
+      run_tells _ _ (ran k e f y t left entry ends so never) = (
+        ends_same k e f y t left entry ends so,
+        λ same. (k, e, f, y, left, entry, ends, subst (HasStatus y.ending) (same_status y.ending x t s so has same) so),
+      )
 
       tells : (answer : List ℕ) (status : ℕ) → AnswersModule (Run name bound optimises) m answer status
-          → (Accepted m × RunsTo name bound optimises (status_of x) m) ↔ (status ≡ code_of (status_of x))
-      tells answer status (wrong _ _ answers) =
-          (λ known. absurd (never_wrong m answer status answers known.0), λ same. absurd (omega (arith, same, ending_code x, wrong_code m answer status answers)))
+          → (Accepted m × RunsTo name bound optimises s m) ↔ (status ≡ code_of s)
+      tells answer status (wrong _ _ answers) = (
+        λ known. absurd (never_wrong m answer status answers known.0),
+        λ same. absurd (omega (arith, same, ending_code x s has, wrong_code m answer status answers)),
+      )
       tells answer status (accepted _ _ all answers) =
           let told = run_tells answer status answers in (λ known. told.0 known.1, λ same. (all, told.1 same))
 
@@ -88,14 +94,14 @@ module _ (law : AreAcceptedWhereNothingIsFound) where
     no_entry_tells m answer status (wrong _ _ answers) =
         (λ known. absurd (never_wrong m answer status answers known.0), λ ten. absurd (omega (arith, ten, wrong_code m answer status answers)))
     no_entry_tells m _ _ (accepted _ _ all (no_entry none)) = (λ known. refl, λ ten. (all, none))
-    no_entry_tells m _ _ (accepted _ _ all (ran k e f y left entry ends)) =
-        (λ known. absurd (known.1 (e, f, entry)), λ ten. absurd (omega (arith, ten, ending_code y.ending)))
+    no_entry_tells m _ _ (accepted _ _ all (ran k e f y t left entry ends so never)) =
+        (λ known. absurd (known.1 (e, f, entry)), λ ten. absurd (omega (arith, ten, ending_code y.ending t so)))
 
-pub run_exactly : SayOneThing → AreSpelledOnce → AreAcceptedWhereNothingIsFound → AreSpelledNumbered → HaveOneEntry → IsOne → LoweredRunsEndOnce → AreRunExactly
-run_exactly one once law numbered one_entry is_one ends_once name bound optimises x =
-    answers_exactly one once (Run name bound optimises) (code_of (status_of x)) (λ m. Accepted m × RunsTo name bound optimises (status_of x) m)
-    (λ m text spells. tells law name bound optimises one_entry is_one ends_once x m (numbered m text spells))
-    (λ e. omega (arith, e, ending_code x), λ e. omega (arith, e, ending_code x))
+pub run_exactly : SayOneThing → AreSpelledOnce → AreAcceptedWhereNothingIsFound → AreSpelledNumbered → HaveOneEntry → IsOne → RunsEndOnce → AreRunExactly
+run_exactly one once law numbered one_entry is_one ends_once name bound optimises x s has =
+    answers_exactly one once (Run name bound optimises) (code_of s) (λ m. Accepted m × RunsTo name bound optimises s m)
+    (λ m text spells. tells law name bound optimises one_entry is_one ends_once x s has m (numbered m text spells))
+    (λ e. omega (arith, e, ending_code x s has), λ e. omega (arith, e, ending_code x s has))
 
 pub no_entry_exactly : SayOneThing → AreSpelledOnce → AreAcceptedWhereNothingIsFound → HaveNoEntryExactly
 no_entry_exactly one once law name bound optimises =

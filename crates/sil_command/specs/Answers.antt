@@ -1,20 +1,20 @@
 -- The answer to a command line and a text: the bytes that are written, and the status.
-use Rattle.std.specs.Prelude.{ℕ, ◌<◌, ◌≤◌, Bool, true, List, length}
+use Rattle.std.specs.Prelude.{◌≡◌, ℕ, ◌<◌, ◌≤◌, Bool, true, List, length}
 use Rattle.sil_ast.specs.declared.function.Function.{Function}
 use Rattle.sil_ast.specs.declared.module.Module.{Module}
 use Rattle.sil_ast.specs.declared.place.FuncId.{FuncId}
 use Rattle.sil_grammar.specs.declared.refusal.ReadRefusal.{ReadRefusal}
 use Rattle.sil_grammar.specs.Refusals.{IsRefusalOf}
 use Rattle.sil_grammar.specs.Spells.{Spells}
-use Rattle.module_runner.specs.Outcomes.{Outcome}
+use Rattle.module_runner.specs.Faults.{HolderFault}
+use Rattle.module_runner.specs.Outcomes.{EndsSo, Outcome}
 use Rattle.module_runner.specs.States as ending
 use Rattle.module_runner.specs.States.{Ending}
-use Rattle.module_runner.specs.LowOutcomes.{LowEndsSo}
-use Rattle.module_runner.specs.LowFault.{LowFault}
 use Rattle.module_runner.specs.LoweredModules.{lowered}
+use Rattle.module_runner.specs.LoweredRuns.{LoweredNeverFaults}
 use Rattle.module_runner.specs.Entries.{HasEntry, IsEntry}
 use Rattle.module_runner.specs.Optimising.{IsOptimisedIf}
-use Rattle.module_runner.specs.LowReports.{low_report}
+use Rattle.module_runner.specs.ReportLines.{report}
 use Rattle.module_runner.specs.Mentions.{given_type}
 use Rattle.module_runner.specs.Shapes.{shape_of}
 use Rattle.module_runner.specs.Declarations.{declarations_of}
@@ -22,7 +22,7 @@ use Rattle.sil_printer.specs.CanonicalModules.{canonical_text}
 use Rattle.sil_rules.specs.declared.limit_word.LimitWord.{LimitWord}
 use Rattle.sil_rules.specs.declared.limits.TheConstants.{TEXT_BYTES}
 use Rattle.sil_command.specs.declared.status.Status.{Status}
-use Rattle.sil_command.specs.declared.status.Status.TheVariants.{Done, Refused, Usage, Trapped, OutOfTurns, Limit, NoEntry, Faulted}
+use Rattle.sil_command.specs.declared.status.Status.TheVariants.{Done, Refused, Usage, Trapped, OutOfTurns, Limit, NoEntry}
 use Rattle.sil_command.specs.Statuses.{code_of}
 use Rattle.accepted_modules.specs.Findings.{Accepted, Finding, IsLimit, Refusal, limit}
 use Rattle.sil_command.specs.declared.words.Mode.{Mode}
@@ -50,20 +50,20 @@ pub data Writes (text : List ℕ) : List ℕ → ℕ → Type 0 where
 abbrev pub WritesOf : (Module → List ℕ) → Bool → Module → List ℕ → ℕ → Type 0
 WritesOf text optimises m answer status = (k : Module) × IsOptimisedIf optimises m k × Writes (text k) answer status
 
--- the status of a run, by its ending
-abbrev pub status_of : Ending LowFault → Status
-status_of (ending.Returned x) = Done
-status_of (ending.Trapped t) = Trapped
-status_of ending.OutOfTurns = OutOfTurns
-status_of (ending.Faulted x) = Faulted
+-- the status of a run, by its ending. A fault has none
+abbrev pub HasStatus : Ending HolderFault → Status → Type 0
+HasStatus (ending.Returned x) s = s ≡ Done
+HasStatus (ending.Trapped t) s = s ≡ Trapped
+HasStatus ending.OutOfTurns s = s ≡ OutOfTurns
+HasStatus (ending.Faulted x) s = ⊥
 
--- what `run` answers to an accepted module: the report of the run of its lowered module, optimised first where that is asked for, from the
--- entry function with this name, for this bound on turns; or that it has no such function
+-- what `run` answers to an accepted module: the report of its run by holders, optimised first where that is asked for, from the entry function
+-- with this name, for this bound on turns; or that it has no such function. That run doesn't end in a fault, and neither does the lowered one
 pub data AnswersRun (m : Module) (name : List ℕ) (bound : ℕ) (optimises : Bool) : List ℕ → ℕ → Type 0 where
   no_entry : (HasEntry m name → ⊥) → AnswersRun m name bound optimises (no_entry_text name) (code_of NoEntry)
-  ran : (k : Module) (e : FuncId) (f : Function) (x : Outcome LowFault) → IsOptimisedIf optimises m k → IsEntry m name e f
-      → LowEndsSo (lowered k) e bound x → AnswersRun m name bound optimises
-      (low_report (lowered k) (shape_of (declarations_of (lowered k)) (given_type f.signature)) x) (code_of (status_of x.ending))
+  ran : (k : Module) (e : FuncId) (f : Function) (x : Outcome HolderFault) (s : Status) → IsOptimisedIf optimises m k → IsEntry m name e f
+      → EndsSo k e bound x → HasStatus x.ending s → LoweredNeverFaults k e bound
+      → AnswersRun m name bound optimises (report k (shape_of (declarations_of k) (given_type f.signature)) x) (code_of s)
 
 -- what each mode answers to a module: `check` that it is accepted; `print` its canonical text, whatever rules it breaks; `lower` the
 -- canonical text of the lowered module, and `run` the report of its run, of the optimised module where that is asked for; and `optimize` the

@@ -1,10 +1,8 @@
 -- What the answers of each mode tell of a text.
 use Rattle.std.specs.Prelude.{◌≡◌, ◌↔◌, ℕ, ◌≤◌, Bool, List, length, ⊤}
-use Rattle.module_runner.specs.Outcomes.{Outcome}
+use Rattle.module_runner.specs.Faults.{HolderFault}
+use Rattle.module_runner.specs.Outcomes.{EndsSo, Outcome}
 use Rattle.module_runner.specs.States.{Ending}
-use Rattle.module_runner.specs.LowOutcomes.{LowEndsSo}
-use Rattle.module_runner.specs.LowFault.{LowFault}
-use Rattle.module_runner.specs.LoweredModules.{lowered}
 use Rattle.module_runner.specs.Entries.{HasEntry, IsEntry}
 use Rattle.module_runner.specs.Optimising.{IsOptimisedIf}
 use Rattle.sil_ast.specs.declared.function.Function.{Function}
@@ -20,7 +18,7 @@ use Rattle.accepted_modules.specs.Findings.{Accepted, Finding, Refusal}
 use Rattle.sil_command.specs.declared.words.Mode.{Mode}
 use Rattle.sil_command.specs.declared.words.Mode.TheVariants.{Check, Lower, Optimize, Print, Run}
 use Rattle.sil_command.specs.Words.{AsksFor}
-use Rattle.sil_command.specs.Answers.{Answers, status_of}
+use Rattle.sil_command.specs.Answers.{Answers, HasStatus}
 use Rattle.sil_command.specs.RefusalTexts.{refusal_text}
 
 -- among texts within the limit, the mode answers with the status just those that spell a module that is such
@@ -41,17 +39,17 @@ AreLoweredExactly = (optimises : Bool) → AnswersExactly (Lower optimises) (cod
 abbrev pub AreOptimisedExactly : Type 0
 AreOptimisedExactly = AnswersExactly Optimize (code_of Done) Accepted
 
--- there is an entry function with this name, and the run of the lowered module from there, optimised first where that is asked for, ends with
--- this status for this bound on turns
+-- there is an entry function with this name, and the run by holders from there, optimised first where that is asked for, ends with this status
+-- for this bound on turns
 abbrev pub RunsTo : List ℕ → ℕ → Bool → Status → Module → Type 0
-RunsTo name bound optimises s m = (k : Module) × (e : FuncId) × (f : Function) × (x : Outcome LowFault)
-    × IsOptimisedIf optimises m k × IsEntry m name e f × LowEndsSo (lowered k) e bound x × (status_of x.ending ≡ s)
+RunsTo name bound optimises s m = (k : Module) × (e : FuncId) × (f : Function) × (x : Outcome HolderFault)
+    × IsOptimisedIf optimises m k × IsEntry m name e f × EndsSo k e bound x × HasStatus x.ending s
 
 -- `run` answers with the status of an ending just for the texts that spell an accepted module whose run ends so
 abbrev pub AreRunExactly : Type 0
 AreRunExactly =
-    (name : List ℕ) (bound : ℕ) (optimises : Bool) (x : Ending LowFault)
-    → AnswersExactly (Run name bound optimises) (code_of (status_of x)) (λ m. Accepted m × RunsTo name bound optimises (status_of x) m)
+    (name : List ℕ) (bound : ℕ) (optimises : Bool) (x : Ending HolderFault) (s : Status) → HasStatus x s
+    → AnswersExactly (Run name bound optimises) (code_of s) (λ m. Accepted m × RunsTo name bound optimises s m)
 
 -- and with NoEntry just for those that spell an accepted module without such a function
 abbrev pub HaveNoEntryExactly : Type 0

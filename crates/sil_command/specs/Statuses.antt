@@ -2,7 +2,7 @@
 use Rattle.std.specs.Prelude.{ℕ}
 use Rattle.sil_command.specs.declared.status.Status.{Status}
 use Rattle.sil_command.specs.declared.status.Status.TheVariants.{Done, Refused, Usage, NotAModule, ReadFault, WriteFault, Trapped, OutOfTurns}
-use Rattle.sil_command.specs.declared.status.Status.TheVariants.{Limit, OutOfMemory, NoEntry, Faulted}
+use Rattle.sil_command.specs.declared.status.Status.TheVariants.{Limit, OutOfMemory, NoEntry}
 
 abbrev pub code_of : Status → ℕ
 code_of Done = 0
@@ -16,4 +16,3 @@ code_of OutOfTurns = 7
 code_of Limit = 8
 code_of OutOfMemory = 9
 code_of NoEntry = 10
-code_of Faulted = 12

@@ -5,7 +5,7 @@ ghost use Rattle.sil_command.specs.Laws.{AreRefusedForTheFirst, AreReportedRight
 
 use accepted_modules::accepted_where_nothing_is_found;
 use command_words::command_lines_say_one_thing;
-use module_runner::{lowered_runs_end_once, names_have_one_entry, one_module_is_lowered};
+use module_runner::{names_have_one_entry, one_module_is_lowered, runs_end_once};
 use printed_reading_laws::printed_modules_are_spelled;
 use sil_grammar::{spelled_modules_are_numbered, spelled_once};
 
@@ -46,7 +46,7 @@ pub fn run_exactly()
     accepted_where_nothing_is_found();
     names_have_one_entry();
     one_module_is_lowered();
-    lowered_runs_end_once();
+    runs_end_once();
 }
 
 /// `run` answers a text that spells an accepted module without the entry function with status 10, and one that is answered so spells such

@@ -4,8 +4,7 @@ ghost use Rattle.std.specs.Prelude.{◌≡◌, ◌≤◌, IfOk};
 ghost use Rattle.module_runner.specs.inner.RunReports.{IsReportable, text_of};
 ghost use Rattle.module_runner.specs.RunOutcomes.{ending_of};
 ghost use Rattle.sil_command.specs.Statuses.{code_of};
-ghost use Rattle.sil_command.specs.Answers as answers;
-ghost use Rattle.sil_command.specs.Answers.{AnswersRun};
+ghost use Rattle.sil_command.specs.Answers.{AnswersRun, HasStatus};
 
 use crate::answer::Answer;
 use crate::status::Status;
@@ -45,7 +44,7 @@ pub(crate) fn answer_run(
 fn answer_report(alloc: Global, report: &RunReport<'_>) -> Result<Answer, Exhausted>
     requires { IsReportable report.now }
     ensures text { IfOk result (λ a. a.text.items ≡ text_of report.now) }
-    ensures status { IfOk result (λ a. a.status ≡ answers.status_of (ending_of report.now.ending)) }
+    ensures status { IfOk result (λ a. HasStatus (ending_of report.now.ending) a.status) }
 {
     Ok(Answer {
         text: report_text(alloc, report)?.into_vec(alloc)?,
@@ -55,12 +54,11 @@ fn answer_report(alloc: Global, report: &RunReport<'_>) -> Result<Answer, Exhaus
 
 /// The status of a run, by its ending.
 fn status_of(ending: &Ending) -> Status
-    ensures { result ≡ answers.status_of (ending_of ending.now) }
+    ensures { HasStatus (ending_of ending.now) result }
 {
     match ending {
         Ending::Returned(_) => Status::Done,
         Ending::Trap(_) => Status::Trapped,
         Ending::OutOfTurns => Status::OutOfTurns,
-        Ending::Fault(_) => Status::Faulted,
     }
 }

@@ -28,8 +28,6 @@ pub enum Status {
     OutOfMemory,
     /// The module has no entry function of the name.
     NoEntry,
-    /// The run ended with a fault.
-    Faulted,
 }
 
 impl Status {
@@ -49,7 +47,6 @@ impl Status {
             Status::Limit => 8,
             Status::OutOfMemory => 9,
             Status::NoEntry => 10,
-            Status::Faulted => 12,
         }
     }
 }

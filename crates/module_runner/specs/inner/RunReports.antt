@@ -1,14 +1,15 @@
 -- What a report tells of a run.
 use Rattle.std.specs.Prelude.{◌≡◌, ℕ, Bool, List}
-use Rattle.holder_model.specs.Outcomes.{Outcome}
-use Rattle.lowered_run.specs.declared.low_fault.LowFault.{LowFault}
+use Rattle.copy_pairing.specs.optimised_runs.lockstep_runs.inner.Agreeing.{TellsAsItDid}
+use Rattle.holder_model.specs.Faults.{HolderFault}
+use Rattle.holder_model.specs.Outcomes.{EndsSo, Outcome}
 use Rattle.lowered_run.specs.LowOutcomes.{LowEndsSo}
 use Rattle.ownership_lowering.specs.lowering_model.LoweredModules.{lowered}
 use Rattle.count_machine.specs.machine_laws.inner.Told.{all_left}
 use Rattle.numbered_form.specs.Names.{Name}
-use Rattle.report_writing.specs.LowReports.{low_report}
 use Rattle.report_writing.specs.RunOutcomes.{ending_of}
 use Rattle.report_writing.specs.declared.outcome.Ending.TheVariants.{Returned}
+use Rattle.report_writing.specs.run_report.ReportLines.{report}
 use Rattle.report_writing.specs.run_typing.Runnable.{IsRunnable}
 use Rattle.run_values.specs.Shapes.{shape_of}
 use Rattle.run_values.specs.declared.value.Val.{Val}
@@ -18,11 +19,12 @@ use Rattle.sil_ast.specs.declared.place.FuncId.{FuncId}
 use Rattle.type_definitions.specs.Declarations.{declarations_of}
 use Rattle.type_definitions.specs.Mentions.{given_type}
 use Rattle.module_runner.specs.Entries.{IsEntry}
+use Rattle.module_runner.specs.LoweredRuns.{LoweredNeverFaults}
 use Rattle.module_runner.specs.Optimising.{IsOptimisedIf}
 use Rattle.module_runner.specs.declared.report.RunReport.{RunReport}
 
--- the outcome that is reported
-abbrev pub outcome_of : RunReport → Outcome LowFault
+-- the outcome that is reported. Its ending is no fault, of whichever kind the faults of a run are
+abbrev pub outcome_of : {X : Type 0} → RunReport → Outcome X
 outcome_of r = record { events = r.events; ending = ending_of r.ending; left = r.left; retains = r.retains; releases = r.releases }
 
 -- what is lowered of the module: it can be run, and declares what the module does
@@ -33,20 +35,36 @@ pub record IsLoweredIf (optimises : Bool) (m made : Module) : Type 0 where
   pub runnable : IsRunnable made
   pub declares : declarations_of made ≡ declarations_of m
 
--- the report tells of the run of the lowered module from this function, for this bound on turns
+-- the report tells of the run by holders from this function, for this bound on turns: of the module, optimised where that is asked for
 pub record TellsOfRunFrom (m : Module) (e : FuncId) (f : Function) (bound : ℕ) (optimises : Bool) (r : RunReport) : Type 0 where
   pub left : Module
   pub optimised : IsOptimisedIf optimises m left
-  pub ran : r.module ≡ lowered left
   pub result_type : r.result_type ≡ given_type f.signature
-  pub ends : LowEndsSo (lowered left) e bound (outcome_of r)
+  pub ends : EndsSo left e bound (outcome_of r)
+  -- what ran is the lowered module, by stored numbers. Its run ends so too, and not in a fault
+  pub ran : r.module ≡ lowered left
+  pub lowered_ends : LowEndsSo (lowered left) e bound (outcome_of r)
+  pub never_faults : LoweredNeverFaults left e bound
 
--- the report tells of the run of the lowered module from the entry function with this name, for this bound on turns
+-- the report tells of the run from the entry function with this name, for this bound on turns
 pub record TellsOfRun (m : Module) (name : Name) (bound : ℕ) (optimises : Bool) (r : RunReport) : Type 0 where
   pub entry : FuncId
   pub function : Function
   pub begins : IsEntry m name entry function
   pub tells : TellsOfRunFrom m entry function bound optimises r
+
+-- the run by holders of the module itself, optimised or not, has the events, the ending and the objects left that are told, and no fewer
+-- retains and releases
+pub record TellsAsItselfFrom (m : Module) (e : FuncId) (bound : ℕ) (r : RunReport) : Type 0 where
+  pub itself : Outcome HolderFault
+  pub ends : EndsSo m e bound itself
+  pub as_it_did : TellsAsItDid itself (outcome_of r)
+
+pub record TellsAsItself (m : Module) (name : Name) (bound : ℕ) (r : RunReport) : Type 0 where
+  pub entry : FuncId
+  pub function : Function
+  pub begins : IsEntry m name entry function
+  pub tells : TellsAsItselfFrom m entry bound r
 
 -- the heap of the run has the totals that are told, and after a return its unfreed objects are those that are left
 pub record HeapIsAsTold (r : RunReport) : Type 0 where
@@ -61,4 +79,4 @@ pub record IsReportable (r : RunReport) : Type 0 where
 
 -- the lines of the report
 abbrev pub text_of : RunReport → List ℕ
-text_of r = low_report r.module (shape_of (declarations_of r.module) r.result_type) (outcome_of r)
+text_of r = report {X = HolderFault} r.module (shape_of (declarations_of r.module) r.result_type) (outcome_of r)

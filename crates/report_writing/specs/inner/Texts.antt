@@ -4,9 +4,8 @@ use Rattle.holder_model.specs.declared.left_object.LeftObject.{LeftObject}
 use Rattle.report_writing.specs.declared.layers.TypeLayer.{TypeLayer}
 use Rattle.report_writing.specs.declared.layers.TypeLayer.TheVariants as layer
 use Rattle.report_writing.specs.declared.outcome.Ending.{Ending}
-use Rattle.report_writing.specs.declared.outcome.Ending.TheVariants.{Returned, Trap, OutOfTurns, Fault}
+use Rattle.report_writing.specs.declared.outcome.Ending.TheVariants.{Returned, Trap, OutOfTurns}
 use Rattle.report_writing.specs.inner.Layers.{cases_in, types_in}
-use Rattle.report_writing.specs.LowReports.{fault_line}
 use Rattle.report_writing.specs.RunOutcomes.{value_of}
 use Rattle.run_report.specs.ReportLines.{class_among, left_lines, trap_words}
 use Rattle.run_report.specs.ValueTexts.{Writer, case_words, chosen_words, grouped, if_integer, if_object, payload_words, text_itself, texts_of, value_text}
@@ -74,4 +73,3 @@ module _ (d : Declarations) (left : List LeftObject) where
   ending_text t (Returned v) = returned_text t v
   ending_text t (Trap reason) = line (codes "trap " ++ trap_words reason)
   ending_text t OutOfTurns = line (codes "out of turns")
-  ending_text t (Fault x) = fault_line x

@@ -7,11 +7,15 @@ use Rattle.type_definitions.specs.Declarations.{declarations_of}
 use Rattle.stored_runs.specs.accepted_values.accepted_modules.inner.Checked.{IsVerified}
 use Rattle.stored_runs.specs.lowered_run.holder_model.HolderStates.{HolderState}
 use Rattle.stored_runs.specs.lowered_run.holder_model.ModuleFacts.{facts_of}
-use Rattle.stored_runs.specs.lowered_run.holder_model.Outcomes.{begins, may_start}
+use Rattle.stored_runs.specs.lowered_run.holder_model.ModuleShapes.{shapes_of}
+use Rattle.stored_runs.specs.lowered_run.holder_model.Outcomes.{begins, may_start, run}
+use Rattle.stored_runs.specs.lowered_run.holder_model.States.{Goes}
 use Rattle.stored_runs.specs.lowered_run.holder_model.Steps as holder_run
 use Rattle.stored_runs.specs.lowered_run.LowOutcomes.{low_begins}
 use Rattle.stored_runs.specs.lowered_run.LowStepParts.{LowState}
-use Rattle.stored_runs.specs.lowering_laws.lowering_model.LoweredModules.{lowered_body}
+use Rattle.stored_runs.specs.lowered_run.LowSteps.{low_step}
+use Rattle.stored_runs.specs.lowering_laws.lowering_model.LoweredModules.{lowered, lowered_body}
+use Rattle.stored_runs.specs.stored_counts.inner.Numbers.{AreCounts}
 use Rattle.stored_runs.specs.inner.Runs.{LoweredRunsAreSame}
 use Rattle.stored_runs.specs.inner.TypedSteps.{IsTypedFor}
 use Rattle.same_runs.specs.inner.Followed.{Follows}
@@ -30,3 +34,21 @@ BeginTypedFor = (m : Module) (e : FuncId) (f : Function) → IsVerified m → sl
 -- and so the lowered run is the run by holders
 abbrev pub AreRunsSameWhereOwed : Type 0
 AreRunsSameWhereOwed = IsOwed → LoweredRunsAreSame
+
+-- the lowered run comes to a state in which the stored numbers are the counts of holders, after as many turns, retains and releases
+pub record IsCounted (m : Module) (e : FuncId) (bound : ℕ) (s : HolderState) : Type 0 where
+  pub entry : Function
+  pub there : slice_get (lowered m).functions e.0 ≡ Some entry
+  pub low : LowState
+  pub steps : ℕ
+  pub comes : run (low_step (lowered m) (shapes_of (lowered m)) bound) steps (low_begins e entry) ≡ Goes low
+  pub counts : AreCounts s low.numbers
+  pub turns : low.turns ≡ s.turns
+  pub events : low.events ≡ s.events
+  pub retains : low.retains ≡ s.retains
+  pub releases : low.releases ≡ s.releases
+
+-- so it is of each state to which a run by holders of an accepted module comes, as of those in which a turn begins
+abbrev pub AreNumbersCounts : Type 0
+AreNumbersCounts = (m : Module) (e : FuncId) (f : Function) (bound : ℕ) → IsVerified m → slice_get m.functions e.0 ≡ Some f → may_start f ≡ true
+    → (steps : ℕ) (s : HolderState) → run (holder_run.step m (facts_of m) bound) steps (begins e f) ≡ Goes s → IsCounted m e bound s

@@ -1,10 +1,10 @@
 -- The run of the lowered module, and what is reported of it.
 use Rattle.std.proofs.Common.{◌∙◌, sym, subst}
 use Rattle.count_machine.specs.LowRuns.{MayStartAt}
-use Rattle.ownership_lowering.specs.lowering_model.LoweredModules.{lowered}
 use Rattle.module_runner.proofs.Entering.{lowered_starts}
+use Rattle.module_runner.proofs.LeftRuns.{as_itself, left_same}
+use Rattle.module_runner.proofs.Reported.{ends_reported, lowered_ends, never_faults, no_fault}
 use Rattle.module_runner.proofs.Stays.{left_enters}
-use Rattle.module_runner.proofs.Reported.{ends_reported}
 use Rattle.module_runner.proofs.runner.run_from.Goals as goal
 
 pub run-requires : goal.run-requires
@@ -18,15 +18,37 @@ run-requires c =
       some_turns = c.requires.some_turns;
     }
 
+pub reported-requires : goal.reported-requires
+reported-requires c =
+    let made = c.in_ok-module.ensures in
+    let same = left_same c.rewriting_keeps_verified.ensures c.lowered_runs_are_same.ensures c.args.optimise c.args.c.now made.left c.requires.entry.0
+    c.args.entry.id c.args.entry.function.now c.args.turns made.optimised c.requires.verified c.requires.entry.1 in
+    no_fault made.left c.in_ok-module.module c.args.entry.id c.args.turns same c.in_ok-events.field-0 made.lowered c.in_ok-events.ensures.outcome
+
 pub returns-clause-run : goal.returns-clause-run
 returns-clause-run c =
     let made = c.in_ok-module.ensures in
-    let run = c.in_ok-events.field-0 in
+    let same = left_same c.rewriting_keeps_verified.ensures c.lowered_runs_are_same.ensures c.args.optimise c.args.c.now made.left c.requires.entry.0
+    c.args.entry.id c.args.entry.function.now c.args.turns made.optimised c.requires.verified c.requires.entry.1 in
     record {
       left = made.left;
       optimised = made.optimised;
-      ran = made.lowered;
       result_type = c.in_ok-result_type.ensures;
-      ends = ends_reported (lowered made.left) c.in_ok-module.module c.args.entry.id c.args.turns run c.reported.result
-          made.lowered c.reported.ensures c.in_ok-events.ensures.outcome;
+      ends = ends_reported made.left c.in_ok-module.module c.args.entry.id c.args.turns same c.in_ok-events.field-0 made.lowered
+          c.in_ok-events.ensures.outcome c.reported.result c.reported.ensures;
+      ran = made.lowered;
+      lowered_ends = lowered_ends made.left c.in_ok-module.module c.args.entry.id c.args.turns same c.in_ok-events.field-0 made.lowered
+          c.in_ok-events.ensures.outcome c.reported.result c.reported.ensures;
+      never_faults = never_faults made.left c.in_ok-module.module c.args.entry.id c.args.turns same;
     }
+
+pub returns-clause-optimised : goal.returns-clause-optimised
+returns-clause-optimised c =
+    let made = c.in_ok-module.ensures in
+    let same = left_same c.rewriting_keeps_verified.ensures c.lowered_runs_are_same.ensures c.args.optimise c.args.c.now made.left c.requires.entry.0
+    c.args.entry.id c.args.entry.function.now c.args.turns made.optimised c.requires.verified c.requires.entry.1 in
+    let ends = ends_reported made.left c.in_ok-module.module c.args.entry.id c.args.turns same c.in_ok-events.field-0 made.lowered
+    c.in_ok-events.ensures.outcome c.reported.result c.reported.ensures in
+    let itself = as_itself c.optimised_outcomes_agree.ensures c.args.optimise c.args.c.now made.left c.args.entry.id c.args.entry.function.now
+    c.args.turns _ made.optimised c.requires.verified c.requires.entry.1.there c.requires.entry.1.starts ends in
+    record { itself = itself.0; ends = itself.1; as_it_did = itself.2 }
