@@ -1,1 +1,3 @@
+pub mod OpenScopes
+pub mod Definitions
 pub mod Facts
