@@ -1,6 +1,6 @@
 -- What opens a scope uses what the scope borrows from: `begin_borrow` alone lends a value, and its operand is no address, so that what has a base there is Owned or Guaranteed.
-use Rattle.std.proofs.Common.{◌≡◌, ℕ, zero, suc, List, [], ◌∷◌, ◌++◌, append-nil, length, map, refl, sym, ap, ap₂, ◌∙◌, subst, Bool, true, false, ◌&&◌, ◌||◌, Option, Some, None}
-use Rattle.std.specs.Prelude.{◌==◌, Contains, is_some, not, option_and_then, option_map, slice_get}
+use Rattle.std.proofs.Common.{◌≡◌, ℕ, zero, suc, List, [], ◌∷◌, ◌++◌, append-nil, length, map, refl, sym, ap, ap₂, ◌∙◌, subst, true, false, ◌||◌, Option, Some, None}
+use Rattle.std.specs.Prelude.{◌==◌, Contains, is_some, option_and_then, option_map, slice_get}
 use Rattle.std.specs.List.{list_any}
 use Rattle.std.proofs.lemmas.Bool.{and_parts, false≢true}
 use Rattle.std.proofs.lemmas.Option.{none-some, same_Some}
@@ -13,9 +13,8 @@ use Rattle.instruction_table.specs.declared.op.Op.TheVariants as op
 use Rattle.item_operands.specs.Items.{arg_value, item_taken, taken_in}
 use Rattle.item_operands.specs.Parts.{inst_at}
 use Rattle.item_operands.specs.Roles.{by_row, conventions_in, roles_for, taken_as, taken_by, taken_each}
-use Rattle.item_operands.specs.declared.taken.Taken.{Taken}
 use Rattle.numbered_form.specs.inner.Parts.{has_operands, is_typed}
-use Rattle.ownership_chains.specs.Facts.{facts_with, has, is_guaranteed, known_or}
+use Rattle.ownership_chains.specs.Facts.{facts_with, has, known_or}
 use Rattle.ownership_chains.specs.declared.facts.Facts.{Facts}
 use Rattle.ownership_marks.specs.Marks.{use_of, used_with}
 use Rattle.ownership_marks.specs.declared.mark.Mark.{Mark}
@@ -28,7 +27,7 @@ use Rattle.sil_ast.specs.declared.operands.Operand.{Operand}
 use Rattle.sil_ast.specs.declared.place.PointId.{PointId}
 use Rattle.sil_ast.specs.declared.place.ValueId.{ValueId}
 use Rattle.sil_ast.specs.declared.type_name.TypeName.{TypeName}
-use Rattle.sil_cfg.specs.Items.{IsItem, flow_of}
+use Rattle.sil_cfg.specs.Items.{flow_of}
 use Rattle.sil_cfg.specs.declared.item.Item.{Item}
 use Rattle.sil_cfg.specs.declared.item.Item.TheVariants as items
 use Rattle.sil_cfg.specs.inner.Splice.{Stop, is_at}
@@ -41,13 +40,12 @@ use Rattle.value_tables.specs.FirstValue.{first_value, value_of}
 use Rattle.value_tables.specs.declared.borrows.Borrow.{Borrow}
 use Rattle.scoped_addresses.specs.accepted_modules.borrow_scopes.Scopes.{bases_in}
 use Rattle.scoped_addresses.specs.accepted_modules.ownership_kinds.Facts.{facts_in}
-use Rattle.scoped_addresses.specs.accepted_modules.sil_types.Typing.OperandTypes.{has_type, is_as_written, is_as_written_by}
+use Rattle.scoped_addresses.specs.accepted_modules.sil_types.Typing.OperandTypes.{is_as_written, is_as_written_by}
 use Rattle.scoped_addresses.specs.accepted_modules.sil_types.Typing.RowTypes.{given_by, type_of, written}
 use Rattle.scoped_addresses.specs.accepted_modules.sil_types.Typing.Same.{is_same_type}
 use Rattle.scoped_addresses.specs.accepted_modules.sil_types.Typing.Shapes.{is_nontrivial, is_object, target, where_it}
 use Rattle.scoped_addresses.specs.accepted_modules.sil_types.Typing.Values.{type_of_value, value_types}
 use Rattle.scoped_addresses.specs.accepted_trails.inner.Bases.{IsBaseOf}
-use Rattle.scoped_addresses.specs.accepted_trails.inner.Defined.{makes}
 use Rattle.scoped_addresses.specs.accepted_trails.inner.Lives.{BorrowsFrom}
 use Rattle.scoped_addresses.specs.accepted_trails.inner.Passing.{is_use}
 use Rattle.scoped_addresses.specs.accepted_values.inner.Known.{IsAcceptedBody, kind_at, type_in}

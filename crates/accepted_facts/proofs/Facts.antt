@@ -55,6 +55,9 @@ use Rattle.scoped_addresses.proofs.OwnScopes.{own_scope}
 use Rattle.accepted_facts.specs.inner.Facts.{AcceptedFacts}
 use Rattle.accepted_facts.proofs.BorrowedUsed.{borrowed_used, held_while_borrowed, open_while_borrowed}
 use Rattle.accepted_facts.proofs.MadeBefore.{made_before}
+use Rattle.accepted_facts.proofs.NonesMade.{nones_made, nones_without_references}
+use Rattle.typed_memory.proofs.Trivials.{no_references}
+use Rattle.typed_memory.specs.inner.Worlds.{names}
 
 pub accepted_facts : AcceptedFacts
 accepted_facts = record {
@@ -183,6 +186,9 @@ accepted_facts = record {
   trivial_are_plain = trivial_plain;
   addresses_are_plain = addresses_plain;
   plain_are_told = plain_told;
+  nones_are_made_without_owners = nones_made;
+  nones_have_no_references = nones_without_references;
+  trivial_have_no_references = λ m w s x. no_references (names m w) s x;
   plain_in_scopes_are_named = plain_in_scopes_named;
   slots_have_no_bases = slots_no_bases;
 }

@@ -1,6 +1,7 @@
 mod PlainAddresses
 pub mod BorrowedUsed
 pub mod MadeBefore
+pub mod NonesMade
 pub mod Facts
 pub use Rattle.scoped_addresses.proofs.accepted_values as accepted_values
 pub use Rattle.scoped_addresses.proofs.held_entries as held_entries

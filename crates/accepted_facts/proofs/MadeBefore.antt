@@ -1,5 +1,5 @@
 -- What an item takes is made before it on every walk: the items before it, turned round, are a trail on which its operands are defined.
-use Rattle.std.proofs.Common.{◌≡◌, List, [], ◌∷◌, ◌++◌, reverse, sym, ap, ◌∙◌, subst, Bool, true}
+use Rattle.std.proofs.Common.{◌≡◌, List, [], ◌∷◌, ◌++◌, reverse, sym, ap, ◌∙◌, subst, true}
 use Rattle.std.specs.Prelude.{◌==◌}
 use Rattle.std.specs.List.{list_any}
 use Rattle.std.proofs.lemmas.Bool.{eqb-true}
@@ -7,14 +7,13 @@ use Rattle.std.proofs.lemmas.List.{reverse-reverse}
 use Rattle.accepted_facts.specs.inner.Definitions.{AreOperandsMadeBefore, IsMadeBefore, IsMadeJustAt}
 use Rattle.item_operands.specs.Items.{item_taken}
 use Rattle.item_operands.specs.declared.taken.Taken.{Taken}
-use Rattle.numbered_form.specs.Lists.{Each}
 use Rattle.sil_ast.specs.declared.function.Function.{Function}
 use Rattle.sil_ast.specs.declared.place.EdgeId.{EdgeId}
 use Rattle.sil_ast.specs.declared.place.ValueId.{ValueId}
 use Rattle.sil_cfg.specs.Items.{IsItem, flow_of}
 use Rattle.sil_cfg.specs.Walk.{IsTrail}
 use Rattle.sil_cfg.specs.declared.item.Item.{Item}
-use Rattle.sil_cfg.specs.inner.Splice.{Precedes, Stop, is_at, item}
+use Rattle.sil_cfg.specs.inner.Splice.{Stop, is_at}
 use Rattle.sil_cfg.proofs.Places.{same_item-true}
 use Rattle.type_definitions.specs.Declarations.{Declarations, declarations_of}
 use Rattle.scoped_addresses.specs.accepted_trails.inner.Accepted.{IsAcceptedIn}

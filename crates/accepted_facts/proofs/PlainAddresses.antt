@@ -1,6 +1,6 @@
 -- A Plain value with a base is an address by its type: the result of a row that gives addresses.
-use Rattle.std.proofs.Common.{◌≡◌, ℕ, zero, suc, List, [], length, refl, sym, ap, ◌∙◌, subst, Bool, true, false, inl, inr, Option, Some, None}
-use Rattle.std.specs.Prelude.{Contains, option_map, slice_get, unwrap_or}
+use Rattle.std.proofs.Common.{◌≡◌, ℕ, zero, suc, List, [], length, refl, sym, ap, ◌∙◌, Bool, true, false, inl, inr, Option, Some, None}
+use Rattle.std.specs.Prelude.{option_map, slice_get, unwrap_or}
 use Rattle.std.proofs.lemmas.Option.{none-some, same_Some}
 use Rattle.instruction_table.specs.Forms.{result_kind_of}
 use Rattle.instruction_table.specs.declared.entries.ResultKind.{ResultKind}
@@ -12,7 +12,6 @@ use Rattle.ownership_chains.specs.Facts.{has, origin_at, told_by}
 use Rattle.ownership_chains.specs.declared.definition.Definition.{Definition}
 use Rattle.ownership_chains.specs.declared.definition.Origin.TheVariants as origin
 use Rattle.ownership_chains.specs.declared.facts.Facts.{Facts}
-use Rattle.point_checks.specs.Points.{IsAt}
 use Rattle.sil_ast.specs.declared.function.ArgKind.{ArgKind}
 use Rattle.sil_ast.specs.declared.function.ArgKind.TheVariants as annotation
 use Rattle.sil_ast.specs.declared.function.Function.{Function}
@@ -23,7 +22,7 @@ use Rattle.sil_ast.specs.declared.type_name.TypeName.{TypeName}
 use Rattle.sil_ast.specs.declared.type_name.TypeName.TheVariants as type
 use Rattle.type_definitions.specs.Declarations.{Declarations, declarations_of}
 use Rattle.type_definitions.specs.declared.kind.Kind.TheVariants as kind
-use Rattle.scoped_addresses.specs.accepted_modules.sil_types.Typing.RowTypes.{address_of, address_of_field, given_by, gives, made_types}
+use Rattle.scoped_addresses.specs.accepted_modules.sil_types.Typing.RowTypes.{address_of, address_of_field, given_by, gives}
 use Rattle.scoped_addresses.specs.accepted_modules.sil_types.Typing.Shapes.{field_address, stored_as, target}
 use Rattle.scoped_addresses.specs.accepted_trails.inner.Bases.{IsBaseOf}
 use Rattle.scoped_addresses.specs.accepted_trails.ownership_origins.Origins.{arg_definition_by, definitions_of, is_zero, result_origin}

@@ -1,5 +1,6 @@
 -- What acceptance of a module says of its functions and of their trails: the laws from which it follows that no run of it faults, together.
 -- None speaks of searches. Each says something of all trails, of all items or of all values of a function.
+use Rattle.typed_memory.specs.inner.Laws.{HaveNoReferences}
 use Rattle.scoped_addresses.specs.accepted_trails.run_trails.inner.Laws.{AreAlongEdges, AreEnteredOnce, AreFollowed, AreFollowedTurned, AreNext}
 use Rattle.scoped_addresses.specs.accepted_trails.run_trails.inner.Laws.{AreOfItems, AreOnWhereTurned, AreSpliced, AreTrails}
 use Rattle.scoped_addresses.specs.owned_run_typing.inner.OwnedTyped.{OwnedIsTyped}
@@ -34,6 +35,7 @@ use Rattle.scoped_addresses.specs.placed_values.accepted_places.inner.Unfinished
 use Rattle.scoped_addresses.specs.placed_values.inner.Arguments.{AreArgumentsTold, AreArgumentsWhole, AreBegunTold, AreResultsTold}
 use Rattle.scoped_addresses.specs.placed_values.inner.Arguments.{AreRootsTrivial, AreToldArguments, AreTrivialFull}
 use Rattle.accepted_facts.specs.inner.Definitions.{AreOperandsMadeBefore}
+use Rattle.accepted_facts.specs.inner.Nones.{AreNonesMadeWithoutOwners, HaveNonesNoReferences}
 use Rattle.accepted_facts.specs.inner.OpenScopes.{AreBorrowedUsed, AreHeldWhileBorrowed, AreOpenWhileBorrowed}
 use Rattle.scoped_addresses.specs.inner.Addresses.{AreAddressesInScopes, AreBorrowsOwnScopes, AreBorrowsScopes, ArePlainInScopesNamed, HaveSlotsNoBases}
 
@@ -275,6 +277,12 @@ pub record AcceptedFacts : Type 0 where
   pub addresses_are_plain : AreAddressesPlain
   -- a Plain value is one of these, or a None value: it is made of Plain values alone
   pub plain_are_told : ArePlainTold
+  -- a None value is made of values without owners alone
+  pub nones_are_made_without_owners : AreNonesMadeWithoutOwners
+  -- and has no references: a run makes no entry of one that has some
+  pub nones_have_no_references : HaveNonesNoReferences
+  -- nor has a value of a trivial shape
+  pub trivial_have_no_references : HaveNoReferences
   -- a Plain value with bases is an address, and no argument
   pub plain_in_scopes_are_named : ArePlainInScopesNamed
   -- a slot has no bases

@@ -3,7 +3,6 @@ use Rattle.std.specs.Prelude.{◌≡◌, List, true, Some}
 use Rattle.sil_ast.specs.declared.function.Function.{Function}
 use Rattle.sil_ast.specs.declared.place.ValueId.{ValueId}
 use Rattle.sil_cfg.specs.declared.item.Item.{Item}
-use Rattle.type_definitions.specs.Declarations.{Declarations}
 use Rattle.scoped_addresses.specs.accepted_trails.inner.Bases.{UsesBorrowed}
 use Rattle.scoped_addresses.specs.accepted_trails.inner.Defined.{makes}
 use Rattle.scoped_addresses.specs.accepted_trails.inner.Lives.{BorrowsFrom, IsOwnedIn, IsScopeIn, is_held, is_open}
