@@ -53,6 +53,7 @@ use Rattle.scoped_addresses.proofs.AddressRows.{borrows_scopes, plain_in_scopes_
 use Rattle.scoped_addresses.proofs.AddressScopes.{addresses_in_scopes}
 use Rattle.scoped_addresses.proofs.OwnScopes.{own_scope}
 use Rattle.accepted_facts.specs.inner.Facts.{AcceptedFacts}
+use Rattle.accepted_facts.proofs.BasesAsBorrowed.{bases_as_borrowed}
 use Rattle.accepted_facts.proofs.BorrowedUsed.{borrowed_used, held_while_borrowed, open_while_borrowed}
 use Rattle.accepted_facts.proofs.MadeBefore.{made_before}
 use Rattle.accepted_facts.proofs.NonesMade.{nones_made, nones_without_references}
@@ -126,6 +127,7 @@ accepted_facts = record {
   borrowed_are_used = borrowed_used;
   borrowed_are_held = held_while_borrowed;
   borrowed_are_open = open_while_borrowed;
+  bases_are_as_borrowed = bases_as_borrowed;
   addresses_are_in_scopes = addresses_in_scopes;
   -- addresses: their locations, and the slots and scopes in which these lie
   addresses_are_named = addresses_named;

@@ -36,7 +36,7 @@ use Rattle.scoped_addresses.specs.placed_values.inner.Arguments.{AreArgumentsTol
 use Rattle.scoped_addresses.specs.placed_values.inner.Arguments.{AreRootsTrivial, AreToldArguments, AreTrivialFull}
 use Rattle.accepted_facts.specs.inner.Definitions.{AreOperandsMadeBefore}
 use Rattle.accepted_facts.specs.inner.Nones.{AreNonesMadeWithoutOwners, HaveNonesNoReferences}
-use Rattle.accepted_facts.specs.inner.OpenScopes.{AreBorrowedUsed, AreHeldWhileBorrowed, AreOpenWhileBorrowed}
+use Rattle.accepted_facts.specs.inner.OpenScopes.{AreBasesAsBorrowed, AreBorrowedUsed, AreHeldWhileBorrowed, AreOpenWhileBorrowed}
 use Rattle.scoped_addresses.specs.inner.Addresses.{AreAddressesInScopes, AreBorrowsOwnScopes, AreBorrowsScopes, ArePlainInScopesNamed, HaveSlotsNoBases}
 
 pub record AcceptedFacts : Type 0 where
@@ -165,6 +165,8 @@ pub record AcceptedFacts : Type 0 where
   pub borrowed_are_held : AreHeldWhileBorrowed
   -- a scope that it borrows from is open, and hasn't begun anew
   pub borrowed_are_open : AreOpenWhileBorrowed
+  -- nothing that it borrows from has begun anew, whatever it is
+  pub bases_are_as_borrowed : AreBasesAsBorrowed
   -- the scopes of an address are open where the next item takes it
   pub addresses_are_in_scopes : AreAddressesInScopes
   -- ---- addresses: their locations, and the slots and scopes in which these lie

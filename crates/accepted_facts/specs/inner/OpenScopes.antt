@@ -6,7 +6,7 @@ use Rattle.sil_cfg.specs.declared.item.Item.{Item}
 use Rattle.scoped_addresses.specs.accepted_trails.inner.Bases.{UsesBorrowed}
 use Rattle.scoped_addresses.specs.accepted_trails.inner.Defined.{makes}
 use Rattle.scoped_addresses.specs.accepted_trails.inner.Lives.{BorrowsFrom, IsOwnedIn, IsScopeIn, is_held, is_open}
-use Rattle.scoped_addresses.specs.accepted_trails.run_trails.inner.RunTrails.{IsTurnedTrail}
+use Rattle.scoped_addresses.specs.accepted_trails.run_trails.inner.RunTrails.{IsRunTrail, IsTurnedTrail}
 use Rattle.scoped_addresses.specs.accepted_trails.run_trails.inner.Since.{is_none_since}
 use Rattle.scoped_addresses.specs.accepted_values.inner.Known.{InAccepted}
 
@@ -27,3 +27,8 @@ AreHeldWhileBorrowed = InAccepted (λ d f. (s b : ValueId) → IsScopeIn d f s �
 abbrev pub AreOpenWhileBorrowed : Type 0
 AreOpenWhileBorrowed = InAccepted (λ d f. (s b : ValueId) → IsScopeIn d f s → IsScopeIn d f b → BorrowsFrom d f s b
     → (t : List Item) → IsTurnedTrail f t → is_open d f s t ≡ Some true → (is_open d f b t ≡ Some true) × IsAsBorrowed f t b s)
+
+-- nothing from which an open scope borrows has begun anew since the scope was opened
+abbrev pub AreBasesAsBorrowed : Type 0
+AreBasesAsBorrowed = InAccepted (λ d f. (s b : ValueId) → IsScopeIn d f s → BorrowsFrom d f s b
+    → (t : List Item) → IsRunTrail f t → is_open d f s t ≡ Some true → IsAsBorrowed f t b s)
