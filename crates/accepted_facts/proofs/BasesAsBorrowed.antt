@@ -7,7 +7,7 @@ use Rattle.std.proofs.lemmas.Option.{same_Some, slice_get-map}
 use Rattle.accepted_facts.specs.inner.OpenScopes.{AreBasesAsBorrowed, IsAsBorrowed}
 use Rattle.accepted_facts.proofs.BorrowedUsed.{held_while_borrowed, open_while_borrowed}
 use Rattle.item_operands.specs.Items.{arg_value, item_defined, item_taken}
-use Rattle.ownership_chains.specs.Facts.{facts_with, has, is_guaranteed, is_owned, known_or}
+use Rattle.ownership_chains.specs.Facts.{has, is_owned, known_or}
 use Rattle.ownership_chains.specs.declared.facts.Facts.{Facts}
 use Rattle.sil_ast.specs.Blocks.{args_of}
 use Rattle.sil_ast.specs.declared.function.BlockArg.{BlockArg}

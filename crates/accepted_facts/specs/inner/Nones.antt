@@ -1,4 +1,4 @@
--- None values: without an owner, though values of their types may have references. They are made of values without owners alone, and have no references.
+-- None values: without an owner, though values of their types may have references. They are made of values without owners alone, and their entries hold none.
 use Rattle.std.specs.Prelude.{◌≡◌, ℕ, [], Ok, Some, map, slice_get, true}
 use Rattle.numbered_form.specs.Lists.{Each}
 use Rattle.point_checks.specs.Points.{IsAt}
