@@ -19,7 +19,6 @@ use Rattle.scoped_addresses.proofs.accepted_values.Suited.{forwarded_kinds, resu
 use Rattle.scoped_addresses.proofs.accepted_values.Switches.{switched}
 use Rattle.scoped_addresses.proofs.accepted_values.TableRows.{argument_rows, result_rows}
 use Rattle.scoped_addresses.proofs.accepted_trails.BasesMade.{bases_as_made}
-use Rattle.scoped_addresses.proofs.accepted_trails.BasesOpen.{borrowed_held, borrowed_open}
 use Rattle.scoped_addresses.proofs.accepted_trails.LivesPassed.{lives_passed}
 use Rattle.scoped_addresses.proofs.accepted_trails.OperandsDefined.{operands_defined}
 use Rattle.scoped_addresses.proofs.accepted_trails.ScopesPassed.{bases_kept, scopes_passed}
@@ -54,6 +53,12 @@ use Rattle.scoped_addresses.proofs.AddressRows.{borrows_scopes, plain_in_scopes_
 use Rattle.scoped_addresses.proofs.AddressScopes.{addresses_in_scopes}
 use Rattle.scoped_addresses.proofs.OwnScopes.{own_scope}
 use Rattle.accepted_facts.specs.inner.Facts.{AcceptedFacts}
+use Rattle.accepted_facts.proofs.BasesAsBorrowed.{bases_as_borrowed}
+use Rattle.accepted_facts.proofs.BorrowedUsed.{borrowed_used, held_while_borrowed, open_while_borrowed}
+use Rattle.accepted_facts.proofs.MadeBefore.{made_before}
+use Rattle.accepted_facts.proofs.NonesMade.{nones_made, nones_without_references}
+use Rattle.typed_memory.proofs.Trivials.{no_references}
+use Rattle.typed_memory.specs.inner.Worlds.{names}
 
 pub accepted_facts : AcceptedFacts
 accepted_facts = record {
@@ -96,6 +101,7 @@ accepted_facts = record {
   returns_give = given;
   -- operands are defined
   operands_are_defined = operands_defined;
+  operands_are_made_before = made_before;
   trails_are_spliced = are_spliced;
   -- Owned operands are held
   owned_are_own_bases = owned_own_bases;
@@ -118,8 +124,10 @@ accepted_facts = record {
   addresses_have_bases = bases_of_addresses;
   bases_are_as_made = bases_as_made;
   bases_are_kept = bases_kept;
-  borrowed_are_held = borrowed_held;
-  borrowed_are_open = borrowed_open;
+  borrowed_are_used = borrowed_used;
+  borrowed_are_held = held_while_borrowed;
+  borrowed_are_open = open_while_borrowed;
+  bases_are_as_borrowed = bases_as_borrowed;
   addresses_are_in_scopes = addresses_in_scopes;
   -- addresses: their locations, and the slots and scopes in which these lie
   addresses_are_named = addresses_named;
@@ -180,6 +188,9 @@ accepted_facts = record {
   trivial_are_plain = trivial_plain;
   addresses_are_plain = addresses_plain;
   plain_are_told = plain_told;
+  nones_are_made_without_owners = nones_made;
+  nones_have_no_references = nones_without_references;
+  trivial_have_no_references = λ m w s x. no_references (names m w) s x;
   plain_in_scopes_are_named = plain_in_scopes_named;
   slots_have_no_bases = slots_no_bases;
 }

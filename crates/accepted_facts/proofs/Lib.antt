@@ -1,3 +1,8 @@
+mod PlainAddresses
+pub mod BorrowedUsed
+pub mod BasesAsBorrowed
+pub mod MadeBefore
+pub mod NonesMade
 pub mod Facts
 pub use Rattle.scoped_addresses.proofs.accepted_values as accepted_values
 pub use Rattle.scoped_addresses.proofs.held_entries as held_entries

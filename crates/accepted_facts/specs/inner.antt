@@ -1,1 +1,4 @@
+pub mod OpenScopes
+pub mod Definitions
+pub mod Nones
 pub mod Facts

@@ -1,5 +1,6 @@
 -- What acceptance of a module says of its functions and of their trails: the laws from which it follows that no run of it faults, together.
 -- None speaks of searches. Each says something of all trails, of all items or of all values of a function.
+use Rattle.typed_memory.specs.inner.Laws.{HaveNoReferences}
 use Rattle.scoped_addresses.specs.accepted_trails.run_trails.inner.Laws.{AreAlongEdges, AreEnteredOnce, AreFollowed, AreFollowedTurned, AreNext}
 use Rattle.scoped_addresses.specs.accepted_trails.run_trails.inner.Laws.{AreOfItems, AreOnWhereTurned, AreSpliced, AreTrails}
 use Rattle.scoped_addresses.specs.owned_run_typing.inner.OwnedTyped.{OwnedIsTyped}
@@ -12,7 +13,7 @@ use Rattle.scoped_addresses.specs.accepted_values.inner.Nones.{AreAddressesPlain
 use Rattle.scoped_addresses.specs.accepted_values.inner.Operands.{AreForwarded, AreResultsOfKinds, AreSuited, AreTrivialPlain}
 use Rattle.scoped_addresses.specs.accepted_values.inner.Rows.{AreArgumentRows, AreResultRows}
 use Rattle.scoped_addresses.specs.accepted_trails.inner.Accepted.{AreAccepted}
-use Rattle.scoped_addresses.specs.accepted_trails.inner.Bases.{AreBasesAsMade, AreBorrowedHeld, AreBorrowedOpen}
+use Rattle.scoped_addresses.specs.accepted_trails.inner.Bases.{AreBasesAsMade}
 use Rattle.scoped_addresses.specs.accepted_trails.inner.Defined.{AreOperandsDefined}
 use Rattle.scoped_addresses.specs.accepted_trails.inner.Lives.{AreBasesKept, AreLivesPassed, AreScopesPassed}
 use Rattle.scoped_addresses.specs.placed_values.accepted_memory.inner.Companions.{AreInScopes, AreInSlots, AreLentInScopes}
@@ -33,6 +34,9 @@ use Rattle.scoped_addresses.specs.placed_values.accepted_places.inner.Unfinished
 use Rattle.scoped_addresses.specs.placed_values.accepted_places.inner.Unfinished.{AreUnwrittenEmpty, AreWrittenOnce}
 use Rattle.scoped_addresses.specs.placed_values.inner.Arguments.{AreArgumentsTold, AreArgumentsWhole, AreBegunTold, AreResultsTold}
 use Rattle.scoped_addresses.specs.placed_values.inner.Arguments.{AreRootsTrivial, AreToldArguments, AreTrivialFull}
+use Rattle.accepted_facts.specs.inner.Definitions.{AreOperandsMadeBefore}
+use Rattle.accepted_facts.specs.inner.Nones.{AreNonesMadeWithoutOwners, HaveNonesNoReferences}
+use Rattle.accepted_facts.specs.inner.OpenScopes.{AreBasesAsBorrowed, AreBorrowedUsed, AreHeldWhileBorrowed, AreOpenWhileBorrowed}
 use Rattle.scoped_addresses.specs.inner.Addresses.{AreAddressesInScopes, AreBorrowsOwnScopes, AreBorrowsScopes, ArePlainInScopesNamed, HaveSlotsNoBases}
 
 pub record AcceptedFacts : Type 0 where
@@ -111,6 +115,8 @@ pub record AcceptedFacts : Type 0 where
   -- ---- operands are defined
   -- what the next item takes is defined on the trail
   pub operands_are_defined : AreOperandsDefined
+  -- so on every walk to an item what makes an operand stands before the item
+  pub operands_are_made_before : AreOperandsMadeBefore
   -- where an a precedes each b and a b each c, no a has come since the last b where a c comes next
   pub trails_are_spliced : AreSpliced
   -- ---- Owned operands are held
@@ -153,10 +159,14 @@ pub record AcceptedFacts : Type 0 where
   pub bases_are_as_made : AreBasesAsMade
   -- while a scope is open what it borrows from doesn't end
   pub bases_are_kept : AreBasesKept
-  -- an Owned value that it borrows is held, and hasn't begun anew, if what opens the scope uses it
-  pub borrowed_are_held : AreBorrowedHeld
-  -- a scope that it borrows from is open, and hasn't begun anew, if what opens the scope uses it
-  pub borrowed_are_open : AreBorrowedOpen
+  -- what opens the scope uses it
+  pub borrowed_are_used : AreBorrowedUsed
+  -- an Owned value that the scope borrows is held, and hasn't begun anew
+  pub borrowed_are_held : AreHeldWhileBorrowed
+  -- a scope that it borrows from is open, and hasn't begun anew
+  pub borrowed_are_open : AreOpenWhileBorrowed
+  -- nothing that it borrows from has begun anew, whatever it is
+  pub bases_are_as_borrowed : AreBasesAsBorrowed
   -- the scopes of an address are open where the next item takes it
   pub addresses_are_in_scopes : AreAddressesInScopes
   -- ---- addresses: their locations, and the slots and scopes in which these lie
@@ -269,6 +279,12 @@ pub record AcceptedFacts : Type 0 where
   pub addresses_are_plain : AreAddressesPlain
   -- a Plain value is one of these, or a None value: it is made of Plain values alone
   pub plain_are_told : ArePlainTold
+  -- a None value is made of values without owners alone
+  pub nones_are_made_without_owners : AreNonesMadeWithoutOwners
+  -- and has no references: a run makes no entry of one that has some
+  pub nones_have_no_references : HaveNonesNoReferences
+  -- nor has a value of a trivial shape
+  pub trivial_have_no_references : HaveNoReferences
   -- a Plain value with bases is an address, and no argument
   pub plain_in_scopes_are_named : ArePlainInScopesNamed
   -- a slot has no bases
