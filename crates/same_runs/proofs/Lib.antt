@@ -16,3 +16,6 @@ pub mod RowsFound
 pub mod Outlive
 pub mod HandedFull
 pub mod TrapsRight
+pub mod TakenApart
+pub mod TakenApartRows
+pub mod RowsRight
