@@ -20,7 +20,7 @@ use Rattle.sil_ast.specs.declared.member.Member.{Member}
 use Rattle.sil_ast.specs.declared.module.Module.{Module}
 use Rattle.sil_ast.specs.declared.operands.Operand.{Operand}
 use Rattle.sil_ast.specs.declared.place.PointId.{PointId}
-use Rattle.sil_ast.specs.declared.type_name.TypeName.{TypeName, out-TypeName}
+use Rattle.sil_ast.specs.declared.type_name.TypeName.{TypeName}
 use Rattle.sil_ast.specs.declared.type_name.TypeName.TheVariants as type
 use Rattle.type_definitions.specs.Declarations.{Declarations, decl_of, declarations_of, place_of, superclass_found, swift_structs}
 use Rattle.type_definitions.specs.Lookups.{FoundField, chain_fields, decl_fields, field_at_place, inherited_fields, own_fields}
