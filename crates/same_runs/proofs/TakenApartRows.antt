@@ -32,7 +32,6 @@ use Rattle.stored_runs.specs.lowered_run.holder_model.declared.row_effect.RowEff
 use Rattle.stored_runs.specs.lowered_run.LowStepParts.{LowState}
 use Rattle.stored_runs.specs.lowering_laws.lowering_model.LoweredInsts.{lowering_of}
 use Rattle.stored_runs.specs.lowering_laws.lowering_model.LoweredModules.{lowered}
-use Rattle.stored_runs.specs.lowering_laws.lowering_model.declared.lowering.Lowering.TheVariants as lowering
 use Rattle.stored_runs.specs.lowering_laws.ownership_origins.Renamings.{renames}
 use Rattle.stored_runs.specs.typed_holders.inner.TypedStates.{FrameIs}
 use Rattle.stored_runs.specs.typed_holders.typed_memory.inner.Worlds.{World, names}
@@ -43,12 +42,12 @@ use Rattle.stored_runs.proofs.typed_memory.Grouped.{Members, suits_group}
 use Rattle.stored_runs.specs.inner.Lowering.{IsOwnName}
 use Rattle.stored_runs.specs.inner.Names.{IsOld, lowered_number}
 use Rattle.stored_runs.specs.inner.PlaceRows.{StandsAt, operand_value}
-use Rattle.stored_runs.specs.inner.RowsRight.{RowRight, TakesApart, held_effect, struct_members}
+use Rattle.stored_runs.specs.inner.RowsRight.{RowRight, TakesApart, held_effect}
 use Rattle.stored_runs.proofs.PlacesFound.{one_of}
 use Rattle.stored_runs.proofs.StandsThere.{operands_old}
-use Rattle.stored_runs.proofs.TypedInsts.{given_typed, operand_forms, result_forms}
+use Rattle.stored_runs.proofs.TypedInsts.{given_typed, operand_forms}
 use Rattle.stored_runs.proofs.TypedPlainRows.{OneValue, one_value_of}
-use Rattle.same_runs.proofs.TakenApart.{ApartSo, StructApart, as_long, member_found, members_placed, members_smaller, size_of, sizes_of, struct_taken_apart, tuple_taken_apart}
+use Rattle.same_runs.proofs.TakenApart.{ApartSo, as_long, member_found, members_placed, members_smaller, size_of, sizes_of, struct_taken_apart, tuple_taken_apart}
 
 -- which rows take apart
 data PartsSo (o : Op) : Type 0 where
