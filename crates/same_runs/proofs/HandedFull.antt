@@ -1,11 +1,11 @@
 -- A part that a call hands over is full: what is a part at its location is handed over where it stays full.
-use Rattle.std.proofs.Common.{◌≡◌, ⊎_elim, ℕ, zero, suc, List, [], ◌∷◌, ◌++◌, inl, inr, drop, map, Bool, true, false, Contains, Option, Some, None, Ok, refl, sym, ap, ap₂, ◌∙◌, subst}
+use Rattle.std.proofs.Common.{◌≡◌, ⊎_elim, ℕ, zero, suc, List, [], ◌∷◌, inl, drop, Bool, true, false, Option, Some, None, refl, sym, ap, ap₂, ◌∙◌, subst}
 use Rattle.std.specs.Prelude.{is_some, slice_get}
 use Rattle.std.specs.List.{AllZip}
 use Rattle.std.proofs.lemmas.Bool.{and_parts, false≢true, true≢false}
 use Rattle.std.proofs.lemmas.Option.{same_Some}
 use Rattle.argument_conventions.specs.Arguments.{Told, arguments_of}
-use Rattle.argument_conventions.specs.Rows.{address_row, keeps_full, keeps_full_by}
+use Rattle.argument_conventions.specs.Rows.{address_row, keeps_full_by}
 use Rattle.argument_conventions.specs.declared.row.AddressRow.{AddressRow}
 use Rattle.argument_conventions.specs.declared.row.Content.{Content}
 use Rattle.argument_conventions.specs.declared.row.Content.TheVariants as content
@@ -28,7 +28,7 @@ use Rattle.stored_runs.specs.guarded_entries.held_places.accepted_memory.memory_
 use Rattle.stored_runs.specs.guarded_entries.held_places.accepted_memory.memory_accesses.declared.source.Source.TheVariants as source
 use Rattle.stored_runs.specs.guarded_entries.held_places.accepted_places.inner.Stacks.{slots_on}
 use Rattle.stored_runs.specs.guarded_entries.held_places.inner.FramePlaces.{HoldsPlaces, Names}
-use Rattle.stored_runs.specs.guarded_entries.held_places.inner.PlaceStates.{AreLentBy, TasksPlaced}
+use Rattle.stored_runs.specs.guarded_entries.held_places.inner.PlaceStates.{TasksPlaced}
 use Rattle.stored_runs.specs.guarded_entries.held_places.inner.Premises.{HandsOver, ReadsOperands}
 use Rattle.stored_runs.specs.guarded_entries.held_places.inner.Roots.{IsThere}
 use Rattle.stored_runs.specs.guarded_entries.held_places.inner.TakenPlaces.{AreAlike}
@@ -44,12 +44,11 @@ use Rattle.type_definitions.specs.Declarations.{Declarations, declarations_of}
 use Rattle.stored_runs.proofs.accepted_trails.Tests.{each_among}
 use Rattle.stored_runs.proofs.accepted_trails.run_trails.WalkEdges.{are_next}
 use Rattle.stored_runs.specs.accepted_trails.inner.Defined.{makes}
-use Rattle.stored_runs.specs.accepted_trails.run_trails.inner.RunTrails.{IsRunTrail}
 use Rattle.stored_runs.specs.accepted_values.accepted_modules.inner.Checked.{IsVerified}
 use Rattle.stored_runs.specs.accepted_values.inner.Known.{IsAcceptedBody}
 use Rattle.stored_runs.specs.accepted_runs.inner.RightStates.{IsRightState}
 use Rattle.stored_runs.specs.lowered_run.holder_model.Calling.{are_as_before, is_as_before, lent_by, lent_places, lent_with}
-use Rattle.stored_runs.specs.lowered_run.holder_model.Data.{AddressOf, Datum, as_place}
+use Rattle.stored_runs.specs.lowered_run.holder_model.Data.{Datum, as_place}
 use Rattle.stored_runs.specs.lowered_run.holder_model.Effects as effects
 use Rattle.stored_runs.specs.lowered_run.holder_model.Frames.{Frame, LentPlace, has_any}
 use Rattle.stored_runs.specs.lowered_run.holder_model.HolderStates.{HolderState}
@@ -83,7 +82,7 @@ asked_full content.Empty after e = absurd (false≢true e)
 asked_full content.Full after e = refl
 
 -- the place of a root is a whole one
-root_whole : (m : Module) (memory : Memory) (f : Function) (frame : Frame) (rest : List (Task Frame)) → HoldsPlaces m memory f frame rest → (v : ValueId)
+pub root_whole : (m : Module) (memory : Memory) (f : Function) (frame : Frame) (rest : List (Task Frame)) → HoldsPlaces m memory f frame rest → (v : ValueId)
     → IsThere (declarations_of m) f frame.trail v → (p : Place) → Names frame.entries v p → p.is_part ≡ false
 root_whole m memory f frame rest h v (IsThere.slot trivial src on) p names = slot_no_part frame.entries (slots_on (declarations_of m) f frame.trail) frame.slots v h.slots on p names
 root_whole m memory f frame rest h v (IsThere.argument row trivial src) p names = h.handed v row trivial src p names

@@ -19,3 +19,10 @@ pub mod TrapsRight
 pub mod TakenApart
 pub mod TakenApartRows
 pub mod RowsRight
+pub mod PlacesLeftBare
+pub mod PlacesLeftCells
+pub mod PlacesLeftTasks
+pub mod PlacesLeftBelow
+pub mod PlacesLeftTyped
+pub mod PlacesLeft
+pub mod RetainedAlive

@@ -21,7 +21,7 @@ use Rattle.stored_runs.specs.guarded_entries.held_places.inner.Roots.{argument}
 use Rattle.point_checks.proofs.Among.{contained_among}
 use Rattle.run_values.specs.Cells.{cell_count, in_cells}
 use Rattle.run_values.specs.Memory.{Memory, object_at, with_object}
-use Rattle.run_values.specs.Places.{OnStack, Place, cells_at, home_cells, value_at}
+use Rattle.run_values.specs.Places.{OnStack, Place, home_cells, value_at}
 use Rattle.sil_ast.specs.declared.function.Function.{Function}
 use Rattle.sil_ast.specs.declared.module.Module.{Module}
 use Rattle.sil_ast.specs.declared.place.FuncId.{FuncId}
@@ -42,8 +42,6 @@ use Rattle.stored_runs.specs.lowered_run.holder_model.Frames.{Frame}
 use Rattle.stored_runs.specs.lowered_run.holder_model.States.{Drops, Finishes, Runs, Task}
 use Rattle.stored_runs.specs.lowered_run.LowFrames as low_frames
 use Rattle.stored_runs.specs.lowered_run.LowFrames.{LowFrame}
-use Rattle.stored_runs.specs.lowering_laws.ownership_origins.Renamings.{renamings_of}
-use Rattle.stored_runs.specs.lowering_laws.lowering_model.Names.{stands_for}
 use Rattle.stored_runs.specs.typed_holders.inner.TypedStates.{DeinitsTyped, DroppedTyped, FinishedTyped, FrameIs, GoesTyped, TasksAre, WaitsTyped}
 use Rattle.stored_runs.specs.typed_holders.holder_steps.inner.Stacks.{Below}
 use Rattle.stored_runs.specs.typed_holders.typed_memory.inner.Worlds.{World}
@@ -135,7 +133,7 @@ module _ (m : Module) (verified : IsVerified m) (w : World) (memory : Memory) (f
   accepted : IsAcceptedBody m frame.function.0 f
   accepted = accepted_body m verified frame.function f is.is is.bodied
 
-  current : (v : ValueId) → makes f v item.Entry ≡ true → IsOwnName f v → IsCurrent f frame.trail v
+  pub current : (v : ValueId) → makes f v item.Entry ≡ true → IsOwnName f v → IsCurrent f frame.trail v
   current v made own =
       subst (λ (u : ValueId). is_none_since (makes f u) (makes f v) frame.trail ≡ true) (sym own.1) (since_given f (makes f v) made frame.trail is.trail is.goes)
 

@@ -42,7 +42,7 @@ use Rattle.lowered_steps.specs.lowered_run.holder_model.Standing.{stands_at}
 use Rattle.lowered_steps.specs.lowered_run.holder_model.States.{Ends, OutOfTurns, Runs, Task}
 use Rattle.lowered_steps.specs.lowered_run.holder_model.Steps as holder_run
 use Rattle.lowered_steps.specs.lowered_run.LowEffects as low_effects
-use Rattle.lowered_steps.specs.lowered_run.LowEffects.{low_effect, stored_behind, stored_by}
+use Rattle.lowered_steps.specs.lowered_run.LowEffects.{low_effect, stored_by}
 use Rattle.lowered_steps.specs.lowered_run.LowFrames.{LowFrame, read_all}
 use Rattle.lowered_steps.specs.lowered_run.LowStepParts.{LowNext, LowState, values_taken}
 use Rattle.lowered_steps.specs.lowered_run.LowSteps as steps

@@ -27,7 +27,7 @@ use Rattle.lowered_steps.specs.lowered_run.holder_model.Standing.{stands_at}
 use Rattle.lowered_steps.specs.lowered_run.holder_model.States.{Task}
 use Rattle.lowered_steps.specs.lowered_run.holder_model.declared.row_effect.RowEffect.TheVariants as row
 use Rattle.lowered_steps.specs.lowered_run.holder_model.memory_accesses.declared.access.Operation.{Operation}
-use Rattle.lowered_steps.specs.lowered_run.LowEffects.{low_effect, operation_done, stored_behind, stored_by, accessed, both_stored, is_first_write, stored_at, value_stored}
+use Rattle.lowered_steps.specs.lowered_run.LowEffects.{operation_done, stored_behind, stored_by}
 use Rattle.lowered_steps.specs.lowered_run.LowStepParts.{LowState, numbers_for}
 use Rattle.lowered_steps.specs.lowered_run.Stored.{unnamed}
 use Rattle.lowered_numbering_laws.specs.lowering_laws.ownership_origins.Renamings.{renames}

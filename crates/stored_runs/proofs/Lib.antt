@@ -68,3 +68,4 @@ pub use Rattle.owned_counts.proofs.typed_memory as typed_memory
 pub use Rattle.owned_counts.proofs as owned_counts
 pub use Rattle.owned_counts.proofs.guarded_entries as guarded_entries
 pub use Rattle.lowered_steps.proofs as lowered_steps
+pub use Rattle.memory_cells.proofs as memory_cells

@@ -23,7 +23,7 @@ use Rattle.run_values.specs.Places.{Place}
 use Rattle.run_values.specs.Shapes.{Shape}
 use Rattle.lowered_steps.specs.lowered_run.holder_model.Data.{Datum, references_in}
 use Rattle.lowered_steps.specs.lowered_run.holder_model.Effects as effects
-use Rattle.lowered_steps.specs.lowered_run.holder_model.Effects.{Change, Effect, Makes, effect_of, unchanged}
+use Rattle.lowered_steps.specs.lowered_run.holder_model.Effects.{Change, Makes, effect_of, unchanged}
 use Rattle.lowered_steps.specs.lowered_run.holder_model.Frames.{Entry, Frame, results_put}
 use Rattle.lowered_steps.specs.lowered_run.holder_model.HolderStates.{HolderState}
 use Rattle.lowered_steps.specs.lowered_run.holder_model.ModuleFacts.{facts_of, facts_told}

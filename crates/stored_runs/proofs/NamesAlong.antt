@@ -2,7 +2,7 @@
 use Rattle.stored_runs.specs.inner.RowsRight.{is_place_row}
 use Rattle.sil_ast.specs.declared.decl.Storage.TheVariants as storage
 use Rattle.lowered_steps.specs.lowered_run.holder_model.declared.trap.Trap.TheVariants as trap
-use Rattle.lowered_steps.specs.lowered_run.holder_model.MemoryEffects.{two, value_and_place, copies_with, takes, references_at, all_live, loaded_name, named_again}
+use Rattle.lowered_steps.specs.lowered_run.holder_model.MemoryEffects.{two, value_and_place, takes, references_at, all_live, loaded_name, named_again}
 use Rattle.lowered_steps.specs.lowered_run.Stored.{named, unnamed}
 use Rattle.owned_counts.specs.accepted_trails.inner.Defined.{makes}
 use Rattle.sil_ast.specs.declared.decl.Storage.{Storage}
@@ -21,7 +21,7 @@ use Rattle.run_values.specs.Memory.{Memory, is_dead, is_live, is_live_phase, is_
 use Rattle.run_values.specs.Places.{Place, emptied, filled, is_there_at, removed, value_at, cells_at}
 use Rattle.run_values.specs.Shapes.{Shape, storage_in}
 use Rattle.run_values.specs.Values as value
-use Rattle.run_values.specs.Values.{Value, grouped, integer_of, members_of, object_of, references_of}
+use Rattle.run_values.specs.Values.{Value, references_of}
 use Rattle.lowered_steps.specs.lowered_run.holder_model.Data.{AddressOf, Datum, ValueOf}
 use Rattle.lowered_steps.specs.lowered_run.holder_model.Effects.{Change, Effect, Makes, effect_by, gives, gives_value, part_number}
 use Rattle.lowered_steps.specs.lowered_run.holder_model.Effects.{unchanged, with_some, effect_of, Traps, names_member, SameSlots, ClosesSlot}
@@ -49,7 +49,7 @@ use Rattle.lowered_steps.specs.lowered_run.holder_model.Outcomes.{Numbers}
 use Rattle.lowered_steps.specs.lowered_run.holder_model.Standing.{stands_at}
 use Rattle.lowered_steps.specs.lowered_run.holder_model.States.{Task}
 use Rattle.lowered_steps.specs.lowered_run.holder_model.memory_accesses.declared.access.Operation.{Operation}
-use Rattle.lowered_steps.specs.lowered_run.LowEffects.{low_effect, operation_done, stored_behind, stored_by, accessed, both_stored, is_first_write, stored_at, value_stored, taken_at}
+use Rattle.lowered_steps.specs.lowered_run.LowEffects.{low_effect, stored_behind, stored_by, accessed, is_first_write, stored_at, value_stored, taken_at}
 use Rattle.lowered_steps.specs.lowered_run.LowStepParts.{LowState}
 use Rattle.lowered_numbering_laws.specs.lowering_laws.ownership_origins.Renamings.{renames}
 use Rattle.owned_counts.specs.holder_steps.inner.Ways as holder

@@ -9,16 +9,16 @@ use Rattle.sil_ast.specs.declared.place.ObjectId.{ObjectId}
 use Rattle.sil_ast.specs.declared.place.ValueId.{ValueId}
 use Rattle.type_definitions.specs.Declarations.{Declarations, declarations_of}
 use Rattle.run_values.specs.Memory.{Memory, is_dead}
-use Rattle.run_values.specs.Places.{OnStack, Place, empty_fields, empty_slot, emptied, filled, is_there_at, removed, value_at, cells_at, Home, Inside, with_home_cells}
+use Rattle.run_values.specs.Places.{Place, empty_slot}
 use Rattle.run_values.specs.Places as places
 use Rattle.run_values.specs.Shapes.{Shape, class_in}
 use Rattle.run_values.specs.Values as value
-use Rattle.run_values.specs.Values.{Value, grouped, integer_of, members_of, object_of, references_of}
+use Rattle.run_values.specs.Values.{Value, grouped, integer_of, members_of, object_of}
 use Rattle.lowered_steps.specs.lowered_run.holder_model.Builtins.{builtin_value, is_set}
 use Rattle.lowered_steps.specs.lowered_run.holder_model.Data.{AddressOf, Datum, FunctionOf, ValueOf, all_of, as_function, as_place, as_value, values_of}
 use Rattle.lowered_steps.specs.lowered_run.holder_model.Effects as effects
-use Rattle.lowered_steps.specs.lowered_run.holder_model.Effects.{Change, Effect, Makes, OpensSlot, effect_by, gives, gives_value}
-use Rattle.lowered_steps.specs.lowered_run.holder_model.Effects.{only, part_number, part_number_by, unchanged, with_some, effect_of, result_shape, result_shape_of}
+use Rattle.lowered_steps.specs.lowered_run.holder_model.Effects.{Change, Effect, Makes, effect_by, gives, gives_value}
+use Rattle.lowered_steps.specs.lowered_run.holder_model.Effects.{only, part_number, with_some, effect_of, result_shape}
 use Rattle.lowered_steps.specs.lowered_run.holder_model.Effects.{Calls, Faults, Traps, Unfit, chooses, copies, drops, retains}
 use Rattle.lowered_steps.specs.lowered_run.holder_model.Effects.{gives_member, gives_members, names_member, names_field, names_field_of, field_of_object, makes_object, traps_where}
 use Rattle.lowered_steps.specs.lowered_run.holder_model.ModuleShapes.{ModuleShapes, case_place, shapes_in, shapes_of}
@@ -34,12 +34,11 @@ use Rattle.sil_cfg.specs.declared.item.Item.TheVariants as item
 use Rattle.item_operands.specs.Items.{item_defined, item_taken}
 use Rattle.lowered_steps.specs.lowered_run.holder_model.Frames.{Entry, Frame, Operands, results_put}
 use Rattle.lowered_steps.specs.lowered_run.holder_model.HolderStates.{HolderState}
-use Rattle.lowered_steps.specs.lowered_run.holder_model.MemoryEffects.{copies_with, takes, references_at}
 use Rattle.lowered_steps.specs.lowered_run.holder_model.ModuleFacts.{facts_of}
 use Rattle.lowered_steps.specs.lowered_run.holder_model.Outcomes.{Numbers}
 use Rattle.lowered_steps.specs.lowered_run.holder_model.Standing.{stands_at}
 use Rattle.lowered_steps.specs.lowered_run.holder_model.States.{Task}
-use Rattle.lowered_steps.specs.lowered_run.LowEffects.{low_effect, operation_done, stored_behind, stored_by, accessed, both_stored, is_first_write, stored_at, value_stored}
+use Rattle.lowered_steps.specs.lowered_run.LowEffects.{low_effect, stored_by}
 use Rattle.lowered_steps.specs.lowered_run.LowStepParts.{LowState}
 use Rattle.lowered_numbering_laws.specs.lowering_laws.ownership_origins.Renamings.{renames}
 use Rattle.owned_counts.specs.holder_steps.inner.Ways as holder

@@ -17,7 +17,7 @@ use Rattle.run_values.specs.Memory.{Memory, is_dead}
 use Rattle.run_values.specs.Places.{Place, emptied, filled}
 use Rattle.run_values.specs.Shapes.{storage_in}
 use Rattle.run_values.specs.Values as value
-use Rattle.run_values.specs.Values.{Value, grouped, integer_of, members_of, object_of, references_of}
+use Rattle.run_values.specs.Values.{Value, references_of}
 use Rattle.lowered_steps.specs.lowered_run.holder_model.Data.{AddressOf, ValueOf}
 use Rattle.lowered_steps.specs.lowered_run.holder_model.Effects.{Change, Effect, Makes, gives_value, unchanged, Traps, SameSlots}
 use Rattle.lowered_steps.specs.lowered_run.holder_model.Faults.{HolderFault}

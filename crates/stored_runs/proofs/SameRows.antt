@@ -17,15 +17,15 @@ use Rattle.numbered_form.specs.Names.{Name}
 use Rattle.type_definitions.specs.Declarations.{Declarations}
 use Rattle.run_values.specs.declared.phase.Phase.TheVariants.{Live}
 use Rattle.run_values.specs.Memory.{Memory, is_dead}
-use Rattle.run_values.specs.Places.{OnStack, Place, empty_fields, empty_slot, emptied, filled, is_there_at, removed, value_at}
+use Rattle.run_values.specs.Places.{OnStack, Place, empty_fields, empty_slot, is_there_at, value_at}
 use Rattle.run_values.specs.Places as places
 use Rattle.run_values.specs.Shapes.{Shape, class_in}
 use Rattle.run_values.specs.Values as value
-use Rattle.run_values.specs.Values.{Value, grouped, integer_of, members_of, object_of, references_of}
+use Rattle.run_values.specs.Values.{Value, grouped, integer_of, members_of, object_of}
 use Rattle.lowered_steps.specs.lowered_run.holder_model.Builtins.{builtin_value, is_set}
 use Rattle.lowered_steps.specs.lowered_run.holder_model.Data.{AddressOf, Datum, FunctionOf, ValueOf, all_of, as_function, as_place, as_value, home_references, values_of}
 use Rattle.lowered_steps.specs.lowered_run.holder_model.Effects as effects
-use Rattle.lowered_steps.specs.lowered_run.holder_model.Effects.{Change, Effect, Makes, OpensSlot, effect_by, gives, gives_value, only, part_number, part_number_by, unchanged, with_some}
+use Rattle.lowered_steps.specs.lowered_run.holder_model.Effects.{Effect, OpensSlot, effect_by, gives, gives_value, only, part_number, part_number_by, unchanged, with_some}
 use Rattle.lowered_steps.specs.lowered_run.holder_model.Faults.{HolderFault}
 use Rattle.lowered_steps.specs.lowered_run.holder_model.ModuleShapes.{ModuleShapes, case_place, field_shapes, fields_in, is_class}
 use Rattle.lowered_steps.specs.lowered_run.holder_model.declared.row_effect.RowEffect.{RowEffect}

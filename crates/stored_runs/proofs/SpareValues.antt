@@ -4,7 +4,6 @@ use Rattle.stored_runs.proofs.SparesApart.{defined_there}
 use Rattle.stored_runs.specs.inner.Spares.{AreSparesApart}
 use Rattle.lowered_numbering_laws.specs.lowering_laws.inner.Laws.{defined_by}
 use Rattle.stored_runs.specs.inner.Frames.{AreValuesFor, AreGivenPartsFull, IsShownAs}
-use Rattle.lowered_steps.specs.lowered_run.LowFrames.{put_all}
 use Rattle.std.proofs.Common.{◌≡◌, ◌<◌, ℕ, ◌+◌, List, refl, sym, ap, ◌∙◌, subst, true, false, Option, Some, set, ◌||◌, eq-eqb}
 use Rattle.std.specs.Prelude.{slice_get}
 use Rattle.std.specs.List.{list_any}

@@ -28,7 +28,6 @@ use Rattle.lowered_steps.specs.lowered_run.holder_model.ModuleFacts.{facts_of, f
 use Rattle.lowered_steps.specs.lowered_run.holder_model.Standing.{stands_at}
 use Rattle.lowered_steps.specs.lowered_run.holder_model.States.{Task}
 use Rattle.lowered_steps.specs.lowered_run.LowFrames as low_frames
-use Rattle.lowered_steps.specs.lowered_run.LowFrames.{LowFrame, put_all, read_all}
 use Rattle.lowered_steps.specs.lowered_run.LowStepParts.{LowState, taken_value}
 use Rattle.lowered_numbering_laws.specs.lowering_laws.ownership_origins.Renamings.{renames}
 use Rattle.stored_runs.specs.inner.Frames.{IsNoAddress, AreGivenPartsFull, IsDatumFor, IsFrameAt}

@@ -4,7 +4,7 @@ use Rattle.stored_runs.proofs.StaysAlong.{stays_alone, low_data}
 use Rattle.item_operands.specs.Parts.{inst_at}
 use Rattle.sil_ast.specs.declared.decl.Storage.TheVariants as storage
 use Rattle.lowered_steps.specs.lowered_run.holder_model.declared.trap.Trap.TheVariants as trap
-use Rattle.lowered_steps.specs.lowered_run.holder_model.MemoryEffects.{two, value_and_place, copies_with, takes, references_at, all_live, loaded_name, named_again}
+use Rattle.lowered_steps.specs.lowered_run.holder_model.MemoryEffects.{takes, all_live, loaded_name, named_again}
 use Rattle.sil_ast.specs.declared.decl.Storage.{Storage}
 use Rattle.stored_runs.proofs.PlainAlong.{low_does}
 use Rattle.std.proofs.Common.{◌≡◌, ℕ, List, [], ◌∷◌, map, refl, sym, ap, ◌∙◌, subst, Bool, true, false, cond, Option, Some, None, arith, Ok}
@@ -16,7 +16,7 @@ use Rattle.run_values.specs.Memory.{Memory}
 use Rattle.run_values.specs.Places.{Place, emptied, is_there_at, value_at}
 use Rattle.run_values.specs.Shapes.{Shape, storage_in}
 use Rattle.run_values.specs.Values as value
-use Rattle.run_values.specs.Values.{Value, grouped, integer_of, members_of, object_of, references_of}
+use Rattle.run_values.specs.Values.{Value, references_of}
 use Rattle.lowered_steps.specs.lowered_run.holder_model.Data.{AddressOf, Datum}
 use Rattle.lowered_steps.specs.lowered_run.holder_model.Effects.{Effect, gives_value, effect_of, Traps}
 use Rattle.lowered_steps.specs.lowered_run.holder_model.Faults.{HolderFault}

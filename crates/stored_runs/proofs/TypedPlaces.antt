@@ -35,7 +35,7 @@ use Rattle.stored_runs.proofs.TypedCalls.{IsStrong, each_both, strong_taken}
 
 -- ---- shapes with no storage in them
 
-abbrev AreBare : Shape → Type 0
+abbrev pub AreBare : Shape → Type 0
 AreBare s = has_no_storage s ≡ true → Each IsStrong (cell_shapes s)
 
 each_bare : (ss : Shapes) → AllByRecursion AreBare (listed ss) → list_all itself (each_by_layers no_storage_layer ss) ≡ true → Each IsStrong (each_cell_shapes ss)
@@ -55,7 +55,7 @@ shape_bare (Enum name cases) hs t = (refl, tt)
 shape_bare (Stored how inner) hs t = absurd (false≢true t)
 shape_bare Unknown hs t = (refl, tt)
 
-bare_cells : (s : Shape) → AreBare s
+pub bare_cells : (s : Shape) → AreBare s
 bare_cells = by_parts AreBare shape_bare
 
 pub bare_whole : (s : Shape) → has_no_storage s ≡ true → storage_in s ≡ None

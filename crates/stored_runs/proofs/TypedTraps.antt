@@ -8,20 +8,22 @@ use Rattle.sil_ast.specs.declared.inst.Inst.{Inst}
 use Rattle.sil_ast.specs.declared.member.Member.{Member}
 use Rattle.sil_ast.specs.declared.module.Module.{Module}
 use Rattle.sil_ast.specs.declared.place.FuncId.{FuncId}
+use Rattle.sil_ast.specs.declared.place.ObjectId.{ObjectId}
 use Rattle.type_definitions.specs.Declarations.{Declarations, declarations_of}
 use Rattle.run_values.specs.Memory.{Memory}
-use Rattle.run_values.specs.Places.{Place, emptied, is_there_at, member_place, removed, value_at}
+use Rattle.run_values.specs.Places.{Place, emptied, filled, is_there_at, member_place, removed, value_at}
 use Rattle.run_values.specs.Shapes.{Shape, class_in, storage_in}
 use Rattle.run_values.specs.Values as value
-use Rattle.run_values.specs.Values.{Value, grouped, members_of, object_of, references_of}
+use Rattle.run_values.specs.Values.{Value, grouped, integer_of, members_of, object_of, references_of}
 use Rattle.owned_counts.specs.accepted_values.run_typing.Forms.{Form, form_of}
-use Rattle.lowered_steps.specs.lowered_run.holder_model.Data.{AddressOf, Datum, FunctionOf, ValueOf, as_place, as_value, references_in, values_of}
+use Rattle.lowered_steps.specs.lowered_run.holder_model.Builtins.{builtin_value}
+use Rattle.lowered_steps.specs.lowered_run.holder_model.Data.{AddressOf, Datum, FunctionOf, ValueOf, all_of, as_function, as_place, as_value, references_in, values_of}
 use Rattle.lowered_steps.specs.lowered_run.holder_model.Effects as effects
 use Rattle.lowered_steps.specs.lowered_run.holder_model.Effects.{Effect, Faults, Makes, Traps, effect_by, effect_of, only, with_some}
 use Rattle.lowered_steps.specs.lowered_run.holder_model.Faults.{HolderFault, NotLastSlot}
 use Rattle.lowered_steps.specs.lowered_run.holder_model.MemoryEffects as memory_effects
 use Rattle.lowered_steps.specs.lowered_run.holder_model.MemoryEffects.{asked_before, fault_of, holds, loaded_name, takes, where_held}
-use Rattle.lowered_steps.specs.lowered_run.holder_model.ModuleShapes.{ModuleShapes, shapes_in, shapes_of}
+use Rattle.lowered_steps.specs.lowered_run.holder_model.ModuleShapes.{ModuleShapes, case_place, shapes_in, shapes_of}
 use Rattle.lowered_steps.specs.lowered_run.holder_model.declared.row_effect.RowEffect.{RowEffect}
 use Rattle.lowered_steps.specs.lowered_run.holder_model.declared.row_effect.RowEffect.TheVariants as row
 use Rattle.lowered_steps.specs.lowered_run.holder_model.declared.trap.Trap.{Trap}
@@ -119,16 +121,16 @@ module _ (t : Trap) where
     chooses_none k (v ∷ []) e = cc
     chooses_none k (v ∷ u ∷ vs) e = cc
 
-    field_none : (o : Option Member) (k : Option ℕ) → (object : _) → IsTrap (effects.names_field_of d shapes values m i o k object) → ⊥
+    field_none : (o : Option Member) (k : Option ℕ) (object : ObjectId) → IsTrap (effects.names_field_of d shapes values m i o k object) → ⊥
     field_none None k object e = cc
     field_none (Some named) k object e =
         never (λ q. effects.gives m (AddressOf q ∷ [])) (option_and_then (effects.field_of_object d shapes values m i named object) k) (λ q g. cc) e
 
     calls_none : (xs : List Datum) → IsTrap (effects.calls d shapes values m i xs) → ⊥
     calls_none [] e = cc
-    calls_none (x ∷ xs) e = by (_) e
+    calls_none (x ∷ xs) e = by (as_function x) e
       where
-        by : (o : Option _) → IsTrap (with_some (λ g. effects.Calls g xs) o) → ⊥
+        by : (o : Option FuncId) → IsTrap (with_some (λ g. effects.Calls g xs) o) → ⊥
         by None h = cc
         by (Some g) h = cc
 
@@ -139,7 +141,7 @@ module _ (t : Trap) where
     stores_none o (x ∷ y ∷ []) e =
         let v = some_trapped (λ v. with_some (memory_effects.stores_by d shapes values m i o v) (as_place y)) (as_value x) e in
         let p = some_trapped (memory_effects.stores_by d shapes values m i o v.0) (as_place y) v.2 in
-        held_makes p.0 (asked_before p.0.is_part o) _ p.2
+        held_makes p.0 (asked_before p.0.is_part o) (record (effects.unchanged (filled m p.0 v.0)) { dropped = memory_effects.references_at m p.0 }) p.2
     stores_none o (x ∷ y ∷ z ∷ rest) e = cc
 
     at_none : (go : Operation → Place → E) → ((o : Operation) (y : Place) → IsTrap (go o y) → ⊥) → (xs : List Datum) → IsTrap (memory_effects.at_place d shapes values m i go xs) → ⊥
@@ -194,18 +196,19 @@ module _ (t : Trap) where
 
     loads_none : (o : Operation) (y : Place) → IsTrap (memory_effects.loads_by d shapes values m i o y) → ⊥
     loads_none o y h =
-        never (λ x. Makes (record (effects.unchanged (memory_effects.after d shapes values m i o y)) {
+        let go : Value → E = λ x. Makes (record (effects.unchanged (memory_effects.after d shapes values m i o y)) {
           results = ValueOf x ∷ [];
           retained = cond (memory_effects.copies_with i.qualifier) (references_of x) [];
-        })) (value_at m y) (λ x g. makes_no_trap _ g) (held_trapped y (asked_before y.is_part o) _ h).1
+        }) in
+        never go (value_at m y) (λ x g. makes_no_trap _ g) (held_trapped y (asked_before y.is_part o) (with_some go (value_at m y)) h).1
 
     traps_so : (r : RowEffect) (xs : List Datum) → IsTrap (done r xs) → TrapsSo xs r
     traps_so row.NoEffect xs e = absurd (makes_no_trap _ e)
     traps_so row.GivesLiteral xs e = absurd (literal_none i.number e)
     traps_so row.GivesFunction xs e = absurd (function_none i.function e)
-    traps_so row.Computes xs e = absurd (value_none _ e)
+    traps_so row.Computes xs e = absurd (value_none (option_and_then (builtin_value i.text) (option_and_then (all_of integer_of) (values_of xs))) e)
     traps_so row.TrapsWhereSet xs e =
-        let v = some_trapped _ (option_and_then as_value (only xs)) e in
+        let v = some_trapped (λ x. with_some (effects.traps_where d shapes values m i) (integer_of x)) (option_and_then as_value (only xs)) e in
         TrapsSo.set refl v.0 (only_value xs v.0 v.1)
     traps_so row.MakesObject xs e = absurd (object_none (class_in (effects.result_shape d shapes values m i)) e)
     traps_so row.MakesSlot xs e = absurd (makes_no_trap _ e)
@@ -226,7 +229,7 @@ module _ (t : Trap) where
         (record (effects.unchanged (memory_effects.after d shapes values m i o y)) { dropped = memory_effects.references_at m y }) h) xs e)
     traps_so row.LoadsName xs e = TrapsSo.loads refl (name_trapped xs e)
     traps_so row.Groups xs e = absurd (groups_none (values_of xs) e)
-    traps_so row.ChoosesCase xs e = absurd (case_none _ (values_of xs) e)
+    traps_so row.ChoosesCase xs e = absurd (case_none (case_place (effects.result_shape d shapes values m i) i.member) (values_of xs) e)
     traps_so row.GivesMember xs e = absurd (member_none (effects.part_number d i) (option_and_then as_value (only xs)) e)
     traps_so row.GivesMembers xs e = absurd (members_none (option_and_then as_value (only xs)) e)
     traps_so row.AddressesMember xs e = absurd (names_member_none (effects.part_number d i) (option_and_then as_place (only xs)) e)
@@ -236,10 +239,13 @@ module _ (t : Trap) where
 -- ---- typed rows
 
 module _ (m : Module) (w : World) where
+  no_form : (forms : List Form) (xs : List Datum) → DataAre m w forms xs → xs ≡ [] → forms ≡ []
+  no_form _ _ DataAre.none e = refl
+  no_form _ _ (DataAre.more form x forms xs is rest) e = absurd (cc)
+
   one_form : (forms : List Form) (xs : List Datum) → DataAre m w forms xs → (y : Datum) → xs ≡ y ∷ [] → (form : Form) × (forms ≡ form ∷ [])
   one_form _ _ DataAre.none y e = absurd (cc)
-  one_form _ _ (DataAre.more form x forms xs is DataAre.none) y e = (form, refl)
-  one_form _ _ (DataAre.more form x forms xs is (DataAre.more k z ks zs it rest)) y e = absurd (cc)
+  one_form _ _ (DataAre.more form x forms xs is rest) y e = (form, ap (λ others. form ∷ others) (no_form forms xs rest (cc)))
 
 pub are_typed_traps : AreTypedTraps
 are_typed_traps m s l w frame rest f i ops t a frame_is x is =

@@ -13,3 +13,4 @@ pub use Rattle.owned_counts.specs.holder_counts as holder_counts
 pub use Rattle.owned_counts.specs as owned_counts
 pub use Rattle.owned_counts.specs.guarded_entries as guarded_entries
 pub use Rattle.lowered_steps.specs as lowered_steps
+pub use Rattle.memory_cells.specs as memory_cells
