@@ -17,6 +17,9 @@ pub mod RowsFound
 pub mod Outlive
 pub mod HandedFull
 pub mod TrapsRight
+pub mod TakenApart
+pub mod TakenApartRows
+pub mod RowsRight
 pub mod PlacesLeftBare
 pub mod PlacesLeftCells
 pub mod PlacesLeftTasks
