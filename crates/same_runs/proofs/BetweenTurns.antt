@@ -45,9 +45,9 @@ use Rattle.stored_runs.specs.inner.PlaceRows.{LowGoes}
 use Rattle.stored_runs.specs.inner.States.{IsStateFor}
 use Rattle.stored_runs.specs.inner.TypedSteps.{IsTypedFor}
 use Rattle.stored_runs.proofs.Awaited.{steps_awaited}
-use Rattle.same_runs.specs.inner.BetweenTurns.{AreNumbersCounts, AreTotalsHeld, AreTotalsTold, all_holders}
+use Rattle.same_runs.specs.inner.BetweenTurns.{AreTotalsHeld, AreTotalsTold, all_holders}
 use Rattle.same_runs.specs.inner.Followed.{Follows, GoesToo}
-use Rattle.same_runs.specs.inner.Owed.{IsComeTo, IsOwed}
+use Rattle.same_runs.specs.inner.Owed.{IsComeTo}
 use Rattle.same_runs.proofs.Begun.{begin_typed_for}
 use Rattle.same_runs.proofs.Come.{comes_right}
 use Rattle.same_runs.proofs.StepsFollowed.{steps_followed}
@@ -103,7 +103,7 @@ module _ (m : Module) (bound : ℕ) where
     awaited = steps_awaited m bound s t h.awaited is;
   }
 
-  module _ (owed : IsOwed) (verified : IsVerified m) where
+  module _ (verified : IsVerified m) where
     abbrev AlongIn : ℕ → Type 0
     AlongIn k = (s t : HolderState) (l : LowState) → IsComeTo m bound s → IsTypedFor m s l → run step k s ≡ Goes t → ComesAlong l t
 
@@ -119,7 +119,7 @@ module _ (m : Module) (bound : ℕ) where
         at : (n : HolderNext) → step s ≡ n → ((x : HolderState) (low : LowState) → IsComeTo m bound x → IsTypedFor m x low → run step k x ≡ Goes t → ComesAlong low t) → ComesAlong l t
         at (Goes x) e later =
             on x e (λ low cx hx. later x low cx hx (sym (ap (step_on (run step k)) e) ∙ ran))
-            (subst (Follows m bound s l) e (steps_followed owed m bound s verified c l h))
+            (subst (Follows m bound s l) e (steps_followed m bound s verified c l h))
         at (Ends e x) g later = absurd (ends_nowhere e x t (step_on (run step k) (step s)) (sym (ap (step_on (run step k)) g)) ran)
 
     first_come : (s : HolderState) (c : IsComeTo m bound s) → IsComeTo m bound (begins c.e c.f)
@@ -317,7 +317,7 @@ module _ (m : Module) (bound : ℕ) (s : HolderState) (verified : IsVerified m) 
   returned_even =
       subst (λ t. AreTotalsIn (length t.memory.objects) (outcome_at (Returned x) t)) r.ends (even ∙ ap (λ n. n + s.releases) (sym left_told))
 
-module _ (owed : IsOwed) (m : Module) (bound : ℕ) (verified : IsVerified m) where
+module _ (m : Module) (bound : ℕ) (verified : IsVerified m) where
   -- the last step of a run
   run_even : (k : ℕ) (s : HolderState) → IsComeTo m bound s → (x : Value) (last : HolderState) → run (step m bound) k s ≡ Ends (Returned x) last
       → AreTotalsIn (length last.memory.objects) (outcome_at (Returned x) last)
@@ -330,19 +330,14 @@ module _ (owed : IsOwed) (m : Module) (bound : ℕ) (verified : IsVerified m) wh
           → AreTotalsIn (length last.memory.objects) (outcome_at (Returned x) last)
       at (Goes t) is later = later t (comes_on m bound s t c is) x last (sym (ap (step_on (run (step m bound) k)) is) ∙ ran)
       at (Ends e t) is later =
-          let d = come_along m bound owed verified s c in
-          returned_even m bound s verified c d.low d.typed (even_there m bound owed verified s c) x last (is ∙ (sym (ap (step_on (run (step m bound) k)) is) ∙ ran))
-
-pub numbers_counts : AreNumbersCounts
-numbers_counts owed m bound s verified c =
-    let d = come_along m bound owed verified s c in
-    record { steps = d.count; low = d.low; comes = d.comes; turns = d.typed.related.turns; counts = d.typed.related.counts }
+          let d = come_along m bound verified s c in
+          returned_even m bound s verified c d.low d.typed (even_there m bound verified s c) x last (is ∙ (sym (ap (step_on (run (step m bound) k)) is) ∙ ran))
 
 pub totals_held : AreTotalsHeld
-totals_held owed m bound s verified c =
-    let d = come_along m bound owed verified s c in
-    even_there m bound owed verified s c ∙ ap (λ n. n + s.releases) (sym (all_held s d.low.numbers d.typed.related.counts))
+totals_held m bound s verified c =
+    let d = come_along m bound verified s c in
+    even_there m bound verified s c ∙ ap (λ n. n + s.releases) (sym (all_held s d.low.numbers d.typed.related.counts))
 
 pub totals_told : AreTotalsTold
-totals_told owed m e f bound verified there may steps x last ran =
-    run_even owed m bound verified steps (begins e f) (record { e = e; f = f; there = there; may = may; steps = 0; comes = refl }) x last ran
+totals_told m e f bound verified there may steps x last ran =
+    run_even m bound verified steps (begins e f) (record { e = e; f = f; there = there; may = may; steps = 0; comes = refl }) x last ran

@@ -18,7 +18,7 @@ use Rattle.stored_runs.specs.inner.TypedSteps.{IsTypedFor}
 use Rattle.stored_runs.proofs.StayingSteps.{function_there}
 use Rattle.same_runs.specs.inner.Followed.{GoesToo}
 use Rattle.same_runs.specs.inner.Laws.{AreNumbersCounts}
-use Rattle.same_runs.specs.inner.Owed.{IsComeTo, IsOwed}
+use Rattle.same_runs.specs.inner.Owed.{IsComeTo}
 use Rattle.same_runs.proofs.Begun.{begin_typed_for, lowers}
 use Rattle.same_runs.proofs.RunsSame.{RunsOn, comes_on, follows, next_typed, onward}
 
@@ -31,7 +31,7 @@ module _ (m : Module) (bound : ℕ) where
     ran : RunsOn m bound l (Goes last)
     related : IsStateFor m t last
 
-  module _ (owed : IsOwed) (verified : IsVerified m) where
+  module _ (verified : IsVerified m) where
     -- runs of so many steps
     abbrev AlongIn : ℕ → Type 0
     AlongIn k = (s : HolderState) (l : LowState) → IsComeTo m bound s → IsTypedFor m s l → (t : HolderState) → run step k s ≡ Goes t → LowComes l t
@@ -54,14 +54,14 @@ module _ (m : Module) (bound : ℕ) where
             later x l (comes_on m bound s x comes is) (next_typed m bound s x l l h is related) t (sym (ap (step_on (run step k)) is) ∙ ran)
 
         at : (n : HolderNext) → step s ≡ n → AlongIn k → LowComes l t
-        at (Goes x) is later = on x is later (follows m bound owed verified s l comes h (Goes x) is)
+        at (Goes x) is later = on x is later (follows m bound verified s l comes h (Goes x) is)
         at (Ends x y) is later = let none : Ends x y ≡ Goes t = sym (ap (step_on (run step k)) is) ∙ ran in absurd (cc)
 
-pub numbers_counted : IsOwed → AreNumbersCounts
-numbers_counted owed m e f bound verified there may steps s ran =
+pub numbers_counted : AreNumbersCounts
+numbers_counted m e f bound verified there may steps s ran =
     let lf : Function = lowered_body (declarations_of m) f in
     let comes : IsComeTo m bound (begins e f) = record { e = e; f = f; there = there; may = may; steps = 0; comes = refl } in
-    let d = along m bound owed verified steps (begins e f) (low_begins e lf) comes (begin_typed_for m e f verified there may) s ran in
+    let d = along m bound verified steps (begins e f) (low_begins e lf) comes (begin_typed_for m e f verified there may) s ran in
     record {
       entry = lf;
       there = function_there m bound e.0 f there (lowers m e f verified there may).form;

@@ -22,14 +22,13 @@ use Rattle.stored_runs.specs.lowered_run.LowSteps as steps
 use Rattle.stored_runs.specs.lowering_laws.lowering_model.LoweredModules.{lowered, lowered_body}
 use Rattle.stored_runs.proofs.typed_holders.TypedSteps.{steps_typed}
 use Rattle.stored_runs.specs.inner.PlaceRows.{LowGoes}
-use Rattle.stored_runs.specs.inner.Runs.{IsOutcomeFor}
+use Rattle.stored_runs.specs.inner.Runs.{IsOutcomeFor, LoweredRunsAreSame}
 use Rattle.stored_runs.specs.inner.States.{IsStateFor}
 use Rattle.stored_runs.specs.inner.TypedSteps.{IsTypedFor}
 use Rattle.stored_runs.proofs.Awaited.{steps_awaited}
 use Rattle.stored_runs.proofs.StayingSteps.{function_there}
 use Rattle.same_runs.specs.inner.Followed.{EndsToo, Follows, GoesToo, left_of}
-use Rattle.same_runs.specs.inner.Laws.{AreRunsSameWhereOwed}
-use Rattle.same_runs.specs.inner.Owed.{IsComeTo, IsOwed}
+use Rattle.same_runs.specs.inner.Owed.{IsComeTo}
 use Rattle.same_runs.proofs.Begun.{begin_typed_for, lowers}
 use Rattle.same_runs.proofs.StepsFollowed.{steps_followed}
 
@@ -122,9 +121,9 @@ module _ (m : Module) (bound : ℕ) where
   one_step : (l : LowState) (e : Ending LowFault) (last : LowState) → low_step l ≡ Ends e last → RunsOn l (Ends e last)
   one_step l e last is = record { count = 1; is = ap (step_on (run low_step 0)) is }
 
-  module _ (owed : IsOwed) (verified : IsVerified m) where
+  module _ (verified : IsVerified m) where
     pub follows : (s : HolderState) (l : LowState) → IsComeTo m bound s → IsTypedFor m s l → (n : HolderNext) → step s ≡ n → Follows m bound s l n
-    follows s l comes h n is = subst (Follows m bound s l) is (steps_followed owed m bound s verified comes l h)
+    follows s l comes h n is = subst (Follows m bound s l) is (steps_followed m bound s verified comes l h)
 
     -- runs of so many steps
     abbrev ForthIn : ℕ → Type 0
@@ -232,7 +231,7 @@ module _ (m : Module) (bound : ℕ) where
 
 -- ---- outcomes
 
-module _ (owed : IsOwed) (m : Module) (e : FuncId) (f : Function) (bound : ℕ) (verified : IsVerified m) (there : slice_get m.functions e.0 ≡ Some f)
+module _ (m : Module) (e : FuncId) (f : Function) (bound : ℕ) (verified : IsVerified m) (there : slice_get m.functions e.0 ≡ Some f)
     (may : may_start f ≡ true) where
   abbrev lf : Function
   lf = lowered_body (declarations_of m) f
@@ -262,7 +261,7 @@ module _ (owed : IsOwed) (m : Module) (e : FuncId) (f : Function) (bound : ℕ) 
   runs_forth : (o : Outcome HolderFault) → EndsSo m e bound o → (low : Outcome LowFault) × LowEndsSo (lowered m) e bound low × IsOutcomeFor o low
   runs_forth o so =
       let end = ends_of (run (step m bound) so.0 (begins e f)) o (sym (from_entry so.0) ∙ so.1) in
-      let d = forth m bound owed verified so.0 (begins e f) (low_begins e lf) comes (begin_typed_for m e f verified there may) end.0 end.1 end.2 in (
+      let d = forth m bound verified so.0 (begins e f) (low_begins e lf) comes (begin_typed_for m e f verified there may) end.0 end.1 end.2 in (
         low_outcome_at d.ending d.last,
         (d.ran.count, low_from_entry d.ran.count ∙ ap low_outcome_after d.ran.is),
         subst (λ x. IsOutcomeFor x (low_outcome_at d.ending d.last)) end.3 d.for,
@@ -272,11 +271,11 @@ module _ (owed : IsOwed) (m : Module) (e : FuncId) (f : Function) (bound : ℕ) 
   runs_back low so =
       let end = low_ends_of (run (low_step m bound) so.0 (low_begins e lf)) low (sym (low_from_entry so.0) ∙ so.1) in
       let d =
-      back m bound owed verified end.0 end.1 so.0 so.0 (begins e f) (low_begins e lf) (omega arith) comes (begin_typed_for m e f verified there may) end.2 in
+      back m bound verified end.0 end.1 so.0 so.0 (begins e f) (low_begins e lf) (omega arith) comes (begin_typed_for m e f verified there may) end.2 in
       (outcome_at d.ending d.final, (d.count, from_entry d.count ∙ ap outcome_after d.ran), subst (IsOutcomeFor (outcome_at d.ending d.final)) end.3 d.for)
 
-pub runs_same : AreRunsSameWhereOwed
-runs_same owed m e f bound verified there may = record {
-  forth = runs_forth owed m e f bound verified there may;
-  back = runs_back owed m e f bound verified there may;
+pub runs_same : LoweredRunsAreSame
+runs_same m e f bound verified there may = record {
+  forth = runs_forth m e f bound verified there may;
+  back = runs_back m e f bound verified there may;
 }

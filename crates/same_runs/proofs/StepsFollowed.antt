@@ -1,4 +1,4 @@
--- Each step of the run by holders is followed by the lowered run, where rows and counts are as they are owed.
+-- Each step of the run by holders is followed by the lowered run.
 use Rattle.std.proofs.Common.{◌≡◌, ◌⊎◌, inl, inr, ℕ, List, [], ◌∷◌, arith, refl, sym, ap, ◌∙◌, subst, true, false, Option, Some, None}
 use Rattle.std.specs.Prelude.{slice_get}
 use Rattle.std.proofs.lemmas.Bool.{cases_Bool}
@@ -43,7 +43,7 @@ use Rattle.stored_runs.proofs.CallsAlone.{calls_alone, calls_or, op_of}
 use Rattle.stored_runs.proofs.TypedSteps.{typed_calls_step, typed_deinits_step, typed_ends_step}
 use Rattle.same_runs.specs.inner.Followed.{Follows, GoesToo, StepsToo, low_next_of}
 use Rattle.same_runs.specs.inner.Laws.{AreStepsFollowed}
-use Rattle.same_runs.specs.inner.Owed.{AtInst, IsComeTo, IsOwed, LeavesSo, effect_there}
+use Rattle.same_runs.specs.inner.Owed.{AtInst, IsComeTo, LeavesSo, RowsAreRight, effect_there}
 use Rattle.stored_runs.specs.accepted_runs.inner.RightStates.{IsRightState}
 use Rattle.stored_runs.proofs.owned_counts.CountedInsts.{insts_counted}
 use Rattle.stored_runs.proofs.owned_counts.CountedReturns.{left_counted}
@@ -56,10 +56,18 @@ use Rattle.same_runs.proofs.DeinitsCalled.{AreCalled, AreCalledBelow}
 use Rattle.same_runs.proofs.Finishing.{dropped_followed, dropping_followed, finishing_followed}
 use Rattle.same_runs.proofs.HandedFull.{parts_handed_full}
 use Rattle.same_runs.proofs.Outlive.{parts_outlive}
+use Rattle.same_runs.proofs.CallsCounted.{calls_counted}
+use Rattle.same_runs.proofs.PlacesLeft.{places_left}
+use Rattle.same_runs.proofs.RetainedAlive.{retained_alive}
 use Rattle.same_runs.proofs.RowsFollowed.{row_followed}
+use Rattle.same_runs.proofs.RowsRight.{rows_right}
+use Rattle.same_runs.proofs.TrapsRight.{traps_are_right}
 use Rattle.same_runs.proofs.RowsFound.{rows_go_along, rows_trap_along}
 
-module _ (owed : IsOwed) (m : Module) (bound : ℕ) (s : HolderState) (verified : IsVerified m) (comes : IsComeTo m bound s) (l : LowState) (h : IsTypedFor m s l) where
+pub rows_are_right : RowsAreRight
+rows_are_right = rows_right places_left retained_alive
+
+module _ (m : Module) (bound : ℕ) (s : HolderState) (verified : IsVerified m) (comes : IsComeTo m bound s) (l : LowState) (h : IsTypedFor m s l) where
   abbrev told : ModuleFacts
   told = facts_of m
 
@@ -109,7 +117,7 @@ module _ (owed : IsOwed) (m : Module) (bound : ℕ) (s : HolderState) (verified 
           → Performs m told bound s x.rest (left_with m told bound x.frame x.ops) x.f (item.Inst (stands_at x.f x.frame.trail)) (effect_there m bound s x) next
           → Follows m bound s l next
       call_followed call way =
-          steps_along next (λ s' e. owed.calls_counted m bound s verified right s' l.numbers x call (is_next ∙ e) h.related.counts)
+          steps_along next (λ s' e. calls_counted m bound s verified right s' l.numbers x call (is_next ∙ e) h.related.counts)
           (typed_calls_step m bound s l x.frame x.rest x.f x.i x.ops next h x.is x.there x.here (op_of x.i.op call) x.found
           (parts_handed_full m bound s verified right x) way none)
 
@@ -121,7 +129,7 @@ module _ (owed : IsOwed) (m : Module) (bound : ℕ) (s : HolderState) (verified 
               → GoesBehind m told bound s x.rest (left_with m told bound x.frame x.ops) x.f (item.Inst (stands_at x.f x.frame.trail)) c n → Follows m bound s l n
           behind _ same (GoesBehind.goes slots entries slots_left put) =
               let leaves : LeavesSo m bound s x c slots entries = record { makes = is; slots_left = slots_left; put = put } in
-              row_followed m bound s l x h.related c slots entries (rows_go_along owed.rows m bound s verified right l x h other c slots entries leaves)
+              row_followed m bound s l x h.related c slots entries (rows_go_along rows_are_right m bound s verified right l x h other c slots entries leaves)
               (insts_counted m bound s x.rest x.frame x.f x.i x.ops c slots entries l.numbers (record {
                 verified = verified;
                 typed = h.typed;
@@ -140,7 +148,7 @@ module _ (owed : IsOwed) (m : Module) (bound : ℕ) (s : HolderState) (verified 
           absurd (other (ap effect_of (calls_alone (declarations_of m) (shapes_of m) (shapes_in (shapes_of m) x.frame.function) s.memory x.i x.ops.given g args is)))
       performs_followed other _ is _ same (Performs.no_turn g args callee numbers there bare num turn) =
           absurd (other (ap effect_of (calls_alone (declarations_of m) (shapes_of m) (shapes_in (shapes_of m) x.frame.function) s.memory x.i x.ops.given g args is)))
-      performs_followed other _ is _ same (Performs.traps t) = rows_trap_along owed.traps m bound s verified right l x h other t is
+      performs_followed other _ is _ same (Performs.traps t) = rows_trap_along traps_are_right m bound s verified right l x h other t is
       performs_followed other _ is _ same (Performs.no_callee g args there) = absurd (none WrongShape s (sym same))
       performs_followed other _ is _ same (Performs.no_numbers g args callee there bare num) = absurd (none WrongShape s (sym same))
       performs_followed other _ is _ same (Performs.wrong_place g args callee there bodied before) = absurd (none PlaceNotAsAsked s (sym same))
@@ -250,6 +258,6 @@ module _ (owed : IsOwed) (m : Module) (bound : ℕ) (s : HolderState) (verified 
     ways_followed _ same (StepsBy.no_deinit g gs o rest is there) = absurd (none WrongShape _ (sym same))
 
 pub steps_followed : AreStepsFollowed
-steps_followed owed m bound s verified comes l h =
-    ways_followed owed m bound s verified comes l h (holder_run.step m (facts_of m) bound s) refl (holder_run.step m (facts_of m) bound s) refl
+steps_followed m bound s verified comes l h =
+    ways_followed m bound s verified comes l h (holder_run.step m (facts_of m) bound s) refl (holder_run.step m (facts_of m) bound s) refl
     (steps_told m (facts_of m) bound s)

@@ -2,8 +2,8 @@
 
 ghost use Rattle.stored_runs.specs.inner.Runs.{LoweredRunsAreSame};
 ghost use Rattle.same_runs.specs.inner.BetweenTurns.{AreTotalsHeld, AreTotalsTold};
-ghost use Rattle.same_runs.specs.inner.Laws.{AreNumbersCounts, AreRunsSameWhereOwed, AreStepsFollowed, BeginTypedFor};
-ghost use Rattle.same_runs.specs.inner.Owed.{TrapsAreRight};
+ghost use Rattle.same_runs.specs.inner.Laws.{AreNumbersCounts, AreStepsFollowed, BeginTypedFor};
+ghost use Rattle.same_runs.specs.inner.Owed.{AreCallsCounted, RowsAreRight, TrapsAreRight};
 
 /// Each step of the run by holders is followed by the lowered run.
 pub fn steps_are_followed()
@@ -13,11 +13,6 @@ pub fn steps_are_followed()
 /// Both runs begin in states that go along.
 pub fn runs_begin_along()
     ensures { BeginTypedFor }
-{}
-
-/// Where one of both runs ends, the other does so too, with the same outcome.
-pub fn runs_are_same()
-    ensures { AreRunsSameWhereOwed }
 {}
 
 /// The lowered run of an accepted module ends as the run by holders does, and the other way round.
@@ -30,9 +25,15 @@ pub fn numbers_are_counts()
     ensures { AreNumbersCounts }
 {}
 
-/// What is owed of rows that trap.
-pub fn traps_find_what_they_need()
-    ensures { TrapsAreRight }
+/// In right states of accepted modules rows find what they need so that the lowered run goes along, where they go on and where they trap.
+pub fn rows_find_what_they_need()
+    ensures rows { RowsAreRight }
+    ensures traps { TrapsAreRight }
+{}
+
+/// A call keeps stored numbers as the counts of holders.
+pub fn calls_are_counted()
+    ensures { AreCallsCounted }
 {}
 
 /// Each reference that was made by then, with an object or by a retain, is held or was released.

@@ -4,6 +4,6 @@
 mod laws;
 
 pub use laws::{
-    lowered_runs_are_same, numbers_are_counts, runs_are_same, runs_begin_along, steps_are_followed,
-    totals_are_held, totals_are_told, traps_find_what_they_need,
+    calls_are_counted, lowered_runs_are_same, numbers_are_counts, rows_find_what_they_need,
+    runs_begin_along, steps_are_followed, totals_are_held, totals_are_told,
 };

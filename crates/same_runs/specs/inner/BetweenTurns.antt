@@ -1,5 +1,4 @@
--- What holds between the turns of a run of an accepted module: the numbers that the lowered run stores of an object are the counts of its holders, and each
--- reference that was made is held or was released.
+-- What holds between the turns of a run of an accepted module: each reference that was made is held or was released.
 use Rattle.std.specs.Prelude.{◌≡◌, ℕ, ◌+◌, true, length, Some, slice_get}
 use Rattle.std.specs.List.{range_with_len, sum_by}
 use Rattle.sil_ast.specs.declared.function.Function.{Function}
@@ -20,18 +19,7 @@ use Rattle.stored_runs.specs.lowered_run.LowStepParts.{LowState}
 use Rattle.stored_runs.specs.lowered_run.LowSteps as lowered_run
 use Rattle.stored_runs.specs.lowering_laws.lowering_model.LoweredModules.{lowered, lowered_body}
 use Rattle.stored_runs.specs.stored_counts.inner.Numbers.{AreCounts}
-use Rattle.same_runs.specs.inner.Owed.{IsComeTo, IsOwed}
-
--- the lowered run, from the same entry, comes to a state in the same turn whose stored numbers are the counts of holders
-pub record HasCounts (m : Module) (bound : ℕ) (s : HolderState) (c : IsComeTo m bound s) : Type 0 where
-  pub steps : ℕ
-  pub low : LowState
-  pub comes : run (lowered_run.low_step (lowered m) (shapes_of (lowered m)) bound) steps (low_begins c.e (lowered_body (declarations_of m) c.f)) ≡ Goes low
-  pub turns : low.turns ≡ s.turns
-  pub counts : AreCounts s low.numbers
-
-abbrev pub AreNumbersCounts : Type 0
-AreNumbersCounts = IsOwed → (m : Module) (bound : ℕ) (s : HolderState) → IsVerified m → (c : IsComeTo m bound s) → HasCounts m bound s c
+use Rattle.same_runs.specs.inner.Owed.{IsComeTo}
 
 -- the strong holders of all objects
 abbrev pub all_holders : HolderState → ℕ
@@ -39,11 +27,11 @@ all_holders s = sum_by (λ k. strong_holders s (object_number k)) (range_with_le
 
 -- a reference is made where an object is allocated and by each retain: it is held, or it was released
 abbrev pub AreTotalsHeld : Type 0
-AreTotalsHeld = IsOwed → (m : Module) (bound : ℕ) (s : HolderState) → IsVerified m → IsComeTo m bound s
+AreTotalsHeld = (m : Module) (bound : ℕ) (s : HolderState) → IsVerified m → IsComeTo m bound s
     → length s.memory.objects + s.retains ≡ all_holders s + s.releases
 
 -- and after a return it is told of an object that is left, or it was released
 abbrev pub AreTotalsTold : Type 0
-AreTotalsTold = IsOwed → (m : Module) (e : FuncId) (f : Function) (bound : ℕ) → IsVerified m → slice_get m.functions e.0 ≡ Some f → may_start f ≡ true
+AreTotalsTold = (m : Module) (e : FuncId) (f : Function) (bound : ℕ) → IsVerified m → slice_get m.functions e.0 ≡ Some f → may_start f ≡ true
     → (steps : ℕ) (x : Value) (last : HolderState) → run (holder_run.step m (facts_of m) bound) steps (begins e f) ≡ Ends (Returned x) last
     → AreTotalsIn (length last.memory.objects) (outcome_at (Returned x) last)

@@ -16,24 +16,19 @@ use Rattle.stored_runs.specs.lowered_run.LowStepParts.{LowState}
 use Rattle.stored_runs.specs.lowered_run.LowSteps.{low_step}
 use Rattle.stored_runs.specs.lowering_laws.lowering_model.LoweredModules.{lowered, lowered_body}
 use Rattle.stored_runs.specs.stored_counts.inner.Numbers.{AreCounts}
-use Rattle.stored_runs.specs.inner.Runs.{LoweredRunsAreSame}
 use Rattle.stored_runs.specs.inner.TypedSteps.{IsTypedFor}
 use Rattle.same_runs.specs.inner.Followed.{Follows}
-use Rattle.same_runs.specs.inner.Owed.{IsComeTo, IsOwed}
+use Rattle.same_runs.specs.inner.Owed.{IsComeTo}
 
 -- each step of a run that starts at an entry is followed
 abbrev pub AreStepsFollowed : Type 0
-AreStepsFollowed = IsOwed → (m : Module) (bound : ℕ) (s : HolderState) → IsVerified m → IsComeTo m bound s → (l : LowState) → IsTypedFor m s l
+AreStepsFollowed = (m : Module) (bound : ℕ) (s : HolderState) → IsVerified m → IsComeTo m bound s → (l : LowState) → IsTypedFor m s l
     → Follows m bound s l (holder_run.step m (facts_of m) bound s)
 
 -- both runs begin so
 abbrev pub BeginTypedFor : Type 0
 BeginTypedFor = (m : Module) (e : FuncId) (f : Function) → IsVerified m → slice_get m.functions e.0 ≡ Some f → may_start f ≡ true
     → IsTypedFor m (begins e f) (low_begins e (lowered_body (declarations_of m) f))
-
--- and so the lowered run is the run by holders
-abbrev pub AreRunsSameWhereOwed : Type 0
-AreRunsSameWhereOwed = IsOwed → LoweredRunsAreSame
 
 -- the lowered run comes to a state in which the stored numbers are the counts of holders, after as many turns, retains and releases
 pub record IsCounted (m : Module) (e : FuncId) (bound : ℕ) (s : HolderState) : Type 0 where

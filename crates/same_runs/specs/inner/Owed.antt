@@ -136,10 +136,3 @@ PartsOutlive = OnRightStates (λ m bound s. (l : LowState) (o : ObjectId) (rest 
 abbrev pub AreCallsCounted : Type 0
 AreCallsCounted = OnRightStates (λ m bound s. (next : HolderState) (stored : List Numbers) (x : AtInst m s) → effect_of x.i.op ≡ row.CallsFunction
     → holder_run.step m (facts_of m) bound s ≡ Goes next → AreCounts s stored → AreCounts next stored)
-
--- ---- all of it
-
-pub record IsOwed : Type 0 where
-  pub rows : RowsAreRight
-  pub traps : TrapsAreRight
-  pub calls_counted : AreCallsCounted

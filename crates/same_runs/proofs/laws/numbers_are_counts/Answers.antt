@@ -1,5 +1,5 @@
-use Rattle.same_runs.proofs.BetweenTurns.{numbers_counts}
+use Rattle.same_runs.proofs.NumbersCounted.{numbers_counted}
 use Rattle.same_runs.proofs.laws.numbers_are_counts.Goals as goal
 
 pub returns : goal.returns
-returns c = numbers_counts
+returns c = numbers_counted
