@@ -1,6 +1,6 @@
 -- Whenever the run by holders of an accepted module goes on, the numbers that the lowered run stores are the counts of its holders. So each reference that was
 -- made is held, or it was released, and after a return it is told of an object that is left, or it was released.
-use Rattle.std.proofs.Common.{◌≡◌, ◌+◌, ℕ, zero, suc, List, [], ◌∷◌, length, arith, refl, sym, ap, ◌∙◌, subst, true, false, Some, None, unwrap_or, sum_by}
+use Rattle.std.proofs.Common.{◌≡◌, ◌+◌, ℕ, zero, suc, List, [], ◌∷◌, length, arith, refl, sym, ap, ◌∙◌, subst, true, Some, unwrap_or, sum_by}
 use Rattle.std.specs.Prelude.{slice_get}
 use Rattle.std.specs.List.{range_with_len}
 use Rattle.std.proofs.lemmas.List.Sums.{sum_by-cons}
@@ -34,7 +34,7 @@ use Rattle.stored_runs.specs.lowered_run.LowStepParts.{LowNext, LowState}
 use Rattle.stored_runs.specs.lowered_run.LowSteps as lowered_run
 use Rattle.stored_runs.specs.lowered_run.Stored.{no_numbers, numbers_of}
 use Rattle.stored_runs.specs.lowering_laws.lowering_model.LoweredModules.{lowered, lowered_body}
-use Rattle.stored_runs.specs.holder_steps.inner.Ways.{Acts, DropsOne, Enters, FinishesOne, GoesBehind, Leaves, Performs, Reaches, StepsBy, TakesEdge, left_with}
+use Rattle.stored_runs.specs.holder_steps.inner.Ways.{Acts, DropsOne, Enters, FinishesOne, GoesBehind, Leaves, Performs, Reaches, StepsBy, TakesEdge}
 use Rattle.stored_runs.proofs.holder_steps.StepsTold.{steps_told}
 use Rattle.stored_runs.specs.stored_counts.inner.Numbers.{AreCounts}
 use Rattle.stored_runs.specs.owned_counts.inner.CountedReturns.{ReturnsFrom}
