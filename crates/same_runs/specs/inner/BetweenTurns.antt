@@ -4,21 +4,14 @@ use Rattle.std.specs.List.{range_with_len, sum_by}
 use Rattle.sil_ast.specs.declared.function.Function.{Function}
 use Rattle.sil_ast.specs.declared.module.Module.{Module}
 use Rattle.sil_ast.specs.declared.place.FuncId.{FuncId}
-use Rattle.type_definitions.specs.Declarations.{declarations_of}
 use Rattle.run_values.specs.Values.{Value}
 use Rattle.reference_totals.specs.inner.Totals.{AreTotalsIn}
 use Rattle.stored_runs.specs.accepted_values.accepted_modules.inner.Checked.{IsVerified}
 use Rattle.stored_runs.specs.lowered_run.holder_model.HolderStates.{HolderState, strong_holders}
 use Rattle.stored_runs.specs.lowered_run.holder_model.ModuleFacts.{facts_of}
-use Rattle.stored_runs.specs.lowered_run.holder_model.ModuleShapes.{shapes_of}
 use Rattle.stored_runs.specs.lowered_run.holder_model.Outcomes.{begins, may_start, object_number, outcome_at, run}
-use Rattle.stored_runs.specs.lowered_run.holder_model.States.{Ends, Goes, Returned}
+use Rattle.stored_runs.specs.lowered_run.holder_model.States.{Ends, Returned}
 use Rattle.stored_runs.specs.lowered_run.holder_model.Steps as holder_run
-use Rattle.stored_runs.specs.lowered_run.LowOutcomes.{low_begins}
-use Rattle.stored_runs.specs.lowered_run.LowStepParts.{LowState}
-use Rattle.stored_runs.specs.lowered_run.LowSteps as lowered_run
-use Rattle.stored_runs.specs.lowering_laws.lowering_model.LoweredModules.{lowered, lowered_body}
-use Rattle.stored_runs.specs.stored_counts.inner.Numbers.{AreCounts}
 use Rattle.same_runs.specs.inner.Owed.{IsComeTo}
 
 -- the strong holders of all objects
