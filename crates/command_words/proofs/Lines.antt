@@ -66,7 +66,7 @@ no_rules_left rs = refl
 no_defaults : (rs : List Row) → defaults_fault rs rules ≡ []
 no_defaults rs =
     no_defaults_from mode _ rs (λ k. no_defaults_from number _ k (λ l. no_defaults_from turns _ l (λ m. no_defaults_from entry _ m (λ n.
-      no_defaults_from optimize _ n no_rules_left))))
+    no_defaults_from optimize _ n no_rules_left))))
 
 finished_kept : (h : Held) → finished rules h ≡ all_rows (settled rules h).rows
 finished_kept h =

@@ -1,9 +1,9 @@
 -- Where nothing is wrong with words, they give values, and the parse holds them.
-use Rattle.std.proofs.Common.{◌≡◌, ◌∙◌, inl, inr, ℕ, true, refl, sym, ap, subst, List, [], ◌∷◌, ◌++◌, map, Option, Some, None, fold, append_assoc, append-nil}
+use Rattle.std.proofs.Common.{◌≡◌, ◌∙◌, inl, inr, ℕ, true, refl, sym, ap, subst, List, [], ◌∷◌, ◌++◌, Option, Some, None, fold, append_assoc, append-nil}
 use Rattle.std.specs.Prelude.{◌⊎◌, Bool, false}
 use Rattle.clap.specs.Faults.{option_fault, other_fault, settle_fault, step_fault, turn_fault, use_fault, walk_fault}
 use Rattle.clap.specs.Lexer.{name_and_value}
-use Rattle.clap.specs.Walk.{Held, Text, Waiting, Walk, arg_by_index, arg_by_long, idle, option, to_positional, value as a_value, walked}
+use Rattle.clap.specs.Walk.{Held, Text, Waiting, Walk, arg_by_long, idle, option, value as a_value, walked}
 use Rattle.command_words.specs.CommandLines.{Argument, number, optimize, Given, Gives, nothing, alone, apart, joined, flag, behind, as_flag, by_themselves}
 use Rattle.command_words.specs.CommandLines.{is_option, is_value, name_of}
 use Rattle.command_words.proofs.Rows.{AtMostOnce, once_more, rows}
