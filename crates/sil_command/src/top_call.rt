@@ -6,15 +6,20 @@ ghost use Rattle.sil_io.specs.Reading.{TakesWithin};
 ghost use Rattle.sil_rules.specs.declared.limits.TheConstants.{TEXT_BYTES};
 ghost use Rattle.sil_command.specs.declared.status.Status.TheVariants.{ReadFault, WriteFault, OutOfMemory};
 ghost use Rattle.sil_command.specs.Statuses.{code_of};
-ghost use Rattle.sil_command.specs.Words.{AsksFor, IsAskedFor, IsCommandLine};
+ghost use Rattle.sil_command.specs.Words.{AsksFor, IsAskedFor};
+ghost use Rattle.sil_command.specs.declared.words.Mode.TheVariants.{Generate};
+ghost use Rattle.sil_command.specs.GivenTexts.{AskForText, TakesSource};
+ghost use Rattle.sil_command.specs.inner.Finishing.{FinishesGenerated};
 ghost use Rattle.sil_command.specs.Texts.{read_fault_text};
 ghost use Rattle.sil_command.specs.Ends.{TakesText, Gains, GainsFront, WritesAnswer, Exhausts, WritesWhole};
 ghost use Rattle.sil_command.specs.Ends.{WritesFrontOfAnswer, IsStatus, FinishesText, call_between, Ends};
 
 use crate::answer::answer_to;
+use crate::given_text::{answer_to_size, size_of};
 use crate::status::Status;
 use crate::texts;
 use crate::words::{Mode, mode_of};
+use command_words::command_lines_say_one_thing;
 use sil_ast::Exhausted;
 use sil_io::{ReadEnd, Sink, Source, read_all, write_all};
 use sil_rules::limits;
@@ -22,14 +27,15 @@ use std::alloc::Global;
 
 /// Does what the words ask for: reads a text from the source, writes one answer to the sink, and answers the status.
 ///
-/// The words are those after the program's name: `check`, `print`, `optimize`, `lower` with `--optimize`, or `run` with `--turns N`,
-/// `--entry NAME` and `--optimize` (`docs/PROFILE.md`, "Command line and answers"). The statuses are 0 (done), 1 (refused by a rule), 2 (not a command line),
+/// The words are those after the program's name: `check`, `print`, `optimize`, `lower` with `--optimize`, `run` with `--turns N`,
+/// `--entry NAME` and `--optimize`, or `generate N` (`docs/PROFILE.md`, "Command line and answers"). The statuses are 0 (done), 1 (refused by a rule), 2 (not a command line),
 /// 3 (not a module), 4 (a read failed), 5 (a write failed), 6 (a run ended with a trap), 7 (a run was out of turns), 8 (past a
 /// limit), 9 (no memory left; nothing was written), 10 (no entry function of the name) and 12 (a run ended with a fault).
 /// Of a text that spells a module all modes but `print` answer the first that is wrong with it, with a walk that shows it for a
 /// rule on walks. Exactly where the module is within the limits and keeps all rules, `check` answers that it is accepted, `optimize` the
 /// canonical text of the optimised module, `lower` that of its lowered form, and `run` the report of the run of that form; with the flag,
-/// of the lowered form of the optimised module. `print` answers the module's canonical text.
+/// of the lowered form of the optimised module. `print` answers the module's canonical text. `generate` reads nothing: it makes a text,
+/// and sums up the runs of its module and of the optimised one.
 /// Of a text that spells none all answer what is wrong, and where.
 /// The answer is built whole before the first byte of it is written, and after that no memory is taken.
 pub fn command<'a, S: Source, K: Sink>(
@@ -43,8 +49,9 @@ pub fn command<'a, S: Source, K: Sink>(
         WritesAnswer (map (λ w. w.now) words.entry.now) (S.left source.old)
         (TakesText S.gave source.old source.new) (Gains K.held K.took out.old out.new) result
         ⊎ Exhausts (out.new ≡ out.old) result }
-    // Words that are no command line need no source. Others take it to its end, or to the first byte past the limit, and no further.
-    ensures source_untouched { ¬ IsCommandLine (map (λ w. w.now) words.entry.now) → source.new ≡ source.old }
+    // Words that are no command line, or ask for `generate`, need no source. Others take it to its end, or to the first byte past the
+    // limit, and no further.
+    ensures source_untouched { ¬ AskForText (map (λ w. w.now) words.entry.now) → source.new ≡ source.old }
     ensures takes { TakesWithin S.gave S.missed TEXT_BYTES source.old source.new }
 
     // The status of a failed read comes only with a fault of the source. With one, and none of the sink, the line on it is written
@@ -82,19 +89,47 @@ fn run<'a, S: Source, K: Sink>(
 ) -> u8
     ensures ends { Ends (call_between (map (λ w. w.now) words.entry.now) S.left S.gave S.faults
         source.old source.new K.held K.took K.refused K.faults out.old out.new) result }
-    ensures source_untouched { ¬ IsCommandLine (map (λ w. w.now) words.entry.now) → source.new ≡ source.old }
+    ensures source_untouched { ¬ AskForText (map (λ w. w.now) words.entry.now) → source.new ≡ source.old }
     ensures takes { TakesWithin S.gave S.missed TEXT_BYTES source.old source.new }
 {
     match mode_of(alloc, words) {
-        Ok(Some(mode)) => answer_in(alloc, mode, source, out),
+        Ok(Some(mode)) => answer_asked(alloc, mode, source, out),
         Ok(None) => finish(out, texts::usage(), Status::Usage),
+        Err(Exhausted) => Status::OutOfMemory.code(),
+    }
+}
+
+/// Answers in this mode, to the text of the source or to its own.
+fn answer_asked<S: Source, K: Sink>(alloc: Global, mode: Mode, source: &mut S, out: &mut K) -> u8
+    requires { IsAskedFor mode }
+    ensures ends { (words : List (List ℕ)) → AsksFor words mode → Ends (call_between words S.left S.gave S.faults
+        source.old source.new K.held K.took K.refused K.faults out.old out.new) result }
+    ensures source_untouched { ¬ TakesSource mode → source.new ≡ source.old }
+    ensures takes { TakesWithin S.gave S.missed TEXT_BYTES source.old source.new }
+{
+    command_lines_say_one_thing();
+    match size_of(&mode) {
+        Some(size) => answer_without_source(alloc, size, out),
+        None => answer_in(alloc, mode, source, out),
+    }
+}
+
+/// Answers the generated text of this size.
+fn answer_without_source<K: Sink>(alloc: Global, size: u32, out: &mut K) -> u8
+    requires { IsAskedFor (Generate size) }
+    ensures { FinishesGenerated size (Gains K.held K.took out.old out.new) (GainsFront K.held K.took K.refused out.old out.new) (out.new ≡ out.old)
+        (K.faults out.old) (K.faults out.new) result }
+{
+    match answer_to_size(alloc, size) {
+        Ok(answer) => finish(out, answer.text.as_slice(), answer.status),
         Err(Exhausted) => Status::OutOfMemory.code(),
     }
 }
 
 /// Takes the text and answers it in this mode.
 fn answer_in<S: Source, K: Sink>(alloc: Global, mode: Mode, source: &mut S, out: &mut K) -> u8
-    requires { IsAskedFor mode }
+    requires asked { IsAskedFor mode }
+    requires takes { TakesSource mode }
     ensures ends { (words : List (List ℕ)) → AsksFor words mode → Ends (call_between words S.left S.gave S.faults
         source.old source.new K.held K.took K.refused K.faults out.old out.new) result }
     ensures takes { TakesWithin S.gave S.missed TEXT_BYTES source.old source.new }
