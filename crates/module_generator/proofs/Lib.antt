@@ -1,0 +1,3 @@
+mod TypeTexts
+mod WorkLines
+mod HeadLines

@@ -28,6 +28,7 @@ pub fn generated_text(alloc: Global, n: u32) -> Result<Text, Exhausted>
 }
 
 /// All that stands before the functions.
+#[tactic(none)]
 fn head() -> &'static [u8]
     ensures { result.now ≡ head_text }
 {

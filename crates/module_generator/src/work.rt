@@ -10,6 +10,7 @@ ghost use Rattle.module_generator.specs.WorkFunctions.{work, work_blocks};
 use crate::pieces::{push_bytes, push_number};
 use sil_ast::Exhausted;
 
+#[tactic(none)]
 fn blocks() -> &'static [u8]
     ensures { (functions : List Function) → result.now ≡ blocks_text functions work_blocks }
 {
