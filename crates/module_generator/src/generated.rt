@@ -52,7 +52,8 @@ fn push_main(out: &mut Vec<u8>, n: u32) -> Result<(), Exhausted>
     push_bytes(out, b"\nsil [ossa] @main : $@convention(thin) () -> () {\nbb0:\n")?;
     push_calls(out, n)?;
     push_end(out, 2 * n)?;
-    push_bytes(out, b"}\n")
+    push_bytes(out, b"}\n")?;
+    Ok(())
 }
 
 /// Puts the calls of the first `n` functions.
@@ -79,7 +80,8 @@ fn push_call(out: &mut Vec<u8>, k: u32) -> Result<(), Exhausted>
     push_number(out, 2 * k + 1)?;
     push_bytes(out, b" = apply %")?;
     push_number(out, 2 * k)?;
-    push_bytes(out, b"() : $@convention(thin) () -> ()\n")
+    push_bytes(out, b"() : $@convention(thin) () -> ()\n")?;
+    Ok(())
 }
 
 /// Puts the last two lines of `@main`: the tuple with this number, and its return.
@@ -91,5 +93,6 @@ fn push_end(out: &mut Vec<u8>, number: u32) -> Result<(), Exhausted>
     push_number(out, number)?;
     push_bytes(out, b" = tuple ()\n  return %")?;
     push_number(out, number)?;
-    push_bytes(out, b" : $()\n")
+    push_bytes(out, b" : $()\n")?;
+    Ok(())
 }

@@ -57,7 +57,8 @@ fn push_work(out: &mut Vec<u8>, k: u32) -> Result<(), Exhausted>
     push_number(out, k)?;
     push_bytes(out, b" : $@convention(thin) () -> () {\n")?;
     push_bytes(out, blocks())?;
-    push_bytes(out, b"}\n")
+    push_bytes(out, b"}\n")?;
+    Ok(())
 }
 
 /// Puts the first `n` of them.
