@@ -12,7 +12,7 @@ use Rattle.module_generator.specs.WorkFunctions.{work}
 use Rattle.module_generator.proofs.FunctionTexts.{behind}
 
 -- what is made of one more item
-with_last : {X : Type 0} (f : X → List ℕ) (xs : List X) (x : X) → flat_map f (xs ++ x ∷ []) ≡ flat_map f xs ++ f x
+pub with_last : {X : Type 0} (f : X → List ℕ) (xs : List X) (x : X) → flat_map f (xs ++ x ∷ []) ≡ flat_map f xs ++ f x
 with_last f xs x = flat_map-append f xs (x ∷ []) ∙ ap (λ t. flat_map f xs ++ t) (append-nil (f x))
 
 pub one_more_function : (fs : List Function) (k : ℕ) (start before after : List ℕ)
