@@ -1,5 +1,5 @@
 -- Each function that does the work is found by its number.
-use Rattle.std.proofs.Common.{◌≡◌, ◌∙◌, ◌<◌, ℕ, ◌+◌, zero, suc, List, [], ◌∷◌, ◌++◌, length, map, ap, refl, arith, Some, slice_get}
+use Rattle.std.proofs.Common.{◌≡◌, ◌∙◌, ◌<◌, ℕ, ◌+◌, zero, suc, List, [], ◌∷◌, ◌++◌, map, ap, arith, Some, slice_get}
 use Rattle.std.specs.List.{range_with_len}
 use Rattle.sil_ast.specs.declared.function.Function.{Function}
 use Rattle.module_generator.specs.GeneratedModules.{functions_of, main}

@@ -1,14 +1,11 @@
 -- The pieces that are put one behind the other make up the functions' texts.
-use Rattle.std.proofs.Common.{◌≡◌, ◌∙◌, ◌<◌, ℕ, ◌+◌, ◌*◌, List, [], ◌∷◌, ◌++◌, codes, decimal, length, map, refl, sym, ap, arith, append_assoc, append-nil, Some}
+use Rattle.std.proofs.Common.{◌≡◌, ◌∙◌, ℕ, ◌+◌, ◌*◌, List, [], ◌∷◌, ◌++◌, codes, decimal, refl, sym, ap, append_assoc, append-nil, Some}
 use Rattle.std.specs.Prelude.{slice_get}
-use Rattle.std.specs.Fmt.{digits}
-use Rattle.std.specs.List.{flat_map, range_with_len}
-use Rattle.std.proofs.lemmas.List.Concat.{flat_map-append}
 use Rattle.sil_ast.specs.declared.function.Function.{Function}
 use Rattle.sil_printer.specs.CanonicalFunctions.{blocks_text, function_text}
 use Rattle.sil_printer.specs.CanonicalInsts.{inst_text}
 use Rattle.sil_printer.specs.Words.{indented, line, line_feed}
-use Rattle.module_generator.specs.GeneratedModules.{call_of, functions_of, main}
+use Rattle.module_generator.specs.GeneratedModules.{call_of}
 use Rattle.module_generator.specs.WorkFunctions.{empty_tuple, return_of, work, work_blocks}
 use Rattle.module_generator.proofs.TypeTexts.{unit_text}
 

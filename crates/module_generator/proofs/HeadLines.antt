@@ -1,5 +1,5 @@
 -- The lines before the functions.
-use Rattle.std.proofs.Common.{◌≡◌, List, [], ◌∷◌, codes, refl}
+use Rattle.std.proofs.Common.{◌≡◌, [], ◌∷◌, codes, refl}
 use Rattle.std.specs.List.{flat_map}
 use Rattle.sil_printer.specs.Words.{line}
 use Rattle.module_generator.specs.inner.Heads.{head_text}
@@ -16,5 +16,5 @@ pub head_is : head_text ≡ flat_map line (
     ∷ codes "  var next: Optional<Node>"
     ∷ codes "}"
     ∷ []
-)
+    )
 head_is = simp (types) refl

@@ -1,8 +1,7 @@
 -- The texts of the types in the generated module.
-use Rattle.std.proofs.Common.{◌≡◌, ◌∙◌, ℕ, List, [], ◌∷◌, ◌++◌, codes, ap, sym, refl}
+use Rattle.std.proofs.Common.{◌≡◌, ◌∙◌, ℕ, List, [], ◌∷◌, ◌++◌, codes, ap, sym}
 use Rattle.std.specs.Fmt.{digits}
-use Rattle.std.specs.List.{join_by}
-use Rattle.sil_ast.specs.declared.type_name.TypeName.{TypeName, TypeName-F, fold-roll-TypeName}
+use Rattle.sil_ast.specs.declared.type_name.TypeName.{TypeName-F, fold-roll-TypeName}
 use Rattle.sil_ast.specs.declared.type_name.TypeName.TheVariants as type
 use Rattle.sil_ast.specs.declared.type_name.TypeName.TheVariants.{rolls-Int, rolls-Named, rolls-Optional, rolls-Tuple, rolls-Address}
 use Rattle.sil_printer.specs.CanonicalTypes.{type_text, type_over}

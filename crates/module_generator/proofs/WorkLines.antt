@@ -18,7 +18,7 @@ start_lines = lines (
     ∷ codes "  %1 = enum $Optional<Node>, #Optional.none!enumelt"
     ∷ codes "  br bb1(%0 : $Builtin.Int64, %1 : $Optional<Node>)"
     ∷ []
-)
+    )
 
 abbrev one_more_lines : List ℕ
 one_more_lines = lines (
@@ -42,14 +42,14 @@ one_more_lines = lines (
     ∷ (codes "  %15 = builtin " ++ quote ++ codes "cmp_slt_Int64" ++ quote ++ codes "(%13 : $Builtin.Int64, %14 : $Builtin.Int64) : $Builtin.Int1")
     ∷ codes "  cond_br %15, bb2, bb3"
     ∷ []
-)
+    )
 
 abbrev again_lines : List ℕ
 again_lines = lines (
     codes "bb2:"
     ∷ codes "  br bb1(%13 : $Builtin.Int64, %9 : $Optional<Node>)"
     ∷ []
-)
+    )
 
 abbrev end_lines : List ℕ
 end_lines = lines (
@@ -58,7 +58,7 @@ end_lines = lines (
     ∷ codes "  %16 = tuple ()"
     ∷ codes "  return %16 : $()"
     ∷ []
-)
+    )
 
 pub work_text : (fs : List Function) → blocks_text fs work_blocks ≡ start_lines ++ line [] ++ one_more_lines ++ line [] ++ again_lines ++ line [] ++ end_lines
 unfolding digits

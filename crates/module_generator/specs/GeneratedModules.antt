@@ -20,7 +20,7 @@ node_class = Class (codes "Node") None (
     record { name = codes "value"; storage = Strong; ty = int }
     ∷ record { name = codes "next"; storage = Strong; ty = list }
     ∷ []
-)
+    )
 
 -- `%2k = function_ref @workk`, and `%2k+1 = apply %2k()`
 abbrev pub call_of : ℕ → List Inst

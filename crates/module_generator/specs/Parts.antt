@@ -1,5 +1,5 @@
 -- Short names for the parts of the generated module.
-use Rattle.std.specs.Prelude.{ℕ, List, [], Option, Some, None, false}
+use Rattle.std.specs.Prelude.{ℕ, List, [], Some, None, false}
 use Rattle.instruction_table.specs.declared.op.Op.{Op}
 use Rattle.sil_ast.specs.declared.debug.Debug.{Debug}
 use Rattle.sil_ast.specs.declared.function.ArgKind.{ArgKind}

@@ -47,7 +47,7 @@ start = block [] (
     literal 0 int 0
     ∷ record (inst op.Enum (v 1 ∷ []) []) { ty = Some list; member = Some (member (codes "Optional") (codes "none")) }
     ∷ []
-) (record (inst op.Br [] []) { edges = edge 1 (typed 0 int ∷ typed 1 list ∷ []) ∷ [] })
+    ) (record (inst op.Br [] []) { edges = edge 1 (typed 0 int ∷ typed 1 list ∷ []) ∷ [] })
 
 -- from the number %2 of nodes that are made, and their list %3: the next node, in front of them
 abbrev pub next_node : List Inst
@@ -87,7 +87,7 @@ counted =
 abbrev pub one_more : Block
 one_more = block (arg 2 kind.Plain int ∷ arg 3 kind.Owned list ∷ []) (next_node ++ copy_of_it ++ counted) (
     record (inst op.CondBr [] (bare 15 ∷ [])) { edges = edge 2 [] ∷ edge 3 [] ∷ [] }
-)
+    )
 
 abbrev pub again : Block
 again = block [] [] (record (inst op.Br [] []) { edges = edge 1 (typed 13 int ∷ typed 9 list ∷ []) ∷ [] })

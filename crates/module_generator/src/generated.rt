@@ -49,7 +49,10 @@ fn push_main(out: &mut Vec<u8>, n: u32) -> Result<(), Exhausted>
     requires { n ≤ 500 }
     ensures { OnOk result (out.new.items ≡ out.old.items ++ (line_feed ++ function_text (functions_of n) (main n))) }
 {
-    push_bytes(out, b"\nsil [ossa] @main : $@convention(thin) () -> () {\nbb0:\n")?;
+    push_bytes(
+        out,
+        b"\nsil [ossa] @main : $@convention(thin) () -> () {\nbb0:\n",
+    )?;
     push_calls(out, n)?;
     push_end(out, 2 * n)?;
     push_bytes(out, b"}\n")?;

@@ -1,5 +1,5 @@
 -- What stands before the functions.
-use Rattle.std.proofs.Common.{refl, sym}
+use Rattle.std.proofs.Common.{sym}
 use Rattle.module_generator.proofs.HeadLines.{head_is}
 use Rattle.module_generator.proofs.generated.head.Goals as goal
 
