@@ -8,3 +8,7 @@ pub mod RunAnswers
 pub mod RunLemmas
 pub mod StatusLemmas
 pub mod Unread
+mod FewCopies
+mod LeftEntries
+mod GeneratedLemmas
+mod GeneratedRuns

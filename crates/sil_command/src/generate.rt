@@ -1,6 +1,6 @@
 //! The answer of `generate` to the module that its text spells: what the runs of it and of the optimised module show.
 
-ghost use Rattle.std.specs.Prelude.{◌≡◌, IfOk, MatchOption, codes};
+ghost use Rattle.std.specs.Prelude.{◌≡◌, IfOk, MatchOption, codes, length};
 ghost use Rattle.module_runner.specs.Entries.{HasEntry};
 ghost use Rattle.module_runner.specs.inner.RunReports.{outcome_of};
 ghost use Rattle.numbered_form.specs.inner.NumberedForm.{IsNumbered};
@@ -8,6 +8,7 @@ ghost use Rattle.sil_command.specs.Answers.{AnswersChecked};
 ghost use Rattle.sil_command.specs.Generated as generated;
 ghost use Rattle.sil_command.specs.Generated.{AnswersGenerated, Ran, RunsSo};
 ghost use Rattle.sil_command.specs.Statuses.{code_of};
+ghost use Rattle.sil_command.specs.Summaries as summaries;
 
 use crate::answer::Answer;
 use crate::copies::copies_in;
@@ -36,7 +37,8 @@ pub(crate) fn answer_generated(alloc: Global, module: Module) -> Result<Answer, 
 fn answer_runs(alloc: Global, checked: Checked) -> Result<Answer, Exhausted>
     ensures { IfOk result (λ a. AnswersGenerated checked a.text.items (code_of a.status)) }
 {
-    match totals_of_run(alloc, &checked)? {
+    let shown = totals_of_run(alloc, &checked)?;
+    match shown {
         Some(plain) => sum_up(alloc, checked, plain),
         None => {
             forget(checked);
@@ -53,19 +55,31 @@ fn sum_up(alloc: Global, checked: Checked, plain: Totals) -> Result<Answer, Exha
     requires { (x : Ran) × RunsSo checked x × (plain ≡ generated.totals_of x) }
     ensures { IfOk result (λ a. AnswersGenerated checked a.text.items (code_of a.status)) }
 {
-    let functions = checked.module().functions.len() as u64;
-    let before = copies_in(checked.module());
+    let functions = functions_of(&checked);
+    let before = copies_of(&checked);
     let left = optimised_if(alloc, checked, true)?;
-    let after = copies_in(left.module());
-    let shown = totals_of_run(alloc, &left);
+    let after = copies_of(&left);
+    let shown = totals_of_run(alloc, &left)?;
     forget(left);
-    match shown? {
+    match shown {
         Some(optimised) => Ok(Answer {
             text: summary(alloc, functions, before, after, &plain, &optimised)?,
             status: Status::Done,
         }),
         None => unreachable!(),
     }
+}
+
+fn functions_of(checked: &Checked) -> u64
+    ensures { result ≡ length checked.now.functions }
+{
+    checked.module().functions.len() as u64
+}
+
+fn copies_of(checked: &Checked) -> u64
+    ensures { result ≡ summaries.copies_of checked.now }
+{
+    copies_in(checked.module())
 }
 
 /// What the run of a module from `@main` shows, or none where it has no such function with which a run may begin.

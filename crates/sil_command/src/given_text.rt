@@ -6,7 +6,9 @@ ghost use Rattle.sil_command.specs.declared.words.Mode.TheVariants.{Generate};
 ghost use Rattle.sil_command.specs.Answers.{AnswersText};
 ghost use Rattle.sil_command.specs.GivenTexts.{TakesSource};
 ghost use Rattle.sil_command.specs.Statuses.{code_of};
+ghost use Rattle.sil_command.specs.Texts.{limit_text};
 ghost use Rattle.sil_command.specs.Words.{IsAskedFor};
+ghost use Rattle.sil_command.specs.declared.status.Status.TheVariants as status;
 
 use crate::answer::{Answer, answer_to};
 use crate::status::Status;
@@ -42,10 +44,18 @@ pub(crate) fn answer_to_size(alloc: Global, size: u32) -> Result<Answer, Exhaust
 {
     let text = generated_text(alloc, size)?.into_vec(alloc)?;
     if text.len() > limits::TEXT_BYTES {
-        return Ok(Answer {
-            text: Vec::from_slice(alloc, texts::limit())?,
-            status: Status::Limit,
-        });
+        return past_limit(alloc);
     }
     answer_to(alloc, Mode::Generate { size }, text)
+}
+
+/// The answer to a text that is too long.
+fn past_limit(alloc: Global) -> Result<Answer, Exhausted>
+    ensures text { IfOk result (λ a. a.text.items ≡ limit_text) }
+    ensures status { IfOk result (λ a. a.status ≡ status.Limit) }
+{
+    Ok(Answer {
+        text: Vec::from_slice(alloc, texts::limit())?,
+        status: Status::Limit,
+    })
 }

@@ -28,9 +28,10 @@ use std::alloc::Global;
 /// Does what the words ask for: reads a text from the source, writes one answer to the sink, and answers the status.
 ///
 /// The words are those after the program's name: `check`, `print`, `optimize`, `lower` with `--optimize`, `run` with `--turns N`,
-/// `--entry NAME` and `--optimize`, or `generate N` (`docs/PROFILE.md`, "Command line and answers"). The statuses are 0 (done), 1 (refused by a rule), 2 (not a command line),
-/// 3 (not a module), 4 (a read failed), 5 (a write failed), 6 (a run ended with a trap), 7 (a run was out of turns), 8 (past a
-/// limit), 9 (no memory left; nothing was written), 10 (no entry function of the name) and 12 (a run ended with a fault).
+/// `--entry NAME` and `--optimize`, or `generate N` (`docs/PROFILE.md`, "Command line and answers"). The statuses are 0 (done),
+/// 1 (refused by a rule), 2 (not a command line), 3 (not a module), 4 (a read failed), 5 (a write failed), 6 (a run ended with a trap),
+/// 7 (a run was out of turns), 8 (past a limit), 9 (no memory left; nothing was written), 10 (no entry function of the name) and
+/// 12 (a run ended with a fault).
 /// Of a text that spells a module all modes but `print` answer the first that is wrong with it, with a walk that shows it for a
 /// rule on walks. Exactly where the module is within the limits and keeps all rules, `check` answers that it is accepted, `optimize` the
 /// canonical text of the optimised module, `lower` that of its lowered form, and `run` the report of the run of that form; with the flag,

@@ -9,6 +9,6 @@ use Rattle.sil_command.specs.Statuses.{code_of}
 
 -- an allowed answer was finished, or memory ran out before the sink was touched
 pub data FinishesGenerated (size : ℕ) (Gains GainsFront : List ℕ → Type 0) (IsUntouched : Type 0) (faults new_faults : ℕ) : ℕ → Type 0 where
-  answered : (answer : List ℕ) (wanted status : ℕ) → AnswersText (Generate size) (generated size) answer wanted
+  finished : (answer : List ℕ) (wanted status : ℕ) → AnswersText (Generate size) (generated size) answer wanted
       → FinishesText Gains GainsFront faults new_faults answer wanted status → FinishesGenerated size Gains GainsFront IsUntouched faults new_faults status
-  exhausted : IsUntouched → new_faults ≡ faults → FinishesGenerated size Gains GainsFront IsUntouched faults new_faults (code_of OutOfMemory)
+  ran_out : IsUntouched → new_faults ≡ faults → FinishesGenerated size Gains GainsFront IsUntouched faults new_faults (code_of OutOfMemory)

@@ -1,0 +1,23 @@
+-- Which text is answered, and that a generated one needs no source.
+use Rattle.std.proofs.Common.{refl, rules, subst}
+use Rattle.sil_io.specs.Reading.{nothing, stopped}
+use Rattle.sil_command.specs.Words.{AsksFor, IsAskedFor}
+use Rattle.sil_command.proofs.GeneratedLemmas.{generated_ends}
+use Rattle.sil_command.proofs.top_call.answer_asked.Goals as goal
+
+pub answer_without_source-requires : goal.answer_without_source-requires
+answer_without_source-requires g c = subst IsAskedFor (rw c.in-Some.is at c.size_of.ensures) c.requires
+
+pub returns-in-Some-clause-ends : goal.returns-in-Some-clause-ends
+returns-in-Some-clause-ends g c = λ words asks.
+    generated_ends c.command_lines_say_one_thing.ensures _ c.in-Some.size _ (subst (AsksFor words) (rw c.in-Some.is at c.size_of.ensures) asks) refl
+    c.answer_without_source.ensures
+
+pub returns-in-Some-clause-takes : goal.returns-in-Some-clause-takes
+returns-in-Some-clause-takes g c = stopped _ (search rules) nothing
+
+pub answer_in-requires : goal.answer_in-requires
+answer_in-requires g c = record { asked = c.requires; takes = rw c.in-None.is at c.size_of.ensures }
+
+pub returns-in-None-clause-source_untouched : goal.returns-in-None-clause-source_untouched
+returns-in-None-clause-source_untouched g c = λ none. absurd (none (rw c.in-None.is at c.size_of.ensures))
