@@ -8,7 +8,7 @@ pub mod RunAnswers
 pub mod RunLemmas
 pub mod StatusLemmas
 pub mod Unread
-mod FewCopies
-mod LeftEntries
-mod GeneratedLemmas
-mod GeneratedRuns
+pub mod FewCopies
+pub mod LeftEntries
+pub mod GeneratedLemmas
+pub mod GeneratedRuns
