@@ -13,11 +13,10 @@ use Rattle.sil_command.specs.declared.words.Mode.TheVariants.{Generate}
 use Rattle.sil_command.specs.Statuses.{code_of}
 use Rattle.sil_command.specs.Words.{AsksFor, IsAskedFor, IsSizeBy}
 use Rattle.sil_command.specs.Answers.{AnswersModule, AnswersText, AnswersWrong, accepted, in_mode, limit_passed, refused, wrong}
-use Rattle.sil_command.specs.Ends.{Call, Ends, IsAnswer, answered, exhausted}
+use Rattle.sil_command.specs.Ends.{IsAnswer}
 use Rattle.sil_command.specs.Generated.{AnswersGenerated, both_ran, no_main}
 use Rattle.sil_command.specs.GivenTexts.{AskForText, TakesSource}
 use Rattle.sil_command.specs.Laws.{AreGeneratedExactly}
-use Rattle.sil_command.specs.inner.Finishing.{FinishesGenerated, finished, ran_out}
 use Rattle.sil_command.proofs.Asked.{asks_for_one}
 use Rattle.sil_command.proofs.StatusLemmas.{answers_exactly, wrong_done}
 
@@ -40,12 +39,6 @@ module _ (one : SayOneThing) (words : List (List ℕ)) (size : ℕ) (asks : Asks
       record { text = []; source = tt; taken = λ is. absurd (not_taken is); allowed = in_mode (Generate size) answer status asks answers }
   generated_answer (Some text) Takes answer status answers =
       record { text = text; source = refl; taken = λ is. absurd (not_taken is); allowed = in_mode (Generate size) answer status asks answers }
-
-pub generated_ends : SayOneThing → (call : Call) (size status : ℕ) → AsksFor call.words (Generate size) → call.new_read_faults ≡ call.read_faults
-    → FinishesGenerated size call.Gains call.GainsFront call.IsUntouched call.write_faults call.new_write_faults status → Ends call status
-generated_ends one call size status asks calm (finished answer wanted _ answers ends) =
-    answered answer wanted status (generated_answer one call.words size asks call.left call.Takes answer wanted answers) calm ends
-generated_ends one call size _ asks calm (ran_out untouched same) = exhausted untouched same
 
 -- with which statuses
 

@@ -7,9 +7,7 @@ ghost use Rattle.sil_rules.specs.declared.limits.TheConstants.{TEXT_BYTES};
 ghost use Rattle.sil_command.specs.declared.status.Status.TheVariants.{ReadFault, WriteFault, OutOfMemory};
 ghost use Rattle.sil_command.specs.Statuses.{code_of};
 ghost use Rattle.sil_command.specs.Words.{AsksFor, IsAskedFor};
-ghost use Rattle.sil_command.specs.declared.words.Mode.TheVariants.{Generate};
 ghost use Rattle.sil_command.specs.GivenTexts.{AskForText, TakesSource};
-ghost use Rattle.sil_command.specs.inner.Finishing.{FinishesGenerated};
 ghost use Rattle.sil_command.specs.Texts.{read_fault_text};
 ghost use Rattle.sil_command.specs.Ends.{TakesText, Gains, GainsFront, WritesAnswer, Exhausts, WritesWhole};
 ghost use Rattle.sil_command.specs.Ends.{WritesFrontOfAnswer, IsStatus, FinishesText, call_between, Ends};
@@ -110,20 +108,11 @@ fn answer_asked<S: Source, K: Sink>(alloc: Global, mode: Mode, source: &mut S, o
 {
     command_lines_say_one_thing();
     match size_of(&mode) {
-        Some(size) => answer_without_source(alloc, size, out),
+        Some(size) => match answer_to_size(alloc, size) {
+            Ok(answer) => finish(out, answer.text.as_slice(), answer.status),
+            Err(Exhausted) => Status::OutOfMemory.code(),
+        },
         None => answer_in(alloc, mode, source, out),
-    }
-}
-
-/// Answers the generated text of this size.
-fn answer_without_source<K: Sink>(alloc: Global, size: u32, out: &mut K) -> u8
-    requires { IsAskedFor (Generate size) }
-    ensures { FinishesGenerated size (Gains K.held K.took out.old out.new) (GainsFront K.held K.took K.refused out.old out.new) (out.new ≡ out.old)
-        (K.faults out.old) (K.faults out.new) result }
-{
-    match answer_to_size(alloc, size) {
-        Ok(answer) => finish(out, answer.text.as_slice(), answer.status),
-        Err(Exhausted) => Status::OutOfMemory.code(),
     }
 }
 
