@@ -1,5 +1,5 @@
 -- The row of the flag: that of its use, or the one that says that it isn't there.
-use Rattle.std.proofs.Common.{◌≡◌, ◌∙◌, ◌||◌, Bool, cond, true, false, refl, sym, ap, List, [], ◌∷◌, ◌++◌, map, Option, Some, None, true≢false, slice_get, find}
+use Rattle.std.proofs.Common.{◌≡◌, ◌∙◌, ◌||◌, Bool, cond, true, false, refl, sym, ap, List, [], ◌∷◌, ◌++◌, Option, Some, None, true≢false, slice_get, find}
 use Rattle.std.proofs.Common.{option_and_then, codes}
 use Rattle.std.proofs.lemmas.Option.{same_Some}
 use Rattle.std.specs.Option.{option_map_or}
@@ -10,8 +10,8 @@ use Rattle.clap.specs.Values.{bool_text, reading_of}
 use Rattle.clap.specs.Walk.{Row, Text, first_of, has_row, more_values, one_of, row_text, with_default}
 use Rattle.clap.specs.declared.builder.value_parser.ValueParser.TheVariants as vp
 use Rattle.clap.specs.declared.parser.matches.ValueSource.TheVariants.{DefaultValue}
-use Rattle.command_words.specs.CommandLines.{Argument, mode, turns, entry, optimize, Given, Gives, nothing, alone, apart, joined, flag, behind, as_mode, is_option}
-use Rattle.command_words.specs.CommandLines.{name_of, values_of}
+use Rattle.command_words.specs.CommandLines.{Argument, mode, number, turns, entry, optimize, Given, Gives, nothing, alone, apart, joined, flag, behind, by_themselves}
+use Rattle.command_words.specs.CommandLines.{is_option, name_of, values_of}
 use Rattle.command_words.proofs.Rows.{at_fresh, first_of_values, given_of_values, is_there, one_of_values, row_of_values, rows, some_value}
 use Rattle.command_words.proofs.Parsed.{rule_for}
 
@@ -79,12 +79,28 @@ mode_of_all given =
 abbrev pub IsOn : List Given → Type 0
 IsOn given = (v : Text) → slice_get (values_of optimize given) 0 ≡ Some v → v ≡ codes "true"
 
-modes_alone : (words : List Text) → values_of optimize (map as_mode words) ≡ []
-modes_alone [] = refl
-modes_alone (word ∷ words) = modes_alone words
+-- the argument stands by itself
+abbrev pub stands_alone : Argument → Bool
+stands_alone mode = true
+stands_alone number = true
+stands_alone turns = false
+stands_alone entry = false
+stands_alone optimize = false
+
+no_flag : (next : Argument) (v : Text) (given : List Given) → stands_alone next ≡ true → values_of optimize ((next, v) ∷ given) ≡ values_of optimize given
+no_flag mode v given itself = refl
+no_flag number v given itself = refl
+no_flag turns v given itself = absurd (true≢false (sym itself))
+no_flag entry v given itself = absurd (true≢false (sym itself))
+no_flag optimize v given itself = absurd (true≢false (sym itself))
+
+no_flags : (next : Argument) (words : List Text) → stands_alone next ≡ true → values_of optimize (by_themselves next words) ≡ []
+no_flags next [] itself = refl
+no_flags next (word ∷ words) itself = no_flag next word (by_themselves number words) itself ∙ no_flags number words refl
 
 beside : (a : Argument) (v : Text) (given : List Given) → is_option a ≡ true → values_of optimize ((a, v) ∷ given) ≡ values_of optimize given
 beside mode v given opt = absurd (true≢false (sym opt))
+beside number v given opt = absurd (true≢false (sym opt))
 beside turns v given opt = refl
 beside entry v given opt = refl
 beside optimize v given opt = absurd (true≢false (sym opt))
@@ -94,15 +110,16 @@ none_there v [] none e = cc
 none_there v (w ∷ vs) none e = cc
 
 -- the value of a flag that is there
-pub given_on : (words : List Text) (given : List Given) → Gives words given → IsOn given
-given_on _ _ nothing v e = cc
-given_on _ _ (alone word words given is gives) v e = given_on words given gives v e
-given_on _ _ (apart a word words given opt is gives) v e =
-    given_on words given gives v (ap (λ vs. slice_get vs 0) (sym (beside a word given opt)) ∙ e)
-given_on _ _ (joined a word words given opt gives) v e =
-    given_on words given gives v (ap (λ vs. slice_get vs 0) (sym (beside a word given opt)) ∙ e)
-given_on _ _ (flag words given gives) v e = sym (same_Some _ v e)
-given_on _ _ (behind words) v e = none_there v _ (modes_alone words) e
+pub given_on : (next : Argument) (words : List Text) (given : List Given) → stands_alone next ≡ true → Gives next words given → IsOn given
+given_on _ _ _ itself (nothing next) v e = cc
+given_on _ _ _ itself (alone next word words given is gives) v e =
+    given_on number words given refl gives v (ap (λ vs. slice_get vs 0) (sym (no_flag next word given itself)) ∙ e)
+given_on _ _ _ itself (apart next a word words given opt is gives) v e =
+    given_on next words given itself gives v (ap (λ vs. slice_get vs 0) (sym (beside a word given opt)) ∙ e)
+given_on _ _ _ itself (joined next a word words given opt gives) v e =
+    given_on next words given itself gives v (ap (λ vs. slice_get vs 0) (sym (beside a word given opt)) ∙ e)
+given_on _ _ _ itself (flag next words given gives) v e = sym (same_Some _ v e)
+given_on _ _ _ itself (behind next words) v e = none_there v _ (no_flags next words itself) e
 
 pub flag_of_all : (given : List Given) → IsOn given → one_of (codes "optimize") (all_rows (rows given)) ≡ Some (bool_text (is_there (values_of optimize given)))
 flag_of_all given on = go (has_row (codes "optimize") (rows given)) refl

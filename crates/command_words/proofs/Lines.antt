@@ -1,5 +1,5 @@
 -- The kinds of error that `clap` has for words, and its matches, by what a command line says.
-use Rattle.std.proofs.Common.{◌≡◌, ◌∙◌, ◌||◌, ◌≤◌, inl, ℕ, Bool, cond, true, false, not, refl, sym, ap, subst, arith, List, [], ◌∷◌, length, Option, Some}
+use Rattle.std.proofs.Common.{◌≡◌, ◌∙◌, ◌||◌, ◌≤◌, ℕ, Bool, cond, true, false, not, refl, sym, ap, subst, arith, List, [], ◌∷◌, length, Option, Some}
 use Rattle.std.proofs.Common.{None, is_some, fold, slice_get, option_to_list, unwrap_or, true≢false, codes}
 use Rattle.std.specs.Str.{bytes_eq}
 use Rattle.clap.specs.Faults.{check_fault, default_fault, defaults_fault, entered_fault, fault_of, settle_fault, walk_fault}
@@ -12,13 +12,13 @@ use Rattle.clap.specs.Walk.{Held, Row, Rule, Text, Walk, finished, first_of, has
 use Rattle.clap.specs.declared.error.kind.ErrorKind.TheVariants as kind
 use Rattle.clap.specs.declared.parser.matches.Found.{Found}
 use Rattle.clap.proofs.WalkLemmas.{first_value-rows, one_text-rows}
-use Rattle.command_words.specs.CommandLines.{Argument, mode, turns, entry, optimize, Given, Gives, IsCommandLine, Says, name_of, values_of}
+use Rattle.command_words.specs.CommandLines.{Argument, mode, number, turns, entry, optimize, Given, Gives, IsCommandLine, Says, name_of, values_of}
 use Rattle.command_words.specs.inner.ClapCommand.{Matches, declared_app}
 use Rattle.command_words.proofs.Rows.{AtMostOnce, first_of_values, is_there, once_length, only_value, rows, some_value}
 use Rattle.command_words.proofs.Flags.{all_rows, first_of_all, flag_default, flag_of_all, given_on, mode_of_all}
 use Rattle.command_words.proofs.Parsed.{all_used, cons_not_nil, held, none_in, none_of, once_settles, rule_for, rules, settled_rows_are, settles_once, takes_word, top}
 use Rattle.command_words.proofs.Steps.{stands}
-use Rattle.command_words.proofs.Taken.{all_pass}
+use Rattle.command_words.proofs.Taken.{all_pass, first}
 use Rattle.command_words.proofs.Read.{between, read_all}
 
 abbrev app : App
@@ -39,6 +39,7 @@ right_default false = refl
 
 no_default : (a : Argument) (rs : List Row) → default_fault rs (rule_for a) ≡ []
 no_default mode rs = empty_default (has_row (codes "mode") rs) _
+no_default number rs = empty_default (has_row (codes "number") rs) _
 no_default turns rs = empty_default (has_row (codes "turns") rs) _
 no_default entry rs = empty_default (has_row (codes "entry") rs) _
 no_default optimize rs = right_default (has_row (codes "optimize") rs)
@@ -49,6 +50,7 @@ either false rs = refl
 
 kept : (a : Argument) (rs : List Row) → takes_word a ≡ true → with_default rs (rule_for a) ≡ rs
 kept mode rs word = either (has_row (codes "mode") rs) rs
+kept number rs word = either (has_row (codes "number") rs) rs
 kept turns rs word = either (has_row (codes "turns") rs) rs
 kept entry rs word = either (has_row (codes "entry") rs) rs
 kept optimize rs word = absurd (true≢false (sym word))
@@ -62,12 +64,15 @@ unfolding defaults_fault
 no_rules_left rs = refl
 
 no_defaults : (rs : List Row) → defaults_fault rs rules ≡ []
-no_defaults rs = no_defaults_from mode _ rs (λ k. no_defaults_from turns _ k (λ l. no_defaults_from entry _ l (λ m. no_defaults_from optimize _ m no_rules_left)))
+no_defaults rs =
+    no_defaults_from mode _ rs (λ k. no_defaults_from number _ k (λ l. no_defaults_from turns _ l (λ m. no_defaults_from entry _ m (λ n.
+    no_defaults_from optimize _ n no_rules_left))))
 
 finished_kept : (h : Held) → finished rules h ≡ all_rows (settled rules h).rows
 finished_kept h =
     let rs = (settled rules h).rows in
-    ap (λ k. with_default (with_default (with_default k (rule_for turns)) (rule_for entry)) (rule_for optimize)) (kept mode rs refl)
+    ap (λ k. with_default (with_default (with_default (with_default k (rule_for number)) (rule_for turns)) (rule_for entry)) (rule_for optimize)) (kept mode rs refl)
+    ∙ ap (λ k. with_default (with_default (with_default k (rule_for turns)) (rule_for entry)) (rule_for optimize)) (kept number rs refl)
     ∙ ap (λ k. with_default (with_default k (rule_for entry)) (rule_for optimize)) (kept turns rs refl)
     ∙ ap (λ k. with_default k (rule_for optimize)) (kept entry rs refl) ∙ flag_default rs
 
@@ -109,7 +114,7 @@ module _ (words : List Text) where
   -- what the words give where nothing is wrong
   pub record SaidBy : Type 0 where
     pub given : List Given
-    pub gives : Gives words given
+    pub gives : Gives mode words given
     pub once : AtMostOnce given
     pub has_mode : is_there (values_of mode given) ≡ true
     pub matched : matches_of declared_app words ≡ all_rows (rows given)
@@ -118,7 +123,7 @@ module _ (words : List Text) where
   said none =
       let faults = none_of (walk_fault top [] start words) (checks end.held end.stopped) none in
       let behind = none_of (settle_fault rules false end.held) _ (none_of (entered_fault app end.stopped) _ faults.1).1 in
-      let reads = read_all words start [] None (between (held [] None) 1 [] (all_used [] once_nothing) (inl (refl, refl)))
+      let reads = read_all words start mode [] None (between (held [] None) 1 mode [] (all_used [] once_nothing) (first []))
       (record { faultless = faults.0; settles = behind.0 }) in
       let once = settles_once end.held reads.more reads.ends.holds behind.0 in
       let rows_are = finished_kept end.held ∙ ap all_rows (settled_rows_are end.held reads.more reads.ends.holds once) in
@@ -132,9 +137,9 @@ module _ (words : List Text) where
         matched = rows_are;
       }
 
-  pub faultless : (given : List Given) → Gives words given → AtMostOnce given → is_there (values_of mode given) ≡ true → fault_of declared_app words ≡ []
+  pub faultless : (given : List Given) → Gives mode words given → AtMostOnce given → is_there (values_of mode given) ≡ true → fault_of declared_app words ≡ []
   faultless given gives once has_mode =
-      let passes = all_pass words given gives (held [] None) 1 [] (all_used [] once_nothing) (inl (refl, refl)) once in
+      let passes = all_pass mode words given gives (held [] None) 1 [] (all_used [] once_nothing) (first []) once in
       none_in (walk_fault top [] start words) (checks end.held end.stopped) passes.0
       (subst (λ stop. checks end.held stop ≡ []) (sym passes.1.stopped)
       (none_in _ _ (once_settles end.held given passes.1.holds once)
@@ -156,14 +161,15 @@ module _ (words : List Text) (f : Found) (none : fault_of declared_app words ≡
 
   flag_found : one_text f (codes "optimize") ≡ Some (bool_text (is_there (values_of optimize by_words.given)))
   flag_found = one_text-rows f (codes "optimize") ∙ ap (one_of (codes "optimize")) (all ∙ by_words.matched)
-      ∙ flag_of_all by_words.given (given_on words by_words.given by_words.gives)
+      ∙ flag_of_all by_words.given (given_on mode words by_words.given refl by_words.gives)
 
-  pub says : (mode_word : Text) (turns_value entry_value : Option Text) (optimises : Bool) → Matches f mode_word turns_value entry_value optimises
-      → Says words mode_word turns_value entry_value optimises
-  says m t e o matches = record {
+  pub says : (mode_word : Text) (number_word turns_value entry_value : Option Text) (optimises : Bool)
+      → Matches f mode_word number_word turns_value entry_value optimises → Says words mode_word number_word turns_value entry_value optimises
+  says m n t e o matches = record {
     given = by_words.given;
     gives = by_words.gives;
     mode_once = values_found mode (Some m) refl matches.mode_is;
+    number_at_most_once = values_found number n refl matches.number_is;
     turns_at_most_once = values_found turns t refl matches.turns_are;
     entry_at_most_once = values_found entry e refl matches.entry_is;
     flag_at_most_once = once_length (values_of optimize by_words.given) (by_words.once optimize)
@@ -183,27 +189,28 @@ one_or_none : (b : Bool) → cond b 1 0 ≤ 1
 one_or_none true = omega arith
 one_or_none false = omega arith
 
-said_once : (words : List Text) (m : Text) (t e : Option Text) (o : Bool) → (s : Says words m t e o) → AtMostOnce s.given
-said_once words m t e o s mode = omega (arith, ap length s.mode_once)
-said_once words m t e o s turns = omega (arith, ap length s.turns_at_most_once, at_most_one t)
-said_once words m t e o s entry = omega (arith, ap length s.entry_at_most_once, at_most_one e)
-said_once words m t e o s optimize = omega (arith, s.flag_at_most_once, one_or_none o)
+said_once : (words : List Text) (m : Text) (n t e : Option Text) (o : Bool) → (s : Says words m n t e o) → AtMostOnce s.given
+said_once words m n t e o s mode = omega (arith, ap length s.mode_once)
+said_once words m n t e o s number = omega (arith, ap length s.number_at_most_once, at_most_one n)
+said_once words m n t e o s turns = omega (arith, ap length s.turns_at_most_once, at_most_one t)
+said_once words m n t e o s entry = omega (arith, ap length s.entry_at_most_once, at_most_one e)
+said_once words m n t e o s optimize = omega (arith, s.flag_at_most_once, one_or_none o)
 
 -- of a command line there is no kind of error but want of memory
 pub line_faultless : (words : List Text) → IsCommandLine words → fault_of declared_app words ≡ []
 line_faultless words line =
-    let s = line.4 in
-    faultless words s.given s.gives (said_once words line.0 line.1 line.2 line.3 s) (ap is_there s.mode_once)
+    let s = line.5 in
+    faultless words s.given s.gives (said_once words line.0 line.1 line.2 line.3 line.4 s) (ap is_there s.mode_once)
 
 -- ---- words say one thing
 
 module _ (words : List Text) where
-  held_rows : (given : List Given) → Gives words given → AtMostOnce given → (settled rules (end words).held).rows ≡ rows given
+  held_rows : (given : List Given) → Gives mode words given → AtMostOnce given → (settled rules (end words).held).rows ≡ rows given
   held_rows given gives once =
-      let passes = all_pass words given gives (held [] None) 1 [] (all_used [] once_nothing) (inl (refl, refl)) once in
+      let passes = all_pass mode words given gives (held [] None) 1 [] (all_used [] once_nothing) (first []) once in
       settled_rows_are (end words).held given passes.1.holds once
 
-  same_values : (given other : List Given) → Gives words given → AtMostOnce given → Gives words other → AtMostOnce other → (a : Argument)
+  same_values : (given other : List Given) → Gives mode words given → AtMostOnce given → Gives mode words other → AtMostOnce other → (a : Argument)
       → values_of a given ≡ values_of a other
   same_values given other gives once again once_again a =
       only_value (values_of a given) (once a)
@@ -228,11 +235,13 @@ same_flag true false e = absurd (omega (arith, e))
 same_flag false true e = absurd (omega (arith, e))
 same_flag false false e = refl
 
-pub one_thing : (words : List Text) (m n : Text) (t u e f : Option Text) (b c : Bool) → Says words m t e b → Says words n u f c → (m ≡ n) × (t ≡ u) × (e ≡ f) × (b ≡ c)
-one_thing words m n t u e f b c s o =
-    let same = same_values words s.given o.given s.gives (said_once words m t e b s) o.gives (said_once words n u f c o) in
+pub one_thing : (words : List Text) (m n : Text) (k l t u e f : Option Text) (b c : Bool) → Says words m k t e b → Says words n l u f c
+    → (m ≡ n) × (k ≡ l) × (t ≡ u) × (e ≡ f) × (b ≡ c)
+one_thing words m n k l t u e f b c s o =
+    let same = same_values words s.given o.given s.gives (said_once words m k t e b s) o.gives (said_once words n l u f c o) in
     let modes = same_option (Some m) (Some n) (sym s.mode_once ∙ same mode ∙ o.mode_once) in (
       ap (λ v. unwrap_or v []) modes,
+      same_option k l (sym s.number_at_most_once ∙ same number ∙ o.number_at_most_once),
       same_option t u (sym s.turns_at_most_once ∙ same turns ∙ o.turns_at_most_once),
       same_option e f (sym s.entry_at_most_once ∙ same entry ∙ o.entry_at_most_once),
       same_flag b c (sym s.flag_at_most_once ∙ ap length (same optimize) ∙ o.flag_at_most_once),

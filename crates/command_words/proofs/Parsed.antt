@@ -12,7 +12,7 @@ use Rattle.clap.specs.declared.parser.matches.ValueSource.TheVariants.{CommandLi
 use Rattle.clap.specs.declared.builder.action.ArgAction.TheVariants.{Set, SetTrue}
 use Rattle.clap.specs.declared.builder.value_parser.ValueParser.TheVariants as vp
 use Rattle.clap.specs.declared.error.kind.ErrorKind.TheVariants as kind
-use Rattle.command_words.specs.CommandLines.{Argument, mode, turns, entry, optimize, Given, as_flag, is_option, name_of}
+use Rattle.command_words.specs.CommandLines.{Argument, mode, number, turns, entry, optimize, Given, as_flag, is_option, name_of}
 use Rattle.command_words.specs.inner.ClapCommand.{bare_app, declared_app}
 use Rattle.command_words.proofs.Rows.{AtMostOnce, IsNew, at_fresh, last_new, once_more, row, rows, same_name}
 
@@ -40,22 +40,25 @@ built_flag = record (new_rule (codes "optimize")) {
 
 abbrev pub rule_for : Argument → Rule
 rule_for mode = built_rule (codes "mode") None (Some 1) true
+rule_for number = built_rule (codes "number") None (Some 2) false
 rule_for turns = built_rule (codes "turns") (Some (codes "turns")) None false
 rule_for entry = built_rule (codes "entry") (Some (codes "entry")) None false
 rule_for optimize = built_flag
 
 abbrev pub rules : List Rule
-rules = rule_for mode ∷ rule_for turns ∷ rule_for entry ∷ rule_for optimize ∷ []
+rules = rule_for mode ∷ rule_for number ∷ rule_for turns ∷ rule_for entry ∷ rule_for optimize ∷ []
 
 -- a use has a word as its value
 abbrev pub takes_word : Argument → Bool
 takes_word mode = true
+takes_word number = true
 takes_word turns = true
 takes_word entry = true
 takes_word optimize = false
 
 pub option_takes_word : (a : Argument) → is_option a ≡ true → takes_word a ≡ true
 option_takes_word mode opt = absurd (true≢false (sym opt))
+option_takes_word number opt = absurd (true≢false (sym opt))
 option_takes_word turns opt = refl
 option_takes_word entry opt = refl
 option_takes_word optimize opt = absurd (true≢false (sym opt))
@@ -120,6 +123,7 @@ module _ (a : Argument) (v : Text) (given : List Given) (word : takes_word a ≡
     where
       go : (b : Argument) → takes_word b ≡ true → use_fault false (rule_for b) (v ∷ []) (rows given) ≡ [] → IsNew (b, v) given
       go mode w = use_new (codes "mode") None (Some 1) true v (rows given)
+      go number w = use_new (codes "number") None (Some 2) false v (rows given)
       go turns w = use_new (codes "turns") (Some (codes "turns")) None false v (rows given)
       go entry w = use_new (codes "entry") (Some (codes "entry")) None false v (rows given)
       go optimize w = absurd (true≢false (sym w))
@@ -129,6 +133,7 @@ module _ (a : Argument) (v : Text) (given : List Given) (word : takes_word a ≡
     where
       go : (b : Argument) → takes_word b ≡ true → IsNew (b, v) given → use_fault false (rule_for b) (v ∷ []) (rows given) ≡ []
       go mode w = new_use (codes "mode") None (Some 1) true v (rows given)
+      go number w = new_use (codes "number") None (Some 2) false v (rows given)
       go turns w = new_use (codes "turns") (Some (codes "turns")) None false v (rows given)
       go entry w = new_use (codes "entry") (Some (codes "entry")) None false v (rows given)
       go optimize w = absurd (true≢false (sym w))
@@ -138,6 +143,7 @@ module _ (a : Argument) (v : Text) (given : List Given) (word : takes_word a ≡
     where
       go : (b : Argument) → takes_word b ≡ true → IsNew (b, v) given → used (rule_for b) (v ∷ []) (rows given) ≡ rows given ++ row (b, v) ∷ []
       go mode w = used_is (codes "mode") None (Some 1) true v (rows given)
+      go number w = used_is (codes "number") None (Some 2) false v (rows given)
       go turns w = used_is (codes "turns") (Some (codes "turns")) None false v (rows given)
       go entry w = used_is (codes "entry") (Some (codes "entry")) None false v (rows given)
       go optimize w = absurd (true≢false (sym w))
@@ -148,6 +154,7 @@ module _ (a : Argument) (v : Text) (given : List Given) (word : takes_word a ≡
     where
       go : (b : Argument) → settle_fault rules false (held (rows given) (Some (name_of b, v ∷ []))) ≡ use_fault false (rule_for b) (v ∷ []) (rows given)
       go mode = refl
+      go number = refl
       go turns = refl
       go entry = refl
       go optimize = refl
@@ -157,6 +164,7 @@ module _ (a : Argument) (v : Text) (given : List Given) (word : takes_word a ≡
     where
       go : (b : Argument) → (settled rules (held (rows given) (Some (name_of b, v ∷ [])))).rows ≡ used (rule_for b) (v ∷ []) (rows given)
       go mode = refl
+      go number = refl
       go turns = refl
       go entry = refl
       go optimize = refl

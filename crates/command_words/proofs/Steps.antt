@@ -13,7 +13,7 @@ use Rattle.clap.specs.Walk.{Held, Outcome, Row, Step, Text, Waiting, Walk, after
 use Rattle.clap.specs.Walk.{bundle_step, idle, is_pending, long_met, long_or_other, option, option_met, plain as plain_outcome, short_or_plain}
 use Rattle.clap.specs.Walk.{next, plain_word, pushed, settled, subcommand_met, subcommand_or_other, to_positional, trailing, used, value as a_value, walked}
 use Rattle.clap.specs.declared.error.kind.ErrorKind.TheVariants as kind
-use Rattle.command_words.specs.CommandLines.{Argument, mode, turns, entry, optimize, Given, is_value, name_of}
+use Rattle.command_words.specs.CommandLines.{Argument, mode, number, turns, entry, optimize, Given, is_value, name_of}
 use Rattle.command_words.proofs.Rows.{AtMostOnce, rows}
 use Rattle.command_words.proofs.Parsed.{Holds, held, is_held, nothing_skipped, rule_for, rules, settled_rows_are, takes_word, top}
 
@@ -48,14 +48,17 @@ module _ (h : Held) (waiting : Waiting) (p : ℕ) (word : Text) where
   unfolding walked
   trailing_next = refl
 
--- ---- the mode
+-- ---- a word that stands by itself
 
 module _ (h : Held) (waiting : Waiting) (word : Text) where
   pub first_place : step_fault top 1 h a_value ≡ settle_fault rules false h
   first_place = ap (λ b. cond b [] (settle_fault rules false h)) (and_false (is_pending (rule_for mode) h.pending))
 
-  pub no_second_place : step_fault top 2 h a_value ≡ kind.UnknownArgument ∷ []
-  no_second_place = refl
+  pub second_place : step_fault top 2 h a_value ≡ settle_fault rules false h
+  second_place = ap (λ b. cond b [] (settle_fault rules false h)) (and_false (is_pending (rule_for number) h.pending))
+
+  pub no_third_place : step_fault top 3 h a_value ≡ kind.UnknownArgument ∷ []
+  no_third_place = refl
 
   taken_first : (t : Bool) → to_positional rules (arg_by_index rules 1) word (stands h waiting 1 t) h
       ≡ stands (pushed (codes "mode") word (settled rules h)) idle 2 (t || false)
@@ -66,6 +69,16 @@ module _ (h : Held) (waiting : Waiting) (word : Text) where
   mode_taken given t holds once =
       taken_first t ∙ ap (λ k. stands (pushed (codes "mode") word k) idle 2 (t || false)) (nothing_skipped h given holds)
       ∙ ap (λ rs. stands (held rs (Some (name_of mode, word ∷ []))) idle 2 (t || false)) (settled_rows_are h given holds once)
+
+  taken_second : (t : Bool) → to_positional rules (arg_by_index rules 2) word (stands h waiting 2 t) h
+      ≡ stands (pushed (codes "number") word (settled rules h)) idle 3 (t || false)
+  taken_second t = ap (λ b. stands (pushed (codes "number") word (cond b h (settled rules h))) idle 3 (t || false)) (and_false (is_pending (rule_for number) h.pending))
+
+  pub number_taken : (given : List Given) (t : Bool) → Holds h given → AtMostOnce given → to_positional rules (arg_by_index rules 2) word (stands h waiting 2 t) h
+      ≡ stands (held (rows given) (Some (name_of number, word ∷ []))) idle 3 (t || false)
+  number_taken given t holds once =
+      taken_second t ∙ ap (λ k. stands (pushed (codes "number") word k) idle 3 (t || false)) (nothing_skipped h given holds)
+      ∙ ap (λ rs. stands (held rs (Some (name_of number, word ∷ []))) idle 3 (t || false)) (settled_rows_are h given holds once)
 
 -- ---- words of each sort
 
@@ -203,6 +216,7 @@ module _ (waiting : Waiting) (p : ℕ) (h : Held) (y : ℕ) (ys : List ℕ) wher
         where
           go : (b : Argument) → takes_word b ≡ true → long_fault rules false (Some (rule_for b)) v h ≡ option_fault rules false (rule_for b) v h
           go mode w = refl
+          go number w = refl
           go turns w = refl
           go entry w = refl
           go optimize w = absurd (true≢false (sym w))
@@ -212,6 +226,7 @@ module _ (waiting : Waiting) (p : ℕ) (h : Held) (y : ℕ) (ys : List ℕ) wher
         where
           go : (b : Argument) → takes_word b ≡ true → long_met rules (Some (rule_for b)) v h ≡ option_met rules (rule_for b) v h
           go mode w = refl
+          go number w = refl
           go turns w = refl
           go entry w = refl
           go optimize w = absurd (true≢false (sym w))
@@ -238,6 +253,7 @@ module _ (h : Held) (p : ℕ) (y : ℕ) (ys : List ℕ) (a : Argument) (valued :
     where
       go : (b : Argument) → (rule_for b).id ≡ name_of b
       go mode = refl
+      go number = refl
       go turns = refl
       go entry = refl
       go optimize = refl
@@ -291,6 +307,7 @@ module _ (a : Argument) (rs : List Row) where
     where
       go : (b : Argument) → takes_word b ≡ true → settle_fault rules false (held rs (Some (name_of b, []))) ≡ kind.InvalidValue ∷ []
       go mode w = refl
+      go number w = refl
       go turns w = refl
       go entry w = refl
       go optimize w = absurd (true≢false (sym w))
@@ -300,6 +317,7 @@ module _ (a : Argument) (rs : List Row) where
     where
       go : (b : Argument) → plain_word rules (option (name_of b)) word (held rs (Some (name_of b, []))) ≡ (held rs (Some (name_of b, word ∷ [])), next idle)
       go mode = refl
+      go number = refl
       go turns = refl
       go entry = refl
       go optimize = refl

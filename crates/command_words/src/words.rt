@@ -16,6 +16,8 @@ use std::alloc::Global;
 pub struct CommandWords<'a> {
     /// The word that names the mode.
     pub mode: &'a str,
+    /// The word behind it that stands by itself too.
+    pub number: Option<&'a str>,
     /// The value of `--turns`.
     pub turns: Option<&'a str>,
     /// The value of `--entry`.
@@ -30,7 +32,8 @@ pub fn read_words<'a>(
     words: &'a [&'a str],
 ) -> Result<Option<CommandWords<'a>>, Exhausted>
     ensures { IfOk result (λ read. MatchOption read (¬ IsCommandLine (map (λ w. w.now) words.entry.now))
-        (λ r. Says (map (λ w. w.now) words.entry.now) r.mode.now (option_map (λ v. v.now) r.turns) (option_map (λ v. v.now) r.entry) r.optimize)) }
+        (λ r. Says (map (λ w. w.now) words.entry.now) r.mode.now (option_map (λ v. v.now) r.number) (option_map (λ v. v.now) r.turns)
+        (option_map (λ v. v.now) r.entry) r.optimize)) }
 {
     match declared_command(alloc)?.try_get_matches_from(words) {
         Ok(matches) => Ok(matched_words(&matches)),
@@ -42,10 +45,12 @@ pub fn read_words<'a>(
 /// The words that were matched, where the mode is among them.
 fn matched_words<'a>(matches: &ArgMatches<'a>) -> Option<CommandWords<'a>>
     ensures { MatchOption result (first_value (found_of matches.now) (codes "mode") ≡ None)
-        (λ r. Matches (found_of matches.now) r.mode.now (option_map (λ v. v.now) r.turns) (option_map (λ v. v.now) r.entry) r.optimize) }
+        (λ r. Matches (found_of matches.now) r.mode.now (option_map (λ v. v.now) r.number) (option_map (λ v. v.now) r.turns)
+        (option_map (λ v. v.now) r.entry) r.optimize) }
 {
     Some(CommandWords {
         mode: matches.get_str("mode")?,
+        number: matches.get_str("number"),
         turns: matches.get_str("turns"),
         entry: matches.get_str("entry"),
         optimize: matches.get_flag("optimize"),

@@ -1,5 +1,5 @@
 -- How an answer follows from what was read.
-use Rattle.std.proofs.Common.{◌≡◌, inl, inr, ℕ, ◌+◌, ◌≤◌, List, [], ◌++◌, length, refl, sym, ap, subst, ◌∙◌, arith, length-append, Result, Ok, Err}
+use Rattle.std.proofs.Common.{◌≡◌, inl, inr, ℕ, ◌+◌, ◌<◌, ◌≤◌, List, [], ◌++◌, length, refl, sym, ap, subst, ◌∙◌, arith, length-append, Result, Ok, Err}
 use Rattle.std.specs.Prelude.{Bool, Option, Some, None, IfSome, IfOk}
 use Rattle.std.specs.Io.KnownBytes.{Consumes}
 use Rattle.std.proofs.KnownBytes.{Consumes-nil, Consumes-trans}
@@ -19,6 +19,8 @@ use Rattle.accepted_modules.specs.Findings.{Accepted}
 use Rattle.sil_command.specs.Texts.{limit_text, usage_text}
 use Rattle.sil_command.specs.declared.answer.Answer.{Answer}
 use Rattle.sil_command.specs.declared.words.Mode.{Mode}
+use Rattle.sil_command.specs.declared.words.Mode.TheVariants.{Check, Generate, Lower, Optimize, Print, Run}
+use Rattle.sil_command.specs.GivenTexts.{TakesSource, text_for}
 use Rattle.sil_command.specs.Words.{AsksFor, IsCommandLine}
 use Rattle.sil_command.specs.Answers.{AnswersChecked, AnswersModule, AnswersText, AnswersWrong, Writes, WritesOf, usage, in_mode, too_long, unread, spelled, wrong, accepted}
 use Rattle.sil_command.specs.Reading.{AnswersRefusal}
@@ -26,23 +28,32 @@ use Rattle.sil_command.specs.Ends.{IsAnswer, MayHave, TakesText}
 
 -- words that are no command line have one answer, whatever the source has
 pub usage_answer : (words : List (List ℕ)) (left : Option (List ℕ)) (Takes : List ℕ → Type 0) → (IsCommandLine words → ⊥) → IsAnswer words left Takes usage_text (code_of Usage)
-usage_answer words None Takes none = record { text = []; source = tt; taken = λ is. absurd (none is); allowed = usage none }
-usage_answer words (Some text) Takes none = record { text = text; source = refl; taken = λ is. absurd (none is); allowed = usage none }
+usage_answer words None Takes none = record { text = []; source = tt; taken = λ is. absurd (none (is.0, is.1)); allowed = usage none }
+usage_answer words (Some text) Takes none = record { text = text; source = refl; taken = λ is. absurd (none (is.0, is.1)); allowed = usage none }
 
 told_text : (left : Option (List ℕ)) (text : List ℕ) → IfSome left (λ all. text ≡ all) → MayHave left text
 told_text None text all = tt
 told_text (Some told) text all = sym all
 
+-- a mode that takes a source's text answers that
+source_text : (mode : Mode) → TakesSource mode → (text : List ℕ) → text_for mode text ≡ text
+source_text Check takes text = refl
+source_text Print takes text = refl
+source_text (Lower optimises) takes text = refl
+source_text Optimize takes text = refl
+source_text (Run entry turns optimises) takes text = refl
+source_text (Generate size) takes text = absurd takes
+
 module _ {S : Type 0} (gave : S → List ℕ → S → Type 0) where
   -- the answer to the bytes that were taken from a source, up to its end
   pub whole_answer : (old new : S) (words : List (List ℕ)) (mode : Mode) (left : Option (List ℕ)) (text bytes answer : List ℕ) (status : ℕ)
-      → AsksFor words mode → IfSome left (λ all. text ≡ all) → GivesToEnd gave old text new → bytes ≡ text → AnswersText mode bytes answer status
+      → AsksFor words mode → TakesSource mode → IfSome left (λ all. text ≡ all) → GivesToEnd gave old text new → bytes ≡ text → AnswersText mode bytes answer status
       → IsAnswer words left (TakesText gave old new) answer status
-  whole_answer old new words mode left text bytes answer status asks all taken same allowed = record {
+  whole_answer old new words mode left text bytes answer status asks takes all taken same allowed = record {
     text = text;
     source = told_text left text all;
     taken = λ _. inl taken;
-    allowed = in_mode mode answer status asks (subst (λ t. AnswersText mode t answer status) same allowed);
+    allowed = in_mode mode answer status asks (subst (λ t. AnswersText mode t answer status) (same ∙ sym (source_text mode takes text)) allowed);
   }
 
   module _ (left_of : S → Option (List ℕ)) (from_left : (old : S) (bytes : List ℕ) (new : S) → gave old bytes new → Consumes (left_of old) (left_of new) bytes) where
@@ -59,15 +70,16 @@ module _ {S : Type 0} (gave : S → List ℕ → S → Type 0) where
 
     -- a source that gave more bytes than the limit had a text that is too long
     pub too_long_answer : (old new : S) (words : List (List ℕ)) (mode : Mode) (taken : List ℕ)
-        → AsksFor words mode → length taken ≡ TEXT_BYTES + 1 → Gives gave old taken new → IsAnswer words (left_of old) (TakesText gave old new) limit_text (code_of Limit)
-    too_long_answer old new words mode taken asks long given =
+        → AsksFor words mode → TakesSource mode → length taken ≡ TEXT_BYTES + 1 → Gives gave old taken new → IsAnswer words (left_of old) (TakesText gave old new) limit_text (code_of Limit)
+    too_long_answer old new words mode taken asks takes long given =
         let text = longer_text (left_of old) (left_of new) taken (given_from_left given) in
         let longer : length text.0 ≡ length taken + length text.1 = ap length text.3 ∙ length-append taken text.1 in
+        let past : TEXT_BYTES < length text.0 = omega arith in
         record {
           text = text.0;
           source = text.2;
           taken = λ _. inr (taken, text.1, text.3, long, given);
-          allowed = in_mode mode _ _ asks (too_long (omega arith));
+          allowed = in_mode mode _ _ asks (too_long (subst (λ t. TEXT_BYTES < length t) (sym (source_text mode takes text.0)) past));
         }
 
 -- what is answered to the module is answered to its text

@@ -10,9 +10,11 @@ use Rattle.sil_command.specs.declared.status.Status.TheVariants.{Done, Refused, 
 use Rattle.sil_command.specs.Statuses.{code_of}
 use Rattle.sil_command.specs.Texts.{read_fault_text}
 use Rattle.sil_command.specs.declared.words.Mode.{Mode}
-use Rattle.sil_command.specs.declared.words.Mode.TheVariants.{Check, Lower, Optimize, Print, Run}
+use Rattle.sil_command.specs.declared.words.Mode.TheVariants.{Check, Generate, Lower, Optimize, Print, Run}
 use Rattle.sil_command.specs.Answers.{Answers, usage, in_mode, AnswersText, too_long, unread, spelled, AnswersModule, AnswersChecked, AnswersRun, AnswersWrong, limit_passed, refused, wrong, accepted}
 use Rattle.sil_command.specs.Answers.{HasStatus, Writes, WritesOf, written, no_entry, ran}
+use Rattle.sil_command.specs.Generated.{AnswersGenerated, both_ran, no_main}
+use Rattle.sil_command.specs.GivenTexts.{text_for}
 use Rattle.sil_command.specs.Ends.{Call, Ends, answered, read_failed, exhausted, whole, front, WritesAnswer, Exhausts, WritesWhole, WritesFrontOfAnswer, IsStatus}
 use Rattle.sil_command.proofs.Unread.{unread_status}
 
@@ -69,12 +71,17 @@ run_status : (m : Module) (name : List ℕ) (bound : ℕ) (optimises : Bool) (an
 run_status m name bound optimises _ _ (no_entry none) = ten_is
 run_status m name bound optimises _ _ (ran k e f x s left entry ends has never) = ending_status x.ending s has
 
+generated_status : (m : Module) (answer : List ℕ) (status : ℕ) → AnswersGenerated m answer status → IsAnswerStatus status
+generated_status m _ _ (no_main none) = ten_is
+generated_status m _ _ (both_ran k x y left plain optimised) = zero_is
+
 module_status : (mode : Mode) (m : Module) (answer : List ℕ) (status : ℕ) → AnswersModule mode m answer status → IsAnswerStatus status
 module_status Check m = checked_status m _ (written_status _)
 module_status Print m = written_status _
 module_status (Lower optimises) m = checked_status m _ (of_status _ optimises m)
 module_status Optimize m = checked_status m _ (of_status _ true m)
 module_status (Run entry turns optimises) m = checked_status m _ (run_status m entry turns optimises)
+module_status (Generate size) m = checked_status m _ (generated_status m)
 
 unread_is : (status : ℕ) → (status ≡ code_of NotAModule) ⊎ (status ≡ code_of Limit) → IsAnswerStatus status
 unread_is status (inl three) = inr (inr (inr (inl three)))
@@ -87,7 +94,7 @@ text_status mode text answer status (spelled m _ _ within spells answers) = modu
 
 answer_status : (words : List (List ℕ)) (text answer : List ℕ) (status : ℕ) → Answers words text answer status → IsAnswerStatus status
 answer_status words text _ _ (usage none) = two_is
-answer_status words text answer status (in_mode mode _ _ asks answers) = text_status mode text answer status answers
+answer_status words text answer status (in_mode mode _ _ asks answers) = text_status mode (text_for mode text) answer status answers
 
 -- an answer's status is one of all
 all_statuses : (status : ℕ) → IsAnswerStatus status → IsStatus status

@@ -8,3 +8,7 @@ pub mod RunAnswers
 pub mod RunLemmas
 pub mod StatusLemmas
 pub mod Unread
+pub mod FewCopies
+pub mod LeftEntries
+pub mod GeneratedLemmas
+pub mod GeneratedRuns

@@ -15,9 +15,11 @@ use Rattle.sil_command.specs.declared.status.Status.{Status}
 use Rattle.sil_command.specs.declared.status.Status.TheVariants.{NotAModule}
 use Rattle.sil_command.specs.Statuses.{code_of}
 use Rattle.sil_command.specs.declared.words.Mode.{Mode}
-use Rattle.sil_command.specs.declared.words.Mode.TheVariants.{Check, Lower, Optimize, Print, Run}
+use Rattle.sil_command.specs.declared.words.Mode.TheVariants.{Check, Generate, Lower, Optimize, Print, Run}
 use Rattle.sil_command.specs.Answers.{AnswersChecked, AnswersModule, AnswersRun, AnswersText, AnswersWrong, HasStatus, Writes, WritesOf}
 use Rattle.sil_command.specs.Answers.{limit_passed, refused, wrong, accepted, written, no_entry, ran, too_long, unread, spelled}
+use Rattle.sil_command.specs.Generated.{AnswersGenerated, both_ran, no_main}
+use Rattle.sil_command.specs.GivenTexts.{text_for}
 use Rattle.sil_command.specs.Laws.{AreRefusedForTheFirst, AreReportedRightly, ChecksRules}
 use Rattle.sil_command.specs.RefusalTexts.{refusal_text}
 use Rattle.accepted_modules.specs.Findings.{Accepted, Finding, Refusal, limit as found_limit}
@@ -43,6 +45,7 @@ mode_written Print checks m = absurd checks
 mode_written (Lower optimises) checks m = first_written m _
 mode_written Optimize checks m = first_written m _
 mode_written (Run entry turns optimises) checks m = first_written m _
+mode_written (Generate size) checks m = first_written m _
 
 module _ (once : AreSpelledOnce) (mode : Mode) (checks : ChecksRules mode) (m : Module) where
   text_written : (text answer : List ℕ) (status : ℕ) → length text ≤ TEXT_BYTES → AnswersText mode text answer status → Spells m text
@@ -55,7 +58,7 @@ module _ (once : AreSpelledOnce) (mode : Mode) (checks : ChecksRules mode) (m : 
 
 pub refused_for_the_first : SayOneThing → AreSpelledOnce → AreRefusedForTheFirst
 refused_for_the_first one once words mode text answer status checks asks within answers m spells not =
-    text_written once mode checks m text answer status within (mode_answers one words mode text answer status asks answers) spells not
+    text_written once mode checks m (text_for mode text) answer status within (mode_answers one words mode text answer status asks answers) spells not
 
 -- a module is never answered as none
 wrong_reported : (m : Module) (answer : List ℕ) (status : ℕ) → AnswersWrong m answer status → status ≡ code_of NotAModule → ⊥
@@ -85,12 +88,17 @@ run_reported : (m : Module) (name : List ℕ) (bound : ℕ) (optimises : Bool) (
 run_reported m name bound optimises _ _ (no_entry none) three = omega arith
 run_reported m name bound optimises _ _ (ran k e f x s left entry ends has never) three = ending_reported x.ending s has three
 
+generated_reported : (m : Module) (answer : List ℕ) (status : ℕ) → AnswersGenerated m answer status → status ≡ code_of NotAModule → ⊥
+generated_reported m _ _ (no_main none) three = omega arith
+generated_reported m _ _ (both_ran k x y left plain optimised) three = omega arith
+
 module_reported : (mode : Mode) (m : Module) (answer : List ℕ) (status : ℕ) → AnswersModule mode m answer status → status ≡ code_of NotAModule → ⊥
 module_reported Check m = checked_reported m _ (written_reported _)
 module_reported Print m = written_reported _
 module_reported (Lower optimises) m = checked_reported m _ (of_reported (λ k. canonical_text (lowered k)) optimises m)
 module_reported Optimize m = checked_reported m _ (of_reported canonical_text true m)
 module_reported (Run entry turns optimises) m = checked_reported m _ (run_reported m entry turns optimises)
+module_reported (Generate size) m = checked_reported m _ (generated_reported m)
 
 text_reported : (mode : Mode) (text answer : List ℕ) (status : ℕ) → AnswersText mode text answer status → status ≡ code_of NotAModule → SpellsNone text
 text_reported mode text _ _ (too_long long) three = absurd (omega arith)
@@ -99,4 +107,4 @@ text_reported mode text answer status (spelled m _ _ inside spells answers) thre
 
 pub reported_rightly : SayOneThing → AreReportedRightly
 reported_rightly one words mode text answer status asks answers three =
-    text_reported mode text answer status (mode_answers one words mode text answer status asks answers) three
+    text_reported mode (text_for mode text) answer status (mode_answers one words mode text answer status asks answers) three

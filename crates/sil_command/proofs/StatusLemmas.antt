@@ -14,6 +14,7 @@ use Rattle.sil_command.specs.declared.words.Mode.{Mode}
 use Rattle.sil_command.specs.declared.words.Mode.TheVariants.{Check, Lower, Optimize, Print}
 use Rattle.sil_command.specs.Texts.{accepted_text}
 use Rattle.sil_command.specs.Words.{AsksFor}
+use Rattle.sil_command.specs.GivenTexts.{text_for}
 use Rattle.sil_command.specs.Answers.{Answers, usage, in_mode, AnswersText, too_long, unread, spelled, AnswersModule, AnswersChecked, AnswersWrong}
 use Rattle.sil_command.specs.Answers.{limit_passed, refused, wrong, accepted, Writes, WritesOf, written}
 use Rattle.sil_command.specs.Laws.{AnswersExactly, AreAcceptedExactly, AreLoweredExactly, AreOptimisedExactly, ArePrintedExactly}
@@ -23,10 +24,11 @@ use Rattle.sil_command.proofs.Asked.{asks_for_one}
 use Rattle.sil_command.proofs.Unread.{unread_none, unread_status}
 
 -- the answer to words that ask for a mode
-pub mode_answers : SayOneThing → (words : List (List ℕ)) (mode : Mode) (text answer : List ℕ) (status : ℕ) → AsksFor words mode → Answers words text answer status → AnswersText mode text answer status
+pub mode_answers : SayOneThing → (words : List (List ℕ)) (mode : Mode) (text answer : List ℕ) (status : ℕ) → AsksFor words mode → Answers words text answer status
+    → AnswersText mode (text_for mode text) answer status
 mode_answers one words mode text _ _ asks (usage none) = absurd (none (mode, asks))
 mode_answers one words mode text answer status asks (in_mode other _ _ again answers) =
-    subst (λ m. AnswersText m text answer status) (asks_for_one one words mode other asks again) answers
+    subst (λ m. AnswersText m (text_for m text) answer status) (asks_for_one one words mode other asks again) answers
 
 -- where the status is none of those of a text that isn't read, it tells of a text what it tells of the module
 module _ (one : SayOneThing) (once : AreSpelledOnce) (mode : Mode) (wanted : ℕ) (IsSuch : Module → Type 0)
@@ -50,8 +52,8 @@ module _ (one : SayOneThing) (once : AreSpelledOnce) (mode : Mode) (wanted : ℕ
 
   pub answers_exactly : AnswersExactly mode wanted IsSuch
   answers_exactly words text answer status asks within answers =
-      let of_mode : AnswersText mode text answer status = mode_answers one words mode text answer status asks answers in
-      (spelled_wanted text answer status within of_mode, wanted_spelled text answer status of_mode)
+      let of_mode : AnswersText mode (text_for mode text) answer status = mode_answers one words mode text answer status asks answers in
+      (spelled_wanted (text_for mode text) answer status within of_mode, wanted_spelled (text_for mode text) answer status of_mode)
 
 pub wrong_done : AreAcceptedWhereNothingIsFound → (m : Module) (answer : List ℕ) (status : ℕ) → AnswersWrong m answer status → Accepted m ↔ (status ≡ code_of Done)
 wrong_done law m _ _ (refused x first rule) = (λ known. absurd ((law m).0 known x first.shown), λ zero. absurd (omega arith))

@@ -26,8 +26,10 @@ use Rattle.sil_command.specs.declared.status.Status.TheVariants.{Done, Refused, 
 use Rattle.sil_command.specs.Statuses.{code_of}
 use Rattle.accepted_modules.specs.Findings.{Accepted, Finding, IsLimit, Refusal, limit}
 use Rattle.sil_command.specs.declared.words.Mode.{Mode}
-use Rattle.sil_command.specs.declared.words.Mode.TheVariants.{Check, Lower, Optimize, Print, Run}
+use Rattle.sil_command.specs.declared.words.Mode.TheVariants.{Check, Generate, Lower, Optimize, Print, Run}
 use Rattle.sil_command.specs.Words.{AsksFor, IsCommandLine}
+use Rattle.sil_command.specs.GivenTexts.{text_for}
+use Rattle.sil_command.specs.Generated.{AnswersGenerated}
 use Rattle.sil_command.specs.Reading.{AnswersRefusal}
 use Rattle.sil_command.specs.Texts.{usage_text, limit_text, type_limit_text, accepted_text, no_entry_text}
 use Rattle.sil_command.specs.RefusalTexts.{refusal_text}
@@ -66,14 +68,15 @@ pub data AnswersRun (m : Module) (name : List ℕ) (bound : ℕ) (optimises : Bo
       → AnswersRun m name bound optimises (report k (shape_of (declarations_of k) (given_type f.signature)) x) (code_of s)
 
 -- what each mode answers to a module: `check` that it is accepted; `print` its canonical text, whatever rules it breaks; `lower` the
--- canonical text of the lowered module, and `run` the report of its run, of the optimised module where that is asked for; and `optimize` the
--- canonical text of the optimised module
+-- canonical text of the lowered module, and `run` the report of its run, of the optimised module where that is asked for; `optimize` the
+-- canonical text of the optimised module; and `generate` the lines on the runs of both
 abbrev pub AnswersModule : Mode → Module → List ℕ → ℕ → Type 0
 AnswersModule Check m = AnswersChecked m (Writes accepted_text)
 AnswersModule Print m = Writes (canonical_text m)
 AnswersModule (Lower optimises) m = AnswersChecked m (WritesOf (λ k. canonical_text (lowered k)) optimises m)
 AnswersModule Optimize m = AnswersChecked m (WritesOf canonical_text true m)
 AnswersModule (Run entry turns optimises) m = AnswersChecked m (AnswersRun m entry turns optimises)
+AnswersModule (Generate size) m = AnswersChecked m (AnswersGenerated m)
 
 -- the answer of a mode to a text; one that is too long or isn't read is answered alike in all modes
 pub data AnswersText (mode : Mode) (text : List ℕ) : List ℕ → ℕ → Type 0 where
@@ -83,7 +86,8 @@ pub data AnswersText (mode : Mode) (text : List ℕ) : List ℕ → ℕ → Type
   spelled : (m : Module) (answer : List ℕ) (status : ℕ) → length text ≤ TEXT_BYTES → Spells m text → AnswersModule mode m answer status
       → AnswersText mode text answer status
 
--- the answer to a command line and a text
+-- the answer to a command line and to the text that a source has
 pub data Answers (words : List (List ℕ)) (text : List ℕ) : List ℕ → ℕ → Type 0 where
   usage : (IsCommandLine words → ⊥) → Answers words text usage_text (code_of Usage)
-  in_mode : (mode : Mode) (answer : List ℕ) (status : ℕ) → AsksFor words mode → AnswersText mode text answer status → Answers words text answer status
+  in_mode : (mode : Mode) (answer : List ℕ) (status : ℕ) → AsksFor words mode → AnswersText mode (text_for mode text) answer status
+      → Answers words text answer status

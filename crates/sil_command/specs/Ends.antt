@@ -9,7 +9,7 @@ use Rattle.sil_command.specs.declared.status.Status.{Status}
 use Rattle.sil_command.specs.declared.status.Status.TheVariants.{ReadFault, WriteFault, OutOfMemory}
 use Rattle.sil_command.specs.Statuses.{code_of}
 use Rattle.sil_command.specs.Texts.{read_fault_text}
-use Rattle.sil_command.specs.Words.{IsCommandLine}
+use Rattle.sil_command.specs.GivenTexts.{AskForText}
 use Rattle.sil_command.specs.Answers.{Answers}
 
 -- the source may have had this text left: where it tells what it has left, that is the text
@@ -31,11 +31,12 @@ abbrev pub GainsFront : {K : Type 0} → (K → Option (List ℕ)) → (K → Li
 GainsFront held took refused old new text = (n : ℕ) × (n < length text)
     × Appends (held old) (held new) (take n text) × PutsUntilRefused took refused old text n new
 
--- an allowed answer to the words and to the text that the source had, all of which was taken from it where the words are a command line
+-- an allowed answer to the words and to the text that the source had, all of which was taken from it where the words ask for a mode that
+-- takes it
 pub record IsAnswer (words : List (List ℕ)) (left : Option (List ℕ)) (Takes : List ℕ → Type 0) (answer : List ℕ) (status : ℕ) : Type 0 where
   pub text : List ℕ
   pub source : MayHave left text
-  pub taken : IsCommandLine words → Takes text
+  pub taken : AskForText words → Takes text
   pub allowed : Answers words text answer status
 
 -- memory ran out before the sink was touched

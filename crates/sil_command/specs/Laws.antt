@@ -1,5 +1,5 @@
 -- What the answers of each mode tell of a text.
-use Rattle.std.specs.Prelude.{◌≡◌, ◌↔◌, ℕ, ◌≤◌, Bool, List, length, ⊤}
+use Rattle.std.specs.Prelude.{◌≡◌, ◌↔◌, ℕ, ◌≤◌, Bool, List, codes, length, ⊤}
 use Rattle.module_runner.specs.Faults.{HolderFault}
 use Rattle.module_runner.specs.Outcomes.{EndsSo, Outcome}
 use Rattle.module_runner.specs.States.{Ending}
@@ -16,16 +16,18 @@ use Rattle.sil_command.specs.declared.status.Status.TheVariants.{Done, NotAModul
 use Rattle.sil_command.specs.Statuses.{code_of}
 use Rattle.accepted_modules.specs.Findings.{Accepted, Finding, Refusal}
 use Rattle.sil_command.specs.declared.words.Mode.{Mode}
-use Rattle.sil_command.specs.declared.words.Mode.TheVariants.{Check, Lower, Optimize, Print, Run}
+use Rattle.sil_command.specs.declared.words.Mode.TheVariants.{Check, Generate, Lower, Optimize, Print, Run}
 use Rattle.sil_command.specs.Words.{AsksFor}
+use Rattle.sil_command.specs.GivenTexts.{text_for}
 use Rattle.sil_command.specs.Answers.{Answers, HasStatus}
 use Rattle.sil_command.specs.RefusalTexts.{refusal_text}
 
--- among texts within the limit, the mode answers with the status just those that spell a module that is such
+-- among texts within the limit, the mode answers with the status just those that spell a module that is such: texts of a source, or the
+-- generated one
 abbrev pub AnswersExactly : Mode → ℕ → (Module → Type 0) → Type 0
 AnswersExactly mode wanted IsSuch =
-    (words : List (List ℕ)) (text answer : List ℕ) (status : ℕ) → AsksFor words mode → length text ≤ TEXT_BYTES → Answers words text answer status
-    → ((m : Module) × Spells m text × IsSuch m) ↔ (status ≡ wanted)
+    (words : List (List ℕ)) (text answer : List ℕ) (status : ℕ) → AsksFor words mode → length (text_for mode text) ≤ TEXT_BYTES
+    → Answers words text answer status → ((m : Module) × Spells m (text_for mode text) × IsSuch m) ↔ (status ≡ wanted)
 
 -- `check` answers Done just for the texts that spell an accepted module
 abbrev pub AreAcceptedExactly : Type 0
@@ -64,18 +66,24 @@ ChecksRules Print = ⊥
 ChecksRules (Lower optimises) = ⊤
 ChecksRules Optimize = ⊤
 ChecksRules (Run entry turns optimises) = ⊤
+ChecksRules (Generate size) = ⊤
 
 -- where a text spells a module that isn't accepted, these modes write the first of all that is wrong with the module
 abbrev pub AreRefusedForTheFirst : Type 0
 AreRefusedForTheFirst =
-    (words : List (List ℕ)) (mode : Mode) (text answer : List ℕ) (status : ℕ) → ChecksRules mode → AsksFor words mode → length text ≤ TEXT_BYTES
-    → Answers words text answer status → (m : Module) → Spells m text → (Accepted m → ⊥) → (x : Finding) × Refusal m x × (answer ≡ refusal_text m x)
+    (words : List (List ℕ)) (mode : Mode) (text answer : List ℕ) (status : ℕ) → ChecksRules mode → AsksFor words mode
+    → length (text_for mode text) ≤ TEXT_BYTES → Answers words text answer status → (m : Module) → Spells m (text_for mode text) → (Accepted m → ⊥)
+    → (x : Finding) × Refusal m x × (answer ≡ refusal_text m x)
 
 -- no mode answers NotAModule for a text that spells a module
 abbrev pub AreReportedRightly : Type 0
 AreReportedRightly =
     (words : List (List ℕ)) (mode : Mode) (text answer : List ℕ) (status : ℕ) → AsksFor words mode → Answers words text answer status
-    → status ≡ code_of NotAModule → SpellsNone text
+    → status ≡ code_of NotAModule → SpellsNone (text_for mode text)
+
+-- `generate` answers Done just where the generated text spells an accepted module with a `@main` with which a run may begin
+abbrev pub AreGeneratedExactly : Type 0
+AreGeneratedExactly = (size : ℕ) → AnswersExactly (Generate size) (code_of Done) (λ m. Accepted m × HasEntry m (codes "main"))
 
 -- `print` answers Done just for the texts that spell a module
 abbrev pub ArePrintedExactly : Type 0

@@ -2,6 +2,9 @@ pub mod Statuses
 pub mod Words
 pub mod Texts
 pub mod Reading
+pub mod Summaries
+pub mod GivenTexts
+pub mod Generated
 pub mod Answers
 pub mod Ends
 pub mod ValueTexts

@@ -3,8 +3,9 @@ use Rattle.std.specs.Prelude.{◌≡◌, ℕ, ◌≤◌, Bool, false, List, Opti
 use Rattle.std.specs.Str.Parse.{IsNumeral, digits_value}
 use Rattle.command_words.specs.CommandLines.{Says}
 use Rattle.sil_command.specs.declared.run_words.TheConstants.{BOUND_DIGITS, DEFAULT_TURNS, MOST_TURNS}
+use Rattle.sil_command.specs.declared.size_words.TheConstants.{MOST_FUNCTIONS, SIZE_DIGITS}
 use Rattle.sil_command.specs.declared.words.Mode.{Mode}
-use Rattle.sil_command.specs.declared.words.Mode.TheVariants.{Check, Lower, Optimize, Print, Run}
+use Rattle.sil_command.specs.declared.words.Mode.TheVariants.{Check, Generate, Lower, Optimize, Print, Run}
 
 abbrev pub word_of : Mode → List ℕ
 word_of Check = codes "check"
@@ -12,6 +13,7 @@ word_of Print = codes "print"
 word_of (Lower optimises) = codes "lower"
 word_of Optimize = codes "optimize"
 word_of (Run entry turns optimises) = codes "run"
+word_of (Generate size) = codes "generate"
 
 -- these digits, at most seven, write a bound on turns, which is from 1 to 1,000,000
 pub record IsBound (digits : List ℕ) (bound : ℕ) : Type 0 where
@@ -30,22 +32,37 @@ IsBoundBy (Some digits) bound = IsBound digits bound
 abbrev pub entry_by : Option (List ℕ) → List ℕ
 entry_by value = unwrap_or value (codes "main")
 
--- the mode takes these values of `--turns` and `--entry`, and `--optimize` or not: `run` takes all three, `lower` the flag, and all others
--- none
-abbrev pub Takes : Mode → Option (List ℕ) → Option (List ℕ) → Bool → Type 0
-Takes Check turns entry flag = (turns ≡ None) × (entry ≡ None) × (flag ≡ false)
-Takes Print turns entry flag = (turns ≡ None) × (entry ≡ None) × (flag ≡ false)
-Takes (Lower optimises) turns entry flag = (turns ≡ None) × (entry ≡ None) × (flag ≡ optimises)
-Takes Optimize turns entry flag = (turns ≡ None) × (entry ≡ None) × (flag ≡ false)
-Takes (Run name bound optimises) turns entry flag = IsBoundBy turns bound × (name ≡ entry_by entry) × (flag ≡ optimises)
+-- these digits, at most three, write the size of a generated module, which is from 1 to 500
+pub record IsSize (digits : List ℕ) (size : ℕ) : Type 0 where
+  pub numeral : IsNumeral 10 digits
+  pub short : length digits ≤ SIZE_DIGITS
+  pub value : digits_value 10 digits ≡ size
+  pub some : 1 ≤ size
+  pub most : size ≤ MOST_FUNCTIONS
 
--- the words name the mode, and give the options that it takes
+-- the size that the number gives, which has to be there
+abbrev pub IsSizeBy : Option (List ℕ) → ℕ → Type 0
+IsSizeBy None size = ⊥
+IsSizeBy (Some digits) size = IsSize digits size
+
+-- the mode takes this number, these values of `--turns` and `--entry`, and `--optimize` or not: `run` takes all options, `lower` the flag,
+-- `generate` the number, and all others none
+abbrev pub Takes : Mode → Option (List ℕ) → Option (List ℕ) → Option (List ℕ) → Bool → Type 0
+Takes Check number turns entry flag = (number ≡ None) × (turns ≡ None) × (entry ≡ None) × (flag ≡ false)
+Takes Print number turns entry flag = (number ≡ None) × (turns ≡ None) × (entry ≡ None) × (flag ≡ false)
+Takes (Lower optimises) number turns entry flag = (number ≡ None) × (turns ≡ None) × (entry ≡ None) × (flag ≡ optimises)
+Takes Optimize number turns entry flag = (number ≡ None) × (turns ≡ None) × (entry ≡ None) × (flag ≡ false)
+Takes (Run name bound optimises) number turns entry flag = (number ≡ None) × IsBoundBy turns bound × (name ≡ entry_by entry) × (flag ≡ optimises)
+Takes (Generate size) number turns entry flag = IsSizeBy number size × (turns ≡ None) × (entry ≡ None) × (flag ≡ false)
+
+-- the words name the mode, and give the number and the options that it takes
 pub record AsksFor (words : List (List ℕ)) (mode : Mode) : Type 0 where
+  pub number : Option (List ℕ)
   pub turns : Option (List ℕ)
   pub entry : Option (List ℕ)
   pub flag : Bool
-  pub says : Says words (word_of mode) turns entry flag
-  pub takes : Takes mode turns entry flag
+  pub says : Says words (word_of mode) number turns entry flag
+  pub takes : Takes mode number turns entry flag
 
 -- the words ask for some mode
 abbrev pub IsCommandLine : List (List ℕ) → Type 0

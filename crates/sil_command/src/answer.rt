@@ -10,6 +10,7 @@ ghost use Rattle.sil_command.specs.declared.words.Mode.TheVariants.{Check, Lower
 ghost use Rattle.sil_command.specs.Answers.{AnswersModule, AnswersText, Writes, WritesOf};
 ghost use Rattle.sil_command.specs.Words.{IsAskedFor};
 
+use crate::generate::answer_generated;
 use crate::reading::answer_refusal;
 use crate::run_answer::answer_run;
 use crate::status::Status;
@@ -63,6 +64,7 @@ fn answer_module(alloc: Global, mode: Mode, module: Module) -> Result<Answer, Ex
             turns,
             optimise,
         } => run_module(alloc, module, entry.as_slice(), turns, optimise),
+        Mode::Generate { size: _ } => answer_generated(alloc, module),
     }
 }
 

@@ -1,7 +1,7 @@
 //! What follows from the definition of answers, on calls that do nothing.
 
 ghost use Rattle.sil_command.specs.Laws.{AreAcceptedExactly, AreLoweredExactly, AreOptimisedExactly, ArePrintedExactly, ArePrintedReadBack};
-ghost use Rattle.sil_command.specs.Laws.{AreRefusedForTheFirst, AreReportedRightly, AreRunExactly, HaveNoEntryExactly};
+ghost use Rattle.sil_command.specs.Laws.{AreGeneratedExactly, AreRefusedForTheFirst, AreReportedRightly, AreRunExactly, HaveNoEntryExactly};
 
 use accepted_modules::accepted_where_nothing_is_found;
 use command_words::command_lines_say_one_thing;
@@ -53,6 +53,15 @@ pub fn run_exactly()
 /// a module.
 pub fn no_entry_exactly()
     ensures { HaveNoEntryExactly }
+{
+    command_lines_say_one_thing();
+    spelled_once();
+    accepted_where_nothing_is_found();
+}
+
+/// `generate` answers with status 0 just where its text spells an accepted module that can be run.
+pub fn generated_exactly()
+    ensures { AreGeneratedExactly }
 {
     command_lines_say_one_thing();
     spelled_once();

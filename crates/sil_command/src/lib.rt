@@ -3,12 +3,17 @@
 #![tactic(auto)]
 
 mod answer;
+mod copies;
+mod generate;
+mod given_text;
 mod laws;
 mod reading;
 mod refusal_lines;
 mod run_answer;
 mod run_words;
+mod size_words;
 mod status;
+mod summary;
 mod texts;
 mod top_call;
 mod value_lines;
@@ -16,8 +21,9 @@ mod verified;
 mod words;
 
 pub use laws::{
-    accepted_exactly, lowered_exactly, no_entry_exactly, optimised_exactly, printed_exactly,
+    accepted_exactly, generated_exactly, lowered_exactly, no_entry_exactly, optimised_exactly, printed_exactly,
     printed_texts_read_back, refused_for_the_first, reported_rightly, run_exactly,
 };
+pub use module_generator::generated_text;
 pub use status::Status;
 pub use top_call::command;

@@ -6,15 +6,18 @@ ghost use Rattle.sil_io.specs.Reading.{TakesWithin};
 ghost use Rattle.sil_rules.specs.declared.limits.TheConstants.{TEXT_BYTES};
 ghost use Rattle.sil_command.specs.declared.status.Status.TheVariants.{ReadFault, WriteFault, OutOfMemory};
 ghost use Rattle.sil_command.specs.Statuses.{code_of};
-ghost use Rattle.sil_command.specs.Words.{AsksFor, IsAskedFor, IsCommandLine};
+ghost use Rattle.sil_command.specs.Words.{AsksFor, IsAskedFor};
+ghost use Rattle.sil_command.specs.GivenTexts.{AskForText, TakesSource};
 ghost use Rattle.sil_command.specs.Texts.{read_fault_text};
 ghost use Rattle.sil_command.specs.Ends.{TakesText, Gains, GainsFront, WritesAnswer, Exhausts, WritesWhole};
 ghost use Rattle.sil_command.specs.Ends.{WritesFrontOfAnswer, IsStatus, FinishesText, call_between, Ends};
 
 use crate::answer::answer_to;
+use crate::given_text::{answer_to_size, size_of};
 use crate::status::Status;
 use crate::texts;
 use crate::words::{Mode, mode_of};
+use command_words::command_lines_say_one_thing;
 use sil_ast::Exhausted;
 use sil_io::{ReadEnd, Sink, Source, read_all, write_all};
 use sil_rules::limits;
@@ -22,15 +25,16 @@ use std::alloc::Global;
 
 /// Does what the words ask for: reads a text from the source, writes one answer to the sink, and answers the status.
 ///
-/// The words are those after the program's name: `check`, `print`, `optimize`, `lower` with `--optimize`, or `run` with `--turns N`,
-/// `--entry NAME` and `--optimize` (`docs/PROFILE.md`, "Command line and answers"). The statuses are 0 (done), 1 (refused by a rule), 2 (not a command line),
-/// 3 (not a module), 4 (a read failed), 5 (a write failed), 6 (a run ended with a trap), 7 (a run was out of turns), 8 (past a
-/// limit), 9 (no memory left; nothing was written) and 10 (no entry function of the name).
+/// The words are those after the program's name: `check`, `print`, `optimize`, `lower` with `--optimize`, `run` with `--turns N`,
+/// `--entry NAME` and `--optimize`, or `generate N` (`docs/PROFILE.md`, "Command line and answers"). The statuses are 0 (done),
+/// 1 (refused by a rule), 2 (not a command line), 3 (not a module), 4 (a read failed), 5 (a write failed), 6 (a run ended with a trap),
+/// 7 (a run was out of turns), 8 (past a limit), 9 (no memory left; nothing was written) and 10 (no entry function of the name).
 /// Of a text that spells a module all modes but `print` answer the first that is wrong with it, with a walk that shows it for a
 /// rule on walks. Exactly where the module is within the limits and keeps all rules, `check` answers that it is accepted, `optimize` the
 /// canonical text of the optimised module, `lower` that of its lowered form, and `run` the report of its run by holders; with the flag,
 /// of the lowered form, or of the run, of the optimised module. No such run ends in a fault, nor does that of the lowered form. `print`
-/// answers the module's canonical text.
+/// answers the module's canonical text. `generate` reads nothing: it makes a text, and sums up the runs of its module and of the
+/// optimised one.
 /// Of a text that spells none all answer what is wrong, and where.
 /// The answer is built whole before the first byte of it is written, and after that no memory is taken.
 pub fn command<'a, S: Source, K: Sink>(
@@ -44,8 +48,9 @@ pub fn command<'a, S: Source, K: Sink>(
         WritesAnswer (map (λ w. w.now) words.entry.now) (S.left source.old)
         (TakesText S.gave source.old source.new) (Gains K.held K.took out.old out.new) result
         ⊎ Exhausts (out.new ≡ out.old) result }
-    // Words that are no command line need no source. Others take it to its end, or to the first byte past the limit, and no further.
-    ensures source_untouched { ¬ IsCommandLine (map (λ w. w.now) words.entry.now) → source.new ≡ source.old }
+    // Words that are no command line, or ask for `generate`, need no source. Others take it to its end, or to the first byte past the
+    // limit, and no further.
+    ensures source_untouched { ¬ AskForText (map (λ w. w.now) words.entry.now) → source.new ≡ source.old }
     ensures takes { TakesWithin S.gave S.missed TEXT_BYTES source.old source.new }
 
     // The status of a failed read comes only with a fault of the source. With one, and none of the sink, the line on it is written
@@ -83,19 +88,38 @@ fn run<'a, S: Source, K: Sink>(
 ) -> u8
     ensures ends { Ends (call_between (map (λ w. w.now) words.entry.now) S.left S.gave S.faults
         source.old source.new K.held K.took K.refused K.faults out.old out.new) result }
-    ensures source_untouched { ¬ IsCommandLine (map (λ w. w.now) words.entry.now) → source.new ≡ source.old }
+    ensures source_untouched { ¬ AskForText (map (λ w. w.now) words.entry.now) → source.new ≡ source.old }
     ensures takes { TakesWithin S.gave S.missed TEXT_BYTES source.old source.new }
 {
     match mode_of(alloc, words) {
-        Ok(Some(mode)) => answer_in(alloc, mode, source, out),
+        Ok(Some(mode)) => answer_asked(alloc, mode, source, out),
         Ok(None) => finish(out, texts::usage(), Status::Usage),
         Err(Exhausted) => Status::OutOfMemory.code(),
     }
 }
 
+/// Answers in this mode, to the text of the source or to its own.
+fn answer_asked<S: Source, K: Sink>(alloc: Global, mode: Mode, source: &mut S, out: &mut K) -> u8
+    requires { IsAskedFor mode }
+    ensures ends { (words : List (List ℕ)) → AsksFor words mode → Ends (call_between words S.left S.gave S.faults
+        source.old source.new K.held K.took K.refused K.faults out.old out.new) result }
+    ensures source_untouched { ¬ TakesSource mode → source.new ≡ source.old }
+    ensures takes { TakesWithin S.gave S.missed TEXT_BYTES source.old source.new }
+{
+    command_lines_say_one_thing();
+    match size_of(&mode) {
+        Some(size) => match answer_to_size(alloc, size) {
+            Ok(answer) => finish(out, answer.text.as_slice(), answer.status),
+            Err(Exhausted) => Status::OutOfMemory.code(),
+        },
+        None => answer_in(alloc, mode, source, out),
+    }
+}
+
 /// Takes the text and answers it in this mode.
 fn answer_in<S: Source, K: Sink>(alloc: Global, mode: Mode, source: &mut S, out: &mut K) -> u8
-    requires { IsAskedFor mode }
+    requires asked { IsAskedFor mode }
+    requires takes { TakesSource mode }
     ensures ends { (words : List (List ℕ)) → AsksFor words mode → Ends (call_between words S.left S.gave S.faults
         source.old source.new K.held K.took K.refused K.faults out.old out.new) result }
     ensures takes { TakesWithin S.gave S.missed TEXT_BYTES source.old source.new }

@@ -1,10 +1,11 @@
 //! The words of a command line: which mode they ask for.
 
-ghost use Rattle.std.specs.Prelude.{◌≡◌, IfOk, MatchOption, None, codes, map, option_map};
+ghost use Rattle.std.specs.Prelude.{◌≡◌, IfOk, MatchOption, None, Some, codes, map, option_map};
 ghost use Rattle.sil_command.specs.declared.words.Mode.{Mode};
 ghost use Rattle.sil_command.specs.Words.{AsksFor, IsCommandLine, Takes, word_of};
 
 use crate::run_words::{bound_of, entry_name};
+use crate::size_words::written_size;
 use command_words::{CommandWords, command_lines_say_one_thing, read_words};
 use sil_ast::{Exhausted, Text};
 use std::alloc::Global;
@@ -29,6 +30,11 @@ pub enum Mode {
         turns: u32,
         optimise: bool,
     },
+    /// No text is read: that of a module with this many functions besides `main` is made. Its rules are checked, what lowering makes of it
+    /// and of the optimised module is run, and both runs are summed up.
+    Generate {
+        size: u32,
+    },
 }
 
 /// The mode that the words ask for, or none where they are no command line.
@@ -42,21 +48,26 @@ pub fn mode_of<'a>(alloc: Global, words: &'a [&'a str]) -> Result<Option<Mode>, 
     }
 }
 
-/// The mode that is said, if it takes the options that are given.
+/// The mode that is said, if it takes the number and the options that are given.
 fn mode_said(alloc: Global, said: CommandWords<'_>) -> Result<Option<Mode>, Exhausted>
     ensures { IfOk result (λ found. MatchOption found
         ((mode : Mode) → said.entry.mode.now ≡ word_of mode
-        → ¬ Takes mode (option_map (λ v. v.now) said.entry.turns) (option_map (λ v. v.now) said.entry.entry) said.entry.optimize)
+        → ¬ Takes mode (option_map (λ v. v.now) said.entry.number) (option_map (λ v. v.now) said.entry.turns)
+            (option_map (λ v. v.now) said.entry.entry) said.entry.optimize)
         (λ mode. (said.entry.mode.now ≡ word_of mode)
-        × Takes mode (option_map (λ v. v.now) said.entry.turns) (option_map (λ v. v.now) said.entry.entry) said.entry.optimize)) }
+        × Takes mode (option_map (λ v. v.now) said.entry.number) (option_map (λ v. v.now) said.entry.turns)
+            (option_map (λ v. v.now) said.entry.entry) said.entry.optimize)) }
 {
-    if said.mode == "run" {
+    if said.mode == "run" && said.number.is_none() {
         return run_mode(alloc, said.turns, said.entry, said.optimize);
     }
     if said.turns.is_some() || said.entry.is_some() {
         return Ok(None);
     }
-    Ok(mode_named(said.mode, said.optimize))
+    match said.number {
+        Some(digits) => Ok(numbered_mode(said.mode, digits, said.optimize)),
+        None => Ok(mode_named(said.mode, said.optimize)),
+    }
 }
 
 fn run_mode(
@@ -66,8 +77,10 @@ fn run_mode(
     optimise: bool,
 ) -> Result<Option<Mode>, Exhausted>
     ensures { IfOk result (λ found. MatchOption found
-        ((mode : Mode) → word_of mode ≡ codes "run" → ¬ Takes mode (option_map (λ v. v.now) turns.entry) (option_map (λ v. v.now) entry.entry) optimise)
-        (λ mode. (word_of mode ≡ codes "run") × Takes mode (option_map (λ v. v.now) turns.entry) (option_map (λ v. v.now) entry.entry) optimise)) }
+        ((mode : Mode) → word_of mode ≡ codes "run"
+        → ¬ Takes mode None (option_map (λ v. v.now) turns.entry) (option_map (λ v. v.now) entry.entry) optimise)
+        (λ mode. (word_of mode ≡ codes "run")
+        × Takes mode None (option_map (λ v. v.now) turns.entry) (option_map (λ v. v.now) entry.entry) optimise)) }
 {
     let Some(turns) = bound_of(turns) else {
         return Ok(None);
@@ -80,11 +93,23 @@ fn run_mode(
     }))
 }
 
-/// The mode of this word that takes no value of an option, but maybe the flag.
+/// The mode of this word that takes this number, and no options.
+fn numbered_mode(word: &str, digits: &str, optimise: bool) -> Option<Mode>
+    ensures { MatchOption result ((mode : Mode) → word.now ≡ word_of mode → ¬ Takes mode (Some digits.now) None None optimise)
+        (λ mode. (word.now ≡ word_of mode) × Takes mode (Some digits.now) None None optimise) }
+{
+    if word != "generate" || optimise {
+        return None;
+    }
+    let size = written_size(digits)?;
+    Some(Mode::Generate { size })
+}
+
+/// The mode of this word that takes no number and no value of an option, but maybe the flag.
 fn mode_named(word: &str, optimise: bool) -> Option<Mode>
     requires { ¬ word.now ≡ codes "run" }
-    ensures { MatchOption result ((mode : Mode) → word.now ≡ word_of mode → ¬ Takes mode None None optimise)
-        (λ mode. (word.now ≡ word_of mode) × Takes mode None None optimise) }
+    ensures { MatchOption result ((mode : Mode) → word.now ≡ word_of mode → ¬ Takes mode None None None optimise)
+        (λ mode. (word.now ≡ word_of mode) × Takes mode None None None optimise) }
 {
     match word {
         "lower" => Some(Mode::Lower { optimise }),

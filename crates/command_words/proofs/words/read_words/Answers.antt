@@ -19,10 +19,12 @@ use Rattle.command_words.proofs.Parsed.{is_simple_app, is_simple_command}
 use Rattle.command_words.proofs.words.read_words.Goals as goal
 
 said : (words : List Text) (f : Found) → fault_of declared_app words ≡ [] → rows_of f ≡ matches_of declared_app words → (read : Option CommandWords)
-    → MatchOption read (first_value f (codes "mode") ≡ None) (λ r. Matches f r.mode.now (option_map (λ v. v.now) r.turns) (option_map (λ v. v.now) r.entry) r.optimize)
-    → MatchOption read (IsCommandLine words → ⊥) (λ r. Says words r.mode.now (option_map (λ v. v.now) r.turns) (option_map (λ v. v.now) r.entry) r.optimize)
+    → MatchOption read (first_value f (codes "mode") ≡ None)
+    (λ r. Matches f r.mode.now (option_map (λ v. v.now) r.number) (option_map (λ v. v.now) r.turns) (option_map (λ v. v.now) r.entry) r.optimize)
+    → MatchOption read (IsCommandLine words → ⊥)
+    (λ r. Says words r.mode.now (option_map (λ v. v.now) r.number) (option_map (λ v. v.now) r.turns) (option_map (λ v. v.now) r.entry) r.optimize)
 said words f none all None h = λ line. mode_found words f none all h
-said words f none all (Some r) h = says words f none all r.mode.now (option_map (λ v. v.now) r.turns) (option_map (λ v. v.now) r.entry) r.optimize h
+said words f none all (Some r) h = says words f none all r.mode.now (option_map (λ v. v.now) r.number) (option_map (λ v. v.now) r.turns) (option_map (λ v. v.now) r.entry) r.optimize h
 
 no_kind : (k : ErrorKind) (kinds : Kinds) → kinds ≡ [] → IsAmong k kinds → ⊥
 no_kind k kinds none among = subst (IsAmong k) none among

@@ -8,7 +8,7 @@ use Rattle.sil_command.proofs.top_call.answer_in.Goals as goal
 pub returns-in-Ok-answer_to-clause-ends : goal.returns-in-Ok-answer_to-clause-ends
 returns-in-Ok-answer_to-clause-ends g c = λ words asks.
     answered _ _ _
-    (whole_answer _ _ _ _ c.args.mode _ c.in-Ok.text.items _ _ _ asks c.in-Ok.ensures.all c.in-Ok.ensures.to_end refl c.in-Ok-answer_to.ensures)
+    (whole_answer _ _ _ _ c.args.mode _ c.in-Ok.text.items _ _ _ asks c.requires.takes c.in-Ok.ensures.all c.in-Ok.ensures.to_end refl c.in-Ok-answer_to.ensures)
     c.in-Ok.ensures.no_fault
     (rw c.as_slice.ensures.value at c.finish.ensures)
 
@@ -25,7 +25,7 @@ pub returns-in-Err-TooLong-clause-ends : goal.returns-in-Err-TooLong-clause-ends
 returns-in-Err-TooLong-clause-ends g c = λ words asks.
     let cut = rw c.in-Err-TooLong.field-0-is at c.in-Err-TooLong.ensures.cut_off in
     answered _ _ _
-    (too_long_answer _ _ g.met.S.Source.from_left _ _ _ c.args.mode cut.0 asks cut.1 cut.2)
+    (too_long_answer _ _ g.met.S.Source.from_left _ _ _ c.args.mode cut.0 asks c.requires.takes cut.1 cut.2)
     (rw c.in-Err-TooLong.field-0-is at c.in-Err-TooLong.ensures.refused)
     (rw c.limit.ensures at c.finish-in-Err-TooLong.ensures)
 

@@ -5,8 +5,12 @@ use Rattle.sil_command.specs.Ends.{answered, exhausted}
 use Rattle.sil_command.proofs.AnswerLemmas.{usage_answer}
 use Rattle.sil_command.proofs.top_call.run.Goals as goal
 
-pub answer_in-requires : goal.answer_in-requires
-answer_in-requires g c = (map {A = Bor (List ℕ)} (λ w. w.now) c.args.words.now, rw c.in-Ok-Some.field-0-is at c.in-Ok-Some.ensures)
+pub answer_asked-requires : goal.answer_asked-requires
+answer_asked-requires g c = (map {A = Bor (List ℕ)} (λ w. w.now) c.args.words.now, rw c.in-Ok-Some.field-0-is at c.in-Ok-Some.ensures)
+
+pub returns-in-Ok-Some-clause-source_untouched : goal.returns-in-Ok-Some-clause-source_untouched
+returns-in-Ok-Some-clause-source_untouched g c = λ none.
+    c.answer_asked.ensures.source_untouched (λ takes. none (c.in-Ok-Some.mode, rw c.in-Ok-Some.field-0-is at c.in-Ok-Some.ensures, takes))
 
 pub returns-in-Ok-None-clause-ends : goal.returns-in-Ok-None-clause-ends
 returns-in-Ok-None-clause-ends g c =

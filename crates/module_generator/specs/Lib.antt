@@ -1,0 +1,4 @@
+pub mod Parts
+pub mod WorkFunctions
+pub mod GeneratedModules
+pub mod inner

@@ -1,0 +1,29 @@
+-- What is told of the runs of a generated module.
+use Rattle.std.proofs.Common.{◌≡◌, ℕ, List, length, subst}
+use Rattle.std.specs.Prelude.{codes, false, true}
+use Rattle.module_runner.specs.Outcomes.{EndsSo}
+use Rattle.module_runner.specs.Optimising.{IsOptimisedIf}
+use Rattle.module_runner.specs.declared.report.RunReport.{RunReport}
+use Rattle.module_runner.specs.inner.RunReports.{TellsOfRun, outcome_of}
+use Rattle.sil_ast.specs.declared.module.Module.{Module}
+use Rattle.sil_command.specs.declared.run_words.TheConstants.{DEFAULT_TURNS}
+use Rattle.sil_command.specs.declared.status.Status.TheVariants.{Done}
+use Rattle.sil_command.specs.declared.summary.Totals.{Totals}
+use Rattle.sil_command.specs.Generated.{AnswersGenerated, Ran, RunsSo, both_ran, totals_of}
+use Rattle.sil_command.specs.Statuses.{code_of}
+use Rattle.sil_command.specs.Summaries.{copies_of, summary_text}
+
+pub ran_so : (m : Module) (r : RunReport) → TellsOfRun m (codes "main") DEFAULT_TURNS false r → RunsSo m (outcome_of r)
+ran_so m r tells = record {
+  entry = tells.entry;
+  function = tells.function;
+  begins = tells.begins;
+  ends = subst (λ k. EndsSo k tells.entry DEFAULT_TURNS (outcome_of r)) tells.tells.optimised tells.tells.ends;
+}
+
+-- the lines are those of the two runs
+pub summed_up : (m k : Module) (x y : Ran) (functions before after : ℕ) (plain optimised : Totals) (text : List ℕ) → IsOptimisedIf true m k → RunsSo m x → RunsSo k y
+    → functions ≡ length m.functions → before ≡ copies_of m → after ≡ copies_of k → plain ≡ totals_of x → optimised ≡ totals_of y
+    → text ≡ summary_text functions before after plain optimised → AnswersGenerated m text (code_of Done)
+summed_up m k x y functions before after plain optimised text left first second at_functions at_before at_after at_plain at_optimised is =
+    rw (is, at_functions, at_before, at_after, at_plain, at_optimised) (both_ran k x y left first second)

@@ -1,0 +1,109 @@
+//! The answer of `generate` to the module that its text spells: what the runs of it and of the optimised module show.
+
+ghost use Rattle.std.specs.Prelude.{◌≡◌, IfOk, MatchOption, codes, length};
+ghost use Rattle.module_runner.specs.Entries.{HasEntry};
+ghost use Rattle.module_runner.specs.inner.RunReports.{outcome_of};
+ghost use Rattle.numbered_form.specs.inner.NumberedForm.{IsNumbered};
+ghost use Rattle.sil_command.specs.Answers.{AnswersChecked};
+ghost use Rattle.sil_command.specs.Generated as generated;
+ghost use Rattle.sil_command.specs.Generated.{AnswersGenerated, Ran, RunsSo};
+ghost use Rattle.sil_command.specs.Statuses.{code_of};
+ghost use Rattle.sil_command.specs.Summaries as summaries;
+
+use crate::answer::Answer;
+use crate::copies::copies_in;
+use crate::run_words::DEFAULT_TURNS;
+use crate::status::Status;
+use crate::summary::{Totals, summary};
+use crate::texts;
+use crate::verified::answer_end;
+use module_runner::{RunEnd, RunReport, optimised_if, run_checked};
+use sil_ast::{Exhausted, Module};
+use sil_verifier::{Checked, verify};
+use std::alloc::Global;
+use std::mem::forget;
+
+/// The answer to a module: what is wrong with it, or the lines on its runs.
+pub(crate) fn answer_generated(alloc: Global, module: Module) -> Result<Answer, Exhausted>
+    requires { IsNumbered «module» }
+    ensures { IfOk result (λ a. AnswersChecked «module» (AnswersGenerated «module») a.text.items (code_of a.status)) }
+{
+    match verify(alloc, module) {
+        Ok(checked) => answer_runs(alloc, checked),
+        Err(end) => answer_end(alloc, end),
+    }
+}
+
+fn answer_runs(alloc: Global, checked: Checked) -> Result<Answer, Exhausted>
+    ensures { IfOk result (λ a. AnswersGenerated checked a.text.items (code_of a.status)) }
+{
+    let shown = totals_of_run(alloc, &checked)?;
+    match shown {
+        Some(plain) => sum_up(alloc, checked, plain),
+        None => {
+            forget(checked);
+            Ok(Answer {
+                text: texts::no_entry(alloc, b"main")?,
+                status: Status::NoEntry,
+            })
+        }
+    }
+}
+
+/// The lines, where this was shown by the module's own run. The module becomes the optimised one, which has a `@main` too.
+fn sum_up(alloc: Global, checked: Checked, plain: Totals) -> Result<Answer, Exhausted>
+    requires { (x : Ran) × RunsSo checked x × (plain ≡ generated.totals_of x) }
+    ensures { IfOk result (λ a. AnswersGenerated checked a.text.items (code_of a.status)) }
+{
+    let functions = functions_of(&checked);
+    let before = copies_of(&checked);
+    let left = optimised_if(alloc, checked, true)?;
+    let after = copies_of(&left);
+    let shown = totals_of_run(alloc, &left)?;
+    forget(left);
+    match shown {
+        Some(optimised) => Ok(Answer {
+            text: summary(alloc, functions, before, after, &plain, &optimised)?,
+            status: Status::Done,
+        }),
+        None => unreachable!(),
+    }
+}
+
+fn functions_of(checked: &Checked) -> u64
+    ensures { result ≡ length checked.now.functions }
+{
+    checked.module().functions.len() as u64
+}
+
+fn copies_of(checked: &Checked) -> u64
+    ensures { result ≡ summaries.copies_of checked.now }
+{
+    copies_in(checked.module())
+}
+
+/// What the run of a module from `@main` shows, or none where it has no such function with which a run may begin.
+fn totals_of_run(alloc: Global, checked: &Checked) -> Result<Option<Totals>, Exhausted>
+    ensures { IfOk result (λ shown. MatchOption shown (¬ HasEntry checked.now (codes "main"))
+        (λ totals. (x : Ran) × RunsSo checked.now x × (totals ≡ generated.totals_of x))) }
+{
+    match run_checked(alloc, checked, b"main", DEFAULT_TURNS, false) {
+        Ok(report) => {
+            let totals = totals_of(&report);
+            forget(report);
+            Ok(Some(totals))
+        }
+        Err(RunEnd::NoEntry) => Ok(None),
+        Err(RunEnd::Memory) => Err(Exhausted),
+    }
+}
+
+fn totals_of(report: &RunReport<'_>) -> Totals
+    ensures { result ≡ generated.totals_of (outcome_of report.now) }
+{
+    Totals {
+        events: report.events.len() as u64,
+        retains: report.retains,
+        releases: report.releases,
+    }
+}
