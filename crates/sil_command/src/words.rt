@@ -53,10 +53,10 @@ fn mode_said(alloc: Global, said: CommandWords<'_>) -> Result<Option<Mode>, Exha
     ensures { IfOk result (λ found. MatchOption found
         ((mode : Mode) → said.entry.mode.now ≡ word_of mode
         → ¬ Takes mode (option_map (λ v. v.now) said.entry.number) (option_map (λ v. v.now) said.entry.turns)
-            (option_map (λ v. v.now) said.entry.entry) said.entry.optimize)
+        (option_map (λ v. v.now) said.entry.entry) said.entry.optimize)
         (λ mode. (said.entry.mode.now ≡ word_of mode)
         × Takes mode (option_map (λ v. v.now) said.entry.number) (option_map (λ v. v.now) said.entry.turns)
-            (option_map (λ v. v.now) said.entry.entry) said.entry.optimize)) }
+        (option_map (λ v. v.now) said.entry.entry) said.entry.optimize)) }
 {
     if said.mode == "run" && said.number.is_none() {
         return run_mode(alloc, said.turns, said.entry, said.optimize);

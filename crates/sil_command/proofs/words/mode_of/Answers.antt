@@ -12,7 +12,7 @@ returns-in-Some c =
     let said = c.in-Some.said in
     IfOk-weaker c.mode_said.result
     (λ found. MatchOption found (IsNone said.mode.now (told said.number) (told said.turns) (told said.entry) said.optimize)
-        (IsSaid said.mode.now (told said.number) (told said.turns) (told said.entry) said.optimize))
+    (IsSaid said.mode.now (told said.number) (told said.turns) (told said.entry) said.optimize))
     (λ found. MatchOption found (IsCommandLine words → ⊥) (AsksFor words))
     (asked c.command_lines_say_one_thing.ensures words said.mode.now (told said.number) (told said.turns) (told said.entry) said.optimize (rw c.in-Some.is at c.in_ok-said.ensures))
     c.mode_said.ensures
