@@ -9,6 +9,8 @@ ghost use Rattle.sil_command.specs.Generated as generated;
 ghost use Rattle.sil_command.specs.Generated.{AnswersGenerated, Ran, RunsSo};
 ghost use Rattle.sil_command.specs.Statuses.{code_of};
 ghost use Rattle.sil_command.specs.Summaries as summaries;
+ghost use Rattle.sil_command.specs.Texts.{no_entry_text};
+ghost use Rattle.sil_command.specs.declared.status.Status.TheVariants as status;
 
 use crate::answer::Answer;
 use crate::copies::copies_in;
@@ -37,17 +39,27 @@ pub(crate) fn answer_generated(alloc: Global, module: Module) -> Result<Answer, 
 fn answer_runs(alloc: Global, checked: Checked) -> Result<Answer, Exhausted>
     ensures { IfOk result (λ a. AnswersGenerated checked a.text.items (code_of a.status)) }
 {
-    let shown = totals_of_run(alloc, &checked)?;
-    match shown {
-        Some(plain) => sum_up(alloc, checked, plain),
-        None => {
+    match totals_of_run(alloc, &checked) {
+        Ok(Some(plain)) => sum_up(alloc, checked, plain),
+        Ok(None) => {
             forget(checked);
-            Ok(Answer {
-                text: texts::no_entry(alloc, b"main")?,
-                status: Status::NoEntry,
-            })
+            no_main(alloc)
+        }
+        Err(Exhausted) => {
+            forget(checked);
+            Err(Exhausted)
         }
     }
+}
+
+fn no_main(alloc: Global) -> Result<Answer, Exhausted>
+    ensures text { IfOk result (λ a. a.text.items ≡ no_entry_text (codes "main")) }
+    ensures status { IfOk result (λ a. a.status ≡ status.NoEntry) }
+{
+    Ok(Answer {
+        text: texts::no_entry(alloc, b"main")?,
+        status: Status::NoEntry,
+    })
 }
 
 /// The lines, where this was shown by the module's own run. The module becomes the optimised one, which has a `@main` too.
@@ -59,15 +71,30 @@ fn sum_up(alloc: Global, checked: Checked, plain: Totals) -> Result<Answer, Exha
     let before = copies_of(&checked);
     let left = optimised_if(alloc, checked, true)?;
     let after = copies_of(&left);
-    let shown = totals_of_run(alloc, &left)?;
+    let shown = totals_of_run(alloc, &left);
     forget(left);
     match shown {
-        Some(optimised) => Ok(Answer {
-            text: summary(alloc, functions, before, after, &plain, &optimised)?,
-            status: Status::Done,
-        }),
-        None => unreachable!(),
+        Ok(Some(optimised)) => write_lines(alloc, functions, before, after, &plain, &optimised),
+        Ok(None) => unreachable!(),
+        Err(Exhausted) => Err(Exhausted),
     }
+}
+
+fn write_lines(
+    alloc: Global,
+    functions: u64,
+    before: u64,
+    after: u64,
+    plain: &Totals,
+    optimised: &Totals,
+) -> Result<Answer, Exhausted>
+    ensures text { IfOk result (λ a. a.text.items ≡ summaries.summary_text functions before after plain.now optimised.now) }
+    ensures status { IfOk result (λ a. a.status ≡ status.Done) }
+{
+    Ok(Answer {
+        text: summary(alloc, functions, before, after, plain, optimised)?,
+        status: Status::Done,
+    })
 }
 
 fn functions_of(checked: &Checked) -> u64

@@ -17,8 +17,8 @@ generated_text-requires c = size_asked c.args.size c.requires
 pub answer_to-requires : goal.answer_to-requires
 answer_to-requires c = record { asked = c.requires; within = omega arith }
 
-pub returns-in-if : goal.returns-in-if
-returns-in-if c =
+pub returns-then-len-gt-TEXT_BYTES : goal.returns-then-len-gt-TEXT_BYTES
+returns-then-len-gt-TEXT_BYTES c =
     let is = c.in_ok-text.ensures ∙ c.in_ok-generated_text.ensures in
     told_line (AnswersText (Generate c.args.size) (generated c.args.size)) c.past_limit.result Limit
     (too_long (subst (λ t. TEXT_BYTES < length t) is (omega arith))) c.past_limit.ensures.text c.past_limit.ensures.status
