@@ -19,7 +19,7 @@ use Rattle.sil_ast.specs.declared.function.Form.TheVariants.{External, Lowered, 
 use Rattle.sil_ast.specs.declared.function.Function.{Function}
 use Rattle.sil_ast.specs.declared.module.Module.{Module}
 use Rattle.sil_ast.specs.declared.place.FuncId.{FuncId}
-use Rattle.sil_printer.specs.Words.{in_parens, line}
+use Rattle.report_writing.specs.sil_printer.Words.{in_parens, line}
 use Rattle.type_definitions.specs.Declarations.{Declarations, declarations_of}
 
 name_by : (o : Form) (d : Declarations) (f : Function) → (lowered_by o d f).name ≡ f.name
