@@ -1,6 +1,6 @@
 -- What is told of the runs of a generated module.
 use Rattle.std.proofs.Common.{◌≡◌, ℕ, List, length, subst}
-use Rattle.std.specs.Prelude.{codes, false, true}
+use Rattle.std.specs.Prelude.{codes, false, true, IfOk, Result, Ok, Err}
 use Rattle.module_runner.specs.Outcomes.{EndsSo}
 use Rattle.module_runner.specs.Optimising.{IsOptimisedIf}
 use Rattle.module_runner.specs.declared.report.RunReport.{RunReport}
@@ -20,6 +20,11 @@ ran_so m r tells = record {
   begins = tells.begins;
   ends = subst (λ k. EndsSo k tells.entry DEFAULT_TURNS (outcome_of r)) tells.tells.optimised tells.tells.ends;
 }
+
+-- what follows from two facts on a result
+pub both_kept : {A E : Type 0} (r : Result A E) (P Q R : A → Type 0) → ((a : A) → P a → Q a → R a) → IfOk r P → IfOk r Q → IfOk r R
+both_kept (Ok a) P Q R f p q = f a p q
+both_kept (Err e) P Q R f p q = tt
 
 -- the lines are those of the two runs
 pub summed_up : (m k : Module) (x y : Ran) (functions before after : ℕ) (plain optimised : Totals) (text : List ℕ) → IsOptimisedIf true m k → RunsSo m x → RunsSo k y

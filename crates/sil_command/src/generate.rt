@@ -71,10 +71,26 @@ fn sum_up(alloc: Global, checked: Checked, plain: Totals) -> Result<Answer, Exha
     let before = copies_of(&checked);
     let left = optimised_if(alloc, checked, true)?;
     let after = copies_of(&left);
-    let shown = totals_of_run(alloc, &left);
+    let answer = write_both(alloc, &left, functions, before, after, &plain);
     forget(left);
-    match shown {
-        Ok(Some(optimised)) => write_lines(alloc, functions, before, after, &plain, &optimised),
+    answer
+}
+
+/// The lines, by what the optimised module's run shows.
+fn write_both(
+    alloc: Global,
+    left: &Checked,
+    functions: u64,
+    before: u64,
+    after: u64,
+    plain: &Totals,
+) -> Result<Answer, Exhausted>
+    requires { HasEntry left.now (codes "main") }
+    ensures { IfOk result (λ a. (y : Ran) × RunsSo left.now y
+        × (a.text.items ≡ summaries.summary_text functions before after plain.now (generated.totals_of y)) × (a.status ≡ status.Done)) }
+{
+    match totals_of_run(alloc, left) {
+        Ok(Some(optimised)) => write_lines(alloc, functions, before, after, plain, &optimised),
         Ok(None) => unreachable!(),
         Err(Exhausted) => Err(Exhausted),
     }
