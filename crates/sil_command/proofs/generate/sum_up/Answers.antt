@@ -8,8 +8,8 @@ use Rattle.sil_command.proofs.GeneratedRuns.{summed_up}
 use Rattle.sil_command.proofs.LeftEntries.{optimised_enters}
 use Rattle.sil_command.proofs.generate.sum_up.Goals as goal
 
-pub write_both-requires : goal.write_both-requires
-write_both-requires c =
+pub write_both-answer-requires : goal.write_both-answer-requires
+write_both-answer-requires c =
     let first = c.requires.1 in
     optimised_enters (codes "main") c.args.checked c.in_ok-left.left c.in_ok-left.ensures (first.entry, first.function, first.begins)
 
@@ -17,6 +17,6 @@ pub returns : goal.returns
 returns c =
     IfOk-weaker c.write_both-answer.result _ _
     (λ a told. subst (λ s. AnswersGenerated c.args.checked a.text.items (code_of s)) (sym told.3)
-    (summed_up c.args.checked c.in_ok-left.left c.requires.0 told.0 _ _ _ _ _ a.text.items c.in_ok-left.ensures c.requires.1 told.1 c.functions_of.ensures
-    c.copies_of.ensures c.copies_of-2.ensures c.requires.2 refl told.2))
+    (summed_up c.args.checked c.in_ok-left.left c.requires.0 told.0 _ _ _ _ _ a.text.items c.in_ok-left.ensures c.requires.1 told.1 c.functions_of-functions.ensures
+    c.copies_of-before.ensures c.copies_of-after.ensures c.requires.2 refl told.2))
     c.write_both-answer.ensures
