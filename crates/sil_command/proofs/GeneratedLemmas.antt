@@ -1,5 +1,5 @@
 -- The answer of `generate`: how a call ends with it, and with which statuses.
-use Rattle.std.proofs.Common.{◌≡◌, ◌↔◌, ◌≤◌, ℕ, List, Option, Some, None, refl, subst, arith}
+use Rattle.std.proofs.Common.{◌≡◌, ◌↔◌, ◌≤◌, ℕ, List, [], Option, Some, None, refl, subst, arith}
 use Rattle.std.specs.Prelude.{codes}
 use Rattle.command_words.specs.inner.Laws.{SayOneThing}
 use Rattle.accepted_modules.specs.Findings.{Accepted}

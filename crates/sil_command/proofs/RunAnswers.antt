@@ -24,7 +24,7 @@ bound_some (Some digits) bound is = is.some
 
 -- a bound that is asked for is of one turn at least
 pub some_turns : (entry : List ℕ) (bound : ℕ) (optimises : Bool) → IsAskedFor (Run entry bound optimises) → 1 ≤ bound
-some_turns entry bound optimises (words, asks) = bound_some asks.turns bound asks.takes.0
+some_turns entry bound optimises (words, asks) = bound_some asks.turns bound asks.takes.1
 
 module _ (m : Module) (name : List ℕ) (bound : ℕ) (optimises : Bool) (report : RunReport) (tells : TellsOfRun m name bound optimises report) where
   abbrev left : Module

@@ -28,5 +28,5 @@ returns-in-Some-clause-takes g c = stopped _ (search rules) nothing
 pub answer_in-requires : goal.answer_in-requires
 answer_in-requires g c = record { asked = c.requires; takes = rw c.in-None.is at c.size_of.ensures }
 
-pub returns-in-None-clause-source_untouched : goal.returns-in-None-clause-source_untouched
-returns-in-None-clause-source_untouched g c = λ none. absurd (none (rw c.in-None.is at c.size_of.ensures))
+pub returns-clause-source_untouched : goal.returns-clause-source_untouched
+returns-clause-source_untouched g c = λ none. absurd (none (rw c.in-None.is at c.size_of.ensures))
