@@ -9,9 +9,9 @@ use Rattle.instruction_table.specs.declared.forms.Part.{Part}
 use Rattle.instruction_table.specs.declared.forms.Part.TheVariants as part
 use Rattle.instruction_table.specs.declared.op.Op.{Op}
 use Rattle.sil_ast.specs.declared.operands.Operand.{Operand}
-use Rattle.sil_shape.specs.Rows.{symbols_of}
-use Rattle.sil_shape.specs.Rows as rows
-use Rattle.sil_shape.specs.declared.grammar.Nonterminal.TheVariants as n
+use Rattle.grammar_tables.specs.Rows.{symbols_of}
+use Rattle.grammar_tables.specs.Rows as rows
+use Rattle.grammar_tables.specs.declared.grammar.Nonterminal.TheVariants as n
 use Rattle.sil_rules.specs.declared.limit_word.LimitWord.TheVariants as limit
 use Rattle.written_tree.specs.declared.written_declarations.WrittenToken.{WrittenToken}
 use Rattle.written_tree.specs.declared.written_instructions.WrittenInst.{WrittenInst}

@@ -4,15 +4,15 @@ use Rattle.std.specs.Prelude.{⊤}
 use Rattle.sil_lexer.specs.Lexes.{Lexeme}
 use Rattle.token_classes.specs.declared.classes.Class.{Class}
 use Rattle.token_classes.specs.declared.classes.Class.TheVariants as c
-use Rattle.sil_shape.specs.declared.grammar.Symbol.{Symbol}
-use Rattle.sil_shape.specs.declared.grammar.Symbol.TheVariants.{Read, Part}
-use Rattle.sil_shape.specs.declared.grammar.Terminal.{Terminal}
-use Rattle.sil_shape.specs.declared.grammar.Terminal.TheVariants as t
+use Rattle.grammar_tables.specs.declared.grammar.Symbol.{Symbol}
+use Rattle.grammar_tables.specs.declared.grammar.Symbol.TheVariants.{Read, Part}
+use Rattle.grammar_tables.specs.declared.grammar.Terminal.{Terminal}
+use Rattle.grammar_tables.specs.declared.grammar.Terminal.TheVariants as t
 use Rattle.sil_shape.specs.declared.steps.Step.{Step}
 use Rattle.sil_shape.specs.Accepts.{Suits}
 use Rattle.sil_shape.specs.Derivation.{Derives}
 use Rattle.sil_shape.specs.Derivation.Derives.{nothing, token, rule}
-use Rattle.sil_shape.specs.Grammar.{body}
+use Rattle.grammar_tables.specs.Grammar.{body}
 use Rattle.written_modules.specs.Leaves.{kept_of, leaf_of}
 use Rattle.written_values.specs.inner.Parts.{part}
 use Rattle.written_values.specs.Opened.{PartValue}

@@ -14,10 +14,10 @@ use Rattle.instruction_table.specs.declared.forms.Part.TheVariants as part
 use Rattle.instruction_table.specs.declared.op.Op.{Op}
 use Rattle.sil_ast.specs.declared.place.Place.{Place}
 use Rattle.sil_ast.specs.declared.type_name.TypeName.{TypeName}
-use Rattle.sil_shape.specs.Rows.{edges_by, member_by, symbols_of, text_by, word_by}
-use Rattle.sil_shape.specs.Rows as rows
-use Rattle.sil_shape.specs.declared.grammar.Nonterminal.{Nonterminal}
-use Rattle.sil_shape.specs.declared.grammar.Nonterminal.TheVariants as n
+use Rattle.grammar_tables.specs.Rows.{edges_by, member_by, symbols_of, text_by, word_by}
+use Rattle.grammar_tables.specs.Rows as rows
+use Rattle.grammar_tables.specs.declared.grammar.Nonterminal.{Nonterminal}
+use Rattle.grammar_tables.specs.declared.grammar.Nonterminal.TheVariants as n
 use Rattle.written_tree.specs.Faults.{out_of_range}
 use Rattle.written_tree.specs.declared.written_instructions.WrittenEdge.{WrittenEdge}
 use Rattle.written_tree.specs.declared.written_instructions.WrittenInst.{WrittenInst}

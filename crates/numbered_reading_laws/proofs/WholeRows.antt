@@ -12,9 +12,9 @@ use Rattle.instruction_table.specs.declared.entries.Words.TheVariants as words
 use Rattle.instruction_table.specs.declared.forms.Part.{Part}
 use Rattle.instruction_table.specs.declared.op.Op.{Op}
 use Rattle.sil_ast.specs.declared.inst.Qualifier.TheVariants as qualifier
-use Rattle.sil_shape.specs.Rows.{comma_behind, ends_block, parts_row, row_body, row_part, symbols_of}
-use Rattle.sil_shape.specs.declared.grammar.Nonterminal.TheVariants as n
-use Rattle.sil_shape.specs.declared.grammar.Symbol.{Symbol}
+use Rattle.grammar_tables.specs.Rows.{comma_behind, ends_block, parts_row, row_body, row_part, symbols_of}
+use Rattle.grammar_tables.specs.declared.grammar.Nonterminal.TheVariants as n
+use Rattle.grammar_tables.specs.declared.grammar.Symbol.{Symbol}
 use Rattle.written_tree.specs.Faults.{earlier}
 use Rattle.written_tree.specs.declared.fault.Fault.{Fault}
 use Rattle.written_tree.specs.declared.written_declarations.WrittenToken.{WrittenToken}

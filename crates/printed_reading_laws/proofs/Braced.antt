@@ -4,10 +4,10 @@ use Rattle.std.proofs.lemmas.List.{append_assoc}
 use Rattle.sil_printer.specs.Words.{line, opening}
 use Rattle.token_classes.specs.declared.classes.Keyword.{Keyword}
 use Rattle.token_classes.specs.declared.classes.Punctuation.TheVariants as m
-use Rattle.sil_shape.specs.declared.grammar.Nonterminal.{Nonterminal}
-use Rattle.sil_shape.specs.declared.grammar.Symbol.TheVariants.{Part, Read}
-use Rattle.sil_shape.specs.declared.grammar.Terminal.TheVariants as t
-use Rattle.sil_shape.specs.Terminals.{punctuation, word}
+use Rattle.grammar_tables.specs.declared.grammar.Nonterminal.{Nonterminal}
+use Rattle.grammar_tables.specs.declared.grammar.Symbol.TheVariants.{Part, Read}
+use Rattle.grammar_tables.specs.declared.grammar.Terminal.TheVariants as t
+use Rattle.grammar_tables.specs.Terminals.{punctuation, word}
 use Rattle.token_classes.specs.Spelling.{punctuation_spelling, spelling}
 use Rattle.sil_grammar.specs.written_modules.Leaves.{kept_of}
 use Rattle.written_values.specs.Opened.{PartValue}

@@ -8,13 +8,13 @@ use Rattle.sil_printer.specs.CanonicalInsts.{binding_text, debug_text, quoted}
 use Rattle.sil_printer.specs.Words.{if_set, if_there}
 use Rattle.builtin_names.specs.BuiltinNames.{is_builtin_name}
 use Rattle.sil_shape.specs.Derivation.{Accepts}
-use Rattle.sil_shape.specs.Grammar.{body, written}
+use Rattle.grammar_tables.specs.Grammar.{body, written}
 use Rattle.token_classes.specs.Spelling.{keyword_of, keywords, known_keyword, punctuation_of, punctuation_spelling, signs, spelling}
-use Rattle.sil_shape.specs.declared.grammar.Nonterminal.{Nonterminal}
-use Rattle.sil_shape.specs.declared.grammar.Nonterminal.TheVariants as n
-use Rattle.sil_shape.specs.declared.grammar.Production.TheVariants as p
-use Rattle.sil_shape.specs.declared.grammar.Symbol.TheVariants.{Read}
-use Rattle.sil_shape.specs.declared.grammar.Terminal.TheVariants as t
+use Rattle.grammar_tables.specs.declared.grammar.Nonterminal.{Nonterminal}
+use Rattle.grammar_tables.specs.declared.grammar.Nonterminal.TheVariants as n
+use Rattle.grammar_tables.specs.declared.grammar.Production.TheVariants as p
+use Rattle.grammar_tables.specs.declared.grammar.Symbol.TheVariants.{Read}
+use Rattle.grammar_tables.specs.declared.grammar.Terminal.TheVariants as t
 use Rattle.written_numbers.proofs.Printed.{printed_number}
 use Rattle.sil_grammar.specs.written_modules.Leaves.{kept_of}
 use Rattle.written_values.specs.inner.Meaning.{meaning}

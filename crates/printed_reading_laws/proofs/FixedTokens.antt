@@ -5,10 +5,10 @@ use Rattle.text_bytes.specs.Bytes.{is_punctuation}
 use Rattle.token_classes.specs.declared.classes.AtWord.{AtWord}
 use Rattle.token_classes.specs.declared.classes.Keyword.{Keyword}
 use Rattle.token_classes.specs.declared.classes.Punctuation.{Punctuation}
-use Rattle.sil_shape.specs.declared.grammar.Symbol.{Symbol}
-use Rattle.sil_shape.specs.declared.grammar.Symbol.TheVariants.{Read}
-use Rattle.sil_shape.specs.declared.grammar.Terminal.TheVariants as t
-use Rattle.sil_shape.specs.Terminals.{at, punctuation, word}
+use Rattle.grammar_tables.specs.declared.grammar.Symbol.{Symbol}
+use Rattle.grammar_tables.specs.declared.grammar.Symbol.TheVariants.{Read}
+use Rattle.grammar_tables.specs.declared.grammar.Terminal.TheVariants as t
+use Rattle.grammar_tables.specs.Terminals.{at, punctuation, word}
 use Rattle.token_classes.specs.Spelling.{at_spelling, punctuation_of, punctuation_spelling, spelling}
 use Rattle.token_classes.proofs.SpellingLemmas.{at_word_of-at_spelling, keyword_of-spelling, punctuation_of-punctuation_spelling}
 use Rattle.sil_grammar.specs.Classes.{punctuation_class}

@@ -3,7 +3,7 @@ use Rattle.std.proofs.Common.{◌≡◌, ℕ, List, [], ◌++◌, IsFalse, IsTru
 use Rattle.sil_ast.specs.declared.function.Function.{Function}
 use Rattle.sil_ast.specs.declared.inst.Inst.{Inst}
 use Rattle.sil_printer.specs.CanonicalInsts.{inst_text}
-use Rattle.sil_shape.specs.declared.grammar.Nonterminal.TheVariants as n
+use Rattle.grammar_tables.specs.declared.grammar.Nonterminal.TheVariants as n
 use Rattle.written_values.specs.Values.{inst_of}
 use Rattle.instruction_table.specs.Forms.{is_terminator}
 use Rattle.printed_reading_laws.proofs.Pieces.{Ends, Stands}

@@ -2,7 +2,7 @@
 use Rattle.std.proofs.Common.{[]}
 use Rattle.sil_ast.specs.declared.module.Module.{Module}
 use Rattle.sil_printer.specs.CanonicalModules.{canonical_text}
-use Rattle.sil_shape.specs.declared.grammar.Nonterminal.TheVariants as n
+use Rattle.grammar_tables.specs.declared.grammar.Nonterminal.TheVariants as n
 use Rattle.numbered_form.specs.inner.NumberedForm.{IsNumbered}
 use Rattle.printed_reading_laws.proofs.NumberedPrintable.{module_printable}
 use Rattle.printed_reading_laws.proofs.Pieces.{Stands}

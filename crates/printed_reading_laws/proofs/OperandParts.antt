@@ -12,12 +12,12 @@ use Rattle.sil_ast.specs.declared.inst.Inst.{Inst}
 use Rattle.sil_ast.specs.declared.operands.Operand.{Operand}
 use Rattle.sil_printer.specs.CanonicalInsts.{bare_text, gap, part_text, typed_text}
 use Rattle.sil_printer.specs.Words.{if_there, in_parens, listed}
-use Rattle.sil_shape.specs.Grammar.{body, written}
-use Rattle.sil_shape.specs.Rows.{brings_comma, symbols_of}
-use Rattle.sil_shape.specs.Rows as rows
-use Rattle.sil_shape.specs.declared.grammar.Nonterminal.TheVariants as n
-use Rattle.sil_shape.specs.declared.grammar.Production.TheVariants as p
-use Rattle.sil_shape.specs.declared.grammar.Symbol.TheVariants.{Part as NamedPart}
+use Rattle.grammar_tables.specs.Grammar.{body, written}
+use Rattle.grammar_tables.specs.Rows.{brings_comma, symbols_of}
+use Rattle.grammar_tables.specs.Rows as rows
+use Rattle.grammar_tables.specs.declared.grammar.Nonterminal.TheVariants as n
+use Rattle.grammar_tables.specs.declared.grammar.Production.TheVariants as p
+use Rattle.grammar_tables.specs.declared.grammar.Symbol.TheVariants.{Part as NamedPart}
 use Rattle.token_classes.specs.Spelling.{punctuation_of, punctuation_spelling, signs}
 use Rattle.sil_rules.specs.declared.limit_word.LimitWord.TheVariants as limit
 use Rattle.sil_grammar.specs.written_modules.Leaves.{kept_of}

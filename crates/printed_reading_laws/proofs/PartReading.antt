@@ -23,10 +23,10 @@ use Rattle.sil_printer.specs.CanonicalInsts.{debug_text, edge_text, flags_text, 
 use Rattle.sil_printer.specs.CanonicalInsts as printed
 use Rattle.sil_printer.specs.Words.{listed}
 use Rattle.sil_shape.specs.Derivation.{Accepts}
-use Rattle.sil_shape.specs.Rows.{behind_colon, behind_dollar, brings_comma, symbols_of, text_by, text_of, word_by}
-use Rattle.sil_shape.specs.Rows as rows
-use Rattle.sil_shape.specs.declared.grammar.Symbol.TheVariants.{Read}
-use Rattle.sil_shape.specs.declared.grammar.Terminal.TheVariants as t
+use Rattle.grammar_tables.specs.Rows.{behind_colon, behind_dollar, brings_comma, symbols_of, text_by, text_of, word_by}
+use Rattle.grammar_tables.specs.Rows as rows
+use Rattle.grammar_tables.specs.declared.grammar.Symbol.TheVariants.{Read}
+use Rattle.grammar_tables.specs.declared.grammar.Terminal.TheVariants as t
 use Rattle.token_classes.specs.Spelling.{keyword_of, keywords, known_keyword, punctuation_of, punctuation_spelling, signs, spelling}
 use Rattle.token_classes.specs.declared.classes.Class.TheVariants as c
 use Rattle.builtin_names.specs.BuiltinNames.{is_builtin_name}

@@ -8,8 +8,8 @@ use Rattle.sil_ast.specs.declared.inst.Inst.{Inst}
 use Rattle.sil_ast.specs.declared.operands.Operand.{Operand}
 use Rattle.sil_printer.specs.CanonicalInsts.{gap}
 use Rattle.sil_printer.specs.Words.{if_there}
-use Rattle.sil_shape.specs.Rows.{brings_comma, symbols_of}
-use Rattle.sil_shape.specs.declared.grammar.Symbol.{Symbol}
+use Rattle.grammar_tables.specs.Rows.{brings_comma, symbols_of}
+use Rattle.grammar_tables.specs.declared.grammar.Symbol.{Symbol}
 use Rattle.written_values.specs.Opened.{PartValue}
 use Rattle.written_values.specs.inner.PartFaults.{fault_of_part}
 use Rattle.written_values.specs.inner.RowMeaning.{with_part}

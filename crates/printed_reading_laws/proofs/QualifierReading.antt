@@ -4,11 +4,11 @@ use Rattle.sil_ast.specs.declared.inst.Qualifier.{Qualifier}
 use Rattle.sil_ast.specs.declared.inst.Qualifier.TheVariants as q
 use Rattle.sil_printer.specs.CanonicalInsts.{qualifier_text}
 use Rattle.sil_printer.specs.Words.{if_set}
-use Rattle.sil_shape.specs.Grammar.{body, written}
+use Rattle.grammar_tables.specs.Grammar.{body, written}
 use Rattle.token_classes.specs.Spelling.{keyword_of, keywords, known_keyword, punctuation_of, punctuation_spelling, signs, spelling}
-use Rattle.sil_shape.specs.declared.grammar.Nonterminal.{Nonterminal}
-use Rattle.sil_shape.specs.declared.grammar.Nonterminal.TheVariants as n
-use Rattle.sil_shape.specs.declared.grammar.Production.TheVariants as p
+use Rattle.grammar_tables.specs.declared.grammar.Nonterminal.{Nonterminal}
+use Rattle.grammar_tables.specs.declared.grammar.Nonterminal.TheVariants as n
+use Rattle.grammar_tables.specs.declared.grammar.Production.TheVariants as p
 use Rattle.written_values.specs.inner.Meaning.{meaning}
 use Rattle.written_values.specs.inner.PartFaults.{part_fault}
 use Rattle.written_values.specs.Values.{flags_of, qualifier_of}

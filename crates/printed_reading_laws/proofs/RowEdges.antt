@@ -11,7 +11,7 @@ use Rattle.sil_ast.specs.declared.operands.Operand.{Operand}
 use Rattle.sil_ast.specs.declared.place.BlockId.{BlockId}
 use Rattle.sil_printer.specs.CanonicalInsts.{block_name, default_word, edge_text, typed_text}
 use Rattle.sil_printer.specs.Words.{listed, parens_if_any}
-use Rattle.sil_shape.specs.Rows.{edges_by}
+use Rattle.grammar_tables.specs.Rows.{edges_by}
 use Rattle.token_classes.specs.Spelling.{punctuation_of, punctuation_spelling, signs}
 use Rattle.written_values.specs.Opened.{PartValue}
 use Rattle.written_values.specs.inner.RowMeaning.{edges_at}

@@ -6,7 +6,7 @@ use Rattle.sil_ast.specs.declared.inst.Inst.{Inst}
 use Rattle.sil_ast.specs.declared.inst.Qualifier.TheVariants as qualifier
 use Rattle.instruction_table.specs.declared.op.Op.{Op}
 use Rattle.sil_printer.specs.CanonicalInsts.{parts_text}
-use Rattle.sil_shape.specs.declared.grammar.Nonterminal.{Nonterminal}
+use Rattle.grammar_tables.specs.declared.grammar.Nonterminal.{Nonterminal}
 use Rattle.written_values.specs.Values.{inst_of, no_debug}
 use Rattle.printed_reading_laws.proofs.Pieces.{Stands}
 use Rattle.printed_reading_laws.proofs.Written.{IsInstWritten}

@@ -7,10 +7,10 @@ use Rattle.instruction_table.specs.declared.forms.Part.{Part}
 use Rattle.instruction_table.specs.declared.forms.Part.TheVariants as part
 use Rattle.instruction_table.specs.declared.op.Op.{Op}
 use Rattle.sil_printer.specs.CanonicalInsts.{gap}
-use Rattle.sil_shape.specs.Rows.{brings_comma, comma_behind, comma_between, parts_row, symbols_of}
-use Rattle.sil_shape.specs.Terminals.{punctuation}
-use Rattle.sil_shape.specs.declared.grammar.Symbol.{Symbol}
-use Rattle.sil_shape.specs.declared.grammar.Symbol.TheVariants.{Read}
+use Rattle.grammar_tables.specs.Rows.{brings_comma, comma_behind, comma_between, parts_row, symbols_of}
+use Rattle.grammar_tables.specs.Terminals.{punctuation}
+use Rattle.grammar_tables.specs.declared.grammar.Symbol.{Symbol}
+use Rattle.grammar_tables.specs.declared.grammar.Symbol.TheVariants.{Read}
 use Rattle.token_classes.specs.Spelling.{punctuation_of, punctuation_spelling, signs}
 use Rattle.token_classes.specs.declared.classes.Punctuation.TheVariants as m
 use Rattle.written_values.specs.Opened.{PartValue}

@@ -11,11 +11,11 @@ use Rattle.sil_ast.specs.declared.function.Function.{Function}
 use Rattle.sil_ast.specs.declared.inst.Inst.{Inst}
 use Rattle.sil_ast.specs.declared.operands.Operand.{Operand}
 use Rattle.sil_printer.specs.CanonicalInsts.{gap, operands_after, part_text, parts_text}
-use Rattle.sil_shape.specs.Grammar.{body, written}
-use Rattle.sil_shape.specs.Rows.{comma_behind, ends_block, row_body, row_part, symbols_of}
-use Rattle.sil_shape.specs.declared.grammar.Nonterminal.TheVariants as n
-use Rattle.sil_shape.specs.declared.grammar.Production.TheVariants as p
-use Rattle.sil_shape.specs.declared.grammar.Symbol.{Symbol}
+use Rattle.grammar_tables.specs.Grammar.{body, written}
+use Rattle.grammar_tables.specs.Rows.{comma_behind, ends_block, row_body, row_part, symbols_of}
+use Rattle.grammar_tables.specs.declared.grammar.Nonterminal.TheVariants as n
+use Rattle.grammar_tables.specs.declared.grammar.Production.TheVariants as p
+use Rattle.grammar_tables.specs.declared.grammar.Symbol.{Symbol}
 use Rattle.token_classes.specs.Spelling.{spelling}
 use Rattle.token_classes.specs.declared.classes.Keyword.TheVariants as k
 use Rattle.sil_lexer.specs.declared.token.TokenKind.TheVariants as kind

@@ -9,14 +9,14 @@ use Rattle.sil_ast.specs.declared.type_name.TypeName.TheVariants as ty
 use Rattle.token_classes.specs.declared.classes.Keyword.{Keyword}
 use Rattle.token_classes.specs.declared.classes.Keyword.TheVariants as k
 use Rattle.token_classes.specs.declared.classes.AtWord.TheVariants as a
-use Rattle.sil_shape.specs.declared.grammar.Nonterminal.TheVariants as n
-use Rattle.sil_shape.specs.declared.grammar.Production.{Production}
-use Rattle.sil_shape.specs.declared.grammar.Production.TheVariants as p
-use Rattle.sil_shape.specs.declared.grammar.Symbol.TheVariants.{Read, Part}
+use Rattle.grammar_tables.specs.declared.grammar.Nonterminal.TheVariants as n
+use Rattle.grammar_tables.specs.declared.grammar.Production.{Production}
+use Rattle.grammar_tables.specs.declared.grammar.Production.TheVariants as p
+use Rattle.grammar_tables.specs.declared.grammar.Symbol.TheVariants.{Read, Part}
 use Rattle.sil_shape.specs.Accepts.{is_type_word}
-use Rattle.sil_shape.specs.Grammar as grammar
-use Rattle.sil_shape.specs.Grammar.{body, written}
-use Rattle.sil_shape.specs.Terminals.{word}
+use Rattle.grammar_tables.specs.Grammar as grammar
+use Rattle.grammar_tables.specs.Grammar.{body, written}
+use Rattle.grammar_tables.specs.Terminals.{word}
 use Rattle.token_classes.specs.Spelling.{at_spelling, at_word_of, at_words, keyword_of, keywords, known_at_word, known_keyword, punctuation_of, punctuation_spelling, signs, spelling}
 use Rattle.written_tree.specs.declared.written_declarations.WrittenToken.{WrittenToken}
 use Rattle.written_tree.specs.declared.fault.Fault.{Fault}

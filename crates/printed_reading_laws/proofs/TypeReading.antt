@@ -13,10 +13,10 @@ use Rattle.sil_printer.proofs.TypeTexts.{type_text-Address, type_text-Tuple}
 use Rattle.sil_printer.specs.CanonicalDecls.{payload_text}
 use Rattle.sil_printer.specs.CanonicalTypes.{is_several, opens_parens, several_over, type_over, type_text}
 use Rattle.sil_printer.specs.Words.{in_parens}
-use Rattle.sil_shape.specs.declared.grammar.Nonterminal.TheVariants as n
-use Rattle.sil_shape.specs.declared.grammar.Production.TheVariants as p
-use Rattle.sil_shape.specs.declared.grammar.Symbol.TheVariants.{Part}
-use Rattle.sil_shape.specs.Grammar.{body, written}
+use Rattle.grammar_tables.specs.declared.grammar.Nonterminal.TheVariants as n
+use Rattle.grammar_tables.specs.declared.grammar.Production.TheVariants as p
+use Rattle.grammar_tables.specs.declared.grammar.Symbol.TheVariants.{Part}
+use Rattle.grammar_tables.specs.Grammar.{body, written}
 use Rattle.token_classes.specs.Spelling.{punctuation_of, punctuation_spelling, signs}
 use Rattle.written_values.specs.inner.Meaning.{meaning}
 use Rattle.written_values.specs.inner.PartFaults.{part_fault}

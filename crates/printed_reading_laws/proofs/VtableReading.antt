@@ -9,9 +9,9 @@ use Rattle.sil_printer.specs.CanonicalModules.{entry_line, vtable_text}
 use Rattle.sil_printer.specs.Words.{line_feed}
 use Rattle.token_classes.specs.declared.classes.Keyword.TheVariants as k
 use Rattle.token_classes.specs.declared.classes.Punctuation.TheVariants as m
-use Rattle.sil_shape.specs.declared.grammar.Nonterminal.TheVariants as n
-use Rattle.sil_shape.specs.declared.grammar.Production.TheVariants as p
-use Rattle.sil_shape.specs.Grammar.{body, written}
+use Rattle.grammar_tables.specs.declared.grammar.Nonterminal.TheVariants as n
+use Rattle.grammar_tables.specs.declared.grammar.Production.TheVariants as p
+use Rattle.grammar_tables.specs.Grammar.{body, written}
 use Rattle.token_classes.specs.Spelling.{punctuation_spelling, spelling}
 use Rattle.written_tree.specs.declared.written_module.WrittenItem.TheVariants as item
 use Rattle.sil_grammar.specs.written_modules.Leaves.{kept_of}

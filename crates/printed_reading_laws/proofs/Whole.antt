@@ -4,7 +4,7 @@ use Rattle.std.proofs.lemmas.List.{append_assoc, append-nil}
 use Rattle.text_bytes.specs.Bytes.{is_blank}
 use Rattle.sil_lexer.specs.Lexes.{Lexeme, Lexes, Lexes as lexes, Skips as skips}
 use Rattle.sil_lexer.specs.declared.token.LexRefusal.{LexRefusal}
-use Rattle.sil_shape.specs.declared.grammar.Symbol.{Symbol}
+use Rattle.grammar_tables.specs.declared.grammar.Symbol.{Symbol}
 use Rattle.sil_shape.specs.Derivation.{start}
 use Rattle.written_tree.specs.declared.written_module.WrittenModule.{WrittenModule}
 use Rattle.written_values.specs.Opened.{PartValue, module_value}

@@ -12,9 +12,9 @@ use Rattle.sil_printer.specs.CanonicalFunctions.{function_text}
 use Rattle.sil_printer.specs.CanonicalModules.{canonical_text, imports_by, imports_text, stage_text, vtable_text}
 use Rattle.sil_printer.specs.Words.{each_behind, line_feed}
 use Rattle.token_classes.specs.declared.classes.Keyword.TheVariants as k
-use Rattle.sil_shape.specs.declared.grammar.Nonterminal.TheVariants as n
-use Rattle.sil_shape.specs.declared.grammar.Production.TheVariants as p
-use Rattle.sil_shape.specs.Grammar.{body, written}
+use Rattle.grammar_tables.specs.declared.grammar.Nonterminal.TheVariants as n
+use Rattle.grammar_tables.specs.declared.grammar.Production.TheVariants as p
+use Rattle.grammar_tables.specs.Grammar.{body, written}
 use Rattle.token_classes.specs.Spelling.{spelling}
 use Rattle.sil_rules.specs.declared.limit_word.LimitWord.TheVariants as limit
 use Rattle.written_tree.specs.declared.written_declarations.WrittenDecl.{WrittenDecl}

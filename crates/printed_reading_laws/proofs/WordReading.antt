@@ -3,13 +3,13 @@ use Rattle.std.proofs.Common.{◌≡◌, ℕ, List, [], ◌∷◌, ◌++◌, Non
 use Rattle.token_classes.specs.declared.classes.AtWord.{AtWord}
 use Rattle.token_classes.specs.declared.classes.Class.TheVariants as c
 use Rattle.token_classes.specs.declared.classes.Keyword.{Keyword}
-use Rattle.sil_shape.specs.declared.grammar.Nonterminal.{Nonterminal}
-use Rattle.sil_shape.specs.declared.grammar.Nonterminal.TheVariants as n
-use Rattle.sil_shape.specs.declared.grammar.Production.{Production}
-use Rattle.sil_shape.specs.declared.grammar.Symbol.TheVariants.{Read, Part}
+use Rattle.grammar_tables.specs.declared.grammar.Nonterminal.{Nonterminal}
+use Rattle.grammar_tables.specs.declared.grammar.Nonterminal.TheVariants as n
+use Rattle.grammar_tables.specs.declared.grammar.Production.{Production}
+use Rattle.grammar_tables.specs.declared.grammar.Symbol.TheVariants.{Read, Part}
 use Rattle.sil_shape.specs.Accepts.{Suits}
-use Rattle.sil_shape.specs.Grammar.{body, written}
-use Rattle.sil_shape.specs.Terminals.{at, word}
+use Rattle.grammar_tables.specs.Grammar.{body, written}
+use Rattle.grammar_tables.specs.Terminals.{at, word}
 use Rattle.token_classes.specs.Spelling.{at_spelling, at_word_of, keyword_of}
 use Rattle.written_values.specs.inner.Meaning.{meaning}
 use Rattle.written_values.specs.Opened.{PartValue}

@@ -1,14 +1,14 @@
 -- A derivation cut behind the last token goes on in one shortest way: for `fault_before` and for the cut itself.
 use Rattle.std.proofs.Common.{◌≡◌, ℕ, zero, suc, ◌+◌, ◌<◌, List, [], ◌∷◌, ◌++◌, length, drop, take, reverse, slice_index_or, refl, ap, sym, subst, ◌∙◌, append_assoc, length-append, add-one, arith}
 use Rattle.token_classes.specs.declared.classes.Class.{Class}
-use Rattle.sil_shape.specs.declared.grammar.Symbol.{Symbol}
-use Rattle.sil_shape.specs.declared.grammar.Production.{Production}
+use Rattle.grammar_tables.specs.declared.grammar.Symbol.{Symbol}
+use Rattle.grammar_tables.specs.declared.grammar.Production.{Production}
 use Rattle.sil_shape.specs.declared.steps.Front.{Front}
 use Rattle.sil_shape.specs.declared.steps.Step.{Step}
 use Rattle.sil_shape.specs.declared.steps.Step.TheVariants.{Take, Expand}
 use Rattle.sil_shape.specs.inner.Begun.{LeadsTo}
 use Rattle.sil_shape.specs.Derivation.{Derives, token, rule, start}
-use Rattle.sil_shape.specs.Grammar.{body}
+use Rattle.grammar_tables.specs.Grammar.{body}
 use Rattle.sil_shape.specs.Shortest.{Shortens}
 use Rattle.sil_shape.specs.inner.Values.{takes_of}
 use Rattle.sil_shape.proofs.Shortened.{shortened, Shortens-derives}

@@ -8,7 +8,7 @@ use Rattle.sil_lexer.specs.inner.Lexing.{Lexing, IsLexingOf, lexeme_of, lexemes_
 use Rattle.token_classes.specs.declared.classes.Class.{Class}
 use Rattle.sil_shape.specs.declared.steps.Step.{Step}
 use Rattle.sil_shape.specs.declared.steps.Front.{Front}
-use Rattle.sil_shape.specs.declared.grammar.Symbol.{Symbol}
+use Rattle.grammar_tables.specs.declared.grammar.Symbol.{Symbol}
 use Rattle.sil_shape.specs.inner.Begun.{LeadsTo}
 use Rattle.sil_shape.specs.Derivation.{BeginsShape, Derives, nothing, start, IsDerivation, HasShape, IsFirstBad}
 use Rattle.sil_shape.specs.inner.Values.{takes_of}

@@ -7,8 +7,8 @@ ghost use Rattle.sil_shape.specs.inner.Values.{takes_of};
 ghost use Rattle.sil_grammar.specs.inner.Left.{after, left_after, AreDecided, IsCut};
 
 use sil_ast::Exhausted;
-use sil_shape::bodies::push_body;
-use sil_shape::grammar::{Nonterminal, Symbol};
+use grammar_tables::push_body;
+use grammar_tables::{Nonterminal, Symbol};
 use sil_shape::steps::{Front, Step};
 use std::alloc::Global;
 

@@ -2,10 +2,11 @@
 use Rattle.std.proofs.Common.{◌≡◌, refl}
 use Rattle.std.specs.Prelude.{Option, find}
 use Rattle.token_classes.specs.declared.classes.Class.{Class}
-use Rattle.sil_shape.specs.declared.grammar.Nonterminal.{Nonterminal}
-use Rattle.sil_shape.specs.declared.grammar.Nonterminal.TheVariants as n
-use Rattle.sil_shape.specs.inner.Choice.{has, started, starts}
-use Rattle.sil_shape.specs.Grammar.{alternatives}
+use Rattle.grammar_tables.specs.declared.grammar.Nonterminal.{Nonterminal}
+use Rattle.grammar_tables.specs.declared.grammar.Nonterminal.TheVariants as n
+use Rattle.sil_shape.specs.inner.Choice.{has, started}
+use Rattle.grammar_tables.specs.inner.Starts.{starts}
+use Rattle.grammar_tables.specs.Grammar.{alternatives}
 
 pub started-else : (part : Nonterminal) (l : Option Class) → (part ≡ n.Row → ⊥) → (part ≡ n.Terminator → ⊥) → started part l ≡ find (λ p. has (starts p) l) (alternatives part)
 unfolding started

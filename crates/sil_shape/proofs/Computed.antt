@@ -6,20 +6,21 @@ use Rattle.token_classes.specs.declared.classes.Keyword.TheVariants as k
 use Rattle.token_classes.specs.declared.classes.AtWord.TheVariants as a
 use Rattle.token_classes.specs.declared.classes.Class.{Class}
 use Rattle.token_classes.specs.declared.classes.Class.TheVariants as c
-use Rattle.sil_shape.specs.declared.grammar.Terminal.{Terminal}
-use Rattle.sil_shape.specs.declared.grammar.Terminal.TheVariants as t
-use Rattle.sil_shape.specs.declared.grammar.Nonterminal.{Nonterminal}
-use Rattle.sil_shape.specs.declared.grammar.Nonterminal.TheVariants as n
-use Rattle.sil_shape.specs.declared.grammar.Symbol.{Symbol}
-use Rattle.sil_shape.specs.declared.grammar.Symbol.TheVariants.{Read, Part}
-use Rattle.sil_shape.specs.declared.grammar.Production.{Production}
-use Rattle.sil_shape.specs.declared.grammar.Production.TheVariants as p
+use Rattle.grammar_tables.specs.declared.grammar.Terminal.{Terminal}
+use Rattle.grammar_tables.specs.declared.grammar.Terminal.TheVariants as t
+use Rattle.grammar_tables.specs.declared.grammar.Nonterminal.{Nonterminal}
+use Rattle.grammar_tables.specs.declared.grammar.Nonterminal.TheVariants as n
+use Rattle.grammar_tables.specs.declared.grammar.Symbol.{Symbol}
+use Rattle.grammar_tables.specs.declared.grammar.Symbol.TheVariants.{Read, Part}
+use Rattle.grammar_tables.specs.declared.grammar.Production.{Production}
+use Rattle.grammar_tables.specs.declared.grammar.Production.TheVariants as p
 use Rattle.sil_shape.specs.inner.ClassNumbers.{keyword_number, at_number, punctuation_number, class_number, accepts}
-use Rattle.sil_shape.specs.Grammar.{written, body, alternatives}
-use Rattle.sil_shape.specs.Shortest.{shortest}
-use Rattle.sil_shape.specs.inner.Choice.{starts, empty_choice, has_class, has, started, row_inside, row_at_end, or_empty, choose}
+use Rattle.grammar_tables.specs.Grammar.{written, body, alternatives}
+use Rattle.grammar_tables.specs.Shortest.{shortest}
+use Rattle.sil_shape.specs.inner.Choice.{has_class, has, started, row_inside, row_at_end, or_empty, choose}
+use Rattle.grammar_tables.specs.inner.Starts.{starts, empty_choice}
 use Rattle.sil_shape.proofs.Sets.{first, follow, ends, nullable, weight, needed}
-use Rattle.sil_shape.proofs.Unfolded.{rows}
+use Rattle.grammar_tables.proofs.Unfolded.{rows}
 use Rattle.sil_shape.specs.inner.ParseTable.{part_number}
 use Rattle.sil_shape.proofs.Numbered.{all_looks, fixed_looks, each_look, is_it, production_number}
 

@@ -5,10 +5,10 @@ use Rattle.std.proofs.lemmas.Bool.{cases_order}
 use Rattle.std.proofs.lemmas.List.{take-append-drop, take-take}
 use Rattle.std.proofs.lemmas.Option.{same_Some}
 use Rattle.token_classes.specs.declared.classes.Class.{Class}
-use Rattle.sil_shape.specs.declared.grammar.Symbol.{Symbol}
+use Rattle.grammar_tables.specs.declared.grammar.Symbol.{Symbol}
 use Rattle.sil_shape.specs.declared.steps.Step.{Step}
 use Rattle.sil_shape.specs.declared.steps.Step.TheVariants.{Take}
-use Rattle.sil_shape.specs.Grammar.{written, body}
+use Rattle.grammar_tables.specs.Grammar.{written, body}
 use Rattle.sil_shape.specs.Derivation.{Accepts, Derives, nothing, token, rule, start, HasShape, BeginsShape, IsFirstBad}
 use Rattle.sil_shape.proofs.Derived.{Derives-nothing}
 use Rattle.sil_shape.proofs.NextClasses.{Fits, Fits-expand, FitsOne-start, Derives-inner}

@@ -1,8 +1,6 @@
 pub mod Derived
-pub mod RowLemmas
 pub mod ValuesLemmas
 pub mod Sets
-pub mod Unfolded
 pub mod Numbered
 pub mod ChoiceLemmas
 pub mod SuitsLemmas

@@ -5,13 +5,13 @@ use Rattle.std.proofs.lemmas.List.{append-nil, take_more, take_all}
 use Rattle.std.proofs.Math.Seq.{take-length}
 use Rattle.std.proofs.lemmas.Option.{same_Some}
 use Rattle.token_classes.specs.declared.classes.Class.{Class}
-use Rattle.sil_shape.specs.declared.grammar.Nonterminal.{Nonterminal}
-use Rattle.sil_shape.specs.declared.grammar.Symbol.{Symbol}
-use Rattle.sil_shape.specs.declared.grammar.Symbol.TheVariants.{Read, Part}
-use Rattle.sil_shape.specs.declared.grammar.Production.{Production}
+use Rattle.grammar_tables.specs.declared.grammar.Nonterminal.{Nonterminal}
+use Rattle.grammar_tables.specs.declared.grammar.Symbol.{Symbol}
+use Rattle.grammar_tables.specs.declared.grammar.Symbol.TheVariants.{Read, Part}
+use Rattle.grammar_tables.specs.declared.grammar.Production.{Production}
 use Rattle.sil_shape.specs.declared.steps.Step.{Step}
 use Rattle.sil_shape.specs.declared.steps.Step.TheVariants.{Take, Expand}
-use Rattle.sil_shape.specs.Grammar.{written, body}
+use Rattle.grammar_tables.specs.Grammar.{written, body}
 use Rattle.sil_shape.specs.inner.Choice.{choose}
 use Rattle.sil_shape.specs.Derivation.{Accepts, Derives, nothing, token, rule, start, HasShape, BeginsShape, IsFirstBad, IsDerivation}
 use Rattle.sil_shape.specs.inner.Begun.{LeadsTo}

@@ -3,17 +3,18 @@ use Rattle.std.proofs.Common.{◌≡◌, ℕ, zero, suc, ◌+◌, ◌<◌, List,
 use Rattle.std.proofs.lemmas.Bool.{eqb-true}
 use Rattle.std.proofs.lemmas.List.{append-nil}
 use Rattle.token_classes.specs.declared.classes.Class.{Class}
-use Rattle.sil_shape.specs.declared.grammar.Terminal.{Terminal}
-use Rattle.sil_shape.specs.declared.grammar.Terminal.TheVariants as t
-use Rattle.sil_shape.specs.declared.grammar.Symbol.{Symbol}
-use Rattle.sil_shape.specs.declared.grammar.Symbol.TheVariants.{Read, Part}
+use Rattle.grammar_tables.specs.declared.grammar.Terminal.{Terminal}
+use Rattle.grammar_tables.specs.declared.grammar.Terminal.TheVariants as t
+use Rattle.grammar_tables.specs.declared.grammar.Symbol.{Symbol}
+use Rattle.grammar_tables.specs.declared.grammar.Symbol.TheVariants.{Read, Part}
 use Rattle.sil_shape.specs.declared.steps.Step.{Step}
 use Rattle.sil_shape.specs.declared.steps.Step.TheVariants.{Expand}
 use Rattle.sil_shape.specs.Accepts.{Suits}
-use Rattle.sil_shape.specs.Grammar.{body}
-use Rattle.sil_shape.specs.Rows.{ends_block}
+use Rattle.grammar_tables.specs.Grammar.{body}
+use Rattle.grammar_tables.specs.Rows.{ends_block}
 use Rattle.sil_shape.specs.Derivation.{Derives, nothing, token, rule}
-use Rattle.sil_shape.specs.Shortest.{shortest, shortest_step, after_step, Shortens, written, step}
+use Rattle.sil_shape.specs.Shortest.{shortest_step, after_step, Shortens, written, step}
+use Rattle.grammar_tables.specs.Shortest.{shortest}
 use Rattle.sil_shape.proofs.Sets.{needed}
 use Rattle.sil_shape.proofs.Computed.{needed_one, needed_all, example, computed_needed, shortest-way}
 

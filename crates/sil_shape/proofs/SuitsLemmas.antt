@@ -2,8 +2,8 @@
 use Rattle.std.proofs.Common.{◌≡◌, ◌↔◌, ap, sym, ◌∙◌, eqb-true, eq-eqb, None, Some}
 use Rattle.std.specs.Prelude.{slice_index_or, IsTrue}
 use Rattle.token_classes.specs.declared.classes.Class.{Class}
-use Rattle.sil_shape.specs.declared.grammar.Terminal.{Terminal}
-use Rattle.sil_shape.specs.declared.grammar.Terminal.TheVariants as t
+use Rattle.grammar_tables.specs.declared.grammar.Terminal.{Terminal}
+use Rattle.grammar_tables.specs.declared.grammar.Terminal.TheVariants as t
 use Rattle.sil_shape.specs.Accepts.{Suits}
 use Rattle.sil_shape.specs.inner.ClassNumbers.{accepts, class_number}
 use Rattle.sil_shape.specs.inner.ParseTable.{look_number}

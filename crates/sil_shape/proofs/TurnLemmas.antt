@@ -3,13 +3,13 @@ use Rattle.std.proofs.Common.{◌≡◌, ℕ, ◌+◌, ◌<◌, ◌≤◌, List,
 use Rattle.std.specs.Prelude.{Option, Some, None, ◌&&◌, ◌↔◌, IsTrue, drop, slice_get}
 use Rattle.std.proofs.lemmas.Bool.{ltb-true, false≢true}
 use Rattle.token_classes.specs.declared.classes.Class.{Class}
-use Rattle.sil_shape.specs.declared.grammar.Nonterminal.{Nonterminal}
-use Rattle.sil_shape.specs.declared.grammar.Symbol.{Symbol}
-use Rattle.sil_shape.specs.declared.grammar.Symbol.TheVariants.{Read, Part}
-use Rattle.sil_shape.specs.declared.grammar.Production.{Production}
+use Rattle.grammar_tables.specs.declared.grammar.Nonterminal.{Nonterminal}
+use Rattle.grammar_tables.specs.declared.grammar.Symbol.{Symbol}
+use Rattle.grammar_tables.specs.declared.grammar.Symbol.TheVariants.{Read, Part}
+use Rattle.grammar_tables.specs.declared.grammar.Production.{Production}
 use Rattle.sil_shape.specs.declared.steps.Step.{Step}
 use Rattle.sil_shape.specs.declared.steps.Step.TheVariants.{Take}
-use Rattle.sil_shape.specs.Grammar.{written, body}
+use Rattle.grammar_tables.specs.Grammar.{written, body}
 use Rattle.sil_shape.specs.inner.Choice.{choose}
 use Rattle.sil_shape.specs.Derivation.{Accepts}
 use Rattle.sil_shape.specs.inner.Turns.{Turns, turn, Pops, Expands, IsSettled, Settles, IsAccepted, IsStuck, Takes, Refuses}

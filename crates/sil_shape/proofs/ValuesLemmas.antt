@@ -3,10 +3,10 @@
 use Rattle.std.proofs.Common.{◌≡◌, ℕ, zero, suc, ◌+◌, List, [], ◌∷◌, ◌++◌, length, take, drop, refl, ap, sym, ◌∙◌, arith, add-one, length-append}
 use Rattle.std.proofs.lemmas.List.{take-append-drop}
 use Rattle.token_classes.specs.declared.classes.Class.{Class}
-use Rattle.sil_shape.specs.declared.grammar.Symbol.{Symbol}
+use Rattle.grammar_tables.specs.declared.grammar.Symbol.{Symbol}
 use Rattle.sil_shape.specs.declared.steps.Step.{Step}
 use Rattle.sil_shape.specs.declared.steps.Step.TheVariants.{Take, Expand}
-use Rattle.sil_shape.specs.Grammar.{body}
+use Rattle.grammar_tables.specs.Grammar.{body}
 use Rattle.sil_shape.specs.Derivation.{Derives, nothing, token, rule}
 use Rattle.sil_shape.specs.inner.Values.{takes_of, values_left, IsEnough}
 

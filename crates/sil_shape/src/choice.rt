@@ -4,15 +4,15 @@ ghost use Rattle.std.specs.Prelude.{◌≡◌, ◌↔◌, find, IsTrue};
 ghost use Rattle.sil_shape.specs.Accepts.{is_type_word};
 ghost use Rattle.sil_shape.specs.inner.ClassNumbers.{accepts};
 ghost use Rattle.sil_shape.specs.Derivation.{Accepts};
-ghost use Rattle.sil_shape.specs.inner.Choice.{choose, has, has_class, row_at_end, row_inside, started, starts};
-ghost use Rattle.sil_shape.specs.Grammar.{alternatives};
+ghost use Rattle.sil_shape.specs.inner.Choice.{choose, has, has_class, row_at_end, row_inside, started};
+ghost use Rattle.grammar_tables.specs.inner.Starts.{starts};
+ghost use Rattle.grammar_tables.specs.Grammar.{alternatives};
 
-use crate::alternatives::alternatives;
 use crate::class_numbers::class_number;
-use crate::grammar::{Nonterminal, Production, Symbol, Terminal};
 use crate::lookahead::NumberedClass;
-use crate::rows::ends_block;
-use crate::starts::{empty_choice, starts};
+use grammar_tables::{
+    Nonterminal, Production, Symbol, Terminal, alternatives, empty_choice, ends_block, starts,
+};
 use token_classes::{Class, Keyword};
 
 fn is_type_word(word: Keyword) -> bool

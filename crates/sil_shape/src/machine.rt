@@ -8,12 +8,11 @@ ghost use Rattle.sil_shape.specs.inner.Values.{takes_of, values_left, IsEnough};
 ghost use Rattle.sil_shape.specs.inner.Refusal.{IsRefusal};
 ghost use Rattle.sil_shape.specs.declared.machine.ShapeRefusal.TheVariants.{FirstBad, Memory};
 
-use crate::bodies::push_body;
 use crate::choice::accepts;
-use crate::grammar::{Nonterminal, Production, Symbol};
 use crate::lookahead::{Lookahead, NumberedClass};
 use crate::parse_table::ParseTable;
 use crate::steps::{Front, Step};
+use grammar_tables::{Nonterminal, Production, Symbol, push_body};
 use std::alloc::{AllocError, Global};
 use token_classes::Class;
 

@@ -6,8 +6,8 @@ ghost use Rattle.sil_shape.specs.inner.ParseTable.{part_number, place, IsParseTa
 ghost use Rattle.sil_shape.specs.declared.parse_table.TheConstants.{LOOKAHEADS, PARTS};
 
 use crate::choice::choose;
-use crate::grammar::{Nonterminal, Production};
 use crate::lookahead::Lookahead;
+use grammar_tables::{Nonterminal, Production};
 use instruction_table::INSTRUCTION_COUNT;
 use std::alloc::{AllocError, Global};
 use token_classes::Class;

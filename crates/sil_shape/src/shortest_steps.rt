@@ -2,13 +2,11 @@
 
 ghost use Rattle.std.specs.Prelude.{◌≡◌, ◌++◌, ◌∷◌, [], reverse, IfOk, OnOk};
 ghost use Rattle.sil_shape.specs.Shortest.{shortest_step, after_step, Shortens};
-ghost use Rattle.sil_shape.specs.declared.grammar.Symbol.TheVariants.{Part};
+ghost use Rattle.grammar_tables.specs.declared.grammar.Symbol.TheVariants.{Part};
 
-use crate::bodies::push_body;
-use crate::grammar::{Nonterminal, Symbol};
 use crate::machine::pop_symbol;
-use crate::shortest::shortest;
 use crate::steps::Step;
+use grammar_tables::{Nonterminal, Symbol, push_body, shortest};
 use std::alloc::{AllocError, Global};
 
 /// Does the first step of the shortest way to write a symbol that was taken off.

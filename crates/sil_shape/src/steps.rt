@@ -1,6 +1,6 @@
 //! The steps of a leftmost derivation.
 
-use crate::grammar::{Production, Symbol};
+use grammar_tables::{Production, Symbol};
 
 /// One step of a leftmost derivation: the next token is taken, or the part that stands first gives way to what a
 /// production writes.

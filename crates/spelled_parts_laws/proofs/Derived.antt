@@ -4,14 +4,14 @@ use Rattle.std.proofs.Common.{◌≡◌, ◌≤◌, suc, List, [], ◌∷◌, �
 use Rattle.std.proofs.Math.Seq.{drop-append_seam, take-append_seam}
 use Rattle.std.proofs.lemmas.List.{length-map, take-append-drop}
 use Rattle.sil_lexer.specs.Lexes.{Lexeme}
-use Rattle.sil_shape.specs.declared.grammar.Production.{Production}
-use Rattle.sil_shape.specs.declared.grammar.Symbol.{Symbol}
-use Rattle.sil_shape.specs.declared.grammar.Symbol.TheVariants.{Read, Part}
+use Rattle.grammar_tables.specs.declared.grammar.Production.{Production}
+use Rattle.grammar_tables.specs.declared.grammar.Symbol.{Symbol}
+use Rattle.grammar_tables.specs.declared.grammar.Symbol.TheVariants.{Read, Part}
 use Rattle.sil_shape.specs.declared.steps.Step.{Step}
 use Rattle.sil_shape.specs.declared.steps.Step.TheVariants.{Take}
 use Rattle.sil_shape.specs.Derivation.{Accepts, Derives}
 use Rattle.sil_shape.specs.Derivation.Derives.{nothing as derived_nothing, token as derived_token, rule as derived_rule}
-use Rattle.sil_shape.specs.Grammar.{body}
+use Rattle.grammar_tables.specs.Grammar.{body}
 use Rattle.token_classes.specs.declared.classes.Class.{Class}
 use Rattle.written_modules.specs.Leaves.{kept_of, leaf_of}
 use Rattle.written_values.specs.inner.Meaning.{meaning}

@@ -19,10 +19,10 @@ use Rattle.instruction_table.specs.declared.op.Op.{Op}
 use Rattle.instruction_table.specs.declared.op.Op.TheVariants as op
 use Rattle.sil_ast.specs.declared.member.Member.{Member}
 use Rattle.sil_ast.specs.declared.type_name.TypeName.{TypeName}
-use Rattle.sil_shape.specs.declared.grammar.Nonterminal.TheVariants as n
-use Rattle.sil_shape.specs.declared.grammar.Symbol.{Symbol}
-use Rattle.sil_shape.specs.Rows.{comma_behind, comma_between, edges_by, edges_of, member_by, member_of as member_part}
-use Rattle.sil_shape.specs.Rows.{operand_of as operand_part, parts_row, qualifier_of as qualifier_part, symbols_of, word_by}
+use Rattle.grammar_tables.specs.declared.grammar.Nonterminal.TheVariants as n
+use Rattle.grammar_tables.specs.declared.grammar.Symbol.{Symbol}
+use Rattle.grammar_tables.specs.Rows.{comma_behind, comma_between, edges_by, edges_of, member_by, member_of as member_part}
+use Rattle.grammar_tables.specs.Rows.{operand_of as operand_part, parts_row, qualifier_of as qualifier_part, symbols_of, word_by}
 use Rattle.written_numbers.specs.Numbers.{literal_of}
 use Rattle.written_values.specs.Opened.{PartValue}
 use Rattle.written_values.specs.inner.PartFaults.{fault_of_part}

@@ -9,7 +9,7 @@ use Rattle.instruction_table.specs.declared.entries.Ending.TheVariants as ending
 use Rattle.instruction_table.specs.declared.forms.Part.{Part}
 use Rattle.instruction_table.specs.declared.forms.Part.TheVariants as form
 use Rattle.instruction_table.specs.declared.op.Op.{Op}
-use Rattle.sil_shape.specs.Rows.{comma_behind, symbols_of}
+use Rattle.grammar_tables.specs.Rows.{comma_behind, symbols_of}
 use Rattle.written_values.specs.Opened.{PartValue}
 use Rattle.written_values.specs.inner.PartFaults.{fault_of_part, parts_fault}
 use Rattle.written_values.specs.inner.Parts.{part}

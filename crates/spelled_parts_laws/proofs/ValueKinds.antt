@@ -14,10 +14,10 @@ use Rattle.sil_ast.specs.declared.signature.Given as given
 use Rattle.sil_ast.specs.declared.signature.Param as param
 use Rattle.sil_ast.specs.declared.signature.Signature as signature
 use Rattle.sil_ast.specs.declared.type_name.TypeName.{TypeName}
-use Rattle.sil_shape.specs.declared.grammar.Nonterminal.{Nonterminal}
-use Rattle.sil_shape.specs.declared.grammar.Nonterminal.TheVariants as n
-use Rattle.sil_shape.specs.declared.grammar.Symbol.{Symbol}
-use Rattle.sil_shape.specs.declared.grammar.Symbol.TheVariants.{Read, Part}
+use Rattle.grammar_tables.specs.declared.grammar.Nonterminal.{Nonterminal}
+use Rattle.grammar_tables.specs.declared.grammar.Nonterminal.TheVariants as n
+use Rattle.grammar_tables.specs.declared.grammar.Symbol.{Symbol}
+use Rattle.grammar_tables.specs.declared.grammar.Symbol.TheVariants.{Read, Part}
 use Rattle.written_values.specs.Opened.{PartFlags, PartGivens, PartParams, PartType, PartTypes, PartValue}
 use Rattle.written_values.specs.Types.{width_of}
 use Rattle.written_values.specs.Variants as v

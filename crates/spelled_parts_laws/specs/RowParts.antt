@@ -6,7 +6,7 @@ use Rattle.instruction_table.specs.declared.entries.Ending.TheVariants as ending
 use Rattle.instruction_table.specs.declared.forms.Part.{Part}
 use Rattle.instruction_table.specs.declared.forms.Part.TheVariants as form
 use Rattle.instruction_table.specs.declared.op.Op.{Op}
-use Rattle.sil_shape.specs.Rows.{comma_behind}
+use Rattle.grammar_tables.specs.Rows.{comma_behind}
 use Rattle.sil_rules.specs.declared.limit_word.LimitWord.TheVariants as limit
 use Rattle.sil_rules.specs.declared.limits.TheConstants.{ARGUMENTS}
 use Rattle.written_values.specs.Opened.{PartValue}

@@ -3,7 +3,7 @@
 ghost use Rattle.std.specs.Prelude.{◌≡◌, [], ◌∷◌, ◌≤◌, List, length, map, IfOk, OnOk};
 ghost use Rattle.sil_rules.specs.declared.limits.TheConstants.{MEMBERS};
 ghost use Rattle.sil_rules.specs.declared.limit_word.LimitWord.TheVariants as limit;
-ghost use Rattle.sil_shape.specs.declared.grammar.Production.{Production};
+ghost use Rattle.grammar_tables.specs.declared.grammar.Production.{Production};
 ghost use Rattle.written_values.specs.declared.value.Value.{Value};
 ghost use Rattle.written_values.specs.declared.value.Value.TheVariants as v;
 ghost use Rattle.written_values.specs.inner.Meaning as meant;
@@ -17,7 +17,7 @@ ghost use Rattle.written_tree.specs.declared.written_module.WrittenItem.TheVaria
 
 use sil_ast::{Boxed, Exhausted, List, Storage};
 use sil_rules::{LimitWord, limits};
-use sil_shape::grammar::Production;
+use grammar_tables::Production;
 use std::alloc::Global;
 use written_tree::{Fault, WrittenCase, WrittenDecl, WrittenField, WrittenItem, WrittenToken};
 use written_values::faults::too_many;
@@ -121,7 +121,7 @@ pub(crate) fn final_class(
 
 /// Puts the name of a superclass.
 #[inline(never)]
-#[tactic(auto, unfolding(written_values::specs::inner::Reduced::reduced, written_values::specs::inner::Meaning::meaning, sil_shape::specs::Grammar::body))]
+#[tactic(auto, unfolding(written_values::specs::inner::Reduced::reduced, written_values::specs::inner::Meaning::meaning, grammar_tables::specs::Grammar::body))]
 pub(crate) fn superclass(values: &mut Prepended<Value>) -> Result<(), Exhausted>
     requires { 2 ≤ length values.old }
     ensures values { OnOk result (values.new ≡ reduced Production.SuperclassSome values.old) }
@@ -250,7 +250,7 @@ pub(crate) fn binding(alloc: Global, values: &mut Prepended<Value>) -> Result<()
 
 /// Puts a case, and the cases behind it.
 #[inline(never)]
-#[tactic(auto, unfolding(written_values::specs::inner::Reduced::reduced, written_values::specs::inner::Meaning::meaning, sil_shape::specs::Grammar::body))]
+#[tactic(auto, unfolding(written_values::specs::inner::Reduced::reduced, written_values::specs::inner::Meaning::meaning, grammar_tables::specs::Grammar::body))]
 pub(crate) fn more_cases(alloc: Global, values: &mut Prepended<Value>) -> Result<(), Exhausted>
     requires { 4 ≤ length values.old }
     ensures values { OnOk result (values.new ≡ reduced Production.CasesMore values.old) }

@@ -2,7 +2,7 @@
 //! before the values that wait.
 
 ghost use Rattle.std.specs.Prelude.{◌≡◌, [], ◌∷◌, ◌≤◌, false, length, IfOk, OnOk};
-ghost use Rattle.sil_shape.specs.declared.grammar.Production.{Production};
+ghost use Rattle.grammar_tables.specs.declared.grammar.Production.{Production};
 ghost use Rattle.written_values.specs.declared.value.Value.TheVariants as v;
 ghost use Rattle.written_values.specs.Imports.{with_import};
 ghost use Rattle.written_values.specs.inner.PartFaults.{part_fault};
@@ -10,7 +10,7 @@ ghost use Rattle.written_values.specs.inner.Reduced.{parts_of, reduced};
 
 use crate::counted_faults::{body_fault, module_fault, too_many_attributes};
 use sil_ast::{Boxed, Exhausted, Imports, Stage};
-use sil_shape::grammar::Production;
+use grammar_tables::Production;
 use std::alloc::Global;
 use written_tree::{
     Fault, WrittenEntry, WrittenFunction, WrittenItem, WrittenModule, WrittenVtable, earlier,
@@ -63,7 +63,7 @@ fn with_import(name: &[u8], imports: Imports) -> Imports
 
 /// Puts an import, and the imports behind it.
 #[inline(never)]
-#[tactic(auto, unfolding(written_values::specs::inner::Reduced::reduced, written_values::specs::inner::Meaning::meaning, sil_shape::specs::Grammar::body))]
+#[tactic(auto, unfolding(written_values::specs::inner::Reduced::reduced, written_values::specs::inner::Meaning::meaning, grammar_tables::specs::Grammar::body))]
 pub(crate) fn more_imports(values: &mut Prepended<Value>) -> Result<(), Exhausted>
     requires { 3 ≤ length values.old }
     ensures values { OnOk result (values.new ≡ reduced Production.ImportsMore values.old) }
@@ -89,7 +89,7 @@ pub(crate) fn no_imports(values: &mut Prepended<Value>) -> Result<(), Exhausted>
 
 /// Puts an item, and the items behind it.
 #[inline(never)]
-#[tactic(auto, unfolding(written_values::specs::inner::Reduced::reduced, written_values::specs::inner::Meaning::meaning, sil_shape::specs::Grammar::body))]
+#[tactic(auto, unfolding(written_values::specs::inner::Reduced::reduced, written_values::specs::inner::Meaning::meaning, grammar_tables::specs::Grammar::body))]
 pub(crate) fn more_items(alloc: Global, values: &mut Prepended<Value>) -> Result<(), Exhausted>
     requires { 2 ≤ length values.old }
     ensures values { OnOk result (values.new ≡ reduced Production.ItemsMore values.old) }
@@ -110,7 +110,7 @@ pub(crate) fn no_items(alloc: Global, values: &mut Prepended<Value>) -> Result<(
 
 /// Puts the table of a class of its name and its entry.
 #[inline(never)]
-#[tactic(auto, unfolding(written_values::specs::inner::Reduced::reduced, written_values::specs::inner::Meaning::meaning, sil_shape::specs::Grammar::body))]
+#[tactic(auto, unfolding(written_values::specs::inner::Reduced::reduced, written_values::specs::inner::Meaning::meaning, grammar_tables::specs::Grammar::body))]
 pub(crate) fn vtable(alloc: Global, values: &mut Prepended<Value>) -> Result<(), Exhausted>
     requires { 5 ≤ length values.old }
     ensures values { OnOk result (values.new ≡ reduced Production.VtableItem values.old) }
@@ -127,7 +127,7 @@ pub(crate) fn vtable(alloc: Global, values: &mut Prepended<Value>) -> Result<(),
 
 /// Puts the entry of a table of its class and its function.
 #[inline(never)]
-#[tactic(auto, unfolding(written_values::specs::inner::Reduced::reduced, written_values::specs::inner::Meaning::meaning, sil_shape::specs::Grammar::body))]
+#[tactic(auto, unfolding(written_values::specs::inner::Reduced::reduced, written_values::specs::inner::Meaning::meaning, grammar_tables::specs::Grammar::body))]
 pub(crate) fn entry(alloc: Global, values: &mut Prepended<Value>) -> Result<(), Exhausted>
     requires { 8 ≤ length values.old }
     ensures values { OnOk result (values.new ≡ reduced Production.EntrySome values.old) }

@@ -1,15 +1,15 @@
 //! What the productions of declarations stand for.
 
 ghost use Rattle.std.specs.Prelude.{◌≡◌, ◌≤◌, length, IfOk, OnOk};
-ghost use Rattle.sil_shape.specs.Grammar.{body};
-ghost use Rattle.written_values.specs.declared.sections.Section.TheVariants.{Declarations};
+ghost use Rattle.grammar_tables.specs.Grammar.{body};
+ghost use Rattle.grammar_tables.specs.declared.sections.Section.TheVariants.{Declarations};
 ghost use Rattle.written_values.specs.inner.PartFaults.{part_fault};
 ghost use Rattle.written_values.specs.inner.Reduced.{parts_of, reduced};
-ghost use Rattle.written_values.specs.inner.Sections.{section};
+ghost use Rattle.grammar_tables.specs.inner.Sections.{section};
 
 use crate::{build_declarations, build_module};
 use sil_ast::{Exhausted, Stage, Storage};
-use sil_shape::grammar::Production;
+use grammar_tables::Production;
 use std::alloc::Global;
 use written_tree::Fault;
 use written_values::nothing::skip;
@@ -18,7 +18,7 @@ use written_values::put::{pass, put_nothing, put_second};
 use written_values::value::Value;
 
 /// Puts what a production of declarations stands for in the place of the values of its body.
-#[tactic(auto, unfolding(written_values::specs::inner::Reduced::reducing, written_values::specs::inner::Sections::telling))]
+#[tactic(auto, unfolding(written_values::specs::inner::Reduced::reducing, grammar_tables::specs::inner::Sections::telling))]
 pub fn reduce_declaration(
     alloc: Global,
     production: Production,

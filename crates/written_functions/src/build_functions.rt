@@ -1,7 +1,7 @@
 //! Builds the signatures of functions, and puts them before the values that wait.
 
 ghost use Rattle.std.specs.Prelude.{◌≡◌, [], ◌∷◌, ◌≤◌, List, length, IfOk, OnOk};
-ghost use Rattle.sil_shape.specs.declared.grammar.Production.{Production};
+ghost use Rattle.grammar_tables.specs.declared.grammar.Production.{Production};
 ghost use Rattle.written_values.specs.declared.value.Value.{Value};
 ghost use Rattle.written_values.specs.declared.value.Value.TheVariants as v;
 ghost use Rattle.written_values.specs.inner.Meaning.{given_with, param};
@@ -11,7 +11,7 @@ ghost use Rattle.written_values.specs.inner.Reduced.{parts_of, reduced};
 ghost use Rattle.written_values.specs.Values.{given_before, givens_of, no_givens, no_params, param_before, params_of};
 
 use sil_ast::{Convention, Exhausted, Given, Linkage, Param, Passing, Place, Signature};
-use sil_shape::grammar::Production;
+use grammar_tables::Production;
 use std::alloc::Global;
 use written_tree::{Fault, earlier};
 use written_values::faults::too_many_arguments;
@@ -31,7 +31,7 @@ pub(crate) fn linkage(linkage: Linkage, values: &mut Prepended<Value>) -> Result
 
 /// Puts a word in brackets, and the words behind it.
 #[inline(never)]
-#[tactic(auto, unfolding(written_values::specs::inner::Reduced::reduced, written_values::specs::inner::Meaning::meaning, sil_shape::specs::Grammar::body))]
+#[tactic(auto, unfolding(written_values::specs::inner::Reduced::reduced, written_values::specs::inner::Meaning::meaning, grammar_tables::specs::Grammar::body))]
 pub(crate) fn more_attributes(alloc: Global, values: &mut Prepended<Value>) -> Result<(), Exhausted>
     requires { 4 ≤ length values.old }
     ensures values { OnOk result (values.new ≡ reduced Production.AttributesMore values.old) }
@@ -199,7 +199,7 @@ pub(crate) fn param(
 
 /// Puts a parameter of which no word says how it is passed.
 #[inline(never)]
-#[tactic(auto, unfolding(written_values::specs::inner::Reduced::reduced, written_values::specs::inner::Meaning::meaning, sil_shape::specs::Grammar::body))]
+#[tactic(auto, unfolding(written_values::specs::inner::Reduced::reduced, written_values::specs::inner::Meaning::meaning, grammar_tables::specs::Grammar::body))]
 pub(crate) fn plain_param(alloc: Global, values: &mut Prepended<Value>) -> Result<(), Exhausted>
     requires { 1 ≤ length values.old }
     ensures values { OnOk result (values.new ≡ reduced Production.ParamPlain values.old) }
@@ -222,7 +222,7 @@ fn one_given(alloc: Global, given: Given, first: Place) -> Result<GivenList, Exh
 
 /// Puts the results between two parentheses.
 #[inline(never)]
-#[tactic(auto, unfolding(written_values::specs::inner::Reduced::reduced, written_values::specs::inner::Meaning::meaning, sil_shape::specs::Grammar::body))]
+#[tactic(auto, unfolding(written_values::specs::inner::Reduced::reduced, written_values::specs::inner::Meaning::meaning, grammar_tables::specs::Grammar::body))]
 pub(crate) fn result_list(alloc: Global, values: &mut Prepended<Value>) -> Result<(), Exhausted>
     requires { 3 ≤ length values.old }
     ensures values { OnOk result (values.new ≡ reduced Production.ResultList values.old) }
@@ -253,7 +253,7 @@ pub(crate) fn worded_result(
 
 /// Puts a result of which no word says how it is given, alone in a list.
 #[inline(never)]
-#[tactic(auto, unfolding(written_values::specs::inner::Reduced::reduced, written_values::specs::inner::Meaning::meaning, sil_shape::specs::Grammar::body))]
+#[tactic(auto, unfolding(written_values::specs::inner::Reduced::reduced, written_values::specs::inner::Meaning::meaning, grammar_tables::specs::Grammar::body))]
 pub(crate) fn plain_result(alloc: Global, values: &mut Prepended<Value>) -> Result<(), Exhausted>
     requires { 1 ≤ length values.old }
     ensures values { OnOk result (values.new ≡ reduced Production.ResultPlain values.old) }
@@ -290,7 +290,7 @@ pub(crate) fn worded_given(
 
 /// Puts a result of several of which no word says how it is given.
 #[inline(never)]
-#[tactic(auto, unfolding(written_values::specs::inner::Reduced::reduced, written_values::specs::inner::Meaning::meaning, sil_shape::specs::Grammar::body))]
+#[tactic(auto, unfolding(written_values::specs::inner::Reduced::reduced, written_values::specs::inner::Meaning::meaning, grammar_tables::specs::Grammar::body))]
 pub(crate) fn plain_given(alloc: Global, values: &mut Prepended<Value>) -> Result<(), Exhausted>
     requires { 1 ≤ length values.old }
     ensures values { OnOk result (values.new ≡ reduced Production.GivenPlain values.old) }

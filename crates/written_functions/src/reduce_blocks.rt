@@ -2,16 +2,16 @@
 
 ghost use Rattle.std.specs.Prelude.{◌≡◌, ◌≤◌, length, IfOk, OnOk};
 ghost use Rattle.instruction_table.specs.declared.op.Op.{Op};
-ghost use Rattle.sil_shape.specs.Grammar.{body};
-ghost use Rattle.sil_shape.specs.declared.grammar.Production.TheVariants.{Row};
-ghost use Rattle.written_values.specs.declared.sections.Section.TheVariants.{Blocks};
+ghost use Rattle.grammar_tables.specs.Grammar.{body};
+ghost use Rattle.grammar_tables.specs.declared.grammar.Production.TheVariants.{Row};
+ghost use Rattle.grammar_tables.specs.declared.sections.Section.TheVariants.{Blocks};
 ghost use Rattle.written_values.specs.inner.PartFaults.{part_fault};
 ghost use Rattle.written_values.specs.inner.Reduced.{parts_of, reduced};
-ghost use Rattle.written_values.specs.inner.Sections.{section};
+ghost use Rattle.grammar_tables.specs.inner.Sections.{section};
 
 use crate::build_blocks;
 use sil_ast::{ArgKind, Exhausted};
-use sil_shape::grammar::Production;
+use grammar_tables::Production;
 use std::alloc::Global;
 use written_tree::Fault;
 use written_values::nothing::skip;
@@ -20,7 +20,7 @@ use written_values::put::{pass, put_nothing};
 use written_values::value::Value;
 
 /// Puts what a production of blocks that isn't a row stands for in the place of the values of its body.
-#[tactic(auto, unfolding(written_values::specs::inner::Reduced::reducing, written_values::specs::inner::Sections::telling))]
+#[tactic(auto, unfolding(written_values::specs::inner::Reduced::reducing, grammar_tables::specs::inner::Sections::telling))]
 pub fn reduce_block(
     alloc: Global,
     production: Production,

@@ -8,9 +8,9 @@ use Rattle.instruction_table.specs.declared.entries.Ending.TheVariants as ending
 use Rattle.instruction_table.specs.declared.forms.Part.{Part}
 use Rattle.instruction_table.specs.declared.forms.Part.TheVariants as form
 use Rattle.instruction_table.specs.declared.op.Op.{Op}
-use Rattle.sil_shape.specs.Rows.{comma_behind, edges_by, edges_of, parts_row, row_body, symbols_of}
-use Rattle.sil_shape.specs.Grammar.{body}
-use Rattle.sil_shape.specs.declared.grammar.Production.TheVariants.{Row}
+use Rattle.grammar_tables.specs.Rows.{comma_behind, edges_by, edges_of, parts_row, row_body, symbols_of}
+use Rattle.grammar_tables.specs.Grammar.{body}
+use Rattle.grammar_tables.specs.declared.grammar.Production.TheVariants.{Row}
 use Rattle.written_tree.specs.Faults.{earlier}
 use Rattle.written_tree.specs.declared.fault.Fault.{Fault}
 use Rattle.written_tree.specs.declared.written_instructions.WrittenInst.{WrittenInst}

@@ -1,7 +1,7 @@
 //! Builds operands, edges and members, and puts them before the values that wait.
 
 ghost use Rattle.std.specs.Prelude.{◌≡◌, [], ◌∷◌, ◌≤◌, List, length, None, IfOk, OnOk};
-ghost use Rattle.sil_shape.specs.declared.grammar.Production.{Production};
+ghost use Rattle.grammar_tables.specs.declared.grammar.Production.{Production};
 ghost use Rattle.written_values.specs.declared.value.Value.{Value};
 ghost use Rattle.written_values.specs.declared.value.Value.TheVariants as v;
 ghost use Rattle.written_values.specs.inner.Meaning as meant;
@@ -11,7 +11,7 @@ ghost use Rattle.written_values.specs.Values.{operand_of, operands_of};
 
 use sil_ast::{Boxed, Exhausted, List, Member};
 use sil_rules::{LimitWord, limits};
-use sil_shape::grammar::Production;
+use grammar_tables::Production;
 use std::alloc::Global;
 use written_tree::{Fault, WrittenEdge, WrittenOperand};
 use written_values::faults::too_many;
@@ -23,7 +23,7 @@ use written_values::value::{Reduced, Value};
 
 /// Puts an operand of its name and its type.
 #[inline(never)]
-#[tactic(auto, unfolding(written_values::specs::inner::Reduced::reduced, written_values::specs::inner::Meaning::meaning, sil_shape::specs::Grammar::body))]
+#[tactic(auto, unfolding(written_values::specs::inner::Reduced::reduced, written_values::specs::inner::Meaning::meaning, grammar_tables::specs::Grammar::body))]
 pub(crate) fn operand(alloc: Global, values: &mut Prepended<Value>) -> Result<(), Exhausted>
     requires { 5 ≤ length values.old }
     ensures values { OnOk result (values.new ≡ reduced Production.WholeOperand values.old) }
@@ -62,7 +62,7 @@ pub(crate) fn operands(alloc: Global, values: &mut Prepended<Value>) -> Result<(
 
 /// Puts the operands between the parentheses of an edge.
 #[inline(never)]
-#[tactic(auto, unfolding(written_values::specs::inner::Reduced::reduced, written_values::specs::inner::Meaning::meaning, sil_shape::specs::Grammar::body))]
+#[tactic(auto, unfolding(written_values::specs::inner::Reduced::reduced, written_values::specs::inner::Meaning::meaning, grammar_tables::specs::Grammar::body))]
 pub(crate) fn edge_operands(alloc: Global, values: &mut Prepended<Value>) -> Result<(), Exhausted>
     requires { 4 ≤ length values.old }
     ensures values { OnOk result (values.new ≡ reduced Production.EdgeArgsSome values.old) }
@@ -103,7 +103,7 @@ pub(crate) fn edge(alloc: Global, values: &mut Prepended<Value>) -> Result<Optio
 
 /// Puts the edge of a case, and the edges behind it.
 #[inline(never)]
-#[tactic(auto, unfolding(written_values::specs::inner::Reduced::reduced, written_values::specs::inner::Meaning::meaning, sil_shape::specs::Grammar::body))]
+#[tactic(auto, unfolding(written_values::specs::inner::Reduced::reduced, written_values::specs::inner::Meaning::meaning, grammar_tables::specs::Grammar::body))]
 pub(crate) fn switch_case(alloc: Global, values: &mut Prepended<Value>) -> Result<(), Exhausted>
     requires { 5 ≤ length values.old }
     ensures values { OnOk result (values.new ≡ reduced Production.SwitchCase values.old) }
@@ -123,7 +123,7 @@ pub(crate) fn switch_case(alloc: Global, values: &mut Prepended<Value>) -> Resul
 
 /// Puts the edge of a default, behind which there are no edges.
 #[inline(never)]
-#[tactic(auto, unfolding(written_values::specs::inner::Reduced::reduced, written_values::specs::inner::Meaning::meaning, sil_shape::specs::Grammar::body))]
+#[tactic(auto, unfolding(written_values::specs::inner::Reduced::reduced, written_values::specs::inner::Meaning::meaning, grammar_tables::specs::Grammar::body))]
 pub(crate) fn switch_default(alloc: Global, values: &mut Prepended<Value>) -> Result<(), Exhausted>
     requires { 2 ≤ length values.old }
     ensures values { OnOk result (values.new ≡ reduced Production.SwitchDefault values.old) }
@@ -149,7 +149,7 @@ pub(crate) fn no_edges(alloc: Global, values: &mut Prepended<Value>) -> Result<(
 
 /// Puts the operand of a case, alone in a list.
 #[inline(never)]
-#[tactic(auto, unfolding(written_values::specs::inner::Reduced::reduced, written_values::specs::inner::Meaning::meaning, sil_shape::specs::Grammar::body))]
+#[tactic(auto, unfolding(written_values::specs::inner::Reduced::reduced, written_values::specs::inner::Meaning::meaning, grammar_tables::specs::Grammar::body))]
 pub(crate) fn enum_operand(alloc: Global, values: &mut Prepended<Value>) -> Result<(), Exhausted>
     requires { 2 ≤ length values.old }
     ensures values { OnOk result (values.new ≡ reduced Production.EnumOperandSome values.old) }
@@ -174,7 +174,7 @@ fn member(alloc: Global, values: &mut Prepended<Value>) -> Result<Value, Exhaust
 
 /// Puts the name of a member.
 #[inline(never)]
-#[tactic(auto, unfolding(written_values::specs::inner::Reduced::reduced, written_values::specs::inner::Meaning::meaning, sil_shape::specs::Grammar::body))]
+#[tactic(auto, unfolding(written_values::specs::inner::Reduced::reduced, written_values::specs::inner::Meaning::meaning, grammar_tables::specs::Grammar::body))]
 pub(crate) fn member_name(alloc: Global, values: &mut Prepended<Value>) -> Result<(), Exhausted>
     requires { 4 ≤ length values.old }
     ensures values { OnOk result (values.new ≡ reduced Production.WholeMemberName values.old) }
@@ -185,7 +185,7 @@ pub(crate) fn member_name(alloc: Global, values: &mut Prepended<Value>) -> Resul
 
 /// Puts the name of a case, of whose suffix nothing is kept.
 #[inline(never)]
-#[tactic(auto, unfolding(written_values::specs::inner::Reduced::reduced, written_values::specs::inner::Meaning::meaning, sil_shape::specs::Grammar::body))]
+#[tactic(auto, unfolding(written_values::specs::inner::Reduced::reduced, written_values::specs::inner::Meaning::meaning, grammar_tables::specs::Grammar::body))]
 pub(crate) fn enum_element(alloc: Global, values: &mut Prepended<Value>) -> Result<(), Exhausted>
     requires { 7 ≤ length values.old }
     ensures values { OnOk result (values.new ≡ reduced Production.WholeEnumElement values.old) }

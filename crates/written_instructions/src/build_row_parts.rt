@@ -2,7 +2,7 @@
 
 ghost use Rattle.std.specs.Prelude.{◌≡◌, ◌++◌, ◌≤◌, drop, length, map, IfOk, OnOk};
 ghost use Rattle.instruction_table.specs.Forms.{ending_of, may_lack_operand};
-ghost use Rattle.sil_shape.specs.Rows.{edges_by, symbols_of};
+ghost use Rattle.grammar_tables.specs.Rows.{edges_by, symbols_of};
 ghost use Rattle.sil_rules.specs.declared.limits.TheConstants.{ARGUMENTS};
 ghost use Rattle.sil_rules.specs.declared.limit_word.LimitWord.TheVariants as limit;
 ghost use Rattle.written_values.specs.inner.PartFaults.{fault_of_part};
@@ -121,7 +121,7 @@ fn edges(
 }
 
 /// Puts a part of an instruction's row into the instruction, from the first values, and answers the fault that shows there.
-#[tactic(auto, unfolding(sil_shape::specs::Rows::symbols_of, sil_shape::specs::Rows::edges_of))]
+#[tactic(auto, unfolding(grammar_tables::specs::Rows::symbols_of, grammar_tables::specs::Rows::edges_of))]
 pub(crate) fn put_part(
     alloc: Global,
     op: Op,

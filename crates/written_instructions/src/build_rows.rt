@@ -2,9 +2,9 @@
 //! that wait.
 
 ghost use Rattle.std.specs.Prelude.{◌≡◌, ◌≤◌, drop, length, IfOk, OnOk};
-ghost use Rattle.sil_shape.specs.Grammar.{body};
-ghost use Rattle.sil_shape.specs.Rows.{comma_behind};
-ghost use Rattle.sil_shape.specs.declared.grammar.Production.TheVariants.{Row};
+ghost use Rattle.grammar_tables.specs.Grammar.{body};
+ghost use Rattle.grammar_tables.specs.Rows.{comma_behind};
+ghost use Rattle.grammar_tables.specs.declared.grammar.Production.TheVariants.{Row};
 ghost use Rattle.written_values.specs.inner.PartFaults.{part_fault};
 ghost use Rattle.written_values.specs.inner.Reduced.{parts_of, reduced};
 ghost use Rattle.written_values.specs.Values as none;
@@ -12,7 +12,7 @@ ghost use Rattle.written_values.specs.Values as none;
 use crate::build_row_parts::put_part;
 use instruction_table::{Op, Part, row_of};
 use sil_ast::{Exhausted, List, Place};
-use sil_shape::rows::has_comma_behind;
+use grammar_tables::has_comma_behind;
 use std::alloc::Global;
 use written_tree::{Fault, InstBox, WrittenInst, earlier};
 use written_values::nothing::{bare_inst, skip};

@@ -1,7 +1,7 @@
 //! Builds the flags, the qualifiers and the words for a debugger, and puts them before the values that wait.
 
 ghost use Rattle.std.specs.Prelude.{◌≡◌, [], ◌∷◌, Some, ◌≤◌, List, length, IfOk, OnOk};
-ghost use Rattle.sil_shape.specs.declared.grammar.Production.{Production};
+ghost use Rattle.grammar_tables.specs.declared.grammar.Production.{Production};
 ghost use Rattle.written_values.specs.declared.value.Value.{Value};
 ghost use Rattle.written_values.specs.declared.value.Value.TheVariants as v;
 ghost use Rattle.written_values.specs.inner.Meaning as meant;
@@ -11,7 +11,7 @@ ghost use Rattle.written_values.specs.inner.Reduced.{parts_of, reduced};
 ghost use Rattle.written_values.specs.Values.{debug_of, no_debug, no_qualifier};
 
 use sil_ast::{Binding, Boxed, Exhausted, Qualifier};
-use sil_shape::grammar::Production;
+use grammar_tables::Production;
 use std::alloc::Global;
 use written_numbers::small_number;
 use written_tree::{Fault, WrittenQualifier, out_of_range};
@@ -34,7 +34,7 @@ pub(crate) fn flags(
 
 /// Puts `[lexical]` and the flag behind it.
 #[inline(never)]
-#[tactic(auto, unfolding(written_values::specs::inner::Reduced::reduced, written_values::specs::inner::Meaning::meaning, sil_shape::specs::Grammar::body))]
+#[tactic(auto, unfolding(written_values::specs::inner::Reduced::reduced, written_values::specs::inner::Meaning::meaning, grammar_tables::specs::Grammar::body))]
 pub(crate) fn lexical_first(values: &mut Prepended<Value>) -> Result<(), Exhausted>
     requires { 3 ≤ length values.old }
     ensures values { OnOk result (values.new ≡ reduced Production.LexicalFirst values.old) }
@@ -48,7 +48,7 @@ pub(crate) fn lexical_first(values: &mut Prepended<Value>) -> Result<(), Exhaust
 
 /// Puts `[var_decl]` and the flag behind it.
 #[inline(never)]
-#[tactic(auto, unfolding(written_values::specs::inner::Reduced::reduced, written_values::specs::inner::Meaning::meaning, sil_shape::specs::Grammar::body))]
+#[tactic(auto, unfolding(written_values::specs::inner::Reduced::reduced, written_values::specs::inner::Meaning::meaning, grammar_tables::specs::Grammar::body))]
 pub(crate) fn var_decl_first(values: &mut Prepended<Value>) -> Result<(), Exhausted>
     requires { 3 ≤ length values.old }
     ensures values { OnOk result (values.new ≡ reduced Production.VarDeclFirst values.old) }
@@ -81,7 +81,7 @@ pub(crate) fn qualifier(word: Qualifier, values: &mut Prepended<Value>) -> Resul
 
 /// Puts the `take` between two brackets.
 #[inline(never)]
-#[tactic(auto, unfolding(written_values::specs::inner::Reduced::reduced, written_values::specs::inner::Meaning::meaning, sil_shape::specs::Grammar::body))]
+#[tactic(auto, unfolding(written_values::specs::inner::Reduced::reduced, written_values::specs::inner::Meaning::meaning, grammar_tables::specs::Grammar::body))]
 pub(crate) fn take_flag(values: &mut Prepended<Value>) -> Result<(), Exhausted>
     requires { 3 ≤ length values.old }
     ensures values { OnOk result (values.new ≡ reduced Production.TakeFlagSome values.old) }
@@ -118,7 +118,7 @@ pub(crate) fn debug_binding(
 
 /// Puts a name, and what a debugger is told behind it.
 #[inline(never)]
-#[tactic(auto, unfolding(written_values::specs::inner::Reduced::reduced, written_values::specs::inner::Meaning::meaning, sil_shape::specs::Grammar::body))]
+#[tactic(auto, unfolding(written_values::specs::inner::Reduced::reduced, written_values::specs::inner::Meaning::meaning, grammar_tables::specs::Grammar::body))]
 pub(crate) fn debug_name(alloc: Global, values: &mut Prepended<Value>) -> Result<(), Exhausted>
     requires { 3 ≤ length values.old }
     ensures values { OnOk result (values.new ≡ reduced Production.DebugName values.old) }
@@ -149,7 +149,7 @@ pub(crate) fn debug_number(values: &mut Prepended<Value>) -> Result<Option<Fault
 
 /// Puts what a debugger is told by `expr op_deref`.
 #[inline(never)]
-#[tactic(auto, unfolding(written_values::specs::inner::Reduced::reduced, written_values::specs::inner::Meaning::meaning, sil_shape::specs::Grammar::body))]
+#[tactic(auto, unfolding(written_values::specs::inner::Reduced::reduced, written_values::specs::inner::Meaning::meaning, grammar_tables::specs::Grammar::body))]
 pub(crate) fn debug_deref(values: &mut Prepended<Value>) -> Result<(), Exhausted>
     requires { 2 ≤ length values.old }
     ensures values { OnOk result (values.new ≡ reduced Production.DebugDeref values.old) }

@@ -1,15 +1,15 @@
 //! What the productions of operands stand for.
 
 ghost use Rattle.std.specs.Prelude.{◌≡◌, ◌≤◌, length, IfOk, OnOk};
-ghost use Rattle.sil_shape.specs.Grammar.{body};
-ghost use Rattle.written_values.specs.declared.sections.Section.TheVariants.{Operands};
+ghost use Rattle.grammar_tables.specs.Grammar.{body};
+ghost use Rattle.grammar_tables.specs.declared.sections.Section.TheVariants.{Operands};
 ghost use Rattle.written_values.specs.inner.PartFaults.{part_fault};
 ghost use Rattle.written_values.specs.inner.Reduced.{parts_of, reduced};
-ghost use Rattle.written_values.specs.inner.Sections.{section};
+ghost use Rattle.grammar_tables.specs.inner.Sections.{section};
 
 use crate::build_operands;
 use sil_ast::Exhausted;
-use sil_shape::grammar::Production;
+use grammar_tables::Production;
 use std::alloc::Global;
 use written_tree::Fault;
 use written_values::nothing::skip;
@@ -18,7 +18,7 @@ use written_values::put::{put_nothing, put_second};
 use written_values::value::Value;
 
 /// Puts what a production of operands stands for in the place of the values of its body.
-#[tactic(auto, unfolding(written_values::specs::inner::Reduced::reducing, written_values::specs::inner::Sections::telling))]
+#[tactic(auto, unfolding(written_values::specs::inner::Reduced::reducing, grammar_tables::specs::inner::Sections::telling))]
 pub fn reduce_operand(
     alloc: Global,
     production: Production,

@@ -1,15 +1,15 @@
 //! What the productions of words stand for.
 
 ghost use Rattle.std.specs.Prelude.{◌≡◌, ◌≤◌, length, IfOk, OnOk};
-ghost use Rattle.sil_shape.specs.Grammar.{body};
-ghost use Rattle.written_values.specs.declared.sections.Section.TheVariants.{Words};
+ghost use Rattle.grammar_tables.specs.Grammar.{body};
+ghost use Rattle.grammar_tables.specs.declared.sections.Section.TheVariants.{Words};
 ghost use Rattle.written_values.specs.inner.PartFaults.{part_fault};
 ghost use Rattle.written_values.specs.inner.Reduced.{parts_of, reduced};
-ghost use Rattle.written_values.specs.inner.Sections.{section};
+ghost use Rattle.grammar_tables.specs.inner.Sections.{section};
 
 use crate::build_words;
 use sil_ast::{Binding, Exhausted, Qualifier};
-use sil_shape::grammar::Production;
+use grammar_tables::Production;
 use std::alloc::Global;
 use written_tree::Fault;
 use written_values::nothing::skip;
@@ -18,7 +18,7 @@ use written_values::put::{pass, put_second, put_second_of_three};
 use written_values::value::Value;
 
 /// Puts what a production of words stands for in the place of the values of its body.
-#[tactic(auto, unfolding(written_values::specs::inner::Reduced::reducing, written_values::specs::inner::Sections::telling))]
+#[tactic(auto, unfolding(written_values::specs::inner::Reduced::reducing, grammar_tables::specs::inner::Sections::telling))]
 pub fn reduce_word(
     alloc: Global,
     production: Production,

@@ -8,11 +8,11 @@ use Rattle.std.proofs.lemmas.List.Elements.{All-take}
 use Rattle.sil_lexer.specs.declared.token.Token.{Token}
 use Rattle.sil_lexer.specs.Lexes.{Lexeme}
 use Rattle.sil_lexer.specs.inner.Lexing.{lexeme_of, IsInside}
-use Rattle.sil_shape.specs.declared.grammar.Production.{Production}
-use Rattle.sil_shape.specs.declared.grammar.Symbol.{Symbol}
+use Rattle.grammar_tables.specs.declared.grammar.Production.{Production}
+use Rattle.grammar_tables.specs.declared.grammar.Symbol.{Symbol}
 use Rattle.sil_shape.specs.declared.steps.Step.{Step}
 use Rattle.sil_shape.specs.declared.steps.Step.TheVariants.{Take, Expand}
-use Rattle.sil_shape.specs.Grammar.{body}
+use Rattle.grammar_tables.specs.Grammar.{body}
 use Rattle.sil_shape.specs.Shortest.{Shortens}
 use Rattle.sil_shape.specs.inner.Values.{takes_of, IsEnough}
 use Rattle.sil_shape.proofs.ValuesLemmas.{takes_of-append, IsEnough-drop}

@@ -3,15 +3,16 @@ use Rattle.std.proofs.Common.{◌≡◌, ℕ, ◌+◌, ◌<◌, ◌≤◌, List,
 use Rattle.std.specs.Prelude.{None}
 use Rattle.std.proofs.lemmas.List.{drop-append-le, length-map, length-reverse, map-append, take-append-le}
 use Rattle.std.proofs.Math.Seq.{take-append_seam, drop-append_seam}
-use Rattle.sil_shape.specs.declared.grammar.Nonterminal.{Nonterminal}
-use Rattle.sil_shape.specs.declared.grammar.Nonterminal.TheVariants as n
-use Rattle.sil_shape.specs.declared.grammar.Production.{Production}
-use Rattle.sil_shape.specs.declared.grammar.Symbol.{Symbol}
-use Rattle.sil_shape.specs.declared.grammar.Symbol.TheVariants.{Read, Part}
+use Rattle.grammar_tables.specs.declared.grammar.Nonterminal.{Nonterminal}
+use Rattle.grammar_tables.specs.declared.grammar.Nonterminal.TheVariants as n
+use Rattle.grammar_tables.specs.declared.grammar.Production.{Production}
+use Rattle.grammar_tables.specs.declared.grammar.Symbol.{Symbol}
+use Rattle.grammar_tables.specs.declared.grammar.Symbol.TheVariants.{Read, Part}
 use Rattle.sil_shape.specs.declared.steps.Step.{Step}
-use Rattle.sil_shape.specs.Grammar.{body}
-use Rattle.sil_shape.specs.Rows.{comma_behind, parts_row, row_body, symbols_of}
-use Rattle.sil_shape.specs.Shortest.{shortest, Shortens, written, step}
+use Rattle.grammar_tables.specs.Grammar.{body}
+use Rattle.grammar_tables.specs.Rows.{comma_behind, parts_row, row_body, symbols_of}
+use Rattle.sil_shape.specs.Shortest.{Shortens, written, step}
+use Rattle.grammar_tables.specs.Shortest.{shortest}
 use Rattle.sil_shape.specs.inner.Values.{IsEnough}
 use Rattle.sil_shape.proofs.Shortened.{Shortens-derives}
 use Rattle.sil_shape.proofs.ValuesLemmas.{IsEnough-derives}

@@ -3,17 +3,17 @@ use Rattle.std.proofs.Common.{◌≡◌, List, [], ◌∷◌, ◌++◌, length, 
 use Rattle.std.specs.Prelude.{Bool, true, false, if◌then◌else◌}
 use Rattle.sil_lexer.specs.Lexes.{Lexeme}
 use Rattle.token_classes.specs.declared.classes.Class.{Class}
-use Rattle.sil_shape.specs.declared.grammar.Nonterminal.TheVariants as n
-use Rattle.sil_shape.specs.declared.grammar.Production.{Production}
-use Rattle.sil_shape.specs.declared.grammar.Production.TheVariants as p
-use Rattle.sil_shape.specs.declared.grammar.Symbol.{Symbol}
-use Rattle.sil_shape.specs.declared.grammar.Symbol.TheVariants.{Part}
+use Rattle.grammar_tables.specs.declared.grammar.Nonterminal.TheVariants as n
+use Rattle.grammar_tables.specs.declared.grammar.Production.{Production}
+use Rattle.grammar_tables.specs.declared.grammar.Production.TheVariants as p
+use Rattle.grammar_tables.specs.declared.grammar.Symbol.{Symbol}
+use Rattle.grammar_tables.specs.declared.grammar.Symbol.TheVariants.{Part}
 use Rattle.sil_shape.specs.declared.steps.Step.{Step}
 use Rattle.sil_shape.specs.declared.steps.Step.TheVariants.{Expand}
 use Rattle.sil_shape.specs.inner.Begun.{LeadsTo}
 use Rattle.sil_shape.specs.Derivation.{Accepts, Derives, nothing, rule, start, token}
-use Rattle.sil_shape.specs.Grammar.{written}
-use Rattle.sil_shape.specs.Rows.{ends_block, row_part}
+use Rattle.grammar_tables.specs.Grammar.{written}
+use Rattle.grammar_tables.specs.Rows.{ends_block, row_part}
 use Rattle.sil_shape.specs.Shortest.{Shortens}
 use Rattle.sil_shape.specs.inner.Values.{takes_of, IsEnough}
 use Rattle.sil_shape.proofs.Shortened.{Shortens-derives}

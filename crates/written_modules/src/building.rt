@@ -17,7 +17,7 @@ use crate::leaves::leaf_at;
 use crate::reduce::reduce;
 use sil_ast::Exhausted;
 use sil_lexer::Tokens;
-use sil_shape::grammar::Symbol;
+use grammar_tables::Symbol;
 use sil_shape::steps::{Front, Step};
 use std::alloc::Global;
 use std::rc::Rc;

@@ -1,8 +1,8 @@
 //! What the symbols stand for that a front leaves to be written: their shortest texts, of which all tokens are lacking.
 
 ghost use Rattle.std.specs.Prelude.{◌≡◌, ◌+◌, ◌≤◌, [], length, reverse, IfOk, OnOk};
-ghost use Rattle.sil_shape.specs.Grammar.{body};
-ghost use Rattle.sil_shape.specs.declared.grammar.Symbol.TheVariants.{Part};
+ghost use Rattle.grammar_tables.specs.Grammar.{body};
+ghost use Rattle.grammar_tables.specs.declared.grammar.Symbol.TheVariants.{Part};
 ghost use Rattle.sil_shape.specs.Shortest as said;
 ghost use Rattle.sil_shape.specs.inner.Values.{IsEnough};
 ghost use Rattle.written_modules.specs.inner.Lacking.{lacking, Fills};
@@ -10,9 +10,9 @@ ghost use Rattle.written_modules.specs.inner.Replay.{replay};
 
 use crate::reduce::reduce;
 use sil_ast::Exhausted;
-use sil_shape::bodies::body_length;
-use sil_shape::grammar::{Nonterminal, Production, Symbol};
-use sil_shape::shortest::shortest;
+use grammar_tables::body_length;
+use grammar_tables::{Nonterminal, Production, Symbol};
+use grammar_tables::shortest;
 use sil_shape::shortest_steps::shortest_steps;
 use sil_shape::steps::Step;
 use std::alloc::Global;

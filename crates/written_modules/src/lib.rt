@@ -6,6 +6,5 @@ mod building;
 mod lacking;
 mod leaves;
 mod reduce;
-mod sections;
 
 pub use building::{Built, build, front_fault};

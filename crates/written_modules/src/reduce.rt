@@ -1,13 +1,13 @@
 //! What a production stands for, and the first fault in it by itself: the builders by sections of the grammar.
 
 ghost use Rattle.std.specs.Prelude.{◌≡◌, ◌≤◌, length, IfOk, OnOk};
-ghost use Rattle.sil_shape.specs.Grammar.{body};
+ghost use Rattle.grammar_tables.specs.Grammar.{body};
 ghost use Rattle.written_values.specs.inner.PartFaults.{part_fault};
 ghost use Rattle.written_values.specs.inner.Reduced.{parts_of, reduced};
 
 use crate::sections::section_of;
 use sil_ast::Exhausted;
-use sil_shape::grammar::Production;
+use grammar_tables::Production;
 use std::alloc::Global;
 use written_declarations::reduce_declaration;
 use written_functions::{reduce_block, reduce_function};
@@ -15,7 +15,7 @@ use written_instructions::{reduce_operand, reduce_row, reduce_word};
 use written_tree::Fault;
 use written_types::{reduce_base_type, reduce_type};
 use written_values::prepended::Prepended;
-use written_values::sections::Section;
+use grammar_tables::Section;
 use written_values::value::Value;
 
 /// Puts what a production stands for in the place of the values of its body, which are the first ones, and answers the

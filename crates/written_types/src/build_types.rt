@@ -1,7 +1,7 @@
 //! Builds types, level by level.
 
 ghost use Rattle.std.specs.Prelude.{◌≡◌, [], ◌∷◌, ◌≤◌, List, length, IfOk, OnOk};
-ghost use Rattle.sil_shape.specs.declared.grammar.Production.{Production};
+ghost use Rattle.grammar_tables.specs.declared.grammar.Production.{Production};
 ghost use Rattle.written_values.specs.inner.PartFaults.{part_fault};
 ghost use Rattle.written_values.specs.inner.Reduced.{parts_of, reduced};
 ghost use Rattle.sil_ast.specs.declared.type_name.TypeName.TheVariants as ty;
@@ -13,7 +13,7 @@ ghost use Rattle.written_values.specs.Values.{no_types, token_of, type_of, types
 use crate::type_faults::{too_deep, too_many_questions, tuple_fault};
 use sil_ast::{Boxed, Exhausted, Place, TypeName};
 use sil_rules::limits;
-use sil_shape::grammar::Production;
+use grammar_tables::Production;
 use std::alloc::Global;
 use written_tree::{Fault, WrittenToken, earlier};
 use written_values::nothing::{discard, no_types, unit_type};
@@ -279,7 +279,7 @@ pub(crate) fn tailed_base(alloc: Global, values: &mut Prepended<Value>) -> Resul
 }
 
 #[inline(never)]
-#[tactic(auto, unfolding(written_values::specs::inner::Reduced::reduced, written_values::specs::inner::Meaning::meaning, sil_shape::specs::Grammar::body))]
+#[tactic(auto, unfolding(written_values::specs::inner::Reduced::reduced, written_values::specs::inner::Meaning::meaning, grammar_tables::specs::Grammar::body))]
 pub(crate) fn named_base(alloc: Global, values: &mut Prepended<Value>) -> Result<(), Exhausted>
     requires { 1 ≤ length values.old }
     ensures values { OnOk result (values.new ≡ reduced Production.NamedBase values.old) }
@@ -319,7 +319,7 @@ pub(crate) fn int_type(width: u8, values: &mut Prepended<Value>) -> Result<(), E
 }
 
 #[inline(never)]
-#[tactic(auto, unfolding(written_values::specs::inner::Reduced::reduced, written_values::specs::inner::Meaning::meaning, sil_shape::specs::Grammar::body))]
+#[tactic(auto, unfolding(written_values::specs::inner::Reduced::reduced, written_values::specs::inner::Meaning::meaning, grammar_tables::specs::Grammar::body))]
 pub(crate) fn more_questions(alloc: Global, values: &mut Prepended<Value>) -> Result<(), Exhausted>
     requires { 2 ≤ length values.old }
     ensures values { OnOk result (values.new ≡ reduced Production.QuestionsMore values.old) }

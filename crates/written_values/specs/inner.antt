@@ -3,4 +3,3 @@ pub mod RowMeaning
 pub mod Meaning
 pub mod PartFaults
 pub mod Reduced
-pub mod Sections

@@ -8,7 +8,6 @@ pub mod passed_on;
 pub mod placed;
 pub mod prepended;
 pub mod put;
-pub mod sections;
 pub mod starred;
 pub mod value;
 mod value_code;

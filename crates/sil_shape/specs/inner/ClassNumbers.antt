@@ -10,8 +10,8 @@ use Rattle.token_classes.specs.declared.classes.Punctuation.{Punctuation}
 use Rattle.token_classes.specs.declared.classes.Punctuation.TheVariants as m
 use Rattle.token_classes.specs.declared.classes.Class.{Class}
 use Rattle.token_classes.specs.declared.classes.Class.TheVariants as c
-use Rattle.sil_shape.specs.declared.grammar.Terminal.{Terminal}
-use Rattle.sil_shape.specs.declared.grammar.Terminal.TheVariants as t
+use Rattle.grammar_tables.specs.declared.grammar.Terminal.{Terminal}
+use Rattle.grammar_tables.specs.declared.grammar.Terminal.TheVariants as t
 use Rattle.sil_shape.specs.Accepts.{ends, is_at_word, is_text, is_type, is_word, stays_inside}
 
 -- a number of its own for each class

@@ -1,14 +1,14 @@
 -- What the machine does to its stack and its steps. No definition of the language rests on it.
 use Rattle.std.specs.Prelude.{List, [], ◌∷◌, ◌++◌, ◌≡◌, drop, Option, Some, None}
 use Rattle.token_classes.specs.declared.classes.Class.{Class}
-use Rattle.sil_shape.specs.declared.grammar.Nonterminal.{Nonterminal}
-use Rattle.sil_shape.specs.declared.grammar.Symbol.{Symbol}
-use Rattle.sil_shape.specs.declared.grammar.Symbol.TheVariants.{Read, Part}
-use Rattle.sil_shape.specs.declared.grammar.Production.{Production}
+use Rattle.grammar_tables.specs.declared.grammar.Nonterminal.{Nonterminal}
+use Rattle.grammar_tables.specs.declared.grammar.Symbol.{Symbol}
+use Rattle.grammar_tables.specs.declared.grammar.Symbol.TheVariants.{Read, Part}
+use Rattle.grammar_tables.specs.declared.grammar.Production.{Production}
 use Rattle.sil_shape.specs.declared.steps.Step.{Step}
 use Rattle.sil_shape.specs.declared.steps.Step.TheVariants.{Take, Expand}
 use Rattle.sil_shape.specs.Derivation.{Accepts}
-use Rattle.sil_shape.specs.Grammar.{body}
+use Rattle.grammar_tables.specs.Grammar.{body}
 use Rattle.sil_shape.specs.inner.Choice.{choose}
 
 -- the stack and the steps so far, after some parts that stood first gave way to the bodies that the next token chooses

@@ -2,7 +2,7 @@
 use Rattle.std.specs.Prelude.{◌≡◌, ◌↔◌, ◌≤◌, List, length, map, None, Some}
 use Rattle.sil_lexer.specs.Lexes.{Lexeme}
 use Rattle.sil_shape.specs.declared.steps.Step.{Step}
-use Rattle.sil_shape.specs.declared.grammar.Symbol.{Symbol}
+use Rattle.grammar_tables.specs.declared.grammar.Symbol.{Symbol}
 use Rattle.sil_shape.specs.Derivation.{Derives}
 use Rattle.token_classes.specs.declared.classes.Class.{Class}
 use Rattle.written_values.specs.Opened.{PartValue}

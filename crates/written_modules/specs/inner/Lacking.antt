@@ -1,9 +1,9 @@
 -- What the replay makes of a symbol in its shortest text, where all tokens are lacking.
 use Rattle.std.specs.Prelude.{ℕ, zero, suc, ◌≡◌, ◌≤◌, List, ◌++◌, length, map}
-use Rattle.sil_shape.specs.declared.grammar.Symbol.{Symbol}
-use Rattle.sil_shape.specs.declared.grammar.Symbol.TheVariants.{Read, Part}
-use Rattle.sil_shape.specs.Grammar.{body}
-use Rattle.sil_shape.specs.Shortest.{shortest}
+use Rattle.grammar_tables.specs.declared.grammar.Symbol.{Symbol}
+use Rattle.grammar_tables.specs.declared.grammar.Symbol.TheVariants.{Read, Part}
+use Rattle.grammar_tables.specs.Grammar.{body}
+use Rattle.grammar_tables.specs.Shortest.{shortest}
 use Rattle.written_values.specs.declared.value.Value.{Value}
 use Rattle.written_values.specs.declared.value.Value.TheVariants as v
 use Rattle.written_values.specs.inner.Meaning.{meaning}

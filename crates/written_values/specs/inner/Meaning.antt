@@ -12,8 +12,8 @@ use Rattle.sil_ast.specs.declared.signature.Given.{Given}
 use Rattle.sil_ast.specs.declared.signature.Passing.TheVariants as passing
 use Rattle.sil_ast.specs.declared.signature.Passing.{Passing}
 use Rattle.sil_ast.specs.declared.type_name.TypeName.TheVariants as ty
-use Rattle.sil_shape.specs.declared.grammar.Production.{Production}
-use Rattle.sil_shape.specs.declared.grammar.Production.TheVariants as p
+use Rattle.grammar_tables.specs.declared.grammar.Production.{Production}
+use Rattle.grammar_tables.specs.declared.grammar.Production.TheVariants as p
 use Rattle.written_numbers.specs.Numbers.{small_of}
 use Rattle.written_values.specs.declared.value.Value.{Value}
 use Rattle.written_values.specs.declared.value.Value.TheVariants as v

@@ -1,7 +1,7 @@
 -- What the values that wait are once a production is reduced.
 use Rattle.std.specs.Prelude.{⊤, List, ◌∷◌, length, take, drop}
-use Rattle.sil_shape.specs.declared.grammar.Production.{Production}
-use Rattle.sil_shape.specs.Grammar.{body}
+use Rattle.grammar_tables.specs.declared.grammar.Production.{Production}
+use Rattle.grammar_tables.specs.Grammar.{body}
 use Rattle.written_values.specs.declared.value.Value.{Value}
 use Rattle.written_values.specs.inner.Meaning.{meaning}
 use Rattle.written_values.specs.inner.PartFaults.{part_fault}

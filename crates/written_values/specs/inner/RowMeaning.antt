@@ -10,7 +10,7 @@ use Rattle.instruction_table.specs.declared.forms.Part.{Part}
 use Rattle.instruction_table.specs.declared.forms.Part.TheVariants as form
 use Rattle.instruction_table.specs.declared.op.Op.{Op}
 use Rattle.sil_ast.specs.declared.type_name.TypeName.{TypeName}
-use Rattle.sil_shape.specs.Rows.{comma_behind, symbols_of}
+use Rattle.grammar_tables.specs.Rows.{comma_behind, symbols_of}
 use Rattle.sil_rules.specs.declared.limits.TheConstants.{ARGUMENTS}
 use Rattle.written_numbers.specs.Numbers.{literal_of, small_of}
 use Rattle.written_values.specs.inner.Parts.{part, place_at, text_at}

@@ -1,5 +1,5 @@
 use Rattle.std.proofs.Common.{◌++◌, ◌∙◌, ap}
-use Rattle.sil_shape.specs.Grammar.{body}
+use Rattle.grammar_tables.specs.Grammar.{body}
 use Rattle.sil_shape.proofs.TurnLemmas.{rest_popped}
 use Rattle.sil_shape.proofs.machine.expand.Goals as goal
 

@@ -1,5 +1,5 @@
 use Rattle.std.proofs.Common.{[], ◌∷◌, ◌++◌, ap, reverse, ◌∙◌}
-use Rattle.sil_shape.specs.declared.grammar.Symbol.TheVariants.{Part}
+use Rattle.grammar_tables.specs.declared.grammar.Symbol.TheVariants.{Part}
 use Rattle.sil_shape.proofs.Shortened.{Shortening-start, Shortening-step, Shortening-end, fewer}
 use Rattle.sil_shape.proofs.shortest_steps.shortest_steps.Goals as goal
 

@@ -1,5 +1,5 @@
 use Rattle.std.proofs.Common.{[], ◌∷◌, reverse}
-use Rattle.sil_shape.specs.declared.grammar.Symbol.TheVariants.{Part}
+use Rattle.grammar_tables.specs.declared.grammar.Symbol.TheVariants.{Part}
 use Rattle.sil_shape.proofs.Computed.{needed_all}
 use Rattle.sil_shape.proofs.Shortened.{Shortening}
 use Rattle.sil_shape.proofs.shortest_steps.shortest_steps.Given as goal

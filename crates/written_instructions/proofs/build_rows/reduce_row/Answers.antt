@@ -13,8 +13,8 @@ use Rattle.written_values.specs.Values.{bare_inst}
 use Rattle.written_values.specs.declared.value.Value.{Value}
 use Rattle.written_values.specs.declared.value.Value.TheVariants as v
 use Rattle.instruction_table.specs.declared.forms.Part.TheVariants.{Flags}
-use Rattle.sil_shape.specs.Grammar.{body}
-use Rattle.sil_shape.specs.Rows.{row_body, symbols_of}
+use Rattle.grammar_tables.specs.Grammar.{body}
+use Rattle.grammar_tables.specs.Rows.{row_body, symbols_of}
 use Rattle.written_instructions.proofs.RowLemmas.{Put, enough_for, put_all, put_next, put_none}
 use Rattle.written_instructions.proofs.build_rows.reduce_row.Goals as goal
 

@@ -3,7 +3,7 @@ use Rattle.std.proofs.Common.{◌≡◌, [], ◌∷◌, ◌++◌, ◌<◌, ◌�
 use Rattle.std.specs.Prelude.{None}
 use Rattle.std.proofs.lemmas.List.{length-reverse, length-take-le, take_all}
 use Rattle.sil_lexer.specs.inner.Lexing.{lexemes_of, IsInside}
-use Rattle.sil_shape.specs.Grammar.{body}
+use Rattle.grammar_tables.specs.Grammar.{body}
 use Rattle.written_tree.specs.Faults.{earlier}
 use Rattle.written_modules.specs.inner.Lacking.{lacking, waiting}
 use Rattle.written_values.specs.inner.PartFaults.{part_fault}

@@ -1,6 +1,6 @@
 -- The production of an empty text takes no values, and leaves one.
 use Rattle.std.proofs.Common.{◌∙◌, ap, arith, length, sym}
-use Rattle.sil_shape.specs.Grammar.{body}
+use Rattle.grammar_tables.specs.Grammar.{body}
 use Rattle.written_modules.proofs.LackingLemmas.{lacking_empty, some_reduced}
 use Rattle.written_modules.proofs.lacking.empty_part.Goals as goal
 

@@ -1,7 +1,7 @@
 -- The steps of the shortest text leave one value, that of the part.
 use Rattle.std.proofs.Common.{◌≡◌, [], ◌∷◌, ◌∙◌, ap, arith, length, subst, sym}
-use Rattle.sil_shape.specs.declared.grammar.Symbol.TheVariants.{Part}
-use Rattle.sil_shape.specs.Grammar.{body}
+use Rattle.grammar_tables.specs.declared.grammar.Symbol.TheVariants.{Part}
+use Rattle.grammar_tables.specs.Grammar.{body}
 use Rattle.sil_shape.specs.inner.Values.{IsEnough}
 use Rattle.written_modules.specs.inner.Lacking.{lacking}
 use Rattle.written_modules.specs.inner.Replay.{replay}

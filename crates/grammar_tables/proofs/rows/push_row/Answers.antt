@@ -1,7 +1,7 @@
 use Rattle.std.proofs.Common.{◌+◌, ◌-◌, ◌≤◌, ◌++◌, ◌≡◌, ◌∙◌, ap, arith, drop, length, reverse, sym}
-use Rattle.sil_shape.specs.Rows.{parts_row}
-use Rattle.sil_shape.proofs.RowLemmas.{parts_row-end, pushed_part, pushed_row}
-use Rattle.sil_shape.proofs.rows.push_row.Goals as goal
+use Rattle.grammar_tables.specs.Rows.{parts_row}
+use Rattle.grammar_tables.proofs.RowLemmas.{parts_row-end, pushed_part, pushed_row}
+use Rattle.grammar_tables.proofs.rows.push_row.Goals as goal
 
 pub loop-i-init : goal.loop-i-init
 loop-i-init c =

@@ -8,11 +8,11 @@ use Rattle.instruction_table.specs.declared.op.Op.{Op}
 use Rattle.instruction_table.specs.declared.op.Op.TheVariants as op
 use Rattle.instruction_table.specs.Forms.{parts_of}
 use Rattle.token_classes.specs.declared.classes.Keyword.TheVariants as k
-use Rattle.sil_shape.specs.declared.grammar.Symbol.{Symbol}
-use Rattle.sil_shape.specs.declared.grammar.Symbol.TheVariants.{Read}
-use Rattle.sil_shape.specs.Rows.{comma_behind, parts_row, row_body, symbols_of}
-use Rattle.sil_shape.proofs.Unfolded.{rows}
-use Rattle.sil_shape.specs.Terminals.{word}
+use Rattle.grammar_tables.specs.declared.grammar.Symbol.{Symbol}
+use Rattle.grammar_tables.specs.declared.grammar.Symbol.TheVariants.{Read}
+use Rattle.grammar_tables.specs.Rows.{comma_behind, parts_row, row_body, symbols_of}
+use Rattle.grammar_tables.proofs.Unfolded.{rows}
+use Rattle.grammar_tables.specs.Terminals.{word}
 
 -- a slice up to the end
 rest_of : {X : Type 0} (xs : List X) (i : ℕ) → take (length xs - i) (drop i xs) ≡ drop i xs

@@ -4,15 +4,15 @@ use Rattle.token_classes.specs.declared.classes.Keyword.TheVariants as k
 use Rattle.token_classes.specs.declared.classes.AtWord.TheVariants as a
 use Rattle.token_classes.specs.declared.classes.Punctuation.TheVariants as m
 use Rattle.token_classes.specs.declared.classes.Class.TheVariants as c
-use Rattle.sil_shape.specs.declared.grammar.Terminal.TheVariants as t
-use Rattle.sil_shape.specs.declared.grammar.Nonterminal.{Nonterminal}
-use Rattle.sil_shape.specs.declared.grammar.Nonterminal.TheVariants as n
-use Rattle.sil_shape.specs.declared.grammar.Symbol.{Symbol}
-use Rattle.sil_shape.specs.declared.grammar.Symbol.TheVariants.{Read, Part}
-use Rattle.sil_shape.specs.declared.grammar.Production.{Production}
-use Rattle.sil_shape.specs.declared.grammar.Production.TheVariants as p
-use Rattle.sil_shape.specs.Rows.{row_body, row_part}
-use Rattle.sil_shape.specs.Terminals.{at, punctuation, word}
+use Rattle.grammar_tables.specs.declared.grammar.Terminal.TheVariants as t
+use Rattle.grammar_tables.specs.declared.grammar.Nonterminal.{Nonterminal}
+use Rattle.grammar_tables.specs.declared.grammar.Nonterminal.TheVariants as n
+use Rattle.grammar_tables.specs.declared.grammar.Symbol.{Symbol}
+use Rattle.grammar_tables.specs.declared.grammar.Symbol.TheVariants.{Read, Part}
+use Rattle.grammar_tables.specs.declared.grammar.Production.{Production}
+use Rattle.grammar_tables.specs.declared.grammar.Production.TheVariants as p
+use Rattle.grammar_tables.specs.Rows.{row_body, row_part}
+use Rattle.grammar_tables.specs.Terminals.{at, punctuation, word}
 use Rattle.instruction_table.specs.declared.op.Op.TheVariants as op
 
 -- the part that a production writes

@@ -3,8 +3,8 @@ use Rattle.token_classes.specs.declared.classes.AtWord.{AtWord}
 use Rattle.token_classes.specs.declared.classes.Class.TheVariants as c
 use Rattle.token_classes.specs.declared.classes.Keyword.{Keyword}
 use Rattle.token_classes.specs.declared.classes.Punctuation.{Punctuation}
-use Rattle.sil_shape.specs.declared.grammar.Terminal.{Terminal}
-use Rattle.sil_shape.specs.declared.grammar.Terminal.TheVariants as t
+use Rattle.grammar_tables.specs.declared.grammar.Terminal.{Terminal}
+use Rattle.grammar_tables.specs.declared.grammar.Terminal.TheVariants as t
 
 -- a word, a name with `@`, and a piece of punctuation
 abbrev pub word : Keyword → Terminal

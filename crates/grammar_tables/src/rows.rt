@@ -1,9 +1,9 @@
 //! The rows of the grammar: what an instruction writes there, by the table of instructions.
 
 ghost use Rattle.std.specs.Prelude.{◌≡◌, ◌++◌, ◌∷◌, [], if◌then◌else◌, length, reverse, OnOk};
-ghost use Rattle.sil_shape.specs.Rows.{brings_comma, comma_behind, edges_of, ends_block, member_of, operand_of, qualifier_of, row_body, symbols_of, text_of};
-ghost use Rattle.sil_shape.specs.Terminals.{punctuation};
-ghost use Rattle.sil_shape.specs.declared.grammar.Symbol.TheVariants as s;
+ghost use Rattle.grammar_tables.specs.Rows.{brings_comma, comma_behind, edges_of, ends_block, member_of, operand_of, qualifier_of, row_body, symbols_of, text_of};
+ghost use Rattle.grammar_tables.specs.Terminals.{punctuation};
+ghost use Rattle.grammar_tables.specs.declared.grammar.Symbol.TheVariants as s;
 ghost use Rattle.token_classes.specs.declared.classes.Punctuation.TheVariants.{Comma};
 
 use crate::grammar::{Nonterminal, Symbol, Terminal};
@@ -15,7 +15,7 @@ use token_classes::{Class, Keyword, Punctuation};
 
 /// Whether an instruction ends a block.
 #[tactic(auto, unfolding(crate::specs::Rows::ends_block))]
-pub(crate) fn ends_block(op: Op) -> bool
+pub fn ends_block(op: Op) -> bool
     ensures { result ≡ ends_block op }
 {
     match ending_of(op) {
@@ -33,9 +33,9 @@ fn operand_of(op: Op) -> &'static [Symbol]
     ensures { result.now ≡ s.Part (operand_of op) ∷ [] }
 {
     if may_lack_operand(op) {
-        &[part!(EnumOperand)]
+        &[symbol!(part EnumOperand)]
     } else {
-        &[part!(Operand)]
+        &[symbol!(part Operand)]
     }
 }
 
@@ -44,8 +44,8 @@ fn member_of(op: Op) -> &'static [Symbol]
     ensures { result.now ≡ s.Part (member_of op) ∷ [] }
 {
     match detail_of(op) {
-        Detail::Case => &[part!(EnumElement)],
-        _ => &[part!(MemberName)],
+        Detail::Case => &[symbol!(part EnumElement)],
+        _ => &[symbol!(part MemberName)],
     }
 }
 
@@ -54,9 +54,9 @@ fn qualifier_of(op: Op) -> &'static [Symbol]
     ensures { result.now ≡ s.Part (qualifier_of op) ∷ [] }
 {
     match words_of(op) {
-        Words::TakeWord => &[part!(TakeFlag)],
-        Words::InitWord => &[part!(InitFlag)],
-        Words::AnyWord | Words::NoWord => &[part!(Qualifier)],
+        Words::TakeWord => &[symbol!(part TakeFlag)],
+        Words::InitWord => &[symbol!(part InitFlag)],
+        Words::AnyWord | Words::NoWord => &[symbol!(part Qualifier)],
     }
 }
 
@@ -65,8 +65,8 @@ fn text_of(op: Op) -> &'static [Symbol]
     ensures { result.now ≡ s.Read (text_of op) ∷ [] }
 {
     match detail_of(op) {
-        Detail::Operation => &[Symbol::Read(Terminal::Just(Class::BuiltinText))],
-        _ => &[Symbol::Read(Terminal::AnyText)],
+        Detail::Operation => &[symbol!(class BuiltinText)],
+        _ => &[symbol!(any AnyText)],
     }
 }
 
@@ -75,9 +75,9 @@ fn edges_of(op: Op) -> &'static [Symbol]
     ensures { result.now ≡ edges_of op }
 {
     match ending_of(op) {
-        Ending::OneBranch => &[part!(Edge)],
-        Ending::TwoBranches => &[part!(Edge), punctuation!(Comma), part!(Edge)],
-        Ending::Cases => &[part!(SwitchPart)],
+        Ending::OneBranch => &[symbol!(part Edge)],
+        Ending::TwoBranches => &[symbol!(part Edge), symbol!(mark Comma), symbol!(part Edge)],
+        Ending::Cases => &[symbol!(part SwitchPart)],
         Ending::Inside | Ending::Return | Ending::Unreachable => &[],
     }
 }
@@ -88,33 +88,37 @@ fn symbols_of(op: Op, part: Part) -> &'static [Symbol]
     ensures { result.now ≡ symbols_of op part }
 {
     match part {
-        Part::Flags => &[part!(Flags)],
+        Part::Flags => &[symbol!(part Flags)],
         Part::Qualifier => qualifier_of(op),
         Part::Typed => operand_of(op),
-        Part::Bare => &[Symbol::Read(Terminal::Just(Class::Percent))],
-        Part::To => &[Symbol::Read(Terminal::Just(Class::Word(Keyword::To)))],
-        Part::TypeWord => &[punctuation!(Dollar), part!(Type)],
+        Part::Bare => &[symbol!(class Percent)],
+        Part::To => &[symbol!(word To)],
+        Part::TypeWord => &[symbol!(mark Dollar), symbol!(part Type)],
         Part::Member => member_of(op),
-        Part::Number => &[Symbol::Read(Terminal::Just(Class::Number))],
+        Part::Number => &[symbol!(class Number)],
         Part::Text => text_of(op),
-        Part::Callee => &[Symbol::Read(Terminal::AnyAt)],
+        Part::Callee => &[symbol!(any AnyAt)],
         Part::BareArgs => &[
-            punctuation!(LeftParen),
-            part!(BareNames),
-            punctuation!(RightParen),
+            symbol!(mark LeftParen),
+            symbol!(part BareNames),
+            symbol!(mark RightParen),
         ],
         Part::TypedArgs => &[
-            punctuation!(LeftParen),
-            part!(Operands),
-            punctuation!(RightParen),
+            symbol!(mark LeftParen),
+            symbol!(part Operands),
+            symbol!(mark RightParen),
         ],
-        Part::ResultType => &[punctuation!(Colon), punctuation!(Dollar), part!(Type)],
+        Part::ResultType => &[
+            symbol!(mark Colon),
+            symbol!(mark Dollar),
+            symbol!(part Type),
+        ],
         Part::SignatureWord => &[
-            punctuation!(Colon),
-            punctuation!(Dollar),
-            part!(FunctionType),
+            symbol!(mark Colon),
+            symbol!(mark Dollar),
+            symbol!(part FunctionType),
         ],
-        Part::Debug => &[part!(Debug)],
+        Part::Debug => &[symbol!(part Debug)],
         Part::Edges => edges_of(op),
     }
 }
@@ -147,7 +151,7 @@ fn comma_behind(op: Op, here: Part, others: &[Part]) -> &'static [Symbol]
     ensures { result.now ≡ comma_behind op here others.now }
 {
     if has_comma_behind(op, here, others) {
-        &[punctuation!(Comma)]
+        &[symbol!(mark Comma)]
     } else {
         &[]
     }

@@ -1,6 +1,6 @@
 use Rattle.std.proofs.Common.{◌<◌, ◌≤◌, ap, arith, length, refl}
-use Rattle.sil_shape.proofs.RowLemmas.{length-part, length-row_body, parts_row-end, short_row}
-use Rattle.sil_shape.proofs.rows.row_length.Goals as goal
+use Rattle.grammar_tables.proofs.RowLemmas.{length-part, length-row_body, parts_row-end, short_row}
+use Rattle.grammar_tables.proofs.rows.row_length.Goals as goal
 
 pub loop-i-init : goal.loop-i-init
 loop-i-init c = length-row_body c.args.op c.row_of.ensures.parts

@@ -1,0 +1,5 @@
+pub mod Terminals
+pub mod Rows
+pub mod Grammar
+pub mod Shortest
+pub mod inner
