@@ -10,7 +10,7 @@ use std::env::Args;
 use std::io;
 
 /// Answers what the words ask of the text in the source, and gives the status.
-pub(crate) fn run<S: Source, K: Sink>(
+pub fn run<S: Source, K: Sink>(
     alloc: Global,
     args: io::Result<Args>,
     source: &mut S,
