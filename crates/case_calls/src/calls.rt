@@ -3,7 +3,7 @@
 ghost use Rattle.numbered_form.specs.inner.NumberedForm.{IsNumbered};
 ghost use Rattle.type_definitions.specs.Rules.{AreDeclarationsOf};
 
-use crate::answer::{Answer, line};
+use crate::answer::Answer;
 use crate::ends::{End, answer_on_faults, answer_on_steady_ends};
 use crate::heap_calls::answer_on_heap;
 use crate::lowered_runs::answer_on_run;
@@ -16,34 +16,48 @@ use sil_rules::Status;
 use sil_types::TypeTable;
 use std::alloc::Global;
 
-/// What the call that the words name answers to a text. The first of the words is the program's name.
-pub(crate) fn answer(alloc: Global, words: &[&str], text: &[u8]) -> Result<Answer, Exhausted> {
+/// Answers to a text what the call does that the words name, and gives the status. The first of the words is the program's name.
+pub(crate) fn answer(
+    alloc: Global,
+    words: &[&str],
+    text: &[u8],
+    written: &mut Answer,
+) -> Result<u8, Exhausted> {
     match words {
-        [_name, "typing"] => answer_on_types(alloc, text),
-        [_name, "tokens"] => answer_on_tokens(alloc, text),
-        [_name, "search"] => answer_on_walks(alloc, text, false),
-        [_name, "search", "together"] => answer_on_walks(alloc, text, true),
-        [_name, "read-faults", rest @ ..] => answer_on_faults(alloc, rest, text, End::Source),
-        [_name, "read-faults-of-no-text", rest @ ..] => {
-            answer_on_faults(alloc, rest, b"", End::Source)
+        [_name, "typing"] => answer_on_types(alloc, text, written),
+        [_name, "tokens"] => answer_on_tokens(alloc, text, written),
+        [_name, "search"] => answer_on_walks(alloc, text, false, written),
+        [_name, "search", "together"] => answer_on_walks(alloc, text, true, written),
+        [_name, "read-faults", rest @ ..] => {
+            answer_on_faults(alloc, rest, text, End::Source, written)
         }
-        [_name, "write-faults", rest @ ..] => answer_on_faults(alloc, rest, text, End::Sink),
-        [_name, "steady-ends", rest @ ..] => answer_on_steady_ends(alloc, rest, text),
-        [_name, "lowered-run" | "lowered-end" | "heap", ..] => answer_of_machine(
-            alloc, words, text,
-        ),
-        _ => line(alloc, "no such call", Status::Usage.code()),
+        [_name, "read-faults-of-no-text", rest @ ..] => {
+            answer_on_faults(alloc, rest, b"", End::Source, written)
+        }
+        [_name, "write-faults", rest @ ..] => {
+            answer_on_faults(alloc, rest, text, End::Sink, written)
+        }
+        [_name, "steady-ends", rest @ ..] => answer_on_steady_ends(alloc, rest, text, written),
+        [_name, "lowered-run" | "lowered-end" | "heap", ..] => {
+            answer_of_machine(alloc, words, text, written)
+        }
+        _ => Ok(written.line("no such call", Status::Usage.code())),
     }
 }
 
-/// What a call of the machine that counts references, or of its heap, answers to the module that the text spells.
-fn answer_of_machine(alloc: Global, words: &[&str], text: &[u8]) -> Result<Answer, Exhausted> {
+/// Answers what a call of the machine that counts references does, or of its heap, to the module that the text spells.
+fn answer_of_machine(
+    alloc: Global,
+    words: &[&str],
+    text: &[u8],
+    written: &mut Answer,
+) -> Result<u8, Exhausted> {
     let Some(m) = module_of(alloc, text)? else {
-        return line(alloc, "not a module", 1);
+        return Ok(written.line("not a module", 1));
     };
     match table_of(alloc, &m)? {
-        Some(table) => answer_on_module(alloc, words, &m, &table),
-        None => line(alloc, "no type table", 1),
+        Some(table) => answer_on_module(alloc, words, &m, &table, written),
+        None => Ok(written.line("no type table", 1)),
     }
 }
 
@@ -52,14 +66,15 @@ fn answer_on_module(
     words: &[&str],
     m: &Module,
     table: &TypeTable,
-) -> Result<Answer, Exhausted>
+    written: &mut Answer,
+) -> Result<u8, Exhausted>
     requires numbered { IsNumbered m.now }
     requires table { AreDeclarationsOf table.now m.now }
 {
     match words {
-        [_name, "lowered-run", turns] => answer_on_run(alloc, turns, m, table, true),
-        [_name, "lowered-end", turns] => answer_on_run(alloc, turns, m, table, false),
-        [_name, "heap", calls @ ..] => answer_on_heap(alloc, calls, table),
-        _ => line(alloc, "no such call", Status::Usage.code()),
+        [_name, "lowered-run", turns] => answer_on_run(alloc, turns, m, table, true, written),
+        [_name, "lowered-end", turns] => answer_on_run(alloc, turns, m, table, false, written),
+        [_name, "heap", calls @ ..] => answer_on_heap(alloc, calls, table, written),
+        _ => Ok(written.line("no such call", Status::Usage.code())),
     }
 }

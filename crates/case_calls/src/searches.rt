@@ -1,28 +1,38 @@
 //! What the searches answer, for one switch or for three together, on a function of these blocks.
 
-use crate::answer::{Answer, add, line};
+use crate::answer::Answer;
 use crate::marked::{MARKS, Switch, Switches};
 use crate::modules::module_of;
 use reach_engine::{Found, FoundAll, search, search_all};
-use sil_ast::{BlockId, EdgeId, Exhausted, Function};
+use sil_ast::{BlockId, EdgeId, Exhausted, Function, PointId};
 use sil_cfg::{Graph, has_graph};
 use std::alloc::{AllocError, Global};
 
 /// Where no walk is bad, the line `clean`, with the states in which a walk may enter each block; else the code, the point, and
 /// each edge of the walk. Of three switches the states of a block are two rows of bits, and a fault begins with its subject.
-pub fn answer_on_walks(
+pub(crate) fn answer_on_walks(
     alloc: Global,
     blocks: &[u8],
     is_together: bool,
-) -> Result<Answer, Exhausted> {
+    written: &mut Answer,
+) -> Result<u8, Exhausted> {
     let text = text_around(alloc, blocks)?;
     let Some(module) = module_of(alloc, text.as_slice())? else {
-        return line(alloc, "not a module", 3);
+        return Ok(written.line("not a module", 3));
     };
     let Some(f) = module.functions.get(0) else {
-        return line(alloc, "no function", 3);
+        return Ok(written.line("no function", 3));
     };
-    line(alloc, told(alloc, f, is_together)?.as_str(), 0)
+    if !has_graph(f) {
+        return Ok(written.line("no graph", 0));
+    }
+    let g = Graph::build(alloc, f)?;
+    if is_together {
+        search_together(alloc, f, &g, written)?;
+    } else {
+        search_one(alloc, f, &g, written)?;
+    }
+    Ok(written.line("", 0))
 }
 
 /// The text of a module whose function has these blocks behind the marks.
@@ -34,53 +44,42 @@ fn text_around(alloc: Global, blocks: &[u8]) -> Result<Vec<u8>, AllocError> {
     Ok(text)
 }
 
-fn told(alloc: Global, f: &Function, is_together: bool) -> Result<String, Exhausted> {
-    if !has_graph(f) {
-        return Ok(String::from_str(alloc, "no graph")?);
-    }
-    let g = Graph::build(alloc, f)?;
-    if is_together {
-        told_together(alloc, f, &g)
-    } else {
-        told_one(alloc, f, &g)
-    }
-}
-
-fn edges(alloc: Global, text: &mut String, walk: &[EdgeId]) -> Result<(), Exhausted> {
-    for edge in walk {
-        add(alloc, text, " ", u64::from(edge.block.0))?;
-        add(alloc, text, ".", u64::from(edge.index))?;
+/// The search for the first switch alone.
+fn search_one(
+    alloc: Global,
+    f: &Function,
+    g: &Graph,
+    written: &mut Answer,
+) -> Result<(), Exhausted> {
+    let switch = Switch::of(alloc, f, g, 0)?;
+    match search(alloc, g, &switch)? {
+        Found::Clean(map) => {
+            written.add("clean");
+            for b in 0..g.blocks() {
+                written.add_number(" ", u64::from(b));
+                written.add(if map.may_hold(BlockId(b), 0) {
+                    ":0"
+                } else {
+                    ":"
+                });
+                written.add(if map.may_hold(BlockId(b), 1) { "1" } else { "" });
+            }
+        }
+        Found::Fault { walk, point, code } => {
+            written.add_number("", u64::from(code));
+            add_walk(written, point, walk.as_slice());
+        }
     }
     Ok(())
 }
 
-fn told_one(alloc: Global, f: &Function, g: &Graph) -> Result<String, Exhausted> {
-    let switch = Switch::of(alloc, f, g, 0)?;
-    match search(alloc, g, &switch)? {
-        Found::Clean(map) => {
-            let mut text = String::from_str(alloc, "clean")?;
-            for b in 0..g.blocks() {
-                let off = if map.may_hold(BlockId(b), 0) { "0" } else { "" };
-                let on = if map.may_hold(BlockId(b), 1) { "1" } else { "" };
-                add(alloc, &mut text, " ", u64::from(b))?;
-                text.push_str(":")?;
-                text.push_str(off)?;
-                text.push_str(on)?;
-            }
-            Ok(text)
-        }
-        Found::Fault { walk, point, code } => {
-            let mut text = String::new(alloc);
-            add(alloc, &mut text, "", u64::from(code))?;
-            add(alloc, &mut text, " bb", u64::from(point.block.0))?;
-            add(alloc, &mut text, ":", u64::from(point.index))?;
-            edges(alloc, &mut text, walk.as_slice())?;
-            Ok(text)
-        }
-    }
-}
-
-fn told_together(alloc: Global, f: &Function, g: &Graph) -> Result<String, Exhausted> {
+/// The search for all three switches.
+fn search_together(
+    alloc: Global,
+    f: &Function,
+    g: &Graph,
+    written: &mut Answer,
+) -> Result<(), Exhausted> {
     let switches = Switches {
         first: Switch::of(alloc, f, g, 0)?,
         second: Switch::of(alloc, f, g, 1)?,
@@ -88,15 +87,12 @@ fn told_together(alloc: Global, f: &Function, g: &Graph) -> Result<String, Exhau
     };
     match search_all(alloc, g, &switches)? {
         FoundAll::Clean(map) => {
-            let mut text = String::from_str(alloc, "clean")?;
+            written.add("clean");
             for b in 0..g.blocks() {
-                let off = map.row(BlockId(b), 0).get(0).copied().unwrap_or(99);
-                let on = map.row(BlockId(b), 1).get(0).copied().unwrap_or(99);
-                add(alloc, &mut text, " ", u64::from(b))?;
-                add(alloc, &mut text, ":", off)?;
-                add(alloc, &mut text, "/", on)?;
+                written.add_number(" ", u64::from(b));
+                written.add_number(":", map.row(BlockId(b), 0).get(0).copied().unwrap_or(99));
+                written.add_number("/", map.row(BlockId(b), 1).get(0).copied().unwrap_or(99));
             }
-            Ok(text)
         }
         FoundAll::Fault {
             subject,
@@ -104,13 +100,20 @@ fn told_together(alloc: Global, f: &Function, g: &Graph) -> Result<String, Exhau
             point,
             code,
         } => {
-            let mut text = String::new(alloc);
-            add(alloc, &mut text, "", subject as u64)?;
-            add(alloc, &mut text, " ", u64::from(code))?;
-            add(alloc, &mut text, " bb", u64::from(point.block.0))?;
-            add(alloc, &mut text, ":", u64::from(point.index))?;
-            edges(alloc, &mut text, walk.as_slice())?;
-            Ok(text)
+            written.add_number("", subject as u64);
+            written.add_number(" ", u64::from(code));
+            add_walk(written, point, walk.as_slice());
         }
+    }
+    Ok(())
+}
+
+/// Adds the point of a fault, and each edge of the walk to it.
+fn add_walk(written: &mut Answer, point: PointId, walk: &[EdgeId]) {
+    written.add_number(" bb", u64::from(point.block.0));
+    written.add_number(":", u64::from(point.index));
+    for edge in walk {
+        written.add_number(" ", u64::from(edge.block.0));
+        written.add_number(".", u64::from(edge.index));
     }
 }

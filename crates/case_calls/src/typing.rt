@@ -1,22 +1,26 @@
 //! What the check of types answers to a text. It goes into lowered functions too, which `check` refuses as a whole.
 
-use crate::answer::{Answer, add, line};
+use crate::answer::Answer;
 use crate::modules::{module_of, table_of};
 use sil_ast::{Exhausted, FuncId, PointId};
 use sil_rules::Rule;
-use std::alloc::{AllocError, Global};
+use std::alloc::Global;
 use type_check::{CheckRefusal, check};
 
 /// The line `typed` with status 0, or with status 1 what is wrong with the module.
-pub fn answer_on_types(alloc: Global, text: &[u8]) -> Result<Answer, Exhausted> {
+pub(crate) fn answer_on_types(
+    alloc: Global,
+    text: &[u8],
+    written: &mut Answer,
+) -> Result<u8, Exhausted> {
     let Some(module) = module_of(alloc, text)? else {
-        return line(alloc, "not a module", 1);
+        return Ok(written.line("not a module", 1));
     };
     let Some(table) = table_of(alloc, &module)? else {
-        return line(alloc, "no type table", 1);
+        return Ok(written.line("no type table", 1));
     };
     match check(alloc, &module, &table) {
-        Ok(()) => line(alloc, "typed", 0),
+        Ok(()) => Ok(written.line("typed", 0)),
         Err(CheckRefusal::Memory) => Err(Exhausted),
         Err(
             CheckRefusal::Rule {
@@ -25,40 +29,31 @@ pub fn answer_on_types(alloc: Global, text: &[u8]) -> Result<Answer, Exhausted> 
                 point,
                 vtable,
             },
-        ) => refused(alloc, rule, function, point, vtable),
+        ) => {
+            add_rule(written, rule, function, point, vtable);
+            Ok(1)
+        }
     }
 }
 
 /// The line with a rule, and each part of the place that the refusal names.
-fn refused(
-    alloc: Global,
+fn add_rule(
+    written: &mut Answer,
     rule: Rule,
     function: Option<FuncId>,
     point: Option<PointId>,
     vtable: Option<u32>,
-) -> Result<Answer, Exhausted> {
-    line(alloc, &told(alloc, rule, function, point, vtable)?, 1)
-}
-
-/// The rule, and each part of the place that the refusal names.
-fn told(
-    alloc: Global,
-    rule: Rule,
-    function: Option<FuncId>,
-    point: Option<PointId>,
-    vtable: Option<u32>,
-) -> Result<String, AllocError> {
-    let mut text = String::new(alloc);
-    add(alloc, &mut text, "", u64::from(rule.number()))?;
+) {
+    written.add_number("", u64::from(rule.number()));
     if let Some(function) = function {
-        add(alloc, &mut text, " function ", u64::from(function.0))?;
+        written.add_number(" function ", u64::from(function.0));
     }
     if let Some(point) = point {
-        add(alloc, &mut text, " bb", u64::from(point.block.0))?;
-        add(alloc, &mut text, ":", u64::from(point.index))?;
+        written.add_number(" bb", u64::from(point.block.0));
+        written.add_number(":", u64::from(point.index));
     }
     if let Some(vtable) = vtable {
-        add(alloc, &mut text, " vtable ", u64::from(vtable))?;
+        written.add_number(" vtable ", u64::from(vtable));
     }
-    Ok(text)
+    written.add("\n");
 }
