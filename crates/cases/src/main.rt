@@ -1,21 +1,8 @@
-//! Calls what `sil` has no word for, so that case files can ask for it: the first word names a call of a library, and standard
-//! input has the text. `docs/CASES.md` says what each of them answers.
+//! The program that makes the calls of libraries which case files ask for: hands the words, standard input and standard output on, and
+//! ends with the status.
 #![tactic(auto)]
 
-mod answer;
-mod calls;
-mod ends;
-mod heap_calls;
-mod lowered_runs;
-mod marked;
-mod modules;
-mod program;
-mod run_reports;
-mod searches;
-mod tokens;
-mod typing;
-
-use program::run;
+use case_calls::run;
 use sil_io::{ReadSource, WriteSink};
 use std::process::ExitCode;
 use std::{env, io};

@@ -10,7 +10,7 @@ use std::env::Args;
 use std::io;
 
 /// Answers what the words ask of the text in the source, and gives the status.
-pub(crate) fn run<S: Source, K: Sink>(
+pub fn run<S: Source, K: Sink>(
     alloc: Global,
     args: io::Result<Args>,
     source: &mut S,
@@ -22,9 +22,18 @@ pub(crate) fn run<S: Source, K: Sink>(
     let Ok(text) = read_all(alloc, source, limits::TEXT_BYTES) else {
         return Status::ReadFault.code();
     };
-    match answer_to(alloc, args, text.as_slice()) {
-        Ok(answer) => match write_all(out, answer.written.as_slice()) {
-            Ok(()) => answer.status,
+    let mut written = Answer::new(alloc);
+    match answer_to(alloc, args, text.as_slice(), &mut written) {
+        Ok(status) => put(&written, status, out),
+        Err(Exhausted) => Status::OutOfMemory.code(),
+    }
+}
+
+/// Writes the answer, and gives the status.
+fn put<K: Sink>(written: &Answer, status: u8, out: &mut K) -> u8 {
+    match written.whole() {
+        Ok(whole) => match write_all(out, whole) {
+            Ok(()) => status,
             Err(_fault) => Status::WriteFault.code(),
         },
         Err(Exhausted) => Status::OutOfMemory.code(),
@@ -32,13 +41,18 @@ pub(crate) fn run<S: Source, K: Sink>(
 }
 
 /// What the words ask of a text.
-fn answer_to(alloc: Global, args: Args, text: &[u8]) -> Result<Answer, Exhausted> {
+fn answer_to(
+    alloc: Global,
+    args: Args,
+    text: &[u8],
+    written: &mut Answer,
+) -> Result<u8, Exhausted> {
     let mut words = Vec::new(alloc);
     for word in args {
         words.push(word)?;
     }
     let texts = texts_of(alloc, words.as_slice())?;
-    answer(alloc, texts.as_slice(), text)
+    answer(alloc, texts.as_slice(), text, written)
 }
 
 /// The texts of these words.

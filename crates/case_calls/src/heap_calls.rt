@@ -3,7 +3,7 @@
 ghost use Rattle.std.specs.Prelude.{◌≡◌, ◌<◌, ◌^◌, false, true};
 ghost use Rattle.heap_model.specs.HeapViews.{is_dead_in};
 
-use crate::answer::{Answer, add};
+use crate::answer::Answer;
 use count_heap::{Heap, Totals};
 use heap_model::Released;
 use run_values::Phase;
@@ -34,18 +34,15 @@ pub(crate) fn answer_on_heap(
     alloc: Global,
     words: &[&str],
     table: &TypeTable,
-) -> Result<Answer, Exhausted> {
+    written: &mut Answer,
+) -> Result<u8, Exhausted> {
     let mut heap = Heap::new(alloc, table)?;
-    let mut written = String::new(alloc);
     for word in words {
-        written.push_str(word)?;
         let (call, number) = parts_of(word);
-        add_given(alloc, &mut written, make_call(&mut heap, call, number)?)?;
+        written.add(word);
+        add_given(written, make_call(&mut heap, call, number)?);
     }
-    Ok(Answer {
-        written: Vec::from_slice(alloc, written.as_bytes())?,
-        status: 0,
-    })
+    Ok(0)
 }
 
 /// The call that a word names, and the number behind its colon.
@@ -57,17 +54,16 @@ fn parts_of(word: &str) -> (&str, u64) {
 }
 
 /// Ends the line of a call with what it gives.
-fn add_given(alloc: Global, written: &mut String, given: Given) -> Result<(), Exhausted> {
+fn add_given(written: &mut Answer, given: Given) {
     match given {
-        Given::Word(word) => written.push_str(word)?,
-        Given::Number(before, number) => add(alloc, written, before, number)?,
+        Given::Word(word) => written.add(word),
+        Given::Number(before, number) => written.add_number(before, number),
         Given::Totals(totals) => {
-            add(alloc, written, " gives retains ", totals.retains)?;
-            add(alloc, written, " releases ", totals.releases)?;
+            written.add_number(" gives retains ", totals.retains);
+            written.add_number(" releases ", totals.releases);
         }
     }
-    written.push_str("\n")?;
-    Ok(())
+    written.add("\n");
 }
 
 /// Makes a call.

@@ -4,7 +4,7 @@ ghost use Rattle.std.specs.Prelude.{◌≡◌};
 ghost use Rattle.report_writing.specs.run_typing.Runnable.{IsRunnable};
 ghost use Rattle.type_definitions.specs.Declarations.{declarations_of};
 
-use crate::answer::{Answer, add};
+use crate::answer::Answer;
 use count_machine::{LowEnd, LowRun};
 use lowered_run::LowFault;
 use report_writing::{Ending, RunOutcome, write_report};
@@ -12,15 +12,16 @@ use sil_ast::{Exhausted, Module, TypeName};
 use sil_types::TypeTable;
 use std::alloc::Global;
 
-/// The report of a run that began at a function which gives this type. The events are told or left out.
-pub(crate) fn answer_of_run(
+/// Adds the report of a run that began at a function which gives this type, and gives the status. The events are told or left out.
+pub(crate) fn add_run(
     alloc: Global,
     m: &Module,
     table: &TypeTable,
     result_type: &TypeName,
     run: LowRun,
     tells_events: bool,
-) -> Result<Answer, Exhausted>
+    written: &mut Answer,
+) -> Result<u8, Exhausted>
     requires runnable { IsRunnable m.now }
     requires of_it { table.now ≡ declarations_of m.now }
 {
@@ -42,13 +43,11 @@ pub(crate) fn answer_of_run(
         releases,
     };
     let text = write_report(alloc, m, table, result_type, &outcome)?;
-    Ok(Answer {
-        written: match fault {
-            Some(fault) => with_fault(alloc, text.as_slice(), fault)?,
-            None => text.into_vec(alloc)?,
-        },
-        status,
-    })
+    match fault {
+        Some(fault) => add_with_fault(written, text.as_slice(), fault),
+        None => written.add_bytes(text.as_slice()),
+    }
+    Ok(status)
 }
 
 fn fault_in(end: &LowEnd) -> Option<LowFault> {
@@ -69,33 +68,30 @@ fn reported(end: LowEnd) -> (Ending, u8) {
     }
 }
 
-/// The report of a run out of turns, with the line of a fault in the place of its ending.
-fn with_fault(alloc: Global, report: &[u8], fault: LowFault) -> Result<Vec<u8>, Exhausted> {
-    let mut written = String::new(alloc);
+/// Adds the report of a run out of turns, with the line of a fault in the place of its ending.
+fn add_with_fault(written: &mut Answer, report: &[u8], fault: LowFault) {
     if let Ok(report) = str::from_utf8(report) {
         if let Some((events, counts)) = report.split_once("out of turns\n") {
-            written.push_str(events)?;
-            add_fault(alloc, &mut written, fault)?;
-            written.push_str("\n")?;
-            written.push_str(counts)?;
+            written.add(events);
+            add_fault(written, fault);
+            written.add("\n");
+            written.add(counts);
         }
     }
-    Ok(Vec::from_slice(alloc, written.as_bytes())?)
 }
 
 /// Adds `fault underflow #0 count 0`, `fault dead #0`, `fault empty`, `fault missing %0` or `fault slot`.
-fn add_fault(alloc: Global, written: &mut String, fault: LowFault) -> Result<(), Exhausted> {
+fn add_fault(written: &mut Answer, fault: LowFault) {
     match fault {
         LowFault::Underflow { object, count } => {
-            add(alloc, written, "fault underflow #", object.0)?;
-            add(alloc, written, " count ", count)?;
+            written.add_number("fault underflow #", object.0);
+            written.add_number(" count ", count);
         }
-        LowFault::Dead { object } => add(alloc, written, "fault dead #", object.0)?,
-        LowFault::Empty => written.push_str("fault empty")?,
+        LowFault::Dead { object } => written.add_number("fault dead #", object.0),
+        LowFault::Empty => written.add("fault empty"),
         LowFault::Missing { value } => {
-            add(alloc, written, "fault missing %", u64::from(value.0))?;
+            written.add_number("fault missing %", u64::from(value.0));
         }
-        LowFault::Slot => written.push_str("fault slot")?,
+        LowFault::Slot => written.add("fault slot"),
     }
-    Ok(())
 }

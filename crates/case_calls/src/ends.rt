@@ -2,7 +2,7 @@
 
 ghost use Rattle.std.specs.Prelude.{◌≤◌};
 
-use crate::answer::{Answer, add, line};
+use crate::answer::Answer;
 use sil_ast::Exhausted;
 use sil_command::command;
 use sil_io::{MemorySink, MemorySource, NullSink, SteadySource};
@@ -19,7 +19,7 @@ const ROOM: usize = 4096;
 
 /// The end of a call that fails.
 #[derive(Clone, Copy)]
-pub enum End {
+pub(crate) enum End {
     Source,
     Sink,
 }
@@ -36,40 +36,42 @@ impl End {
     }
 }
 
+/// How a call ended: its status, and the sink with what was written.
+#[derive(Drop)]
+struct Ended {
+    status: u8,
+    sink: MemorySink,
+}
+
 /// What the command answers to these words and this text where the end fails at its first call, at its second, and so on: a
 /// line with the number of the call, the status and what was written, for each answer that isn't the one of the call before.
-pub fn answer_on_faults(
+pub(crate) fn answer_on_faults(
     alloc: Global,
     words: &[&str],
     text: &[u8],
     end: End,
-) -> Result<Answer, Exhausted> {
-    let mut written = String::new(alloc);
-    let mut last = String::new(alloc);
-    for fail in 1..=CALLS {
-        let ended = told(alloc, words, text, end, fail)?;
-        if ended.as_str() != last.as_str() {
-            add(alloc, &mut written, "", fail)?;
-            written.push_str(": ")?;
-            written.push_str(ended.as_str())?;
-            written.push_str("\n")?;
+    written: &mut Answer,
+) -> Result<u8, Exhausted> {
+    let mut last = ended(alloc, words, text, end, 1)?;
+    add_line(written, 1, &last);
+    for fail in 2..=CALLS {
+        let next = ended(alloc, words, text, end, fail)?;
+        if next.status != last.status || next.sink.bytes() != last.sink.bytes() {
+            add_line(written, fail, &next);
         }
-        last = ended;
+        last = next;
     }
-    Ok(Answer {
-        written: Vec::from_slice(alloc, written.as_bytes())?,
-        status: 0,
-    })
+    Ok(0)
 }
 
-/// The status of one call, and what it wrote, in quotes.
-fn told(
+/// How the call ends where this call of the end fails.
+fn ended(
     alloc: Global,
     words: &[&str],
     text: &[u8],
     end: End,
     fail: u64,
-) -> Result<String, Exhausted> {
+) -> Result<Ended, Exhausted> {
     let mut fails = Vec::new(alloc);
     fails.push(fail)?;
     let (reads, writes) = match end {
@@ -79,17 +81,26 @@ fn told(
     let mut source = MemorySource::new(Vec::from_slice(alloc, text)?, READ, reads);
     let mut sink = MemorySink::new(alloc, ROOM, end.piece(), writes)?;
     let status = command(alloc, words, &mut source, &mut sink);
-    let written = str::from_utf8(sink.bytes()).unwrap_or("bytes that are no text");
-    Ok(format!(in alloc; "{status} {written:?}")?)
+    Ok(Ended { status, sink })
+}
+
+/// Adds a line with the number of the call that fails, the status of the command, and what it wrote, in quotes.
+fn add_line(written: &mut Answer, fail: u64, ended: &Ended) {
+    written.add_number("", fail);
+    written.add_number(": ", u64::from(ended.status));
+    written.add(" ");
+    written.add_quoted(str::from_utf8(ended.sink.bytes()).unwrap_or("bytes that are no text"));
+    written.add("\n");
 }
 
 /// The status of the command over ends that never fail, and of which the sink forgets what it is given.
-pub fn answer_on_steady_ends(
+pub(crate) fn answer_on_steady_ends(
     alloc: Global,
     words: &[&str],
     text: &[u8],
-) -> Result<Answer, Exhausted> {
+    written: &mut Answer,
+) -> Result<u8, Exhausted> {
     let mut source = SteadySource::new(Vec::from_slice(alloc, text)?);
     let status = command(alloc, words, &mut source, &mut NullSink::new());
-    line(alloc, "nothing failed", status)
+    Ok(written.line("nothing failed", status))
 }

@@ -8,8 +8,8 @@ ghost use Rattle.numbered_form.specs.inner.NumberedForm.{IsNumbered};
 ghost use Rattle.report_writing.specs.run_typing.Runnable.{IsNotOwned, IsRunnable};
 ghost use Rattle.type_definitions.specs.Rules.{AreDeclarationsOf};
 
-use crate::answer::{Answer, line};
-use crate::run_reports::answer_of_run;
+use crate::answer::Answer;
+use crate::run_reports::add_run;
 use argument_conventions::argument_count;
 use count_machine::run;
 use sil_ast::{Boxed, Exhausted, Form, FuncId, Function, List, Module, TryClone, TypeName};
@@ -27,14 +27,15 @@ pub(crate) fn answer_on_run(
     m: &Module,
     table: &TypeTable,
     tells_events: bool,
-) -> Result<Answer, Exhausted>
+    written: &mut Answer,
+) -> Result<u8, Exhausted>
     requires numbered { IsNumbered m.now }
     requires table { AreDeclarationsOf table.now m.now }
 {
     if is_runnable(alloc, m, table)? {
-        run_main(alloc, turns, m, table, tells_events)
+        run_main(alloc, turns, m, table, tells_events, written)
     } else {
-        line(alloc, "not typed and lowered", 1)
+        Ok(written.line("not typed and lowered", 1))
     }
 }
 
@@ -69,21 +70,22 @@ fn run_main(
     m: &Module,
     table: &TypeTable,
     tells_events: bool,
-) -> Result<Answer, Exhausted>
+    written: &mut Answer,
+) -> Result<u8, Exhausted>
     requires runnable { IsRunnable m.now }
     requires table { AreDeclarationsOf table.now m.now }
 {
     let turns = turns.parse::<u32>().unwrap_or(0);
     if turns == 0 || TURNS < turns {
-        return line(alloc, "no bound on turns", 1);
+        return Ok(written.line("no bound on turns", 1));
     }
     match main_of(m) {
         Some(entry) => {
             let run = run(alloc, m, table, entry, turns)?;
             let given = given_type(alloc, m, entry)?;
-            answer_of_run(alloc, m, table, &given, run, tells_events)
+            add_run(alloc, m, table, &given, run, tells_events, written)
         }
-        None => line(alloc, "no entry", 1),
+        None => Ok(written.line("no entry", 1)),
     }
 }
 

@@ -1,0 +1,80 @@
+//! Which call the words name.
+
+ghost use Rattle.numbered_form.specs.inner.NumberedForm.{IsNumbered};
+ghost use Rattle.type_definitions.specs.Rules.{AreDeclarationsOf};
+
+use crate::answer::Answer;
+use crate::ends::{End, answer_on_faults, answer_on_steady_ends};
+use crate::heap_calls::answer_on_heap;
+use crate::lowered_runs::answer_on_run;
+use crate::modules::{module_of, table_of};
+use crate::searches::answer_on_walks;
+use crate::tokens::answer_on_tokens;
+use crate::typing::answer_on_types;
+use sil_ast::{Exhausted, Module};
+use sil_rules::Status;
+use sil_types::TypeTable;
+use std::alloc::Global;
+
+/// Answers to a text what the call does that the words name, and gives the status. The first of the words is the program's name.
+pub(crate) fn answer(
+    alloc: Global,
+    words: &[&str],
+    text: &[u8],
+    written: &mut Answer,
+) -> Result<u8, Exhausted> {
+    match words {
+        [_name, "typing"] => answer_on_types(alloc, text, written),
+        [_name, "tokens"] => answer_on_tokens(alloc, text, written),
+        [_name, "search"] => answer_on_walks(alloc, text, false, written),
+        [_name, "search", "together"] => answer_on_walks(alloc, text, true, written),
+        [_name, "read-faults", rest @ ..] => {
+            answer_on_faults(alloc, rest, text, End::Source, written)
+        }
+        [_name, "read-faults-of-no-text", rest @ ..] => {
+            answer_on_faults(alloc, rest, b"", End::Source, written)
+        }
+        [_name, "write-faults", rest @ ..] => {
+            answer_on_faults(alloc, rest, text, End::Sink, written)
+        }
+        [_name, "steady-ends", rest @ ..] => answer_on_steady_ends(alloc, rest, text, written),
+        [_name, "lowered-run" | "lowered-end" | "heap", ..] => {
+            answer_of_machine(alloc, words, text, written)
+        }
+        _ => Ok(written.line("no such call", Status::Usage.code())),
+    }
+}
+
+/// Answers what a call of the machine that counts references does, or of its heap, to the module that the text spells.
+fn answer_of_machine(
+    alloc: Global,
+    words: &[&str],
+    text: &[u8],
+    written: &mut Answer,
+) -> Result<u8, Exhausted> {
+    let Some(m) = module_of(alloc, text)? else {
+        return Ok(written.line("not a module", 1));
+    };
+    match table_of(alloc, &m)? {
+        Some(table) => answer_on_module(alloc, words, &m, &table, written),
+        None => Ok(written.line("no type table", 1)),
+    }
+}
+
+fn answer_on_module(
+    alloc: Global,
+    words: &[&str],
+    m: &Module,
+    table: &TypeTable,
+    written: &mut Answer,
+) -> Result<u8, Exhausted>
+    requires numbered { IsNumbered m.now }
+    requires table { AreDeclarationsOf table.now m.now }
+{
+    match words {
+        [_name, "lowered-run", turns] => answer_on_run(alloc, turns, m, table, true, written),
+        [_name, "lowered-end", turns] => answer_on_run(alloc, turns, m, table, false, written),
+        [_name, "heap", calls @ ..] => answer_on_heap(alloc, calls, table, written),
+        _ => Ok(written.line("no such call", Status::Usage.code())),
+    }
+}

@@ -1,0 +1,59 @@
+//! What the check of types answers to a text. It goes into lowered functions too, which `check` refuses as a whole.
+
+use crate::answer::Answer;
+use crate::modules::{module_of, table_of};
+use sil_ast::{Exhausted, FuncId, PointId};
+use sil_rules::Rule;
+use std::alloc::Global;
+use type_check::{CheckRefusal, check};
+
+/// The line `typed` with status 0, or with status 1 what is wrong with the module.
+pub(crate) fn answer_on_types(
+    alloc: Global,
+    text: &[u8],
+    written: &mut Answer,
+) -> Result<u8, Exhausted> {
+    let Some(module) = module_of(alloc, text)? else {
+        return Ok(written.line("not a module", 1));
+    };
+    let Some(table) = table_of(alloc, &module)? else {
+        return Ok(written.line("no type table", 1));
+    };
+    match check(alloc, &module, &table) {
+        Ok(()) => Ok(written.line("typed", 0)),
+        Err(CheckRefusal::Memory) => Err(Exhausted),
+        Err(
+            CheckRefusal::Rule {
+                rule,
+                function,
+                point,
+                vtable,
+            },
+        ) => {
+            add_rule(written, rule, function, point, vtable);
+            Ok(1)
+        }
+    }
+}
+
+/// The line with a rule, and each part of the place that the refusal names.
+fn add_rule(
+    written: &mut Answer,
+    rule: Rule,
+    function: Option<FuncId>,
+    point: Option<PointId>,
+    vtable: Option<u32>,
+) {
+    written.add_number("", u64::from(rule.number()));
+    if let Some(function) = function {
+        written.add_number(" function ", u64::from(function.0));
+    }
+    if let Some(point) = point {
+        written.add_number(" bb", u64::from(point.block.0));
+        written.add_number(":", u64::from(point.index));
+    }
+    if let Some(vtable) = vtable {
+        written.add_number(" vtable ", u64::from(vtable));
+    }
+    written.add("\n");
+}
