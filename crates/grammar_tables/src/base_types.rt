@@ -34,7 +34,7 @@ pub(crate) fn production_entry(production: Production) -> ProductionEntry
         Width16: [word Int16], [word Int16];
         Width32: [word Int32], [word Int32];
         Width64: [word Int64], [word Int64];
-        else functions::production_entry(production)
+        _ => functions::production_entry(production)
     }
 }
 
@@ -51,6 +51,6 @@ pub(crate) fn part_entry(part: Nonterminal) -> PartEntry
         BuiltinTail: [BuiltinInt, BuiltinName], BuiltinName, BuiltinName;
         OptionalTail: [OptionalOf, OptionalName], OptionalName, OptionalName;
         Width: [Width1, Width8, Width16, Width32, Width64], none, Width1;
-        else functions::part_entry(part)
+        _ => functions::part_entry(part)
     }
 }

@@ -47,7 +47,7 @@ pub(crate) fn production_entry(production: Production) -> ProductionEntry
         MoreNamesEnd: [], [];
         BareNamesSome: [class Percent, part MoreNames], [class Percent];
         BareNamesNone: [], [];
-        else operands::production_entry(production)
+        _ => operands::production_entry(production)
     }
 }
 
@@ -74,6 +74,6 @@ pub(crate) fn part_entry(part: Nonterminal) -> PartEntry
         Row: [], none, Row Tuple;
         Terminator: [], none, Row Unreachable;
         BareNames: [BareNamesSome, BareNamesNone], BareNamesNone, BareNamesNone;
-        else operands::part_entry(part)
+        _ => operands::part_entry(part)
     }
 }

@@ -47,7 +47,7 @@ pub(crate) fn production_entry(production: Production) -> ProductionEntry
         SetterNone: [], [];
         CasesMore: [word Case, any AnyWord, part Payload, part Cases], [word Case];
         CasesEnd: [], [];
-        else types::production_entry(production)
+        _ => types::production_entry(production)
     }
 }
 
@@ -70,6 +70,6 @@ pub(crate) fn part_entry(part: Nonterminal) -> PartEntry
         Accessors: [AccessorsSome, AccessorsNone], AccessorsNone, AccessorsNone;
         Setter: [SetterSome, SetterNone], SetterNone, SetterNone;
         Cases: [CasesMore, CasesEnd], CasesEnd, CasesEnd;
-        else types::part_entry(part)
+        _ => types::part_entry(part)
     }
 }

@@ -35,7 +35,7 @@ pub(crate) fn production_entry(production: Production) -> ProductionEntry
             [at Convention];
         Thin: [word Thin], [word Thin];
         Method: [word Method], [word Method];
-        else signatures::production_entry(production)
+        _ => signatures::production_entry(production)
     }
 }
 
@@ -53,6 +53,6 @@ pub(crate) fn part_entry(part: Nonterminal) -> PartEntry
         Body: [BodySome, BodyNone], BodyNone, BodyNone;
         FunctionType: [WholeFunctionType], none, WholeFunctionType;
         Convention: [Thin, Method], none, Thin;
-        else signatures::part_entry(part)
+        _ => signatures::part_entry(part)
     }
 }

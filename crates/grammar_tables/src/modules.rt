@@ -1,6 +1,6 @@
 //! Modules, their stage, imports and items.
 
-ghost use Rattle.std.specs.Prelude.{◌≡◌, ⊥};
+ghost use Rattle.std.specs.Prelude.{◌≡◌};
 ghost use Rattle.grammar_tables.specs.Grammar.{alternatives, body};
 ghost use Rattle.grammar_tables.specs.Shortest.{shortest};
 ghost use Rattle.grammar_tables.specs.inner.Sections.{section};
@@ -44,7 +44,7 @@ pub(crate) fn production_entry(production: Production) -> ProductionEntry
         SuperclassNone: [], [];
         EntrySome: [mark Hash, any AnyWord, mark Dot, word Deinit, mark Bang, word Destroyer, mark Colon, any AnyAt], [mark Hash];
         EntryNone: [], [];
-        else declarations::production_entry(production)
+        _ => declarations::production_entry(production)
     }
 }
 
@@ -64,6 +64,6 @@ pub(crate) fn part_entry(part: Nonterminal) -> PartEntry
         Item: [FinalClass, PlainClass, StructItem, EnumItem, FunctionItem, VtableItem], none, StructItem;
         Superclass: [SuperclassSome, SuperclassNone], SuperclassNone, SuperclassNone;
         VtableEntry: [EntrySome, EntryNone], EntryNone, EntryNone;
-        else declarations::part_entry(part)
+        _ => declarations::part_entry(part)
     }
 }

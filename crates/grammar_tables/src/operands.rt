@@ -40,7 +40,7 @@ pub(crate) fn production_entry(production: Production) -> ProductionEntry
         EnumOperandSome: [mark Comma, part Operand], [mark Comma];
         EnumOperandNone: [], [];
         WholeMemberName: [mark Hash, any AnyWord, mark Dot, any AnyWord], [mark Hash];
-        else words::production_entry(production)
+        _ => words::production_entry(production)
     }
 }
 
@@ -64,6 +64,6 @@ pub(crate) fn part_entry(part: Nonterminal) -> PartEntry
         ElementSuffix: [SuffixSome, SuffixNone], SuffixNone, SuffixNone;
         EnumOperand: [EnumOperandSome, EnumOperandNone], EnumOperandNone, EnumOperandNone;
         MemberName: [WholeMemberName], none, WholeMemberName;
-        else words::part_entry(part)
+        _ => words::part_entry(part)
     }
 }

@@ -44,7 +44,7 @@ pub(crate) fn production_entry(production: Production) -> ProductionEntry
         GivenOwned: [at Owned, part Type], [at Owned];
         GivenOut: [at Out, part Type], [at Out];
         GivenPlain: [part Type], [any AnyWord, at SilWeak, at SilUnowned, mark LeftParen];
-        else blocks::production_entry(production)
+        _ => blocks::production_entry(production)
     }
 }
 
@@ -64,6 +64,6 @@ pub(crate) fn part_entry(part: Nonterminal) -> PartEntry
         ResultsInside: [InsideSome, InsideNone], InsideNone, InsideNone;
         MoreGivens: [MoreGivensMore, MoreGivensEnd], MoreGivensEnd, MoreGivensEnd;
         Given: [GivenOwned, GivenOut, GivenPlain], none, GivenPlain;
-        else blocks::part_entry(part)
+        _ => blocks::part_entry(part)
     }
 }

@@ -1,6 +1,6 @@
 //! The tables, asked by part and by production. Each call takes no memory.
 
-ghost use Rattle.std.specs.Prelude.{◌≡◌, ⊥};
+ghost use Rattle.std.specs.Prelude.{◌≡◌};
 ghost use Rattle.instruction_table.specs.declared.op.Op.{Op};
 ghost use Rattle.grammar_tables.specs.Grammar.{alternatives, body};
 ghost use Rattle.grammar_tables.specs.Shortest.{shortest};

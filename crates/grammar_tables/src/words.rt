@@ -58,7 +58,7 @@ pub(crate) fn production_entry(production: Production) -> ProductionEntry
         DebugAfterNumberSome: [mark Comma, part DebugDerefPart], [mark Comma];
         DebugAfterNumberNone: [], [];
         DebugDeref: [word Expr, word OpDeref], [word Expr];
-        else unreachable!()
+        _ => unreachable!()
     }
 }
 
@@ -88,6 +88,6 @@ pub(crate) fn part_entry(part: Nonterminal) -> PartEntry
         DebugNumberPart: [DebugNumber, DebugNoNumber], none, DebugNumber;
         DebugAfterNumber: [DebugAfterNumberSome, DebugAfterNumberNone], DebugAfterNumberNone, DebugAfterNumberNone;
         DebugDerefPart: [DebugDeref], none, DebugDeref;
-        else unreachable!()
+        _ => unreachable!()
     }
 }
