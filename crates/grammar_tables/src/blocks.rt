@@ -15,6 +15,7 @@ use instruction_table::Op;
 use token_classes::{AtWord, Class, Punctuation};
 
 /// The entry of a production that no earlier section has.
+#[inline(always)]
 #[tactic(auto, unfolding(crate::specs::inner::Sections::tables))]
 pub(crate) fn production_entry(production: Production) -> ProductionEntry
     requires { IsTrue (is_behind Signatures production) }

@@ -16,6 +16,7 @@ use instruction_table::Op;
 use token_classes::{Class, Keyword, Punctuation};
 
 /// The entry of a production that is no row.
+#[inline(always)]
 #[tactic(auto, unfolding(crate::specs::inner::Sections::tables))]
 pub(crate) fn production_entry(production: Production) -> ProductionEntry
     requires { (op : AnyOp) → production ≡ Row op → ⊥ }

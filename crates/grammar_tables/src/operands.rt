@@ -14,6 +14,7 @@ use crate::words;
 use token_classes::{Class, Keyword, Punctuation};
 
 /// The entry of a production that no earlier section has.
+#[inline(always)]
 #[tactic(auto, unfolding(crate::specs::inner::Sections::tables))]
 pub(crate) fn production_entry(production: Production) -> ProductionEntry
     requires { IsTrue (is_behind Blocks production) }

@@ -27,6 +27,7 @@ pub fn empty_choice(part: Nonterminal) -> Option<Production>
 }
 
 /// The production of a part that leads to the fewest tokens.
+#[inline]
 pub fn shortest(part: Nonterminal) -> Production
     ensures { result ≡ shortest part }
 {
@@ -34,6 +35,7 @@ pub fn shortest(part: Nonterminal) -> Production
 }
 
 /// What a production writes that isn't the row of an instruction.
+#[inline]
 pub(crate) fn fixed_body(production: Production) -> &'static [Symbol]
     requires { (op : Op) → production ≡ Row op → ⊥ }
     ensures { result.now ≡ body production }
@@ -53,6 +55,7 @@ pub fn starts(production: Production) -> &'static [Terminal]
 }
 
 /// The section of a production that isn't the row of an instruction.
+#[inline]
 pub fn section(production: Production) -> Section
     requires { (op : Op) → production ≡ Row op → ⊥ }
     ensures { result ≡ section production }

@@ -14,6 +14,7 @@ use crate::sections::Section;
 use token_classes::{AtWord, Class, Punctuation};
 
 /// The entry of a production that no earlier section has.
+#[inline(always)]
 #[tactic(auto, unfolding(crate::specs::inner::Sections::tables))]
 pub(crate) fn production_entry(production: Production) -> ProductionEntry
     requires { IsTrue (is_behind Declarations production) }
