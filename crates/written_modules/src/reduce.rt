@@ -28,18 +28,18 @@ pub(crate) fn reduce(
     ensures values { OnOk result (values.new ≡ reduced production values.old) }
     ensures fault { IfOk result (λ fault. fault ≡ part_fault production (parts_of production values.old)) }
 {
-    if let Production::Row(op) = production {
-        return reduce_row(alloc, op, values);
-    }
-    match section(production) {
-        Section::Modules => reduce_module(alloc, production, values),
-        Section::Declarations => reduce_declaration(alloc, production, values),
-        Section::Types => reduce_type(alloc, production, values),
-        Section::BaseTypes => reduce_base_type(alloc, production, values),
-        Section::Functions => reduce_function(alloc, production, values),
-        Section::Signatures => reduce_signature(alloc, production, values),
-        Section::Blocks => reduce_block(alloc, production, values),
-        Section::Operands => reduce_operand(alloc, production, values),
-        Section::Words => reduce_word(alloc, production, values),
+    match production {
+        Production::Row(op) => reduce_row(alloc, op, values),
+        _ => match section(production) {
+            Section::Modules => reduce_module(alloc, production, values),
+            Section::Declarations => reduce_declaration(alloc, production, values),
+            Section::Types => reduce_type(alloc, production, values),
+            Section::BaseTypes => reduce_base_type(alloc, production, values),
+            Section::Functions => reduce_function(alloc, production, values),
+            Section::Signatures => reduce_signature(alloc, production, values),
+            Section::Blocks => reduce_block(alloc, production, values),
+            Section::Operands => reduce_operand(alloc, production, values),
+            Section::Words => reduce_word(alloc, production, values),
+        },
     }
 }
