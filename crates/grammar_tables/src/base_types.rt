@@ -14,6 +14,7 @@ use crate::sections::Section;
 use token_classes::{Class, Keyword, Punctuation};
 
 /// The entry of a production that no earlier section has.
+#[inline(always)]
 #[tactic(auto, unfolding(crate::specs::inner::Sections::tables))]
 pub(crate) fn production_entry(production: Production) -> ProductionEntry
     requires { IsTrue (is_behind Types production) }
@@ -34,7 +35,7 @@ pub(crate) fn production_entry(production: Production) -> ProductionEntry
         Width16: [word Int16], [word Int16];
         Width32: [word Int32], [word Int32];
         Width64: [word Int64], [word Int64];
-        else functions::production_entry(production)
+        _ => functions::production_entry(production)
     }
 }
 
@@ -51,6 +52,6 @@ pub(crate) fn part_entry(part: Nonterminal) -> PartEntry
         BuiltinTail: [BuiltinInt, BuiltinName], BuiltinName, BuiltinName;
         OptionalTail: [OptionalOf, OptionalName], OptionalName, OptionalName;
         Width: [Width1, Width8, Width16, Width32, Width64], none, Width1;
-        else functions::part_entry(part)
+        _ => functions::part_entry(part)
     }
 }

@@ -15,6 +15,7 @@ use instruction_table::Op;
 use token_classes::{AtWord, Class, Punctuation};
 
 /// The entry of a production that no earlier section has.
+#[inline(always)]
 #[tactic(auto, unfolding(crate::specs::inner::Sections::tables))]
 pub(crate) fn production_entry(production: Production) -> ProductionEntry
     requires { IsTrue (is_behind Signatures production) }
@@ -47,7 +48,7 @@ pub(crate) fn production_entry(production: Production) -> ProductionEntry
         MoreNamesEnd: [], [];
         BareNamesSome: [class Percent, part MoreNames], [class Percent];
         BareNamesNone: [], [];
-        else operands::production_entry(production)
+        _ => operands::production_entry(production)
     }
 }
 
@@ -74,6 +75,6 @@ pub(crate) fn part_entry(part: Nonterminal) -> PartEntry
         Row: [], none, Row Tuple;
         Terminator: [], none, Row Unreachable;
         BareNames: [BareNamesSome, BareNamesNone], BareNamesNone, BareNamesNone;
-        else operands::part_entry(part)
+        _ => operands::part_entry(part)
     }
 }

@@ -14,6 +14,7 @@ use crate::types;
 use token_classes::{AtWord, Class, Keyword, Punctuation};
 
 /// The entry of a production that no earlier section has.
+#[inline(always)]
 #[tactic(auto, unfolding(crate::specs::inner::Sections::tables))]
 pub(crate) fn production_entry(production: Production) -> ProductionEntry
     requires { IsTrue (is_behind Modules production) }
@@ -47,7 +48,7 @@ pub(crate) fn production_entry(production: Production) -> ProductionEntry
         SetterNone: [], [];
         CasesMore: [word Case, any AnyWord, part Payload, part Cases], [word Case];
         CasesEnd: [], [];
-        else types::production_entry(production)
+        _ => types::production_entry(production)
     }
 }
 
@@ -70,6 +71,6 @@ pub(crate) fn part_entry(part: Nonterminal) -> PartEntry
         Accessors: [AccessorsSome, AccessorsNone], AccessorsNone, AccessorsNone;
         Setter: [SetterSome, SetterNone], SetterNone, SetterNone;
         Cases: [CasesMore, CasesEnd], CasesEnd, CasesEnd;
-        else types::part_entry(part)
+        _ => types::part_entry(part)
     }
 }

@@ -14,6 +14,7 @@ use crate::signatures;
 use token_classes::{AtWord, Class, Keyword, Punctuation};
 
 /// The entry of a production that no earlier section has.
+#[inline(always)]
 #[tactic(auto, unfolding(crate::specs::inner::Sections::tables))]
 pub(crate) fn production_entry(production: Production) -> ProductionEntry
     requires { IsTrue (is_behind BaseTypes production) }
@@ -31,11 +32,12 @@ pub(crate) fn production_entry(production: Production) -> ProductionEntry
         AttributesEnd: [], [];
         BodySome: [mark LeftBrace, part Block, part Blocks, mark RightBrace], [mark LeftBrace];
         BodyNone: [], [];
-        WholeFunctionType: [at Convention, mark LeftParen, part Convention, mark RightParen, mark LeftParen, part Params, mark RightParen, mark Arrow, part Results],
+        WholeFunctionType: [at Convention, mark LeftParen, part Convention, mark RightParen,
+            mark LeftParen, part Params, mark RightParen, mark Arrow, part Results],
             [at Convention];
         Thin: [word Thin], [word Thin];
         Method: [word Method], [word Method];
-        else signatures::production_entry(production)
+        _ => signatures::production_entry(production)
     }
 }
 
@@ -53,6 +55,6 @@ pub(crate) fn part_entry(part: Nonterminal) -> PartEntry
         Body: [BodySome, BodyNone], BodyNone, BodyNone;
         FunctionType: [WholeFunctionType], none, WholeFunctionType;
         Convention: [Thin, Method], none, Thin;
-        else signatures::part_entry(part)
+        _ => signatures::part_entry(part)
     }
 }

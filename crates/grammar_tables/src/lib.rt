@@ -38,7 +38,7 @@ macro_rules! symbol {
 macro_rules! productions {
     ($production:ident in $section:ident:
         $($name:ident: [$($kind:ident $symbol:ident),*], [$($first_kind:ident $first:ident),*];)*
-        else $other:expr) => {
+        _ => $other:expr) => {
         match $production {
             $(Production::$name => ProductionEntry {
                 section: Section::$section,
@@ -72,7 +72,7 @@ macro_rules! if_any {
 
 /// A choice by part: its productions, the one by which it may be empty, and the shortest; and what is asked for the others.
 macro_rules! parts {
-    ($part:ident: $($name:ident: [$($production:ident),*], $empty:ident, $($shortest:ident)+;)* else $other:expr) => {
+    ($part:ident: $($name:ident: [$($production:ident),*], $empty:ident, $($shortest:ident)+;)* _ => $other:expr) => {
         match $part {
             $(Nonterminal::$name => PartEntry {
                 alternatives: &[$(Production::$production),*],

@@ -1,6 +1,6 @@
 //! Modules, their stage, imports and items.
 
-ghost use Rattle.std.specs.Prelude.{◌≡◌, ⊥};
+ghost use Rattle.std.specs.Prelude.{◌≡◌};
 ghost use Rattle.grammar_tables.specs.Grammar.{alternatives, body};
 ghost use Rattle.grammar_tables.specs.Shortest.{shortest};
 ghost use Rattle.grammar_tables.specs.inner.Sections.{section};
@@ -16,6 +16,7 @@ use instruction_table::Op;
 use token_classes::{Class, Keyword, Punctuation};
 
 /// The entry of a production that is no row.
+#[inline(always)]
 #[tactic(auto, unfolding(crate::specs::inner::Sections::tables))]
 pub(crate) fn production_entry(production: Production) -> ProductionEntry
     requires { (op : AnyOp) → production ≡ Row op → ⊥ }
@@ -44,7 +45,7 @@ pub(crate) fn production_entry(production: Production) -> ProductionEntry
         SuperclassNone: [], [];
         EntrySome: [mark Hash, any AnyWord, mark Dot, word Deinit, mark Bang, word Destroyer, mark Colon, any AnyAt], [mark Hash];
         EntryNone: [], [];
-        else declarations::production_entry(production)
+        _ => declarations::production_entry(production)
     }
 }
 
@@ -64,6 +65,6 @@ pub(crate) fn part_entry(part: Nonterminal) -> PartEntry
         Item: [FinalClass, PlainClass, StructItem, EnumItem, FunctionItem, VtableItem], none, StructItem;
         Superclass: [SuperclassSome, SuperclassNone], SuperclassNone, SuperclassNone;
         VtableEntry: [EntrySome, EntryNone], EntryNone, EntryNone;
-        else declarations::part_entry(part)
+        _ => declarations::part_entry(part)
     }
 }

@@ -14,6 +14,7 @@ use crate::words;
 use token_classes::{Class, Keyword, Punctuation};
 
 /// The entry of a production that no earlier section has.
+#[inline(always)]
 #[tactic(auto, unfolding(crate::specs::inner::Sections::tables))]
 pub(crate) fn production_entry(production: Production) -> ProductionEntry
     requires { IsTrue (is_behind Blocks production) }
@@ -40,7 +41,7 @@ pub(crate) fn production_entry(production: Production) -> ProductionEntry
         EnumOperandSome: [mark Comma, part Operand], [mark Comma];
         EnumOperandNone: [], [];
         WholeMemberName: [mark Hash, any AnyWord, mark Dot, any AnyWord], [mark Hash];
-        else words::production_entry(production)
+        _ => words::production_entry(production)
     }
 }
 
@@ -64,6 +65,6 @@ pub(crate) fn part_entry(part: Nonterminal) -> PartEntry
         ElementSuffix: [SuffixSome, SuffixNone], SuffixNone, SuffixNone;
         EnumOperand: [EnumOperandSome, EnumOperandNone], EnumOperandNone, EnumOperandNone;
         MemberName: [WholeMemberName], none, WholeMemberName;
-        else words::part_entry(part)
+        _ => words::part_entry(part)
     }
 }

@@ -1,7 +1,8 @@
 //! The rows of the grammar: what an instruction writes there, by the table of instructions.
 
 ghost use Rattle.std.specs.Prelude.{◌≡◌, ◌++◌, ◌∷◌, [], if◌then◌else◌, length, reverse, OnOk};
-ghost use Rattle.grammar_tables.specs.Rows.{brings_comma, comma_behind, edges_of, ends_block, member_of, operand_of, qualifier_of, row_body, symbols_of, text_of};
+ghost use Rattle.grammar_tables.specs.Rows.{brings_comma, comma_behind, edges_of, ends_block, member_of, operand_of};
+ghost use Rattle.grammar_tables.specs.Rows.{qualifier_of, row_body, symbols_of, text_of};
 ghost use Rattle.grammar_tables.specs.Terminals.{punctuation};
 ghost use Rattle.grammar_tables.specs.declared.grammar.Symbol.TheVariants as s;
 ghost use Rattle.token_classes.specs.declared.classes.Punctuation.TheVariants.{Comma};

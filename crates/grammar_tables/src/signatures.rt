@@ -14,6 +14,7 @@ use crate::sections::Section;
 use token_classes::{AtWord, Class, Punctuation};
 
 /// The entry of a production that no earlier section has.
+#[inline(always)]
 #[tactic(auto, unfolding(crate::specs::inner::Sections::tables))]
 pub(crate) fn production_entry(production: Production) -> ProductionEntry
     requires { IsTrue (is_behind Functions production) }
@@ -44,7 +45,7 @@ pub(crate) fn production_entry(production: Production) -> ProductionEntry
         GivenOwned: [at Owned, part Type], [at Owned];
         GivenOut: [at Out, part Type], [at Out];
         GivenPlain: [part Type], [any AnyWord, at SilWeak, at SilUnowned, mark LeftParen];
-        else blocks::production_entry(production)
+        _ => blocks::production_entry(production)
     }
 }
 
@@ -64,6 +65,6 @@ pub(crate) fn part_entry(part: Nonterminal) -> PartEntry
         ResultsInside: [InsideSome, InsideNone], InsideNone, InsideNone;
         MoreGivens: [MoreGivensMore, MoreGivensEnd], MoreGivensEnd, MoreGivensEnd;
         Given: [GivenOwned, GivenOut, GivenPlain], none, GivenPlain;
-        else blocks::part_entry(part)
+        _ => blocks::part_entry(part)
     }
 }

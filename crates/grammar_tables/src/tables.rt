@@ -1,6 +1,6 @@
 //! The tables, asked by part and by production. Each call takes no memory.
 
-ghost use Rattle.std.specs.Prelude.{◌≡◌, ⊥};
+ghost use Rattle.std.specs.Prelude.{◌≡◌};
 ghost use Rattle.instruction_table.specs.declared.op.Op.{Op};
 ghost use Rattle.grammar_tables.specs.Grammar.{alternatives, body};
 ghost use Rattle.grammar_tables.specs.Shortest.{shortest};
@@ -27,6 +27,7 @@ pub fn empty_choice(part: Nonterminal) -> Option<Production>
 }
 
 /// The production of a part that leads to the fewest tokens.
+#[inline]
 pub fn shortest(part: Nonterminal) -> Production
     ensures { result ≡ shortest part }
 {
@@ -34,6 +35,7 @@ pub fn shortest(part: Nonterminal) -> Production
 }
 
 /// What a production writes that isn't the row of an instruction.
+#[inline]
 pub(crate) fn fixed_body(production: Production) -> &'static [Symbol]
     requires { (op : Op) → production ≡ Row op → ⊥ }
     ensures { result.now ≡ body production }
@@ -53,6 +55,7 @@ pub fn starts(production: Production) -> &'static [Terminal]
 }
 
 /// The section of a production that isn't the row of an instruction.
+#[inline]
 pub fn section(production: Production) -> Section
     requires { (op : Op) → production ≡ Row op → ⊥ }
     ensures { result ≡ section production }

@@ -14,6 +14,7 @@ use crate::sections::Section;
 use token_classes::{AtWord, Class, Punctuation};
 
 /// The entry of a production that no earlier section has.
+#[inline(always)]
 #[tactic(auto, unfolding(crate::specs::inner::Sections::tables))]
 pub(crate) fn production_entry(production: Production) -> ProductionEntry
     requires { IsTrue (is_behind Declarations production) }
@@ -35,7 +36,7 @@ pub(crate) fn production_entry(production: Production) -> ProductionEntry
         TypesNone: [], [];
         MoreTypesMore: [mark Comma, part Type, part MoreTypes], [mark Comma];
         MoreTypesEnd: [], [];
-        else base_types::production_entry(production)
+        _ => base_types::production_entry(production)
     }
 }
 
@@ -54,6 +55,6 @@ pub(crate) fn part_entry(part: Nonterminal) -> PartEntry
         Questions: [QuestionsMore, QuestionsEnd], QuestionsEnd, QuestionsEnd;
         Types: [TypesSome, TypesNone], TypesNone, TypesNone;
         MoreTypes: [MoreTypesMore, MoreTypesEnd], MoreTypesEnd, MoreTypesEnd;
-        else base_types::part_entry(part)
+        _ => base_types::part_entry(part)
     }
 }

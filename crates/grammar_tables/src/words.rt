@@ -13,6 +13,7 @@ use crate::sections::Section;
 use token_classes::{Class, Keyword, Punctuation};
 
 /// The entry of a production that no earlier section has.
+#[inline(always)]
 #[tactic(auto, unfolding(crate::specs::inner::Sections::tables))]
 pub(crate) fn production_entry(production: Production) -> ProductionEntry
     requires { IsTrue (is_behind Operands production) }
@@ -58,7 +59,7 @@ pub(crate) fn production_entry(production: Production) -> ProductionEntry
         DebugAfterNumberSome: [mark Comma, part DebugDerefPart], [mark Comma];
         DebugAfterNumberNone: [], [];
         DebugDeref: [word Expr, word OpDeref], [word Expr];
-        else unreachable!()
+        _ => unreachable!()
     }
 }
 
@@ -88,6 +89,6 @@ pub(crate) fn part_entry(part: Nonterminal) -> PartEntry
         DebugNumberPart: [DebugNumber, DebugNoNumber], none, DebugNumber;
         DebugAfterNumber: [DebugAfterNumberSome, DebugAfterNumberNone], DebugAfterNumberNone, DebugAfterNumberNone;
         DebugDerefPart: [DebugDeref], none, DebugDeref;
-        else unreachable!()
+        _ => unreachable!()
     }
 }

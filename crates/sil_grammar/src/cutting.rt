@@ -6,9 +6,8 @@ ghost use Rattle.sil_shape.specs.inner.Turns.{Pops};
 ghost use Rattle.sil_shape.specs.inner.Values.{takes_of};
 ghost use Rattle.sil_grammar.specs.inner.Left.{after, left_after, AreDecided, IsCut};
 
+use grammar_tables::{Nonterminal, Symbol, push_body};
 use sil_ast::Exhausted;
-use grammar_tables::push_body;
-use grammar_tables::{Nonterminal, Symbol};
 use sil_shape::steps::{Front, Step};
 use std::alloc::Global;
 

@@ -1,6 +1,6 @@
 //! The parse table: the production of each part at each lookahead, found when it's first asked for.
 
-ghost use Rattle.std.specs.Prelude.{◌≡◌, ◌*◌, ◌<◌, length};
+ghost use Rattle.std.specs.Prelude.{◌≡◌, ◌*◌, ◌<◌, None, length, replicate, IfOk};
 ghost use Rattle.sil_shape.specs.inner.Choice.{choose};
 ghost use Rattle.sil_shape.specs.inner.ParseTable.{part_number, place, IsParseTable};
 ghost use Rattle.sil_shape.specs.declared.parse_table.TheConstants.{LOOKAHEADS, PARTS};
@@ -44,7 +44,9 @@ pub(crate) struct ParseTable {
 
 impl ParseTable {
     /// A table in which nothing is known.
-    pub fn new(alloc: Global) -> Result<ParseTable, AllocError> {
+    pub fn new(alloc: Global) -> Result<ParseTable, AllocError>
+        ensures { IfOk result (λ table. table.known.items ≡ replicate (LOOKAHEADS * PARTS) None) }
+    {
         let known = vec![in alloc; None; LOOKAHEADS * PARTS]?;
         Ok(ParseTable { known })
     }

@@ -15,9 +15,9 @@ ghost use Rattle.written_tree.specs.Places as placed;
 ghost use Rattle.written_tree.specs.declared.written_declarations.WrittenDecl.TheVariants as decl;
 ghost use Rattle.written_tree.specs.declared.written_module.WrittenItem.TheVariants as item;
 
+use grammar_tables::Production;
 use sil_ast::{Boxed, Exhausted, List, Storage};
 use sil_rules::{LimitWord, limits};
-use grammar_tables::Production;
 use std::alloc::Global;
 use written_tree::{Fault, WrittenCase, WrittenDecl, WrittenField, WrittenItem, WrittenToken};
 use written_values::faults::too_many;

@@ -9,8 +9,8 @@ ghost use Rattle.written_values.specs.inner.PartFaults.{part_fault};
 ghost use Rattle.written_values.specs.inner.Reduced.{parts_of, reduced};
 
 use crate::counted_faults::{body_fault, module_fault, too_many_attributes};
-use sil_ast::{Boxed, Exhausted, Imports, Stage};
 use grammar_tables::Production;
+use sil_ast::{Boxed, Exhausted, Imports, Stage};
 use std::alloc::Global;
 use written_tree::{
     Fault, WrittenEntry, WrittenFunction, WrittenItem, WrittenModule, WrittenVtable, earlier,

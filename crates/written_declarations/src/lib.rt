@@ -8,5 +8,7 @@ mod counted_faults;
 mod counted_parts;
 mod found;
 mod reduce_declarations;
+mod reduce_modules;
 
 pub use reduce_declarations::reduce_declaration;
+pub use reduce_modules::reduce_module;

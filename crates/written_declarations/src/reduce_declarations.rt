@@ -1,4 +1,4 @@
-//! What the productions of declarations stand for.
+//! What the productions of members, fields and cases stand for.
 
 ghost use Rattle.std.specs.Prelude.{◌≡◌, ◌≤◌, length, IfOk, OnOk};
 ghost use Rattle.grammar_tables.specs.Grammar.{body};
@@ -7,9 +7,9 @@ ghost use Rattle.written_values.specs.inner.PartFaults.{part_fault};
 ghost use Rattle.written_values.specs.inner.Reduced.{parts_of, reduced};
 ghost use Rattle.grammar_tables.specs.inner.Sections.{section};
 
-use crate::{build_declarations, build_module};
-use sil_ast::{Exhausted, Stage, Storage};
+use crate::build_declarations;
 use grammar_tables::Production;
+use sil_ast::{Exhausted, Storage};
 use std::alloc::Global;
 use written_tree::Fault;
 use written_values::nothing::skip;
@@ -30,28 +30,6 @@ pub fn reduce_declaration(
     ensures fault { IfOk result (λ fault. fault ≡ part_fault production (parts_of production values.old)) }
 {
     match production {
-        Production::WholeModule => return build_module::whole_module(alloc, values),
-        Production::StageNone => build_module::stage(Stage::Canonical, values)?,
-        Production::Raw => {
-            skip(values);
-            build_module::stage(Stage::Raw, values)?
-        },
-        Production::Canonical => {
-            skip(values);
-            build_module::stage(Stage::Canonical, values)?
-        },
-        Production::ImportsMore => build_module::more_imports(values)?,
-        Production::ImportsEnd => build_module::no_imports(values)?,
-        Production::ItemsMore => build_module::more_items(alloc, values)?,
-        Production::ItemsEnd => build_module::no_items(alloc, values)?,
-        Production::FinalClass => return build_declarations::final_class(alloc, values),
-        Production::PlainClass => return build_declarations::plain_class(alloc, values),
-        Production::StructItem => return build_declarations::struct_item(alloc, values),
-        Production::SuperclassSome => build_declarations::superclass(values)?,
-        Production::EnumItem => return build_declarations::enum_item(alloc, values),
-        Production::FunctionItem => return build_module::function(alloc, values),
-        Production::VtableItem => build_module::vtable(alloc, values)?,
-        Production::EntrySome => build_module::entry(alloc, values)?,
         Production::MembersMore | Production::FieldsMore => {
             build_declarations::fields(alloc, values)?
         }
@@ -73,8 +51,7 @@ pub fn reduce_declaration(
         | Production::ModifiedVariable
         | Production::StrongVariable
         | Production::PlainField => pass(values),
-        Production::StageSome
-        | Production::StoredMember
+        Production::StoredMember
         | Production::FinalMember
         | Production::ModifiedStored
         | Production::ModifiedFinal
@@ -96,10 +73,7 @@ pub fn reduce_declaration(
             skip(values);
             put_nothing(values)?
         },
-        Production::SuperclassNone
-        | Production::AccessorsNone
-        | Production::SetterNone
-        | Production::EntryNone => put_nothing(values)?,
+        Production::AccessorsNone | Production::SetterNone => put_nothing(values)?,
         _ => unreachable!(),
     }
     Ok(None)

@@ -8,9 +8,9 @@ ghost use Rattle.written_values.specs.declared.value.Value.{Value};
 ghost use Rattle.written_values.specs.declared.value.Value.TheVariants as v;
 ghost use Rattle.written_values.specs.Values.{arg_of, args_of, block_of, blocks_of, starred, token_of, tokens_of};
 
+use grammar_tables::Production;
 use sil_ast::{ArgKind, Boxed, Exhausted, List};
 use sil_rules::{LimitWord, limits};
-use grammar_tables::Production;
 use std::alloc::Global;
 use written_tree::{Fault, InstBox, WrittenArg, WrittenBlock, WrittenToken};
 use written_values::faults::too_many;

@@ -10,8 +10,8 @@ ghost use Rattle.written_values.specs.inner.Parts.{place_at};
 ghost use Rattle.written_values.specs.inner.Reduced.{parts_of, reduced};
 ghost use Rattle.written_values.specs.Values.{given_before, givens_of, no_givens, no_params, param_before, params_of};
 
-use sil_ast::{Convention, Exhausted, Given, Linkage, Param, Passing, Place, Signature};
 use grammar_tables::Production;
+use sil_ast::{Convention, Exhausted, Given, Linkage, Param, Passing, Place, Signature};
 use std::alloc::Global;
 use written_tree::{Fault, earlier};
 use written_values::faults::too_many_arguments;

@@ -1,4 +1,4 @@
-//! What the productions of functions stand for.
+//! What the productions of functions stand for, but their blocks, parameters and results.
 
 ghost use Rattle.std.specs.Prelude.{◌≡◌, ◌≤◌, length, IfOk, OnOk};
 ghost use Rattle.grammar_tables.specs.Grammar.{body};
@@ -8,8 +8,8 @@ ghost use Rattle.written_values.specs.inner.Reduced.{parts_of, reduced};
 ghost use Rattle.grammar_tables.specs.inner.Sections.{section};
 
 use crate::{build_blocks, build_functions};
-use sil_ast::{Convention, Exhausted, Linkage, Passing};
 use grammar_tables::Production;
+use sil_ast::{Convention, Exhausted, Linkage};
 use std::alloc::Global;
 use written_tree::Fault;
 use written_values::nothing::skip;
@@ -57,39 +57,6 @@ pub fn reduce_function(
             skip(values);
             build_functions::convention(Convention::Method, values)?
         },
-        Production::ParamsSome => build_functions::params(alloc, values)?,
-        Production::MoreParamsMore => {
-            skip(values);
-            build_functions::params(alloc, values)?
-        },
-        Production::ParamsNone | Production::MoreParamsEnd => {
-            build_functions::no_more_params(alloc, values)?
-        }
-        Production::ParamOwned => build_functions::param(alloc, Passing::Owned, values)?,
-        Production::ParamGuaranteed => build_functions::param(alloc, Passing::Guaranteed, values)?,
-        Production::ParamInout => build_functions::param(alloc, Passing::Inout, values)?,
-        Production::ParamIn => build_functions::param(alloc, Passing::In, values)?,
-        Production::ParamInGuaranteed => build_functions::param(
-            alloc,
-            Passing::InGuaranteed,
-            values,
-        )?,
-        Production::ParamPlain => build_functions::plain_param(alloc, values)?,
-        Production::ResultList => build_functions::result_list(alloc, values)?,
-        Production::ResultOwned => build_functions::worded_result(alloc, true, false, values)?,
-        Production::ResultOut => build_functions::worded_result(alloc, false, true, values)?,
-        Production::ResultPlain => build_functions::plain_result(alloc, values)?,
-        Production::InsideSome => build_functions::givens(alloc, values)?,
-        Production::MoreGivensMore => {
-            skip(values);
-            build_functions::givens(alloc, values)?
-        },
-        Production::InsideNone | Production::MoreGivensEnd => {
-            build_functions::no_more_givens(alloc, values)?
-        }
-        Production::GivenOwned => build_functions::worded_given(alloc, true, false, values)?,
-        Production::GivenOut => build_functions::worded_given(alloc, false, true, values)?,
-        Production::GivenPlain => build_functions::plain_given(alloc, values)?,
         Production::BodySome => build_blocks::body(alloc, values)?,
         Production::BodyNone => build_blocks::no_blocks(alloc, values)?,
         _ => unreachable!(),

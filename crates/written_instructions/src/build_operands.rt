@@ -9,9 +9,9 @@ ghost use Rattle.written_values.specs.inner.PartFaults.{part_fault};
 ghost use Rattle.written_values.specs.inner.Reduced.{parts_of, reduced};
 ghost use Rattle.written_values.specs.Values.{operand_of, operands_of};
 
+use grammar_tables::Production;
 use sil_ast::{Boxed, Exhausted, List, Member};
 use sil_rules::{LimitWord, limits};
-use grammar_tables::Production;
 use std::alloc::Global;
 use written_tree::{Fault, WrittenEdge, WrittenOperand};
 use written_values::faults::too_many;

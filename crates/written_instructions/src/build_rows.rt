@@ -10,9 +10,9 @@ ghost use Rattle.written_values.specs.inner.Reduced.{parts_of, reduced};
 ghost use Rattle.written_values.specs.Values as none;
 
 use crate::build_row_parts::put_part;
+use grammar_tables::has_comma_behind;
 use instruction_table::{Op, Part, row_of};
 use sil_ast::{Exhausted, List, Place};
-use grammar_tables::has_comma_behind;
 use std::alloc::Global;
 use written_tree::{Fault, InstBox, WrittenInst, earlier};
 use written_values::nothing::{bare_inst, skip};

@@ -10,8 +10,8 @@ ghost use Rattle.written_values.specs.inner.PartFaults.{part_fault};
 ghost use Rattle.written_values.specs.inner.Reduced.{parts_of, reduced};
 ghost use Rattle.written_values.specs.Values.{debug_of, no_debug, no_qualifier};
 
-use sil_ast::{Binding, Boxed, Exhausted, Qualifier};
 use grammar_tables::Production;
+use sil_ast::{Binding, Boxed, Exhausted, Qualifier};
 use std::alloc::Global;
 use written_numbers::small_number;
 use written_tree::{Fault, WrittenQualifier, out_of_range};

@@ -8,8 +8,8 @@ ghost use Rattle.written_values.specs.inner.Reduced.{parts_of, reduced};
 ghost use Rattle.grammar_tables.specs.inner.Sections.{section};
 
 use crate::build_words;
-use sil_ast::{Binding, Exhausted, Qualifier};
 use grammar_tables::Production;
+use sil_ast::{Binding, Exhausted, Qualifier};
 use std::alloc::Global;
 use written_tree::Fault;
 use written_values::nothing::skip;

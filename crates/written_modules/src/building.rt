@@ -15,9 +15,9 @@ ghost use Rattle.written_modules.specs.inner.Replay.{first_fault, replay, KeepsF
 use crate::lacking::{fill, fill_body};
 use crate::leaves::leaf_at;
 use crate::reduce::reduce;
+use grammar_tables::Symbol;
 use sil_ast::Exhausted;
 use sil_lexer::Tokens;
-use grammar_tables::Symbol;
 use sil_shape::steps::{Front, Step};
 use std::alloc::Global;
 use std::rc::Rc;

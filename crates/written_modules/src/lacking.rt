@@ -9,10 +9,8 @@ ghost use Rattle.written_modules.specs.inner.Lacking.{lacking, Fills};
 ghost use Rattle.written_modules.specs.inner.Replay.{replay};
 
 use crate::reduce::reduce;
+use grammar_tables::{Nonterminal, Production, Symbol, body_length, shortest};
 use sil_ast::Exhausted;
-use grammar_tables::body_length;
-use grammar_tables::{Nonterminal, Production, Symbol};
-use grammar_tables::shortest;
 use sil_shape::shortest_steps::shortest_steps;
 use sil_shape::steps::Step;
 use std::alloc::Global;

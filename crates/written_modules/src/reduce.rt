@@ -5,17 +5,15 @@ ghost use Rattle.grammar_tables.specs.Grammar.{body};
 ghost use Rattle.written_values.specs.inner.PartFaults.{part_fault};
 ghost use Rattle.written_values.specs.inner.Reduced.{parts_of, reduced};
 
-use crate::sections::section_of;
+use grammar_tables::{Production, Section, section};
 use sil_ast::Exhausted;
-use grammar_tables::Production;
 use std::alloc::Global;
-use written_declarations::reduce_declaration;
-use written_functions::{reduce_block, reduce_function};
+use written_declarations::{reduce_declaration, reduce_module};
+use written_functions::{reduce_block, reduce_function, reduce_signature};
 use written_instructions::{reduce_operand, reduce_row, reduce_word};
 use written_tree::Fault;
 use written_types::{reduce_base_type, reduce_type};
 use written_values::prepended::Prepended;
-use grammar_tables::Section;
 use written_values::value::Value;
 
 /// Puts what a production stands for in the place of the values of its body, which are the first ones, and answers the
@@ -30,16 +28,18 @@ pub(crate) fn reduce(
     ensures values { OnOk result (values.new ≡ reduced production values.old) }
     ensures fault { IfOk result (λ fault. fault ≡ part_fault production (parts_of production values.old)) }
 {
-    if let Production::Row(op) = production {
-        return reduce_row(alloc, op, values);
-    }
-    match section_of(production) {
-        Section::Declarations => reduce_declaration(alloc, production, values),
-        Section::Types => reduce_type(alloc, production, values),
-        Section::BaseTypes => reduce_base_type(alloc, production, values),
-        Section::Functions => reduce_function(alloc, production, values),
-        Section::Blocks => reduce_block(alloc, production, values),
-        Section::Operands => reduce_operand(alloc, production, values),
-        Section::Words => reduce_word(alloc, production, values),
+    match production {
+        Production::Row(op) => reduce_row(alloc, op, values),
+        _ => match section(production) {
+            Section::Modules => reduce_module(alloc, production, values),
+            Section::Declarations => reduce_declaration(alloc, production, values),
+            Section::Types => reduce_type(alloc, production, values),
+            Section::BaseTypes => reduce_base_type(alloc, production, values),
+            Section::Functions => reduce_function(alloc, production, values),
+            Section::Signatures => reduce_signature(alloc, production, values),
+            Section::Blocks => reduce_block(alloc, production, values),
+            Section::Operands => reduce_operand(alloc, production, values),
+            Section::Words => reduce_word(alloc, production, values),
+        },
     }
 }

@@ -11,9 +11,9 @@ ghost use Rattle.written_values.specs.declared.value.Value.{Value};
 ghost use Rattle.written_values.specs.Values.{no_types, token_of, type_of, types_of};
 
 use crate::type_faults::{too_deep, too_many_questions, tuple_fault};
+use grammar_tables::Production;
 use sil_ast::{Boxed, Exhausted, Place, TypeName};
 use sil_rules::limits;
-use grammar_tables::Production;
 use std::alloc::Global;
 use written_tree::{Fault, WrittenToken, earlier};
 use written_values::nothing::{discard, no_types, unit_type};
