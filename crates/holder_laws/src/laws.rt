@@ -50,7 +50,7 @@ ghost use Rattle.holder_laws.specs.inner.Held.Items.{
   AreQuietRight,
   BeginRight,
 };
-ghost use Rattle.holder_laws.specs.inner.Held.Laws.{AreDropsRight, AreFinishesRight, AreOthersBuilt, InEach, StayBelow};
+ghost use Rattle.holder_laws.specs.inner.Held.Laws.{AreDropsRight, AreFinishesRight, AreOthersBuilt, StayBelow, WhateverIsSaid};
 
 /// Each step goes one of the ways that are told, faults among them.
 pub fn steps_are_told()
@@ -247,26 +247,26 @@ pub fn results_may_begin()
 
 /// What waits below holds its objects still while memory changes, but for what it is building; and what is whole is being built by none.
 pub fn objects_stay_below()
-    ensures stay { InEach StayBelow }
-    ensures others { InEach AreOthersBuilt }
+    ensures stay { WhateverIsSaid StayBelow }
+    ensures others { WhateverIsSaid AreOthersBuilt }
 {}
 
 /// Drops and finishes leave the objects of a state right.
 pub fn drops_and_finishes_are_right()
-    ensures drops { InEach AreDropsRight }
-    ensures finishes { InEach AreFinishesRight }
+    ensures drops { WhateverIsSaid AreDropsRight }
+    ensures finishes { WhateverIsSaid AreFinishesRight }
 {}
 
 /// A frame that goes on behind an item leaves the objects of a state right: the write of a field, the making of an object, and every other item.
 pub fn items_keep_objects()
-    ensures quiet { InEach AreQuietRight }
-    ensures written { InEach AreFieldWritesRight }
-    ensures making { InEach AreMakingsRight }
+    ensures quiet { WhateverIsSaid AreQuietRight }
+    ensures written { WhateverIsSaid AreFieldWritesRight }
+    ensures making { WhateverIsSaid AreMakingsRight }
 {}
 
 /// So does a call, of a function or of a deinitialiser; and a run begins so.
 pub fn entered_objects_are_right()
-    ensures calls { InEach AreCallsRight }
-    ensures deinits { InEach AreDeinitsRight }
-    ensures begin { InEach BeginRight }
+    ensures calls { WhateverIsSaid AreCallsRight }
+    ensures deinits { WhateverIsSaid AreDeinitsRight }
+    ensures begin { WhateverIsSaid BeginRight }
 {}

@@ -18,7 +18,7 @@ use Rattle.type_definitions.specs.Declarations.{declarations_of}
 use Rattle.holder_laws.specs.inner.Whole.Whole.{IsWhole, NameWhole, StayWhole}
 use Rattle.holder_laws.proofs.Whole.Lists.{each_of}
 use Rattle.holder_laws.specs.inner.Held.ObjectStates.{BelowBuild, BuildsNone, FrameBuilds, IsBuilding, TasksBuild}
-use Rattle.holder_laws.specs.inner.Held.Laws.{AreOthersBuilt, InEach, StayBelow}
+use Rattle.holder_laws.specs.inner.Held.Laws.{AreOthersBuilt, StayBelow, WhateverIsSaid}
 
 module _ (m : Module) (said : Function → List Item → Progress) where
   -- an object that a frame is building, by its function
@@ -88,13 +88,13 @@ module _ (m : Module) (said : Function → List Item → Progress) where
       below_other (Drops os ∷ rest) callee h = absurd h
       below_other (Finishes gs p ∷ rest) callee h = tasks_other rest h.2
 
-pub stay_below : InEach StayBelow
+pub stay_below : WhateverIsSaid StayBelow
 stay_below m said memory later tasks stays = (
   tasks_stay m said memory later stays.whole stays.more stays.classes tasks stays.building,
   below_stays m said memory later stays.whole stays.more stays.classes tasks stays.building,
 )
 
-pub others_built : InEach AreOthersBuilt
+pub others_built : WhateverIsSaid AreOthersBuilt
 others_built m said memory tasks o other = (
   tasks_other m said memory o other tasks,
   below_other m said memory o other tasks,

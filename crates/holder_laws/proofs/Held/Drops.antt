@@ -22,7 +22,7 @@ use Rattle.holder_laws.specs.inner.Whole.Laws.{KeepsWhole}
 use Rattle.holder_laws.proofs.Whole.Keeping.{ended_whole, read_whole}
 use Rattle.holder_laws.proofs.Whole.Lists.{each_of}
 use Rattle.holder_laws.specs.inner.Held.ObjectStates.{AreObjectsRight, BuildsNone, DeinitsBuilding, FinishedWhole, FrameBuilds, TasksBuild, WaitsBuilding}
-use Rattle.holder_laws.specs.inner.Held.Laws.{AreDropsRight, AreFinishesRight, InEach}
+use Rattle.holder_laws.specs.inner.Held.Laws.{AreDropsRight, AreFinishesRight, WhateverIsSaid}
 use Rattle.holder_laws.proofs.Held.Below.{tasks_other, tasks_stay}
 
 module _ (m : Module) (said : Function → List Item → Progress) (memory : Memory) (tasks : List (Task Frame)) (h : TasksBuild m said memory tasks)
@@ -76,8 +76,8 @@ module _ (m : Module) (said : Function → List Item → Progress) (told : Modul
       }
   finishes_lead _ (FinishesOne.escapes left held) = tt
 
-pub drops_right : InEach AreDropsRight
+pub drops_right : WhateverIsSaid AreDropsRight
 drops_right m said told bound s next o h is way = drops_lead m said told bound s o h is (Goes next) way
 
-pub finishes_right : InEach AreFinishesRight
+pub finishes_right : WhateverIsSaid AreFinishesRight
 finishes_right m said told bound s next o h is way = finishes_lead m said told bound s o h is (Goes next) way

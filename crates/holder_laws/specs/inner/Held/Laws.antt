@@ -46,5 +46,5 @@ module _ (m : Module) (said : Function → List Item → Progress) where
       → FinishesOne m told bound s o (Goes next) → AreObjectsRight m said next
 
 -- so it is in each module, whatever trails say
-abbrev pub InEach : ((m : Module) (said : Function → List Item → Progress) → Type 0) → Type 0
-InEach Law = (m : Module) (said : Function → List Item → Progress) → Law m said
+abbrev pub WhateverIsSaid : ((m : Module) (said : Function → List Item → Progress) → Type 0) → Type 0
+WhateverIsSaid Law = (m : Module) (said : Function → List Item → Progress) → Law m said
