@@ -1,15 +1,15 @@
 -- Guards are kept, where open scopes keep what they lend: the part of the invariant that excludes dead objects.
 use Rattle.sil_ast.specs.declared.module.Module.{Module}
-use Rattle.held_loans.specs.followed_objects.accepted_values.accepted_modules.inner.Checked.{IsVerified}
-use Rattle.held_loans.specs.followed_objects.held_entries.holder_model.HolderStates.{HolderState}
-use Rattle.held_loans.specs.followed_objects.typed_holders.inner.TypedStates.{IsTypedState}
-use Rattle.held_loans.specs.followed_objects.tracked_frames.inner.TrackedStates.{IsTrackedState}
-use Rattle.held_loans.specs.guarded_entries.inner.GuardedStates.{IsGuardedState, Loans}
-use Rattle.held_loans.specs.guarded_entries.inner.Laws.{is_dead_fault}
-use Rattle.held_loans.specs.guarded_entries.inner.LoansKept.{LoansAreKept}
-use Rattle.held_loans.proofs.guarded_entries.Begun.{begin_guarded}
-use Rattle.held_loans.proofs.guarded_entries.DeadFaults.{no_dead_faults}
-use Rattle.held_loans.proofs.guarded_entries.GuardedSteps.{steps_stay_guarded_where}
+use Rattle.tracked_frames.specs.accepted_modules.inner.Checked.{IsVerified}
+use Rattle.tracked_frames.specs.holder_laws.holder_model.HolderStates.{HolderState}
+use Rattle.tracked_frames.specs.inner.Typed.TypedStates.{IsTypedState}
+use Rattle.tracked_frames.specs.inner.Tracked.TrackedStates.{IsTrackedState}
+use Rattle.accepted_runs.specs.inner.Guarded.GuardedStates.{IsGuardedState, Loans}
+use Rattle.accepted_runs.specs.inner.Guarded.Laws.{is_dead_fault}
+use Rattle.accepted_runs.specs.inner.Guarded.LoansKept.{LoansAreKept}
+use Rattle.accepted_runs.proofs.Guarded.Begun.{begin_guarded}
+use Rattle.accepted_runs.proofs.Guarded.DeadFaults.{no_dead_faults}
+use Rattle.accepted_runs.proofs.Guarded.GuardedSteps.{steps_stay_guarded_where}
 use Rattle.accepted_runs.specs.inner.Kept.{IsKept}
 use Rattle.accepted_runs.proofs.KeptOnRuns.{And, Nothing}
 

@@ -4,13 +4,13 @@ use Rattle.std.specs.Prelude.{◌||◌, option_and_then, slice_get}
 use Rattle.sil_ast.specs.declared.function.Function.{Function}
 use Rattle.sil_ast.specs.declared.module.Module.{Module}
 use Rattle.sil_ast.specs.declared.place.FuncId.{FuncId}
-use Rattle.held_loans.specs.followed_objects.accepted_values.accepted_modules.inner.Checked.{IsVerified}
-use Rattle.held_loans.specs.followed_objects.held_entries.holder_model.Faults.{HolderFault}
-use Rattle.held_loans.specs.followed_objects.held_entries.holder_model.HolderStates.{HolderNext, HolderState}
-use Rattle.held_loans.specs.followed_objects.held_entries.holder_model.ModuleFacts.{facts_of}
-use Rattle.held_loans.specs.followed_objects.held_entries.holder_model.Outcomes.{EndsSo, Outcome, begins, may_start, outcome_after, run}
-use Rattle.held_loans.specs.followed_objects.held_entries.holder_model.States.{Ending, Ends, Faulted, Goes, Next, step_on}
-use Rattle.held_loans.specs.followed_objects.held_entries.holder_model.Steps.{step}
+use Rattle.tracked_frames.specs.accepted_modules.inner.Checked.{IsVerified}
+use Rattle.tracked_frames.specs.holder_laws.holder_model.Faults.{HolderFault}
+use Rattle.tracked_frames.specs.holder_laws.holder_model.HolderStates.{HolderNext, HolderState}
+use Rattle.tracked_frames.specs.holder_laws.holder_model.ModuleFacts.{facts_of}
+use Rattle.tracked_frames.specs.holder_laws.holder_model.Outcomes.{EndsSo, Outcome, begins, may_start, outcome_after, run}
+use Rattle.tracked_frames.specs.holder_laws.holder_model.States.{Ending, Ends, Faulted, Goes, Next, step_on}
+use Rattle.tracked_frames.specs.holder_laws.holder_model.Steps.{step}
 use Rattle.accepted_runs.specs.inner.Kept.{IsKept}
 use Rattle.accepted_runs.specs.inner.Laws.{OnRuns}
 

@@ -1,32 +1,32 @@
 -- What objects ask of the places of a state: an operand that is no address of a field is on the stack, and a frame that waits stands at a call.
 use Rattle.std.proofs.Common.{◌≡◌, ⊎_elim, ℕ, List, ◌∷◌, Contains, Some, refl, sym, ap, ◌∙◌, subst, slice_get}
 use Rattle.std.proofs.lemmas.Option.{same_Some}
-use Rattle.held_loans.specs.followed_objects.accepted_values.accepted_modules.inner.Checked.{IsVerified}
-use Rattle.held_loans.specs.followed_objects.accepted_values.inner.Known.{IsAcceptedBody}
-use Rattle.held_loans.specs.followed_objects.inner.BuiltStates.{AreOthersOnStack, DoPlacesServe, WaitsAtCall}
-use Rattle.held_loans.proofs.followed_objects.held_entries.accepted_trails.run_trails.WalkEdges.{are_next}
-use Rattle.held_loans.specs.followed_objects.held_entries.accepted_trails.memory_accesses.Sources.{source_at, sources_of}
-use Rattle.held_loans.specs.followed_objects.held_entries.accepted_trails.memory_accesses.declared.source.Source.TheVariants as source
-use Rattle.held_loans.specs.followed_objects.held_entries.holder_model.Effects.{effect_of}
-use Rattle.held_loans.specs.followed_objects.held_entries.holder_model.Frames.{Frame}
-use Rattle.held_loans.specs.followed_objects.held_entries.holder_model.HolderStates.{HolderState}
-use Rattle.held_loans.specs.followed_objects.held_entries.holder_model.Standing.{stands_at}
-use Rattle.held_loans.specs.followed_objects.held_entries.holder_model.States.{Runs, Task}
-use Rattle.held_loans.specs.followed_objects.held_entries.holder_model.declared.row_effect.RowEffect.TheVariants as row
-use Rattle.held_loans.specs.held_places.inner.FramePlaces.{Names}
-use Rattle.held_loans.specs.held_places.inner.PlaceStates.{AreSlotsRight, TasksPlaced, WaitsPlaced}
-use Rattle.held_loans.proofs.held_places.Locating.{IsInObject, IsOperandAt, operand_at}
-use Rattle.held_loans.proofs.held_places.PlainAddresses.{named_address}
-use Rattle.held_loans.proofs.held_places.Reading.{operand_within}
-use Rattle.held_loans.proofs.held_places.RowsFind.{body, frame_typed, holds}
-use Rattle.held_loans.proofs.held_places.TrailsSo.{trail_laws}
+use Rattle.tracked_frames.specs.accepted_modules.inner.Checked.{IsVerified}
+use Rattle.tracked_frames.specs.accepted_values.inner.Known.{IsAcceptedBody}
+use Rattle.accepted_runs.specs.inner.Built.BuiltStates.{AreOthersOnStack, DoPlacesServe, WaitsAtCall}
+use Rattle.tracked_frames.proofs.accepted_trails.run_trails.WalkEdges.{are_next}
+use Rattle.tracked_frames.specs.holder_laws.holder_model.memory_accesses.Sources.{source_at, sources_of}
+use Rattle.tracked_frames.specs.holder_laws.holder_model.memory_accesses.declared.source.Source.TheVariants as source
+use Rattle.tracked_frames.specs.holder_laws.holder_model.Effects.{effect_of}
+use Rattle.tracked_frames.specs.holder_laws.holder_model.Frames.{Frame}
+use Rattle.tracked_frames.specs.holder_laws.holder_model.HolderStates.{HolderState}
+use Rattle.tracked_frames.specs.holder_laws.holder_model.Standing.{stands_at}
+use Rattle.tracked_frames.specs.holder_laws.holder_model.States.{Runs, Task}
+use Rattle.tracked_frames.specs.holder_laws.holder_model.declared.row_effect.RowEffect.TheVariants as row
+use Rattle.tracked_frames.specs.inner.Placed.FramePlaces.{Names}
+use Rattle.tracked_frames.specs.inner.Placed.PlaceStates.{AreSlotsRight, TasksPlaced, WaitsPlaced}
+use Rattle.tracked_frames.proofs.Placed.Locating.{IsInObject, IsOperandAt, operand_at}
+use Rattle.tracked_frames.proofs.Placed.PlainAddresses.{named_address}
+use Rattle.tracked_frames.proofs.Placed.Reading.{operand_within}
+use Rattle.tracked_frames.proofs.Placed.RowsFind.{body, frame_typed, holds}
+use Rattle.tracked_frames.proofs.Placed.TrailsSo.{trail_laws}
 use Rattle.item_operands.specs.Parts.{inst_at}
 use Rattle.sil_ast.specs.declared.function.Function.{Function}
 use Rattle.sil_ast.specs.declared.inst.Inst.{Inst}
 use Rattle.sil_ast.specs.declared.module.Module.{Module}
 use Rattle.sil_cfg.specs.declared.item.Item.TheVariants as item
 use Rattle.type_definitions.specs.Declarations.{declarations_of}
-use Rattle.held_loans.specs.followed_objects.typed_holders.inner.TypedStates.{FrameIs, IsTypedState}
+use Rattle.tracked_frames.specs.inner.Typed.TypedStates.{FrameIs, IsTypedState}
 
 module _ (m : Module) (s : HolderState) (verified : IsVerified m) (is_typed : IsTypedState m s) (placed : AreSlotsRight m s) where
   others_on_stack : AreOthersOnStack m s

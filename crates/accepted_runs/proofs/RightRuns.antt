@@ -3,30 +3,30 @@ use Rattle.std.proofs.Common.{◌≡◌, ℕ, refl, sym, ◌∙◌, Bool, true, 
 use Rattle.std.specs.Prelude.{◌||◌}
 use Rattle.std.proofs.lemmas.Bool.{true≢false}
 use Rattle.sil_ast.specs.declared.module.Module.{Module}
-use Rattle.held_loans.specs.followed_objects.held_entries.holder_model.Faults.{ConsumesLent, EmptyPlace, FullPlace, HolderFault, LeavesHeld, LeavesPlace, LeavesSlot, NamesDead, NoEntry}
-use Rattle.held_loans.specs.followed_objects.held_entries.holder_model.Faults.{NotLastSlot, OverwritesHeld, PlaceNotAsAsked, WrongShape}
-use Rattle.held_loans.specs.followed_objects.held_entries.holder_model.HolderStates.{HolderState}
-use Rattle.held_loans.specs.followed_objects.typed_holders.inner.TypedStates.{IsTypedState}
-use Rattle.held_loans.proofs.followed_objects.typed_holders.TypedSteps.{begin_typed, shapes_right, steps_typed}
-use Rattle.held_loans.specs.followed_objects.tracked_frames.inner.Laws.{is_entry_fault}
-use Rattle.held_loans.specs.followed_objects.tracked_frames.inner.TrackedStates.{IsTrackedState}
-use Rattle.held_loans.proofs.followed_objects.tracked_frames.Begun.{begin_tracked}
-use Rattle.held_loans.proofs.followed_objects.tracked_frames.TrackedSteps.{entries_are_right, steps_are_tracked}
-use Rattle.held_loans.specs.held_places.inner.Items.{is_place_fault}
-use Rattle.held_loans.specs.held_places.inner.Laws.{ArePlacesKept, NoPlaceFaults}
-use Rattle.held_loans.specs.held_places.inner.PlaceStates.{AreSlotsRight}
-use Rattle.held_loans.proofs.held_places.ItemsPlaced.{items_placed}
-use Rattle.held_loans.proofs.held_places.PlacedSteps.{begin_placed, no_place_faults, places_kept}
-use Rattle.held_loans.proofs.held_places.TrailsSo.{trail_laws}
-use Rattle.held_loans.proofs.held_places.TypingSo.{typing_laws}
-use Rattle.held_loans.specs.followed_objects.inner.Said.{said}
-use Rattle.held_loans.proofs.followed_objects.BuiltSteps.{begin_built, objects_kept}
-use Rattle.held_loans.proofs.followed_objects.Found.{find_fields}
-use Rattle.held_loans.specs.followed_objects.held_objects.inner.ObjectStates.{AreObjectsRight}
-use Rattle.held_loans.specs.guarded_entries.inner.GuardedStates.{IsGuardedState}
-use Rattle.held_loans.specs.guarded_entries.inner.Laws.{is_dead_fault}
-use Rattle.held_loans.specs.inner.Loans.{loans_of}
-use Rattle.held_loans.proofs.Kept.{loans_kept}
+use Rattle.tracked_frames.specs.holder_laws.holder_model.Faults.{ConsumesLent, EmptyPlace, FullPlace, HolderFault, LeavesHeld, LeavesPlace, LeavesSlot, NamesDead, NoEntry}
+use Rattle.tracked_frames.specs.holder_laws.holder_model.Faults.{NotLastSlot, OverwritesHeld, PlaceNotAsAsked, WrongShape}
+use Rattle.tracked_frames.specs.holder_laws.holder_model.HolderStates.{HolderState}
+use Rattle.tracked_frames.specs.inner.Typed.TypedStates.{IsTypedState}
+use Rattle.tracked_frames.proofs.Typed.TypedSteps.{begin_typed, shapes_right, steps_typed}
+use Rattle.tracked_frames.specs.inner.Tracked.Laws.{is_entry_fault}
+use Rattle.tracked_frames.specs.inner.Tracked.TrackedStates.{IsTrackedState}
+use Rattle.tracked_frames.proofs.Tracked.Begun.{begin_tracked}
+use Rattle.tracked_frames.proofs.Tracked.TrackedSteps.{entries_are_right, steps_are_tracked}
+use Rattle.tracked_frames.specs.inner.Placed.Items.{is_place_fault}
+use Rattle.tracked_frames.specs.inner.Placed.Laws.{ArePlacesKept, NoPlaceFaults}
+use Rattle.tracked_frames.specs.inner.Placed.PlaceStates.{AreSlotsRight}
+use Rattle.tracked_frames.proofs.Placed.ItemsPlaced.{items_placed}
+use Rattle.tracked_frames.proofs.Placed.PlacedSteps.{begin_placed, no_place_faults, places_kept}
+use Rattle.tracked_frames.proofs.Placed.TrailsSo.{trail_laws}
+use Rattle.tracked_frames.proofs.Placed.TypingSo.{typing_laws}
+use Rattle.accepted_runs.specs.inner.Built.Said.{said}
+use Rattle.accepted_runs.proofs.Built.BuiltSteps.{begin_built, objects_kept}
+use Rattle.accepted_runs.proofs.Built.Found.{find_fields}
+use Rattle.tracked_frames.specs.holder_laws.inner.Held.ObjectStates.{AreObjectsRight}
+use Rattle.accepted_runs.specs.inner.Guarded.GuardedStates.{IsGuardedState}
+use Rattle.accepted_runs.specs.inner.Guarded.Laws.{is_dead_fault}
+use Rattle.accepted_runs.specs.inner.Loans.Loans.{loans_of}
+use Rattle.accepted_runs.proofs.Loans.Kept.{loans_kept}
 use Rattle.accepted_runs.proofs.GuardedRuns.{guarded_kept}
 use Rattle.accepted_runs.proofs.PlacesServe.{places_serve}
 use Rattle.accepted_runs.specs.inner.Kept.{IsKept}

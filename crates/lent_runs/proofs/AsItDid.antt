@@ -12,9 +12,9 @@ use Rattle.sil_cfg.specs.declared.item.Item.{Item}
 use Rattle.type_definitions.specs.Declarations.{declarations_of}
 use Rattle.rewriting_laws.specs.copy_removal.Optimised.{lends}
 use Rattle.rewriting_laws.specs.copy_removal.Rewritten.{lent, with_function}
-use Rattle.lockstep_runs.specs.holder_counts.holder_model.Frames.{Entry}
-use Rattle.lockstep_runs.specs.holder_counts.holder_model.ModuleFacts.{facts_of}
-use Rattle.accepted_runs.specs.held_loans.inner.Loans.{loans_of}
+use Rattle.lockstep_runs.specs.holder_laws.holder_model.Frames.{Entry}
+use Rattle.lockstep_runs.specs.holder_laws.holder_model.ModuleFacts.{facts_of}
+use Rattle.accepted_runs.specs.inner.Loans.Loans.{loans_of}
 use Rattle.accepted_runs.specs.inner.RightStates.{IsRightState}
 use Rattle.accepted_runs.proofs.RightRuns.{each_excluded, right_kept}
 use Rattle.rewriting_laws.specs.inner.Laws.{IsVerifiedAs, RewritingKeepsVerified}

@@ -18,21 +18,21 @@ use Rattle.sil_cfg.specs.declared.item.Item.{Item}
 use Rattle.type_definitions.specs.Declarations.{declarations_of}
 use Rattle.rewriting_laws.specs.copy_removal.ownership_kinds.Facts.{facts_in}
 use Rattle.rewriting_laws.specs.copy_removal.Rewritten.{lent}
-use Rattle.lockstep_runs.specs.holder_counts.holder_model.Data.{references_in}
-use Rattle.lockstep_runs.specs.holder_counts.holder_model.Frames.{Entry, Frame, Lent, LentPlace, entry_at}
-use Rattle.lockstep_runs.specs.holder_counts.holder_model.Holders.{of_references, one_object}
-use Rattle.lockstep_runs.specs.holder_counts.holder_model.HolderStates.{in_entry, in_task}
-use Rattle.lockstep_runs.specs.holder_counts.holder_model.States.{Drops, Finishes, Runs, Task}
-use Rattle.lockstep_runs.specs.holder_counts.inner.Moving.{in_tasks}
-use Rattle.lockstep_runs.specs.holder_counts.inner.Taking.{in_entries}
-use Rattle.lockstep_runs.proofs.holder_counts.Sums.{total_cons}
-use Rattle.accepted_runs.specs.held_loans.guarded_entries.inner.GuardedStates.{BelowIsGuarded, IsGuardedFrame, IsGuardedIn, Loans, TasksAreGuarded, finishes_of}
-use Rattle.accepted_runs.specs.held_loans.guarded_entries.inner.Guards.{AreLentGuarded, IsCurrent, IsNamed, IsThere}
-use Rattle.accepted_runs.specs.held_loans.followed_objects.held_entries.accepted_trails.inner.Bases.{IsBaseOf}
-use Rattle.accepted_runs.specs.held_loans.followed_objects.held_entries.accepted_trails.inner.Defined.{makes}
-use Rattle.accepted_runs.specs.held_loans.followed_objects.held_entries.accepted_trails.run_trails.inner.Since.{is_none_since}
-use Rattle.accepted_runs.proofs.held_loans.guarded_entries.Behind.{lent_there}
-use Rattle.accepted_runs.proofs.held_loans.guarded_entries.Guards.{guarded_in, kept_holders}
+use Rattle.lockstep_runs.specs.holder_laws.holder_model.Data.{references_in}
+use Rattle.lockstep_runs.specs.holder_laws.holder_model.Frames.{Entry, Frame, Lent, LentPlace, entry_at}
+use Rattle.lockstep_runs.specs.holder_laws.holder_model.Holders.{of_references, one_object}
+use Rattle.lockstep_runs.specs.holder_laws.holder_model.HolderStates.{in_entry, in_task}
+use Rattle.lockstep_runs.specs.holder_laws.holder_model.States.{Drops, Finishes, Runs, Task}
+use Rattle.lockstep_runs.specs.holder_laws.inner.Counts.Moving.{in_tasks}
+use Rattle.lockstep_runs.specs.holder_laws.inner.Counts.Taking.{in_entries}
+use Rattle.lockstep_runs.proofs.holder_laws.Counts.Sums.{total_cons}
+use Rattle.accepted_runs.specs.inner.Guarded.GuardedStates.{BelowIsGuarded, IsGuardedFrame, IsGuardedIn, Loans, TasksAreGuarded, finishes_of}
+use Rattle.accepted_runs.specs.inner.Guarded.Guards.{AreLentGuarded, IsCurrent, IsNamed, IsThere}
+use Rattle.accepted_runs.specs.held_entries.accepted_trails.inner.Bases.{IsBaseOf}
+use Rattle.accepted_runs.specs.held_entries.accepted_trails.inner.Defined.{makes}
+use Rattle.accepted_runs.specs.held_entries.accepted_trails.run_trails.inner.Since.{is_none_since}
+use Rattle.accepted_runs.proofs.Guarded.Behind.{lent_there}
+use Rattle.accepted_runs.proofs.Guarded.Guards.{guarded_in, kept_holders}
 use Rattle.lockstep_runs.specs.inner.Lockstep.{AreTasksLike, frame_at}
 use Rattle.rewriting_laws.proofs.lent_functions.Parts.{defined_lent}
 use Rattle.rewriting_laws.proofs.lent_functions.Ready.{Ready}

@@ -15,17 +15,17 @@ use Rattle.sil_ast.specs.declared.place.ValueId.{ValueId}
 use Rattle.sil_cfg.specs.declared.item.Item.{Item}
 use Rattle.type_definitions.specs.Declarations.{declarations_of}
 use Rattle.rewriting_laws.specs.copy_removal.Rewritten.{lent}
-use Rattle.lockstep_runs.specs.holder_counts.holder_model.Data.{references_in}
-use Rattle.lockstep_runs.specs.holder_counts.holder_model.Frames.{Entry, Frame, Gone, entry_at}
-use Rattle.lockstep_runs.specs.holder_counts.holder_model.Holders.{in_memory, of_references, one_object}
-use Rattle.lockstep_runs.specs.holder_counts.holder_model.HolderStates.{HolderState, in_entry, in_task}
-use Rattle.lockstep_runs.specs.holder_counts.holder_model.ModuleFacts.{ModuleFacts}
-use Rattle.lockstep_runs.specs.holder_counts.holder_model.States.{Drops, Finishes, Runs, Task}
-use Rattle.lockstep_runs.specs.holder_counts.inner.Moving.{in_tasks}
-use Rattle.lockstep_runs.specs.holder_counts.inner.Taking.{in_entries}
-use Rattle.lockstep_runs.proofs.holder_counts.Sums.{total_cons}
-use Rattle.accepted_runs.specs.held_loans.guarded_entries.inner.GuardedStates.{IsGuardedState, Loans, TasksAreGuarded, finishes_of, is_deiniting_phase}
-use Rattle.accepted_runs.proofs.held_loans.guarded_entries.Named.{counts_itself}
+use Rattle.lockstep_runs.specs.holder_laws.holder_model.Data.{references_in}
+use Rattle.lockstep_runs.specs.holder_laws.holder_model.Frames.{Entry, Frame, Gone, entry_at}
+use Rattle.lockstep_runs.specs.holder_laws.holder_model.Holders.{in_memory, of_references, one_object}
+use Rattle.lockstep_runs.specs.holder_laws.holder_model.HolderStates.{HolderState, in_entry, in_task}
+use Rattle.lockstep_runs.specs.holder_laws.holder_model.ModuleFacts.{ModuleFacts}
+use Rattle.lockstep_runs.specs.holder_laws.holder_model.States.{Drops, Finishes, Runs, Task}
+use Rattle.lockstep_runs.specs.holder_laws.inner.Counts.Moving.{in_tasks}
+use Rattle.lockstep_runs.specs.holder_laws.inner.Counts.Taking.{in_entries}
+use Rattle.lockstep_runs.proofs.holder_laws.Counts.Sums.{total_cons}
+use Rattle.accepted_runs.specs.inner.Guarded.GuardedStates.{IsGuardedState, Loans, TasksAreGuarded, finishes_of, is_deiniting_phase}
+use Rattle.accepted_runs.proofs.Guarded.Named.{counts_itself}
 use Rattle.lockstep_runs.specs.inner.Lockstep.{AreAtRest, AreTasksLike, frame_at}
 use Rattle.lockstep_runs.specs.inner.Parts.{AreDropsCovered, AreFinishesCovered, ComeTogether}
 use Rattle.rewriting_laws.proofs.lent_functions.Ready.{Ready}

@@ -32,19 +32,19 @@ use Rattle.type_definitions.specs.Declarations.{Declarations, declarations_of}
 use Rattle.type_definitions.specs.declared.kind.Kind.TheVariants as kind
 use Rattle.rewriting_laws.specs.copy_removal.Rewritten.{lent, lent_inst, with_op}
 use Rattle.rewriting_laws.specs.copy_removal.ownership_kinds.Facts.{facts_in}
-use Rattle.lockstep_runs.specs.holder_counts.holder_model.Calling.{argument_data, given_places, lent_places, places_given, value_count}
-use Rattle.lockstep_runs.specs.holder_counts.holder_model.Data.{Datum, references_in}
-use Rattle.lockstep_runs.specs.holder_counts.holder_model.Edges.{edge_of}
-use Rattle.lockstep_runs.specs.holder_counts.holder_model.Effects as effects
-use Rattle.lockstep_runs.specs.holder_counts.holder_model.Effects.{Effect, effect_by, effect_of, only, unchanged, with_some}
-use Rattle.lockstep_runs.specs.holder_counts.holder_model.Faults.{HolderFault}
-use Rattle.lockstep_runs.specs.holder_counts.holder_model.Frames.{Entry, Frame, Gone, Held, Operands, entry_at, no_entries, operands_of, results_put}
-use Rattle.lockstep_runs.specs.holder_counts.holder_model.HolderStates.{HolderState}
-use Rattle.lockstep_runs.specs.holder_counts.holder_model.MemoryEffects.{at_places, effect}
-use Rattle.lockstep_runs.specs.holder_counts.holder_model.ModuleFacts.{ModuleFacts, facts_told}
-use Rattle.lockstep_runs.specs.holder_counts.holder_model.ModuleShapes.{shapes_in}
-use Rattle.lockstep_runs.specs.holder_counts.holder_model.Standing.{stands_at}
-use Rattle.lockstep_runs.specs.holder_counts.holder_model.States.{Runs, Task}
+use Rattle.lockstep_runs.specs.holder_laws.holder_model.Calling.{argument_data, given_places, lent_places, places_given, value_count}
+use Rattle.lockstep_runs.specs.holder_laws.holder_model.Data.{Datum, references_in}
+use Rattle.lockstep_runs.specs.holder_laws.holder_model.Edges.{edge_of}
+use Rattle.lockstep_runs.specs.holder_laws.holder_model.Effects as effects
+use Rattle.lockstep_runs.specs.holder_laws.holder_model.Effects.{Effect, effect_by, effect_of, only, unchanged, with_some}
+use Rattle.lockstep_runs.specs.holder_laws.holder_model.Faults.{HolderFault}
+use Rattle.lockstep_runs.specs.holder_laws.holder_model.Frames.{Entry, Frame, Gone, Held, Operands, entry_at, no_entries, operands_of, results_put}
+use Rattle.lockstep_runs.specs.holder_laws.holder_model.HolderStates.{HolderState}
+use Rattle.lockstep_runs.specs.holder_laws.holder_model.MemoryEffects.{at_places, effect}
+use Rattle.lockstep_runs.specs.holder_laws.holder_model.ModuleFacts.{ModuleFacts, facts_told}
+use Rattle.lockstep_runs.specs.holder_laws.holder_model.ModuleShapes.{shapes_in}
+use Rattle.lockstep_runs.specs.holder_laws.holder_model.Standing.{stands_at}
+use Rattle.lockstep_runs.specs.holder_laws.holder_model.States.{Runs, Task}
 use Rattle.lockstep_runs.specs.inner.Frames.{AreDropsAlike, AreEdgesAlike, AreEffectsAlike, AreEndsAlike, AreInstsAlike, AreSpared, DoAlike, does, takes}
 use Rattle.lockstep_runs.specs.inner.Lockstep.{ArePutAlike, frame_at}
 use Rattle.lockstep_runs.specs.inner.Parts.{call_at, puts}

@@ -6,11 +6,11 @@ use Rattle.std.proofs.lemmas.Bool.{eq-eqb, eqb-true, true≢false}
 use Rattle.sil_ast.specs.declared.place.ObjectId.{ObjectId}
 use Rattle.sil_ast.specs.declared.place.ValueId.{ValueId}
 use Rattle.rewriting_laws.specs.copy_removal.Rewritten.{changed_at}
-use Rattle.lockstep_runs.specs.holder_counts.holder_model.Calling.{holds_something}
-use Rattle.lockstep_runs.specs.holder_counts.holder_model.Frames.{Entry, Gone, Held, Lent, Plain, datum_in, entry_at, is_held, no_entries}
-use Rattle.lockstep_runs.specs.holder_counts.holder_model.HolderStates.{in_entry}
-use Rattle.lockstep_runs.specs.holder_counts.inner.Taking.{in_entries}
-use Rattle.lockstep_runs.proofs.holder_counts.Sums.{total_cons}
+use Rattle.lockstep_runs.specs.holder_laws.holder_model.Calling.{holds_something}
+use Rattle.lockstep_runs.specs.holder_laws.holder_model.Frames.{Entry, Gone, Held, Lent, Plain, datum_in, entry_at, is_held, no_entries}
+use Rattle.lockstep_runs.specs.holder_laws.holder_model.HolderStates.{in_entry}
+use Rattle.lockstep_runs.specs.holder_laws.inner.Counts.Taking.{in_entries}
+use Rattle.lockstep_runs.proofs.holder_laws.Counts.Sums.{total_cons}
 use Rattle.lent_runs.specs.inner.LentEntries.{lent_entries, lent_entry}
 
 -- ---- one entry

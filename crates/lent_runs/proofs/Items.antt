@@ -22,9 +22,9 @@ use Rattle.sil_cfg.specs.declared.item.Item.TheVariants as item
 use Rattle.type_definitions.specs.Declarations.{Declarations}
 use Rattle.rewriting_laws.specs.copy_removal.Copies.{is_op}
 use Rattle.rewriting_laws.specs.copy_removal.Rewritten.{lent, takes}
-use Rattle.lockstep_runs.specs.holder_counts.holder_model.Data.{Datum}
-use Rattle.lockstep_runs.specs.holder_counts.holder_model.Edges.{carried_along, carried_by, first_value_of, switched_data}
-use Rattle.lockstep_runs.specs.holder_counts.holder_model.Standing.{behind, first_point, stands_at, target_of}
+use Rattle.lockstep_runs.specs.holder_laws.holder_model.Data.{Datum}
+use Rattle.lockstep_runs.specs.holder_laws.holder_model.Edges.{carried_along, carried_by, first_value_of, switched_data}
+use Rattle.lockstep_runs.specs.holder_laws.holder_model.Standing.{behind, first_point, stands_at, target_of}
 use Rattle.rewriting_laws.proofs.lent_functions.Graph.{args_lent}
 use Rattle.rewriting_laws.proofs.lent_functions.Lists.{each_append, each_behind, each_front, each_got, each_unflat}
 use Rattle.rewriting_laws.proofs.lent_functions.Marks.{end_calm, ends_at, stands}

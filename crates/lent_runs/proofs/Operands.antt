@@ -15,12 +15,12 @@ use Rattle.run_values.specs.Memory.{Memory}
 use Rattle.sil_ast.specs.declared.operands.Operand.{Operand}
 use Rattle.sil_ast.specs.declared.place.ValueId.{ValueId}
 use Rattle.type_definitions.specs.declared.kind.Kind.TheVariants as kind
-use Rattle.lockstep_runs.specs.holder_counts.holder_model.Data.{Datum, references_in}
-use Rattle.lockstep_runs.specs.holder_counts.holder_model.Faults.{ConsumesLent, HolderFault, NamesDead, NoEntry, OverwritesHeld}
-use Rattle.lockstep_runs.specs.holder_counts.holder_model.Frames.{Entry, Gone, Held, Lent, Operands, Plain, and_more, any_dead, datum_in, datum_or_fault, ended_entry, ends}
-use Rattle.lockstep_runs.specs.holder_counts.holder_model.Frames.{entry_at, has_any, is_consumed, is_held, made_entry, operand, operand_data, operands_of, put_entry}
-use Rattle.lockstep_runs.specs.holder_counts.holder_model.Frames.{result_put, results_put, unless_dead, used_datum, with_ok, without_ended}
-use Rattle.lockstep_runs.proofs.holder_counts.Entries.{left_of}
+use Rattle.lockstep_runs.specs.holder_laws.holder_model.Data.{Datum, references_in}
+use Rattle.lockstep_runs.specs.holder_laws.holder_model.Faults.{ConsumesLent, HolderFault, NamesDead, NoEntry, OverwritesHeld}
+use Rattle.lockstep_runs.specs.holder_laws.holder_model.Frames.{Entry, Gone, Held, Lent, Operands, Plain, and_more, any_dead, datum_in, datum_or_fault, ended_entry, ends}
+use Rattle.lockstep_runs.specs.holder_laws.holder_model.Frames.{entry_at, has_any, is_consumed, is_held, made_entry, operand, operand_data, operands_of, put_entry}
+use Rattle.lockstep_runs.specs.holder_laws.holder_model.Frames.{result_put, results_put, unless_dead, used_datum, with_ok, without_ended}
+use Rattle.lockstep_runs.proofs.holder_laws.Counts.Entries.{left_of}
 use Rattle.rewriting_laws.proofs.lent_functions.Roles.{is_mild}
 use Rattle.rewriting_laws.proofs.lent_functions.ValueRows.{same_value}
 use Rattle.lent_runs.specs.inner.LentEntries.{lent_entries, lent_entry}

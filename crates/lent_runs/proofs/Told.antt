@@ -16,11 +16,11 @@ use Rattle.rewriting_laws.specs.copy_removal.ownership_kinds.Facts.{facts_in}
 use Rattle.rewriting_laws.specs.copy_removal.sil_types.Typing.RowTypes.{given_by}
 use Rattle.rewriting_laws.specs.copy_removal.sil_types.Typing.Values.{arg_functions, arg_types, result_functions, result_types}
 use Rattle.rewriting_laws.specs.copy_removal.Rewritten.{changed_at, lent, lent_block, lent_inst, with_function}
-use Rattle.lockstep_runs.specs.holder_counts.holder_model.Calling.{value_count}
-use Rattle.lockstep_runs.specs.holder_counts.holder_model.Dropping.{deinits_of}
-use Rattle.lockstep_runs.specs.holder_counts.holder_model.Frames.{has_any}
-use Rattle.lockstep_runs.specs.holder_counts.holder_model.ModuleFacts.{facts_of, facts_told, function_facts}
-use Rattle.lockstep_runs.specs.holder_counts.holder_model.ModuleShapes.{class_shape, function_shapes, shapes_by, value_shape}
+use Rattle.lockstep_runs.specs.holder_laws.holder_model.Calling.{value_count}
+use Rattle.lockstep_runs.specs.holder_laws.holder_model.Dropping.{deinits_of}
+use Rattle.lockstep_runs.specs.holder_laws.holder_model.Frames.{has_any}
+use Rattle.lockstep_runs.specs.holder_laws.holder_model.ModuleFacts.{facts_of, facts_told, function_facts}
+use Rattle.lockstep_runs.specs.holder_laws.holder_model.ModuleShapes.{class_shape, function_shapes, shapes_by, value_shape}
 use Rattle.lockstep_runs.specs.inner.Parts.{HasFunctions}
 use Rattle.lockstep_runs.proofs.Unchanged.{told_of}
 use Rattle.rewriting_laws.proofs.lent_functions.Insts.{Becomes, becomes, borrows, ends, part_kept, stays}

@@ -2,10 +2,10 @@
 use Rattle.std.proofs.Common.{ℕ, arith, refl, ◌∙◌}
 use Rattle.sil_ast.specs.declared.module.Module.{Module}
 use Rattle.sil_ast.specs.declared.place.FuncId.{FuncId}
-use Rattle.holder_counts.specs.holder_model.Faults.{HolderFault}
-use Rattle.holder_counts.specs.holder_model.HolderStates.{HolderState}
-use Rattle.holder_counts.specs.holder_model.ModuleFacts.{ModuleFacts}
-use Rattle.holder_counts.specs.holder_model.States.{Ending}
+use Rattle.holder_laws.specs.holder_model.Faults.{HolderFault}
+use Rattle.holder_laws.specs.holder_model.HolderStates.{HolderState}
+use Rattle.holder_laws.specs.holder_model.ModuleFacts.{ModuleFacts}
+use Rattle.holder_laws.specs.holder_model.States.{Ending}
 use Rattle.lockstep_runs.specs.inner.Agreeing.{EndsAsItDid, RunsAgree}
 use Rattle.lockstep_runs.specs.inner.Laws.{IsAsItDidAgain}
 

@@ -9,18 +9,18 @@ use Rattle.sil_ast.specs.declared.place.ObjectId.{ObjectId}
 use Rattle.sil_cfg.specs.declared.item.Item.{Item}
 use Rattle.sil_cfg.specs.declared.item.Item.TheVariants as item
 use Rattle.run_values.specs.Places.{Place}
-use Rattle.holder_counts.specs.holder_model.declared.limits.TheConstants.{FRAMES}
-use Rattle.holder_counts.specs.holder_model.declared.trap.Trap.TheVariants as trap
-use Rattle.holder_counts.specs.holder_model.Data.{Datum}
-use Rattle.holder_counts.specs.holder_model.Effects.{Change}
-use Rattle.holder_counts.specs.holder_model.Faults.{HolderFault}
-use Rattle.holder_counts.specs.holder_model.Frames.{Entry, Frame, LentPlace}
-use Rattle.holder_counts.specs.holder_model.HolderStates.{HolderNext, HolderState}
-use Rattle.holder_counts.specs.holder_model.ModuleFacts.{ModuleFacts}
-use Rattle.holder_counts.specs.holder_model.Outcomes.{left_by}
-use Rattle.holder_counts.specs.holder_model.StepParts.{new_frame, on_ok, on_some, slots_behind}
-use Rattle.holder_counts.specs.holder_model.States.{Ending, Ends, Goes, OutOfTurns, Runs, Task, Trapped, dropping, enter, frame_count, turn}
-use Rattle.holder_counts.specs.holder_model.Steps as steps
+use Rattle.holder_laws.specs.holder_model.declared.limits.TheConstants.{FRAMES}
+use Rattle.holder_laws.specs.holder_model.declared.trap.Trap.TheVariants as trap
+use Rattle.holder_laws.specs.holder_model.Data.{Datum}
+use Rattle.holder_laws.specs.holder_model.Effects.{Change}
+use Rattle.holder_laws.specs.holder_model.Faults.{HolderFault}
+use Rattle.holder_laws.specs.holder_model.Frames.{Entry, Frame, LentPlace}
+use Rattle.holder_laws.specs.holder_model.HolderStates.{HolderNext, HolderState}
+use Rattle.holder_laws.specs.holder_model.ModuleFacts.{ModuleFacts}
+use Rattle.holder_laws.specs.holder_model.Outcomes.{left_by}
+use Rattle.holder_laws.specs.holder_model.StepParts.{new_frame, on_ok, on_some, slots_behind}
+use Rattle.holder_laws.specs.holder_model.States.{Ending, Ends, Goes, OutOfTurns, Runs, Task, Trapped, dropping, enter, frame_count, turn}
+use Rattle.holder_laws.specs.holder_model.Steps as steps
 use Rattle.lockstep_runs.specs.inner.Lockstep.{AreInStep, AreLevel, ArePutAlike, AreStepsAlike, AreTasksLike, frame_at}
 use Rattle.lockstep_runs.specs.inner.Parts.{entered, puts}
 

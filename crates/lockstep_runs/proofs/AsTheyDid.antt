@@ -5,9 +5,9 @@ use Rattle.argument_conventions.specs.Arguments.{arguments_of}
 use Rattle.sil_ast.specs.declared.function.Function.{Function}
 use Rattle.sil_ast.specs.declared.module.Module.{Module}
 use Rattle.sil_ast.specs.declared.place.FuncId.{FuncId}
-use Rattle.holder_counts.specs.holder_model.Frames.{has_any}
-use Rattle.holder_counts.specs.holder_model.ModuleFacts.{facts_of}
-use Rattle.holder_counts.specs.holder_model.Outcomes.{may_start}
+use Rattle.holder_laws.specs.holder_model.Frames.{has_any}
+use Rattle.holder_laws.specs.holder_model.ModuleFacts.{facts_of}
+use Rattle.holder_laws.specs.holder_model.Outcomes.{may_start}
 use Rattle.lockstep_runs.specs.inner.Agreeing.{MayStartAt}
 use Rattle.lockstep_runs.specs.inner.Laws.{RunAsTheyDid}
 use Rattle.lockstep_runs.specs.inner.Parts.{HasFunctions, StandsFor}

@@ -6,16 +6,16 @@ use Rattle.sil_ast.specs.declared.place.ObjectId.{ObjectId}
 use Rattle.sil_cfg.specs.declared.item.Item.{Item}
 use Rattle.type_definitions.specs.Declarations.{declarations_of}
 use Rattle.run_values.specs.Memory.{is_live}
-use Rattle.holder_counts.specs.holder_model.Dropping.{deinitialises, drop_with}
-use Rattle.holder_counts.specs.holder_model.Frames.{Entry, Frame}
-use Rattle.holder_counts.specs.holder_model.Holders.{of_references, one_object}
-use Rattle.holder_counts.specs.holder_model.HolderStates.{HolderNext, HolderState, strong_holders}
-use Rattle.holder_counts.specs.holder_model.ModuleFacts.{ModuleFacts}
-use Rattle.holder_counts.specs.holder_model.Outcomes.{run}
-use Rattle.holder_counts.specs.holder_model.States.{Drops, Ends, Goes, Task, dropping, step_on}
-use Rattle.holder_counts.specs.holder_model.Steps as steps
-use Rattle.holder_counts.proofs.Moves.{first_task}
-use Rattle.holder_counts.proofs.Sums.{total_cons}
+use Rattle.holder_laws.specs.holder_model.Dropping.{deinitialises, drop_with}
+use Rattle.holder_laws.specs.holder_model.Frames.{Entry, Frame}
+use Rattle.holder_laws.specs.holder_model.Holders.{of_references, one_object}
+use Rattle.holder_laws.specs.holder_model.HolderStates.{HolderNext, HolderState, strong_holders}
+use Rattle.holder_laws.specs.holder_model.ModuleFacts.{ModuleFacts}
+use Rattle.holder_laws.specs.holder_model.Outcomes.{run}
+use Rattle.holder_laws.specs.holder_model.States.{Drops, Ends, Goes, Task, dropping, step_on}
+use Rattle.holder_laws.specs.holder_model.Steps as steps
+use Rattle.holder_laws.proofs.Counts.Moves.{first_task}
+use Rattle.holder_laws.proofs.Counts.Sums.{total_cons}
 use Rattle.lockstep_runs.specs.inner.Frames.{AreSpared}
 use Rattle.lockstep_runs.specs.inner.Lockstep.{AreInStep, AreLevel, AreTasksLike, IsKeptBy}
 

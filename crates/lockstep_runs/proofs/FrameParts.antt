@@ -17,20 +17,20 @@ use Rattle.item_operands.specs.Parts.{inst_at, terminator_of}
 use Rattle.run_values.specs.Places.{Place}
 use Rattle.run_values.specs.Shapes.{Shape}
 use Rattle.run_values.specs.Values.{Value}
-use Rattle.holder_counts.specs.holder_model.declared.trap.Trap.TheVariants as trap
-use Rattle.holder_counts.specs.holder_model.Calling.{are_as_after, holds_something, places_given}
-use Rattle.holder_counts.specs.holder_model.Data.{Datum, as_value}
-use Rattle.holder_counts.specs.holder_model.Edges.{branch_of, carried_along, case_edge, edge_of}
-use Rattle.holder_counts.specs.holder_model.Effects.{only, unchanged}
-use Rattle.holder_counts.specs.holder_model.Faults.{HolderFault, LeavesHeld, LeavesPlace, LeavesSlot}
-use Rattle.holder_counts.specs.holder_model.Frames.{Entry, Frame, LentPlace, Operands, datum_in, entry_at, has_any}
-use Rattle.holder_counts.specs.holder_model.HolderStates.{HolderNext, HolderState}
-use Rattle.holder_counts.specs.holder_model.ModuleFacts.{ModuleFacts}
-use Rattle.holder_counts.specs.holder_model.ModuleShapes.{shapes_in}
-use Rattle.holder_counts.specs.holder_model.Standing.{stands_at}
-use Rattle.holder_counts.specs.holder_model.StepParts.{chosen_by, chosen_edge, fault, on_ok, on_some, switched_shape, with_chosen}
-use Rattle.holder_counts.specs.holder_model.States.{Task, Trapped, turn}
-use Rattle.holder_counts.specs.holder_model.Steps as steps
+use Rattle.holder_laws.specs.holder_model.declared.trap.Trap.TheVariants as trap
+use Rattle.holder_laws.specs.holder_model.Calling.{are_as_after, holds_something, places_given}
+use Rattle.holder_laws.specs.holder_model.Data.{Datum, as_value}
+use Rattle.holder_laws.specs.holder_model.Edges.{branch_of, carried_along, case_edge, edge_of}
+use Rattle.holder_laws.specs.holder_model.Effects.{only, unchanged}
+use Rattle.holder_laws.specs.holder_model.Faults.{HolderFault, LeavesHeld, LeavesPlace, LeavesSlot}
+use Rattle.holder_laws.specs.holder_model.Frames.{Entry, Frame, LentPlace, Operands, datum_in, entry_at, has_any}
+use Rattle.holder_laws.specs.holder_model.HolderStates.{HolderNext, HolderState}
+use Rattle.holder_laws.specs.holder_model.ModuleFacts.{ModuleFacts}
+use Rattle.holder_laws.specs.holder_model.ModuleShapes.{shapes_in}
+use Rattle.holder_laws.specs.holder_model.Standing.{stands_at}
+use Rattle.holder_laws.specs.holder_model.StepParts.{chosen_by, chosen_edge, fault, on_ok, on_some, switched_shape, with_chosen}
+use Rattle.holder_laws.specs.holder_model.States.{Task, Trapped, turn}
+use Rattle.holder_laws.specs.holder_model.Steps as steps
 use Rattle.lockstep_runs.specs.inner.Frames.{AreEdgesAlike, AreEndsAlike, AreInstsAlike, AreReturnsAlike, DoAlike, does, takes}
 use Rattle.lockstep_runs.specs.inner.Laws.{AreFramesInLockstep}
 use Rattle.lockstep_runs.specs.inner.Lockstep.{AreInStep, AreLevel, AreTasksLike, IsKeptBy, frame_at}

@@ -6,19 +6,19 @@ use Rattle.sil_ast.specs.declared.module.Module.{Module}
 use Rattle.sil_ast.specs.declared.place.FuncId.{FuncId}
 use Rattle.sil_cfg.specs.declared.item.Item.{Item}
 use Rattle.run_values.specs.Places.{Place}
-use Rattle.holder_counts.specs.holder_model.declared.event.Event.TheVariants as event
-use Rattle.holder_counts.specs.holder_model.Calling.{are_as_before, as_argument, handed_over}
-use Rattle.holder_counts.specs.holder_model.Data.{Datum, as_value}
-use Rattle.holder_counts.specs.holder_model.Effects as effects
-use Rattle.holder_counts.specs.holder_model.Effects.{Change, Effect, unchanged}
-use Rattle.holder_counts.specs.holder_model.Faults.{HolderFault, PlaceNotAsAsked}
-use Rattle.holder_counts.specs.holder_model.Frames.{Entry, Frame, LentPlace, has_any}
-use Rattle.holder_counts.specs.holder_model.HolderStates.{HolderNext, HolderState}
-use Rattle.holder_counts.specs.holder_model.ModuleFacts.{ModuleFacts}
-use Rattle.holder_counts.specs.holder_model.Outcomes.{left_by}
-use Rattle.holder_counts.specs.holder_model.StepParts.{fault, on_some, slots_behind}
-use Rattle.holder_counts.specs.holder_model.States.{Ends, Finishes, Returned, Runs, Task, Trapped, dropping}
-use Rattle.holder_counts.specs.holder_model.Steps as steps
+use Rattle.holder_laws.specs.holder_model.declared.event.Event.TheVariants as event
+use Rattle.holder_laws.specs.holder_model.Calling.{are_as_before, as_argument, handed_over}
+use Rattle.holder_laws.specs.holder_model.Data.{Datum, as_value}
+use Rattle.holder_laws.specs.holder_model.Effects as effects
+use Rattle.holder_laws.specs.holder_model.Effects.{Change, Effect, unchanged}
+use Rattle.holder_laws.specs.holder_model.Faults.{HolderFault, PlaceNotAsAsked}
+use Rattle.holder_laws.specs.holder_model.Frames.{Entry, Frame, LentPlace, has_any}
+use Rattle.holder_laws.specs.holder_model.HolderStates.{HolderNext, HolderState}
+use Rattle.holder_laws.specs.holder_model.ModuleFacts.{ModuleFacts}
+use Rattle.holder_laws.specs.holder_model.Outcomes.{left_by}
+use Rattle.holder_laws.specs.holder_model.StepParts.{fault, on_some, slots_behind}
+use Rattle.holder_laws.specs.holder_model.States.{Ends, Finishes, Returned, Runs, Task, Trapped, dropping}
+use Rattle.holder_laws.specs.holder_model.Steps as steps
 use Rattle.lockstep_runs.specs.inner.Frames.{AreSpared, AreCallsAlike, AreChangesAlike, AreDropsAlike, AreEffectsAlike, DoAlike, lends, no_value}
 use Rattle.lockstep_runs.specs.inner.Lockstep.{AreInStep, AreLevel, ArePutAlike, AreTasksLike, IsKeptBy, frame_at}
 use Rattle.lockstep_runs.specs.inner.Parts.{HasFunctions, call_at, puts}

@@ -9,4 +9,4 @@ pub mod Unchanged
 pub mod SameFunctions
 pub mod Again
 pub mod AsTheyDid
-pub use Rattle.holder_counts.proofs as holder_counts
+pub use Rattle.holder_laws.proofs as holder_laws

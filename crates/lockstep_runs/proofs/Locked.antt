@@ -13,22 +13,22 @@ use Rattle.run_values.specs.declared.phase.Phase.TheVariants.{Deiniting}
 use Rattle.run_values.specs.Memory.{is_live, object_at, with_object}
 use Rattle.run_values.specs.Places.{Place}
 use Rattle.run_values.specs.Values as value
-use Rattle.holder_counts.specs.holder_model.declared.event.Event.TheVariants as event
-use Rattle.holder_counts.specs.holder_model.declared.trap.Trap.TheVariants as trap
-use Rattle.holder_counts.specs.holder_model.Calling.{value_count}
-use Rattle.holder_counts.specs.holder_model.Data.{ValueOf}
-use Rattle.holder_counts.specs.holder_model.Dropping.{deinitialises, deinits_of, drop_with, ended, field_references, finish_with, in_phase}
-use Rattle.holder_counts.specs.holder_model.Frames.{Entry, Frame, LentPlace, no_entries}
-use Rattle.holder_counts.specs.holder_model.HolderStates.{HolderNext, HolderState, strong_holders}
-use Rattle.holder_counts.specs.holder_model.ModuleFacts.{ModuleFacts}
-use Rattle.holder_counts.specs.holder_model.Outcomes.{begins}
-use Rattle.holder_counts.specs.holder_model.Standing.{stands_at}
-use Rattle.holder_counts.specs.holder_model.StepParts.{on_some}
-use Rattle.holder_counts.specs.holder_model.States.{Drops, Finishes, Goes, Task, Trapped, dropping}
-use Rattle.holder_counts.specs.holder_model.Steps as steps
-use Rattle.holder_counts.specs.holder_model.Holders.{one_object}
-use Rattle.holder_counts.specs.inner.Moving.{in_tasks}
-use Rattle.holder_counts.proofs.Moves.{first_task}
+use Rattle.holder_laws.specs.holder_model.declared.event.Event.TheVariants as event
+use Rattle.holder_laws.specs.holder_model.declared.trap.Trap.TheVariants as trap
+use Rattle.holder_laws.specs.holder_model.Calling.{value_count}
+use Rattle.holder_laws.specs.holder_model.Data.{ValueOf}
+use Rattle.holder_laws.specs.holder_model.Dropping.{deinitialises, deinits_of, drop_with, ended, field_references, finish_with, in_phase}
+use Rattle.holder_laws.specs.holder_model.Frames.{Entry, Frame, LentPlace, no_entries}
+use Rattle.holder_laws.specs.holder_model.HolderStates.{HolderNext, HolderState, strong_holders}
+use Rattle.holder_laws.specs.holder_model.ModuleFacts.{ModuleFacts}
+use Rattle.holder_laws.specs.holder_model.Outcomes.{begins}
+use Rattle.holder_laws.specs.holder_model.Standing.{stands_at}
+use Rattle.holder_laws.specs.holder_model.StepParts.{on_some}
+use Rattle.holder_laws.specs.holder_model.States.{Drops, Finishes, Goes, Task, Trapped, dropping}
+use Rattle.holder_laws.specs.holder_model.Steps as steps
+use Rattle.holder_laws.specs.holder_model.Holders.{one_object}
+use Rattle.holder_laws.specs.inner.Counts.Moving.{in_tasks}
+use Rattle.holder_laws.proofs.Counts.Moves.{first_task}
 use Rattle.lockstep_runs.specs.inner.Laws.{AreRunsInLockstep}
 use Rattle.lockstep_runs.specs.inner.Lockstep.{AreAtRest, AreInStep, AreLevel, AreTasksLike, AreTogether, Excess, IsFault, frame_at}
 use Rattle.lockstep_runs.specs.inner.Parts.{AreFramesOn, Parts}

@@ -4,12 +4,12 @@ use Rattle.std.specs.Prelude.{option_and_then, slice_get}
 use Rattle.sil_ast.specs.declared.function.Function.{Function}
 use Rattle.sil_ast.specs.declared.module.Module.{Module}
 use Rattle.sil_ast.specs.declared.place.FuncId.{FuncId}
-use Rattle.holder_counts.specs.holder_model.Faults.{HolderFault}
-use Rattle.holder_counts.specs.holder_model.HolderStates.{HolderNext, HolderState}
-use Rattle.holder_counts.specs.holder_model.ModuleFacts.{facts_of}
-use Rattle.holder_counts.specs.holder_model.Outcomes.{EndsSo, Outcome, begins, outcome_after, outcome_at, run}
-use Rattle.holder_counts.specs.holder_model.States.{Ending, Ends, Goes}
-use Rattle.holder_counts.specs.holder_model.Steps.{step}
+use Rattle.holder_laws.specs.holder_model.Faults.{HolderFault}
+use Rattle.holder_laws.specs.holder_model.HolderStates.{HolderNext, HolderState}
+use Rattle.holder_laws.specs.holder_model.ModuleFacts.{facts_of}
+use Rattle.holder_laws.specs.holder_model.Outcomes.{EndsSo, Outcome, begins, outcome_after, outcome_at, run}
+use Rattle.holder_laws.specs.holder_model.States.{Ending, Ends, Goes}
+use Rattle.holder_laws.specs.holder_model.Steps.{step}
 use Rattle.lockstep_runs.specs.inner.Agreeing.{EndsAsItDid, EndsIn, TellsAsItDid}
 use Rattle.lockstep_runs.specs.inner.Laws.{AreOutcomesInLockstep}
 

@@ -8,14 +8,14 @@ use Rattle.sil_ast.specs.declared.place.FuncId.{FuncId}
 use Rattle.sil_ast.specs.declared.place.ObjectId.{ObjectId}
 use Rattle.sil_cfg.specs.declared.item.Item.{Item}
 use Rattle.type_definitions.specs.Declarations.{Declarations, declarations_of}
-use Rattle.holder_counts.specs.holder_model.Dropping.{deinits_of}
-use Rattle.holder_counts.specs.holder_model.Frames.{Entry, Frame, has_any}
-use Rattle.holder_counts.specs.holder_model.HolderStates.{HolderState, strong_holders}
-use Rattle.holder_counts.specs.holder_model.ModuleFacts.{ModuleFacts, facts_of, function_facts}
-use Rattle.holder_counts.specs.holder_model.ModuleShapes.{class_shape, function_shapes}
-use Rattle.holder_counts.specs.holder_model.Outcomes.{run}
-use Rattle.holder_counts.specs.holder_model.States.{Drops, Finishes, Runs, Task, step_on}
-use Rattle.holder_counts.specs.holder_model.Steps.{step}
+use Rattle.holder_laws.specs.holder_model.Dropping.{deinits_of}
+use Rattle.holder_laws.specs.holder_model.Frames.{Entry, Frame, has_any}
+use Rattle.holder_laws.specs.holder_model.HolderStates.{HolderState, strong_holders}
+use Rattle.holder_laws.specs.holder_model.ModuleFacts.{ModuleFacts, facts_of, function_facts}
+use Rattle.holder_laws.specs.holder_model.ModuleShapes.{class_shape, function_shapes}
+use Rattle.holder_laws.specs.holder_model.Outcomes.{run}
+use Rattle.holder_laws.specs.holder_model.States.{Drops, Finishes, Runs, Task, step_on}
+use Rattle.holder_laws.specs.holder_model.Steps.{step}
 use Rattle.lockstep_runs.specs.inner.Frames.{DoAlike, FrameParts}
 use Rattle.lockstep_runs.specs.inner.Laws.{HaveSameFunctions, NeverFaultsFrom, UnchangedRunAsTheyDid}
 use Rattle.lockstep_runs.specs.inner.Lockstep.{AreAtRest, AreTasksLike, Excess, IsKeptBy, frame_at}

@@ -14,19 +14,19 @@ use Rattle.ownership_chains.specs.Facts.{told_at}
 use Rattle.ownership_chains.specs.declared.facts.Facts.{Facts}
 use Rattle.type_definitions.specs.Declarations.{declarations_of}
 use Rattle.run_values.specs.Memory.{Memory}
-use Rattle.holder_counts.specs.holder_model.Calling.{value_count}
-use Rattle.holder_counts.specs.holder_model.Data.{Datum}
-use Rattle.holder_counts.specs.holder_model.Edges.{edge_of}
-use Rattle.holder_counts.specs.holder_model.Effects as effects
-use Rattle.holder_counts.specs.holder_model.Effects.{Effect}
-use Rattle.holder_counts.specs.holder_model.Faults.{HolderFault}
-use Rattle.holder_counts.specs.holder_model.Frames.{Entry, Frame, no_entries, operands_of, results_put}
-use Rattle.holder_counts.specs.holder_model.HolderStates.{HolderState}
-use Rattle.holder_counts.specs.holder_model.MemoryEffects.{effect}
-use Rattle.holder_counts.specs.holder_model.ModuleFacts.{ModuleFacts}
-use Rattle.holder_counts.specs.holder_model.ModuleShapes.{shapes_in}
-use Rattle.holder_counts.specs.holder_model.Standing.{stands_at}
-use Rattle.holder_counts.specs.holder_model.States.{Task}
+use Rattle.holder_laws.specs.holder_model.Calling.{value_count}
+use Rattle.holder_laws.specs.holder_model.Data.{Datum}
+use Rattle.holder_laws.specs.holder_model.Edges.{edge_of}
+use Rattle.holder_laws.specs.holder_model.Effects as effects
+use Rattle.holder_laws.specs.holder_model.Effects.{Effect}
+use Rattle.holder_laws.specs.holder_model.Faults.{HolderFault}
+use Rattle.holder_laws.specs.holder_model.Frames.{Entry, Frame, no_entries, operands_of, results_put}
+use Rattle.holder_laws.specs.holder_model.HolderStates.{HolderState}
+use Rattle.holder_laws.specs.holder_model.MemoryEffects.{effect}
+use Rattle.holder_laws.specs.holder_model.ModuleFacts.{ModuleFacts}
+use Rattle.holder_laws.specs.holder_model.ModuleShapes.{shapes_in}
+use Rattle.holder_laws.specs.holder_model.Standing.{stands_at}
+use Rattle.holder_laws.specs.holder_model.States.{Task}
 use Rattle.lockstep_runs.specs.inner.Frames.{AreDropsAlike, AreEdgesAlike, AreEffectsAlike, AreEndsAlike, AreInstsAlike, DoAlike, does, takes}
 use Rattle.lockstep_runs.specs.inner.Lockstep.{ArePutAlike}
 use Rattle.lockstep_runs.specs.inner.Parts.{call_at, puts}

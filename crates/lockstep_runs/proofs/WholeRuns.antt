@@ -5,13 +5,13 @@ use Rattle.sil_ast.specs.declared.function.Function.{Function}
 use Rattle.sil_ast.specs.declared.module.Module.{Module}
 use Rattle.sil_ast.specs.declared.place.FuncId.{FuncId}
 use Rattle.sil_cfg.specs.declared.item.Item.{Item}
-use Rattle.holder_counts.specs.holder_model.Faults.{HolderFault}
-use Rattle.holder_counts.specs.holder_model.Frames.{Entry}
-use Rattle.holder_counts.specs.holder_model.HolderStates.{HolderNext, HolderState}
-use Rattle.holder_counts.specs.holder_model.ModuleFacts.{ModuleFacts}
-use Rattle.holder_counts.specs.holder_model.Outcomes.{begins, run}
-use Rattle.holder_counts.specs.holder_model.States.{Ending, Ends, Faulted, Goes, Returned, Trapped, OutOfTurns, step_on}
-use Rattle.holder_counts.specs.holder_model.Steps.{step}
+use Rattle.holder_laws.specs.holder_model.Faults.{HolderFault}
+use Rattle.holder_laws.specs.holder_model.Frames.{Entry}
+use Rattle.holder_laws.specs.holder_model.HolderStates.{HolderNext, HolderState}
+use Rattle.holder_laws.specs.holder_model.ModuleFacts.{ModuleFacts}
+use Rattle.holder_laws.specs.holder_model.Outcomes.{begins, run}
+use Rattle.holder_laws.specs.holder_model.States.{Ending, Ends, Faulted, Goes, Returned, Trapped, OutOfTurns, step_on}
+use Rattle.holder_laws.specs.holder_model.Steps.{step}
 use Rattle.lockstep_runs.specs.inner.Agreeing.{EndedLike, EndsAsItDid, EndsIn, EndsLike, RunsAgree}
 use Rattle.lockstep_runs.specs.inner.Lockstep.{AreInStep, AreStepsAlike, AreTogether, IsFault, IsKeptBy}
 

@@ -1,2 +1,2 @@
 pub mod inner
-pub use Rattle.holder_counts.specs as holder_counts
+pub use Rattle.holder_laws.specs as holder_laws

@@ -8,10 +8,10 @@ use Rattle.ownership_chains.specs.Facts.{known_or}
 use Rattle.ownership_chains.specs.declared.facts.Facts.{Facts}
 use Rattle.sil_ast.specs.declared.place.ValueId.{ValueId}
 use Rattle.run_values.specs.Memory.{Memory}
-use Rattle.lent_runs.specs.holder_counts.holder_model.Data.{Datum}
-use Rattle.lent_runs.specs.holder_counts.holder_model.Faults.{HolderFault, OverwritesHeld}
-use Rattle.lent_runs.specs.holder_counts.holder_model.Frames.{Entry, Gone, Held, Lent, Plain, Operands, and_more, datum_in, datum_or_fault, ended_entry, ends, entry_at, is_held, made_entry}
-use Rattle.lent_runs.specs.holder_counts.holder_model.Frames.{operand, operand_data, operands_of, put_entry, results_put, unless_dead, used_datum, with_ok, without_ended}
+use Rattle.lent_runs.specs.holder_laws.holder_model.Data.{Datum}
+use Rattle.lent_runs.specs.holder_laws.holder_model.Faults.{HolderFault, OverwritesHeld}
+use Rattle.lent_runs.specs.holder_laws.holder_model.Frames.{Entry, Gone, Held, Lent, Plain, Operands, and_more, datum_in, datum_or_fault, ended_entry, ends, entry_at, is_held, made_entry}
+use Rattle.lent_runs.specs.holder_laws.holder_model.Frames.{operand, operand_data, operands_of, put_entry, results_put, unless_dead, used_datum, with_ok, without_ended}
 use Rattle.lent_runs.proofs.held_entries.EntriesEnded.{entry_set_other}
 
 pub same_ok : {A : Type 0} (a b : A) → (let r : Result A HolderFault = Ok a in r) ≡ Ok b → a ≡ b

@@ -26,14 +26,14 @@ use Rattle.sil_cfg.specs.declared.item.Item.{Item}
 use Rattle.sil_cfg.specs.declared.item.Item.TheVariants as item
 use Rattle.type_definitions.specs.Declarations.{declarations_of}
 use Rattle.type_definitions.specs.declared.kind.Kind.TheVariants as kind
-use Rattle.lent_runs.specs.holder_counts.holder_model.Data.{Datum, references_in}
-use Rattle.lent_runs.specs.holder_counts.holder_model.Faults.{NamesDead}
-use Rattle.lent_runs.specs.holder_counts.holder_model.Frames.{Entry, Frame, Gone, Held, entry_at, operands_of, results_put}
-use Rattle.lent_runs.specs.holder_counts.holder_model.HolderStates.{HolderState}
-use Rattle.lent_runs.specs.holder_counts.holder_model.ModuleFacts.{ModuleFacts, facts_of, facts_told}
-use Rattle.lent_runs.specs.holder_counts.holder_model.ModuleShapes.{shapes_in}
-use Rattle.lent_runs.specs.holder_counts.holder_model.Standing.{point_behind, stands_at}
-use Rattle.lent_runs.specs.holder_counts.holder_model.States.{Task}
+use Rattle.lent_runs.specs.holder_laws.holder_model.Data.{Datum, references_in}
+use Rattle.lent_runs.specs.holder_laws.holder_model.Faults.{NamesDead}
+use Rattle.lent_runs.specs.holder_laws.holder_model.Frames.{Entry, Frame, Gone, Held, entry_at, operands_of, results_put}
+use Rattle.lent_runs.specs.holder_laws.holder_model.HolderStates.{HolderState}
+use Rattle.lent_runs.specs.holder_laws.holder_model.ModuleFacts.{ModuleFacts, facts_of, facts_told}
+use Rattle.lent_runs.specs.holder_laws.holder_model.ModuleShapes.{shapes_in}
+use Rattle.lent_runs.specs.holder_laws.holder_model.Standing.{point_behind, stands_at}
+use Rattle.lent_runs.specs.holder_laws.holder_model.States.{Task}
 use Rattle.lent_runs.specs.lockstep_runs.inner.Frames.{AreDropsAlike, AreEffectsAlike, AreInstsAlike, does}
 use Rattle.lent_runs.specs.lockstep_runs.inner.Lockstep.{ArePutAlike}
 use Rattle.lent_runs.specs.lockstep_runs.inner.Parts.{puts}
@@ -42,8 +42,8 @@ use Rattle.lent_runs.proofs.moved_functions.Places.{after}
 use Rattle.lent_runs.proofs.moved_functions.Split.{IsSplit}
 use Rattle.moved_runs.specs.inner.MovedFrames.{AreAt, IsAlone, IsLike, Lags}
 use Rattle.moved_runs.proofs.ClearedEntries.{held_behind, put_cleared}
-use Rattle.lent_runs.specs.holder_counts.holder_model.Frames.{any_dead, made_entry, unless_dead}
-use Rattle.lent_runs.specs.holder_counts.holder_model.Effects.{Makes, unchanged}
+use Rattle.lent_runs.specs.holder_laws.holder_model.Frames.{any_dead, made_entry, unless_dead}
+use Rattle.lent_runs.specs.holder_laws.holder_model.Effects.{Makes, unchanged}
 use Rattle.lent_runs.proofs.held_entries.EntriesEnded.{entry_set_same}
 use Rattle.lent_runs.proofs.moved_functions.Marks.{copy_defines, move_defines}
 use Rattle.lent_runs.proofs.moved_functions.Places.{copy_stood, inst_there}

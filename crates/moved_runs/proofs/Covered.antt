@@ -10,17 +10,17 @@ use Rattle.sil_ast.specs.declared.place.ObjectId.{ObjectId}
 use Rattle.sil_ast.specs.declared.place.PointId.{PointId}
 use Rattle.sil_ast.specs.declared.place.ValueId.{ValueId}
 use Rattle.sil_cfg.specs.declared.item.Item.{Item}
-use Rattle.lent_runs.specs.holder_counts.holder_model.Frames.{Entry, Frame, Gone, Held, entry_at}
-use Rattle.lent_runs.specs.holder_counts.holder_model.HolderStates.{HolderState, in_entry, in_task, strong_holders}
-use Rattle.lent_runs.specs.holder_counts.holder_model.Holders.{in_memory, of_references, one_object}
-use Rattle.lent_runs.specs.holder_counts.holder_model.ModuleFacts.{ModuleFacts}
-use Rattle.lent_runs.specs.holder_counts.holder_model.Standing.{stands_at}
-use Rattle.lent_runs.specs.holder_counts.holder_model.States.{Drops, Finishes, Runs, Task}
-use Rattle.lent_runs.specs.holder_counts.inner.Moving.{in_tasks}
-use Rattle.lent_runs.specs.holder_counts.inner.Taking.{in_entries}
-use Rattle.lent_runs.proofs.holder_counts.Entries.{entry_within}
-use Rattle.lent_runs.proofs.holder_counts.Moves.{first_task}
-use Rattle.lent_runs.proofs.holder_counts.Sums.{total_set}
+use Rattle.lent_runs.specs.holder_laws.holder_model.Frames.{Entry, Frame, Gone, Held, entry_at}
+use Rattle.lent_runs.specs.holder_laws.holder_model.HolderStates.{HolderState, in_entry, in_task, strong_holders}
+use Rattle.lent_runs.specs.holder_laws.holder_model.Holders.{in_memory, of_references, one_object}
+use Rattle.lent_runs.specs.holder_laws.holder_model.ModuleFacts.{ModuleFacts}
+use Rattle.lent_runs.specs.holder_laws.holder_model.Standing.{stands_at}
+use Rattle.lent_runs.specs.holder_laws.holder_model.States.{Drops, Finishes, Runs, Task}
+use Rattle.lent_runs.specs.holder_laws.inner.Counts.Moving.{in_tasks}
+use Rattle.lent_runs.specs.holder_laws.inner.Counts.Taking.{in_entries}
+use Rattle.lent_runs.proofs.holder_laws.Counts.Entries.{entry_within}
+use Rattle.lent_runs.proofs.holder_laws.Counts.Moves.{first_task}
+use Rattle.lent_runs.proofs.holder_laws.Counts.Sums.{total_set}
 use Rattle.lent_runs.specs.lockstep_runs.inner.Lockstep.{AreLevel, AreTasksLike, Excess, frame_at}
 use Rattle.lent_runs.specs.lockstep_runs.inner.Parts.{AreDropsCovered, AreFinishesCovered, with_tasks}
 use Rattle.moved_runs.specs.inner.MovedFrames.{AreAt, IsAlone, IsCleared, IsLike}

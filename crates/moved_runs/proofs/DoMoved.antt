@@ -23,16 +23,16 @@ use Rattle.sil_cfg.specs.declared.item.Item.{Item}
 use Rattle.sil_cfg.specs.declared.item.Item.TheVariants as item
 use Rattle.type_definitions.specs.Declarations.{declarations_of}
 use Rattle.type_definitions.specs.declared.kind.Kind.TheVariants as kind
-use Rattle.lent_runs.specs.holder_counts.holder_model.Calling.{lent_places}
-use Rattle.lent_runs.specs.holder_counts.holder_model.Data.{Datum}
-use Rattle.lent_runs.specs.holder_counts.holder_model.Effects as effects
-use Rattle.lent_runs.specs.holder_counts.holder_model.Effects.{Effect}
-use Rattle.lent_runs.specs.holder_counts.holder_model.Faults.{HolderFault}
-use Rattle.lent_runs.specs.holder_counts.holder_model.Frames.{Entry, Frame, Gone, operands_of, results_put}
-use Rattle.lent_runs.specs.holder_counts.holder_model.HolderStates.{HolderState}
-use Rattle.lent_runs.specs.holder_counts.holder_model.ModuleFacts.{ModuleFacts, facts_of, facts_told}
-use Rattle.lent_runs.specs.holder_counts.holder_model.Standing.{point_behind, stands_at}
-use Rattle.lent_runs.specs.holder_counts.holder_model.States.{Task}
+use Rattle.lent_runs.specs.holder_laws.holder_model.Calling.{lent_places}
+use Rattle.lent_runs.specs.holder_laws.holder_model.Data.{Datum}
+use Rattle.lent_runs.specs.holder_laws.holder_model.Effects as effects
+use Rattle.lent_runs.specs.holder_laws.holder_model.Effects.{Effect}
+use Rattle.lent_runs.specs.holder_laws.holder_model.Faults.{HolderFault}
+use Rattle.lent_runs.specs.holder_laws.holder_model.Frames.{Entry, Frame, Gone, operands_of, results_put}
+use Rattle.lent_runs.specs.holder_laws.holder_model.HolderStates.{HolderState}
+use Rattle.lent_runs.specs.holder_laws.holder_model.ModuleFacts.{ModuleFacts, facts_of, facts_told}
+use Rattle.lent_runs.specs.holder_laws.holder_model.Standing.{point_behind, stands_at}
+use Rattle.lent_runs.specs.holder_laws.holder_model.States.{Task}
 use Rattle.lent_runs.specs.lockstep_runs.inner.Frames.{AreDropsAlike, AreEffectsAlike, AreInstsAlike, does}
 use Rattle.lent_runs.specs.lockstep_runs.inner.Lockstep.{ArePutAlike}
 use Rattle.lent_runs.specs.lockstep_runs.inner.Parts.{puts}

@@ -29,12 +29,12 @@ use Rattle.sil_cfg.specs.Items.{point_at}
 use Rattle.sil_cfg.specs.declared.item.Item.{Item}
 use Rattle.sil_cfg.specs.declared.item.Item.TheVariants as item
 use Rattle.type_definitions.specs.Declarations.{declarations_of}
-use Rattle.lent_runs.specs.holder_counts.holder_model.Data.{Datum}
-use Rattle.lent_runs.specs.holder_counts.holder_model.Frames.{Entry, Frame, LentPlace, entry_at, datum_in, no_entries, operands_of, results_put}
-use Rattle.lent_runs.specs.holder_counts.holder_model.HolderStates.{HolderState}
-use Rattle.lent_runs.specs.holder_counts.holder_model.ModuleFacts.{ModuleFacts, facts_of, facts_told}
-use Rattle.lent_runs.specs.holder_counts.holder_model.Standing.{stands_at}
-use Rattle.lent_runs.specs.holder_counts.holder_model.States.{Runs, Task}
+use Rattle.lent_runs.specs.holder_laws.holder_model.Data.{Datum}
+use Rattle.lent_runs.specs.holder_laws.holder_model.Frames.{Entry, Frame, LentPlace, entry_at, datum_in, no_entries, operands_of, results_put}
+use Rattle.lent_runs.specs.holder_laws.holder_model.HolderStates.{HolderState}
+use Rattle.lent_runs.specs.holder_laws.holder_model.ModuleFacts.{ModuleFacts, facts_of, facts_told}
+use Rattle.lent_runs.specs.holder_laws.holder_model.Standing.{stands_at}
+use Rattle.lent_runs.specs.holder_laws.holder_model.States.{Runs, Task}
 use Rattle.lent_runs.specs.lockstep_runs.inner.Frames.{AreInstsAlike}
 use Rattle.lent_runs.specs.lockstep_runs.inner.Lockstep.{ArePutAlike, frame_at}
 use Rattle.lent_runs.specs.lockstep_runs.inner.Parts.{puts}
@@ -45,9 +45,9 @@ use Rattle.lent_runs.proofs.moved_functions.SameFacts.{destroy_makes_none}
 use Rattle.lent_runs.proofs.moved_functions.Split.{IsSplit}
 use Rattle.moved_runs.specs.inner.MovedFrames.{AreAt, IsAlone, IsCleared, IsLike, Lags}
 use Rattle.moved_runs.proofs.MovedPoints.{old_copy}
-use Rattle.lent_runs.specs.holder_counts.holder_model.Edges.{carried_along, carried_by, edge_of, first_value_of, switched_data}
-use Rattle.lent_runs.specs.holder_counts.holder_model.Calling.{given_places, argument_data}
-use Rattle.lent_runs.specs.holder_counts.holder_model.Standing.{first_point, target_of}
+use Rattle.lent_runs.specs.holder_laws.holder_model.Edges.{carried_along, carried_by, edge_of, first_value_of, switched_data}
+use Rattle.lent_runs.specs.holder_laws.holder_model.Calling.{given_places, argument_data}
+use Rattle.lent_runs.specs.holder_laws.holder_model.Standing.{first_point, target_of}
 use Rattle.argument_conventions.specs.Arguments.{arguments_of}
 use Rattle.instruction_table.specs.declared.entries.Ending.{Ending}
 use Rattle.item_operands.specs.Parts.{edge_at}

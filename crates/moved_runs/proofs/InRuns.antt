@@ -19,9 +19,9 @@ use Rattle.sil_cfg.specs.Items.{point_at}
 use Rattle.sil_cfg.specs.declared.item.Item.{Item}
 use Rattle.sil_cfg.specs.declared.item.Item.TheVariants as item
 use Rattle.type_definitions.specs.Declarations.{declarations_of}
-use Rattle.lent_runs.specs.holder_counts.holder_model.Frames.{Entry, has_any}
-use Rattle.lent_runs.specs.holder_counts.holder_model.HolderStates.{HolderState}
-use Rattle.lent_runs.specs.holder_counts.holder_model.ModuleFacts.{ModuleFacts, facts_of}
+use Rattle.lent_runs.specs.holder_laws.holder_model.Frames.{Entry, has_any}
+use Rattle.lent_runs.specs.holder_laws.holder_model.HolderStates.{HolderState}
+use Rattle.lent_runs.specs.holder_laws.holder_model.ModuleFacts.{ModuleFacts, facts_of}
 use Rattle.lent_runs.specs.lockstep_runs.inner.Agreeing.{RunsAsItDid}
 use Rattle.lent_runs.specs.lockstep_runs.inner.Frames.{DoAlike, FrameParts}
 use Rattle.lent_runs.specs.lockstep_runs.inner.Laws.{HoldsOnRuns}

@@ -24,18 +24,18 @@ use Rattle.sil_cfg.specs.declared.item.Item.{Item}
 use Rattle.type_definitions.specs.Declarations.{declarations_of}
 use Rattle.type_definitions.specs.declared.kind.Kind.{Kind}
 use Rattle.type_definitions.specs.declared.kind.Kind.TheVariants as kind
-use Rattle.lent_runs.specs.holder_counts.holder_model.declared.row_effect.RowEffect.TheVariants.{CallsFunction, CopiesOperand}
-use Rattle.lent_runs.specs.holder_counts.holder_model.Calling.{value_count}
-use Rattle.lent_runs.specs.holder_counts.holder_model.Data.{Datum}
-use Rattle.lent_runs.specs.holder_counts.holder_model.Effects.{effect_of}
-use Rattle.lent_runs.specs.holder_counts.holder_model.Frames.{Entry, Frame, Gone, Held, LentPlace, entry_at, made_entry}
-use Rattle.lent_runs.specs.holder_counts.holder_model.HolderStates.{HolderState}
-use Rattle.lent_runs.specs.holder_counts.holder_model.Standing.{stands_at}
-use Rattle.lent_runs.specs.holder_counts.holder_model.States.{Runs, Task}
-use Rattle.lent_runs.specs.held_places.inner.PlaceStates.{AreSlotsRight, TasksPlaced}
+use Rattle.lent_runs.specs.holder_laws.holder_model.declared.row_effect.RowEffect.TheVariants.{CallsFunction, CopiesOperand}
+use Rattle.lent_runs.specs.holder_laws.holder_model.Calling.{value_count}
+use Rattle.lent_runs.specs.holder_laws.holder_model.Data.{Datum}
+use Rattle.lent_runs.specs.holder_laws.holder_model.Effects.{effect_of}
+use Rattle.lent_runs.specs.holder_laws.holder_model.Frames.{Entry, Frame, Gone, Held, LentPlace, entry_at, made_entry}
+use Rattle.lent_runs.specs.holder_laws.holder_model.HolderStates.{HolderState}
+use Rattle.lent_runs.specs.holder_laws.holder_model.Standing.{stands_at}
+use Rattle.lent_runs.specs.holder_laws.holder_model.States.{Runs, Task}
+use Rattle.lent_runs.specs.tracked_frames.inner.Placed.PlaceStates.{AreSlotsRight, TasksPlaced}
 use Rattle.lent_runs.specs.lockstep_runs.inner.Lockstep.{frame_at}
 use Rattle.lent_runs.proofs.owned_run_typing.run_typing_laws.ItemFacts.{values_counted}
-use Rattle.lent_runs.specs.typed_holders.inner.TypedStates.{EntryIs, IsTypedState, TasksAre}
+use Rattle.lent_runs.specs.tracked_frames.inner.Typed.TypedStates.{EntryIs, IsTypedState, TasksAre}
 use Rattle.lent_runs.specs.typed_memory.inner.Worlds.{World}
 use Rattle.lent_runs.proofs.moved_functions.Marks.{known}
 use Rattle.lent_runs.proofs.moved_functions.Places.{after, copy_stood}

@@ -5,7 +5,7 @@ use Rattle.sil_ast.specs.declared.function.Function.{Function}
 use Rattle.sil_ast.specs.declared.place.PointId.{PointId}
 use Rattle.sil_ast.specs.declared.place.ValueId.{ValueId}
 use Rattle.sil_cfg.specs.Items.{point_at}
-use Rattle.lent_runs.specs.holder_counts.holder_model.Standing.{first_point, point_behind}
+use Rattle.lent_runs.specs.holder_laws.holder_model.Standing.{first_point, point_behind}
 use Rattle.lent_runs.specs.moved_functions.inner.Structure.{old_point}
 use Rattle.lent_runs.proofs.moved_functions.Lists.{stood_before, stood_behind}
 use Rattle.lent_runs.proofs.moved_functions.Places.{old_block, old_elsewhere, old_here}

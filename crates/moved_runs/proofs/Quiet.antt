@@ -12,7 +12,7 @@ use Rattle.ownership_marks.specs.declared.mark.Mark.{Mark}
 use Rattle.ownership_marks.specs.declared.mark.MarkSort.TheVariants.{End}
 use Rattle.sil_ast.specs.declared.place.ValueId.{ValueId}
 use Rattle.type_definitions.specs.declared.kind.Kind.TheVariants as kind
-use Rattle.lent_runs.specs.holder_counts.holder_model.Frames.{ends, has_any}
+use Rattle.lent_runs.specs.holder_laws.holder_model.Frames.{ends, has_any}
 use Rattle.lent_runs.proofs.lent_functions.Lists.{any_parts}
 use Rattle.lent_runs.proofs.moved_functions.Marks.{known}
 use Rattle.moved_runs.proofs.ClearedEntries.{AreOthers, EndNot}

@@ -13,9 +13,9 @@ use Rattle.lent_runs.specs.accepted_modules.sil_types.Typing.RowTypes.{made_type
 use Rattle.lent_runs.specs.copy_removal.ownership_kinds.Facts.{facts_in}
 use Rattle.lent_runs.specs.accepted_modules.inner.Checked.{IsVerified}
 use Rattle.ownership_chains.specs.Facts.{value_of}
-use Rattle.lent_runs.specs.holder_counts.holder_model.Calling.{value_count}
-use Rattle.lent_runs.specs.holder_counts.holder_model.ModuleFacts.{ModuleFacts, facts_of, function_facts}
-use Rattle.lent_runs.specs.holder_counts.holder_model.ModuleShapes.{function_shapes, value_shape}
+use Rattle.lent_runs.specs.holder_laws.holder_model.Calling.{value_count}
+use Rattle.lent_runs.specs.holder_laws.holder_model.ModuleFacts.{ModuleFacts, facts_of, function_facts}
+use Rattle.lent_runs.specs.holder_laws.holder_model.ModuleShapes.{function_shapes, value_shape}
 use Rattle.lent_runs.proofs.moved_functions.InModule.{row_kept}
 use Rattle.lent_runs.proofs.moved_functions.Places.{after}
 use Rattle.lent_runs.proofs.moved_functions.SameFacts.{destroy_makes_none, facts_are}

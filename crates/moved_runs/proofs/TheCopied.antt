@@ -14,13 +14,13 @@ use Rattle.sil_ast.specs.declared.place.ValueId.{ValueId}
 use Rattle.run_values.specs.Shapes.{Shape}
 use Rattle.type_definitions.specs.Declarations.{Declarations}
 use Rattle.type_definitions.specs.declared.kind.Kind.TheVariants as kind
-use Rattle.lent_runs.specs.holder_counts.holder_model.Data.{Datum, references_in}
-use Rattle.lent_runs.specs.holder_counts.holder_model.Effects.{Makes, effect_by, effect_of, unchanged}
-use Rattle.lent_runs.specs.holder_counts.holder_model.Faults.{HolderFault, NamesDead}
-use Rattle.lent_runs.specs.holder_counts.holder_model.Frames.{Entry, Gone, Held, Operands, and_more, any_dead, datum_in, datum_or_fault, ended_entry, ends, entry_at, has_any, operand}
-use Rattle.lent_runs.specs.holder_counts.holder_model.Frames.{operand_data, operands_of, unless_dead, used_datum, with_ok, without_ended}
-use Rattle.lent_runs.specs.holder_counts.holder_model.MemoryEffects.{at_places, effect}
-use Rattle.lent_runs.specs.holder_counts.holder_model.ModuleShapes.{ModuleShapes}
+use Rattle.lent_runs.specs.holder_laws.holder_model.Data.{Datum, references_in}
+use Rattle.lent_runs.specs.holder_laws.holder_model.Effects.{Makes, effect_by, effect_of, unchanged}
+use Rattle.lent_runs.specs.holder_laws.holder_model.Faults.{HolderFault, NamesDead}
+use Rattle.lent_runs.specs.holder_laws.holder_model.Frames.{Entry, Gone, Held, Operands, and_more, any_dead, datum_in, datum_or_fault, ended_entry, ends, entry_at, has_any, operand}
+use Rattle.lent_runs.specs.holder_laws.holder_model.Frames.{operand_data, operands_of, unless_dead, used_datum, with_ok, without_ended}
+use Rattle.lent_runs.specs.holder_laws.holder_model.MemoryEffects.{at_places, effect}
+use Rattle.lent_runs.specs.holder_laws.holder_model.ModuleShapes.{ModuleShapes}
 use Rattle.lent_runs.proofs.moved_functions.Marks.{known}
 use Rattle.moved_runs.proofs.ClearedEntries.{AreTakenBy, same_ok, taken_by}
 

@@ -17,19 +17,19 @@ use Rattle.sil_cfg.specs.Items.{point_at}
 use Rattle.sil_cfg.specs.declared.item.Item.{Item}
 use Rattle.sil_cfg.specs.declared.item.Item.TheVariants as item
 use Rattle.type_definitions.specs.Declarations.{declarations_of}
-use Rattle.lent_runs.specs.holder_counts.holder_model.Data.{references_in}
-use Rattle.lent_runs.specs.holder_counts.holder_model.Faults.{NamesDead}
-use Rattle.lent_runs.specs.holder_counts.holder_model.Frames.{Entry, Frame, Gone, Held, Operands, any_dead, operands_of, results_put}
-use Rattle.lent_runs.specs.holder_counts.holder_model.HolderStates.{HolderNext, HolderState}
-use Rattle.lent_runs.specs.holder_counts.holder_model.Holders.{one_object}
-use Rattle.lent_runs.specs.holder_counts.holder_model.ModuleFacts.{ModuleFacts, facts_told}
-use Rattle.lent_runs.specs.holder_counts.holder_model.ModuleShapes.{shapes_in}
-use Rattle.lent_runs.specs.holder_counts.holder_model.Outcomes.{run}
-use Rattle.lent_runs.specs.holder_counts.holder_model.Standing.{point_behind, stands_at}
-use Rattle.lent_runs.specs.holder_counts.holder_model.StepParts.{on_ok, on_some}
-use Rattle.lent_runs.specs.holder_counts.holder_model.States.{Drops, Finishes, Goes, Runs, Task, dropping, step_on}
-use Rattle.lent_runs.specs.holder_counts.holder_model.Steps as steps
-use Rattle.lent_runs.proofs.holder_counts.Moves.{first_task}
+use Rattle.lent_runs.specs.holder_laws.holder_model.Data.{references_in}
+use Rattle.lent_runs.specs.holder_laws.holder_model.Faults.{NamesDead}
+use Rattle.lent_runs.specs.holder_laws.holder_model.Frames.{Entry, Frame, Gone, Held, Operands, any_dead, operands_of, results_put}
+use Rattle.lent_runs.specs.holder_laws.holder_model.HolderStates.{HolderNext, HolderState}
+use Rattle.lent_runs.specs.holder_laws.holder_model.Holders.{one_object}
+use Rattle.lent_runs.specs.holder_laws.holder_model.ModuleFacts.{ModuleFacts, facts_told}
+use Rattle.lent_runs.specs.holder_laws.holder_model.ModuleShapes.{shapes_in}
+use Rattle.lent_runs.specs.holder_laws.holder_model.Outcomes.{run}
+use Rattle.lent_runs.specs.holder_laws.holder_model.Standing.{point_behind, stands_at}
+use Rattle.lent_runs.specs.holder_laws.holder_model.StepParts.{on_ok, on_some}
+use Rattle.lent_runs.specs.holder_laws.holder_model.States.{Drops, Finishes, Goes, Runs, Task, dropping, step_on}
+use Rattle.lent_runs.specs.holder_laws.holder_model.Steps as steps
+use Rattle.lent_runs.proofs.holder_laws.Counts.Moves.{first_task}
 use Rattle.lent_runs.specs.lockstep_runs.inner.Frames.{AreSpared}
 use Rattle.lent_runs.specs.lockstep_runs.inner.Lockstep.{AreAtRest, AreInStep, AreLevel, AreTasksLike, IsKeptBy, frame_at}
 use Rattle.lent_runs.specs.lockstep_runs.inner.Parts.{ComeTogether}

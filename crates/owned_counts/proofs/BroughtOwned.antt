@@ -7,15 +7,15 @@ use Rattle.sil_ast.specs.declared.place.ObjectId.{ObjectId}
 use Rattle.sil_ast.specs.declared.place.ValueId.{ValueId}
 use Rattle.type_definitions.specs.declared.kind.Kind.{Kind}
 use Rattle.type_definitions.specs.declared.kind.Kind.TheVariants as kind
-use Rattle.stored_counts.specs.holder_counts.holder_model.Data.{AddressOf, Datum, FunctionOf, ValueOf, references_in}
-use Rattle.stored_counts.specs.holder_counts.holder_model.Frames.{Entry, made_entry, put_entry, result_put, results_put}
-use Rattle.stored_counts.specs.holder_counts.holder_model.Holders.{of_references}
-use Rattle.stored_counts.specs.holder_counts.inner.Naming.{in_data, in_datum}
-use Rattle.stored_counts.specs.holder_counts.inner.Taking.{owned_references, references_begun}
-use Rattle.stored_counts.proofs.holder_counts.Entries.{ok_through}
-use Rattle.stored_counts.proofs.holder_counts.Sums.{total_append, total_cons}
+use Rattle.stored_counts.specs.holder_laws.holder_model.Data.{AddressOf, Datum, FunctionOf, ValueOf, references_in}
+use Rattle.stored_counts.specs.holder_laws.holder_model.Frames.{Entry, made_entry, put_entry, result_put, results_put}
+use Rattle.stored_counts.specs.holder_laws.holder_model.Holders.{of_references}
+use Rattle.stored_counts.specs.holder_laws.inner.Counts.Naming.{in_data, in_datum}
+use Rattle.stored_counts.specs.holder_laws.inner.Counts.Taking.{owned_references, references_begun}
+use Rattle.stored_counts.proofs.holder_laws.Counts.Entries.{ok_through}
+use Rattle.stored_counts.proofs.holder_laws.Counts.Sums.{total_append, total_cons}
 use Rattle.stored_counts.specs.inner.Rows.{BringsAll, BringsNone}
-use Rattle.accepted_runs.proofs.typed_holders.Data.{IsBare, entry_bare}
+use Rattle.accepted_runs.proofs.tracked_frames.Typed.Data.{IsBare, entry_bare}
 use Rattle.owned_counts.proofs.Taken.{kind_in}
 use Rattle.owned_counts.proofs.TakenOwned.{IsValue, MayEndBy}
 

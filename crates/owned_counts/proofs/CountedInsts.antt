@@ -22,21 +22,21 @@ use Rattle.accepted_runs.specs.accepted_values.run_typing.CallForms.{IsOf}
 use Rattle.accepted_runs.specs.accepted_values.run_typing.EndForms.{value_in}
 use Rattle.accepted_runs.specs.accepted_values.run_typing.Forms.{Form, forms_of}
 use Rattle.accepted_runs.proofs.accepted_values.Facts.{run_facts}
-use Rattle.stored_counts.specs.holder_counts.holder_model.Data.{AddressOf, Datum, references_in}
-use Rattle.stored_counts.specs.holder_counts.holder_model.Effects.{Change}
-use Rattle.stored_counts.specs.holder_counts.holder_model.Frames.{Entry, Frame, Operands, operands_of, results_put}
-use Rattle.stored_counts.specs.holder_counts.holder_model.HolderStates.{HolderState}
-use Rattle.stored_counts.specs.holder_counts.holder_model.Holders.{one_object}
-use Rattle.stored_counts.specs.holder_counts.holder_model.MemoryEffects.{copies_with}
-use Rattle.stored_counts.specs.holder_counts.holder_model.ModuleFacts.{facts_of, facts_told}
-use Rattle.stored_counts.specs.holder_counts.holder_model.ModuleShapes.{ModuleShapes, shapes_in, shapes_of}
-use Rattle.stored_counts.specs.holder_counts.holder_model.Outcomes.{Numbers}
-use Rattle.stored_counts.specs.holder_counts.holder_model.Standing.{stands_at}
-use Rattle.stored_counts.specs.holder_counts.holder_model.States.{Runs, Task}
-use Rattle.stored_counts.specs.holder_counts.inner.Doing as doing
-use Rattle.stored_counts.specs.holder_counts.inner.Doing.{Leaves}
-use Rattle.stored_counts.specs.holder_counts.inner.Taking.{IsBelow}
-use Rattle.stored_counts.proofs.holder_counts.Changes.{changes_told}
+use Rattle.stored_counts.specs.holder_laws.holder_model.Data.{AddressOf, Datum, references_in}
+use Rattle.stored_counts.specs.holder_laws.holder_model.Effects.{Change}
+use Rattle.stored_counts.specs.holder_laws.holder_model.Frames.{Entry, Frame, Operands, operands_of, results_put}
+use Rattle.stored_counts.specs.holder_laws.holder_model.HolderStates.{HolderState}
+use Rattle.stored_counts.specs.holder_laws.holder_model.Holders.{one_object}
+use Rattle.stored_counts.specs.holder_laws.holder_model.MemoryEffects.{copies_with}
+use Rattle.stored_counts.specs.holder_laws.holder_model.ModuleFacts.{facts_of, facts_told}
+use Rattle.stored_counts.specs.holder_laws.holder_model.ModuleShapes.{ModuleShapes, shapes_in, shapes_of}
+use Rattle.stored_counts.specs.holder_laws.holder_model.Outcomes.{Numbers}
+use Rattle.stored_counts.specs.holder_laws.holder_model.Standing.{stands_at}
+use Rattle.stored_counts.specs.holder_laws.holder_model.States.{Runs, Task}
+use Rattle.stored_counts.specs.holder_laws.inner.Counts.Doing as doing
+use Rattle.stored_counts.specs.holder_laws.inner.Counts.Doing.{Leaves}
+use Rattle.stored_counts.specs.holder_laws.inner.Counts.Taking.{IsBelow}
+use Rattle.stored_counts.proofs.holder_laws.Counts.Changes.{changes_told}
 use Rattle.stored_counts.specs.inner.Numbers.{AreCounts, IsStoredOf}
 use Rattle.stored_counts.specs.inner.Rows.{IsRowCounted}
 use Rattle.stored_counts.proofs.Items.{items_stored}
@@ -44,11 +44,11 @@ use Rattle.stored_counts.proofs.RowBalance.{rows_counted}
 use Rattle.accepted_runs.specs.typed_memory.inner.Worlds.{IsWorldOf, MemoryIs, World}
 use Rattle.accepted_runs.proofs.typed_memory.Homes.{place_read}
 use Rattle.accepted_runs.proofs.typed_memory.Referring.{WasMade, data_made, references_made}
-use Rattle.accepted_runs.specs.typed_holders.inner.TypedStates.{FrameIs, IsTypedState, TasksAre}
-use Rattle.accepted_runs.proofs.typed_holders.Data.{DataAre}
-use Rattle.accepted_runs.proofs.typed_holders.Entries.{left_typed}
-use Rattle.accepted_runs.proofs.typed_holders.GoesOn.{accepted_body, typed_module}
-use Rattle.accepted_runs.proofs.typed_holders.Operands.{operands_read}
+use Rattle.accepted_runs.specs.tracked_frames.inner.Typed.TypedStates.{FrameIs, IsTypedState, TasksAre}
+use Rattle.accepted_runs.proofs.tracked_frames.Typed.Data.{DataAre}
+use Rattle.accepted_runs.proofs.tracked_frames.Typed.Entries.{left_typed}
+use Rattle.accepted_runs.proofs.tracked_frames.Typed.GoesOn.{accepted_body, typed_module}
+use Rattle.accepted_runs.proofs.tracked_frames.Typed.Operands.{operands_read}
 use Rattle.owned_counts.specs.inner.CountedInsts.{AreInstsCounted, MakesChange}
 use Rattle.owned_counts.specs.inner.OwnedRows.{IsDone}
 use Rattle.owned_counts.proofs.OwnedInsts as inst

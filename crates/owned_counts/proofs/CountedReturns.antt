@@ -31,24 +31,24 @@ use Rattle.accepted_runs.proofs.accepted_values.Facts.{run_facts}
 use Rattle.accepted_runs.proofs.accepted_values.Suited.{suited}
 use Rattle.accepted_runs.proofs.accepted_values.lowering_laws.Lowerable.{contained}
 use Rattle.accepted_runs.proofs.accepted_values.run_typing_laws.Declared.{each_from}
-use Rattle.stored_counts.specs.holder_counts.holder_model.Data.{AddressOf, Datum, FunctionOf, ValueOf, as_value}
-use Rattle.stored_counts.specs.holder_counts.holder_model.Effects.{only}
-use Rattle.stored_counts.specs.holder_counts.holder_model.Frames.{Frame, Operands, operands_of, results_put}
-use Rattle.stored_counts.specs.holder_counts.holder_model.HolderStates.{HolderState}
-use Rattle.stored_counts.specs.holder_counts.holder_model.Holders.{of_references, one_object}
-use Rattle.stored_counts.specs.holder_counts.holder_model.ModuleFacts.{facts_of, facts_told}
-use Rattle.stored_counts.specs.holder_counts.holder_model.Standing.{stands_at}
-use Rattle.stored_counts.specs.holder_counts.holder_model.States.{Runs, Task}
-use Rattle.stored_counts.specs.holder_counts.inner.Naming.{in_data, in_datum}
-use Rattle.stored_counts.specs.holder_counts.inner.Taking.{IsBelow, references_begun, references_ended}
-use Rattle.stored_counts.proofs.holder_counts.Sums.{total_cons}
+use Rattle.stored_counts.specs.holder_laws.holder_model.Data.{AddressOf, Datum, FunctionOf, ValueOf, as_value}
+use Rattle.stored_counts.specs.holder_laws.holder_model.Effects.{only}
+use Rattle.stored_counts.specs.holder_laws.holder_model.Frames.{Frame, Operands, operands_of, results_put}
+use Rattle.stored_counts.specs.holder_laws.holder_model.HolderStates.{HolderState}
+use Rattle.stored_counts.specs.holder_laws.holder_model.Holders.{of_references, one_object}
+use Rattle.stored_counts.specs.holder_laws.holder_model.ModuleFacts.{facts_of, facts_told}
+use Rattle.stored_counts.specs.holder_laws.holder_model.Standing.{stands_at}
+use Rattle.stored_counts.specs.holder_laws.holder_model.States.{Runs, Task}
+use Rattle.stored_counts.specs.holder_laws.inner.Counts.Naming.{in_data, in_datum}
+use Rattle.stored_counts.specs.holder_laws.inner.Counts.Taking.{IsBelow, references_begun, references_ended}
+use Rattle.stored_counts.proofs.holder_laws.Counts.Sums.{total_cons}
 use Rattle.stored_counts.specs.inner.FrameTurns.{LeavesNothing}
 use Rattle.stored_counts.proofs.FrameTurns.{left_stored, returns_stored}
-use Rattle.accepted_runs.specs.typed_holders.inner.TypedStates.{EntriesAre, FrameIs, TasksAre, WaitsTyped}
-use Rattle.accepted_runs.proofs.typed_holders.Data.{read_value}
-use Rattle.accepted_runs.proofs.typed_holders.GoesOn.{Running, accepted_body, typed_module}
-use Rattle.accepted_runs.proofs.typed_holders.Performs.{defines_results}
-use Rattle.accepted_runs.proofs.typed_holders.Returns.{returned}
+use Rattle.accepted_runs.specs.tracked_frames.inner.Typed.TypedStates.{EntriesAre, FrameIs, TasksAre, WaitsTyped}
+use Rattle.accepted_runs.proofs.tracked_frames.Typed.Data.{read_value}
+use Rattle.accepted_runs.proofs.tracked_frames.Typed.GoesOn.{Running, accepted_body, typed_module}
+use Rattle.accepted_runs.proofs.tracked_frames.Typed.Performs.{defines_results}
+use Rattle.accepted_runs.proofs.tracked_frames.Typed.Returns.{returned}
 use Rattle.owned_counts.specs.inner.CountedReturns.{AreLeftCounted, AreReturnsCounted, ReturnsFrom}
 use Rattle.owned_counts.proofs.BroughtOwned.{MayHold, brings_all}
 use Rattle.owned_counts.proofs.GivenOwned.{given_as}

@@ -17,14 +17,14 @@ use Rattle.accepted_runs.specs.accepted_values.inner.Known.{kind_at}
 use Rattle.accepted_runs.specs.accepted_values.run_typing.CallForms.{IsOf}
 use Rattle.accepted_runs.specs.accepted_values.run_typing.Forms.{Form, form_of}
 use Rattle.accepted_runs.specs.accepted_values.run_typing.lowered_run.LowStepParts.{taken_value}
-use Rattle.stored_counts.specs.holder_counts.holder_model.Data.{Datum}
-use Rattle.stored_counts.specs.holder_counts.holder_model.Faults.{HolderFault}
-use Rattle.stored_counts.specs.holder_counts.holder_model.Frames.{Entry, Operands, and_more, datum_in, ends, entry_at, made_entry, operand, operand_data, operands_of}
-use Rattle.stored_counts.proofs.holder_counts.Entries.{IsLeftOf, left_of, ok_through, was_there}
-use Rattle.accepted_runs.specs.typed_holders.typed_memory.inner.Worlds.{World}
-use Rattle.accepted_runs.specs.typed_holders.inner.TypedStates.{EntriesAre, EntryIs}
-use Rattle.accepted_runs.proofs.typed_holders.Entries.{entry_fits}
-use Rattle.accepted_runs.proofs.typed_holders.Operands.{operand_there, operands_read}
+use Rattle.stored_counts.specs.holder_laws.holder_model.Data.{Datum}
+use Rattle.stored_counts.specs.holder_laws.holder_model.Faults.{HolderFault}
+use Rattle.stored_counts.specs.holder_laws.holder_model.Frames.{Entry, Operands, and_more, datum_in, ends, entry_at, made_entry, operand, operand_data, operands_of}
+use Rattle.stored_counts.proofs.holder_laws.Counts.Entries.{IsLeftOf, left_of, ok_through, was_there}
+use Rattle.accepted_runs.specs.tracked_frames.typed_memory.inner.Worlds.{World}
+use Rattle.accepted_runs.specs.tracked_frames.inner.Typed.TypedStates.{EntriesAre, EntryIs}
+use Rattle.accepted_runs.proofs.tracked_frames.Typed.Entries.{entry_fits}
+use Rattle.accepted_runs.proofs.tracked_frames.Typed.Operands.{operand_there, operands_read}
 use Rattle.owned_counts.proofs.Taken.{IsTakenAs}
 
 module _ (m : Module) (w : World) (f : Function) (entries : List Entry) (typed : EntriesAre m w f entries) where

@@ -17,13 +17,13 @@ use Rattle.accepted_runs.specs.accepted_values.accepted_modules.ownership_kinds.
 use Rattle.accepted_runs.specs.accepted_values.inner.Handed.{IsHanded, IsToldOf, TakesOver}
 use Rattle.accepted_runs.specs.accepted_values.inner.Known.{IsAcceptedBody, type_in}
 use Rattle.accepted_runs.specs.accepted_values.run_typing.EndForms.{value_in}
-use Rattle.stored_counts.specs.holder_counts.holder_model.Calling.{as_argument}
-use Rattle.stored_counts.specs.holder_counts.holder_model.Data.{Datum}
-use Rattle.stored_counts.specs.holder_counts.holder_model.Frames.{Entry}
-use Rattle.stored_counts.specs.holder_counts.holder_model.Holders.{of_references}
-use Rattle.stored_counts.specs.holder_counts.inner.Taking.{references_begun, references_ended}
+use Rattle.stored_counts.specs.holder_laws.holder_model.Calling.{as_argument}
+use Rattle.stored_counts.specs.holder_laws.holder_model.Data.{Datum}
+use Rattle.stored_counts.specs.holder_laws.holder_model.Frames.{Entry}
+use Rattle.stored_counts.specs.holder_laws.holder_model.Holders.{of_references}
+use Rattle.stored_counts.specs.holder_laws.inner.Counts.Taking.{references_begun, references_ended}
 use Rattle.accepted_runs.specs.typed_memory.inner.Worlds.{World}
-use Rattle.accepted_runs.proofs.typed_holders.Entries.{FitEach}
+use Rattle.accepted_runs.proofs.tracked_frames.Typed.Entries.{FitEach}
 use Rattle.owned_counts.proofs.Taken.{IsTakenAs}
 
 abbrev pub HasItsType : Declarations → Function → BlockArg → Type 0

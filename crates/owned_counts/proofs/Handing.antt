@@ -30,16 +30,16 @@ use Rattle.accepted_runs.specs.accepted_values.run_typing.EndForms.{value_in}
 use Rattle.accepted_runs.specs.accepted_values.run_typing.Forms.{OfValue, form_by, form_of, form_with}
 use Rattle.accepted_runs.specs.accepted_values.accepted_modules.sil_types.Typing.Values.{function_at, value_functions}
 use Rattle.accepted_runs.proofs.accepted_values.Addresses.{addresses_plain}
-use Rattle.stored_counts.specs.holder_counts.holder_model.Calling.{as_argument}
-use Rattle.stored_counts.specs.holder_counts.holder_model.Data.{AddressOf, Datum, FunctionOf, ValueOf}
-use Rattle.stored_counts.specs.holder_counts.holder_model.Frames.{Entry}
-use Rattle.stored_counts.specs.holder_counts.holder_model.Holders.{of_references}
-use Rattle.stored_counts.specs.holder_counts.inner.Naming.{in_datum}
-use Rattle.stored_counts.specs.holder_counts.inner.Taking.{owned_references, references_begun, references_ended, references_ended_by}
-use Rattle.stored_counts.proofs.holder_counts.Sums.{total_append}
+use Rattle.stored_counts.specs.holder_laws.holder_model.Calling.{as_argument}
+use Rattle.stored_counts.specs.holder_laws.holder_model.Data.{AddressOf, Datum, FunctionOf, ValueOf}
+use Rattle.stored_counts.specs.holder_laws.holder_model.Frames.{Entry}
+use Rattle.stored_counts.specs.holder_laws.holder_model.Holders.{of_references}
+use Rattle.stored_counts.specs.holder_laws.inner.Counts.Naming.{in_datum}
+use Rattle.stored_counts.specs.holder_laws.inner.Counts.Taking.{owned_references, references_begun, references_ended, references_ended_by}
+use Rattle.stored_counts.proofs.holder_laws.Counts.Sums.{total_append}
 use Rattle.accepted_runs.specs.typed_memory.inner.Worlds.{World}
-use Rattle.accepted_runs.proofs.typed_holders.Data.{IsBare, read_value}
-use Rattle.accepted_runs.proofs.typed_holders.Entries.{FitEach, Fits}
+use Rattle.accepted_runs.proofs.tracked_frames.Typed.Data.{IsBare, read_value}
+use Rattle.accepted_runs.proofs.tracked_frames.Typed.Entries.{FitEach, Fits}
 use Rattle.owned_counts.proofs.HandedOver.{AreArgumentsHanded, AreEdgesHanded, HasItsType}
 use Rattle.owned_counts.proofs.Taken.{IsTakenAs}
 use Rattle.owned_counts.proofs.TakenOwned.{ends_kind, keeps_one, taken_total}

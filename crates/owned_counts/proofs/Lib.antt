@@ -14,12 +14,10 @@ pub mod CountedInsts
 pub mod CountedReturns
 pub mod Handing
 pub use Rattle.accepted_runs.proofs.accepted_values as accepted_values
-pub use Rattle.accepted_runs.proofs.typed_holders as typed_holders
+pub use Rattle.accepted_runs.proofs.tracked_frames as tracked_frames
 pub use Rattle.accepted_runs.proofs.accepted_premises as accepted_premises
 pub use Rattle.stored_counts.proofs as stored_counts
-pub use Rattle.stored_counts.proofs.holder_steps as holder_steps
+pub use Rattle.stored_counts.proofs.holder_laws as holder_laws
 pub use Rattle.accepted_runs.proofs.accepted_trails as accepted_trails
 pub use Rattle.accepted_runs.proofs.typed_memory as typed_memory
 pub use Rattle.accepted_runs.proofs as accepted_runs
-pub use Rattle.stored_counts.proofs.holder_counts as holder_counts
-pub use Rattle.accepted_runs.proofs.guarded_entries as guarded_entries

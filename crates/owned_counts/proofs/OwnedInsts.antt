@@ -42,21 +42,21 @@ use Rattle.accepted_runs.proofs.accepted_values.lowering_laws.Lowerable.{contain
 use Rattle.accepted_runs.proofs.accepted_values.run_typing_laws.Declared.{each_from}
 use Rattle.accepted_runs.proofs.accepted_values.run_typing_laws.Rows.Known.{Known, in_owned, known}
 use Rattle.accepted_runs.proofs.accepted_values.run_typing_laws.Rows.Points.{is_at}
-use Rattle.stored_counts.specs.holder_counts.holder_model.Data.{Datum}
-use Rattle.stored_counts.specs.holder_counts.holder_model.Effects as effects
-use Rattle.stored_counts.specs.holder_counts.holder_model.Effects.{Change, Effect, effect_of}
-use Rattle.stored_counts.specs.holder_counts.holder_model.Frames.{Entry, Operands}
-use Rattle.stored_counts.specs.holder_counts.holder_model.ModuleShapes.{shapes_in, shapes_of}
-use Rattle.stored_counts.specs.holder_counts.holder_model.declared.row_effect.RowEffect.{RowEffect}
+use Rattle.stored_counts.specs.holder_laws.holder_model.Data.{Datum}
+use Rattle.stored_counts.specs.holder_laws.holder_model.Effects as effects
+use Rattle.stored_counts.specs.holder_laws.holder_model.Effects.{Change, Effect, effect_of}
+use Rattle.stored_counts.specs.holder_laws.holder_model.Frames.{Entry, Operands}
+use Rattle.stored_counts.specs.holder_laws.holder_model.ModuleShapes.{shapes_in, shapes_of}
+use Rattle.stored_counts.specs.holder_laws.holder_model.declared.row_effect.RowEffect.{RowEffect}
 use Rattle.stored_counts.specs.inner.Rows.{BringsAll, BringsNone, HandsOn, TakesAll, TakesNone}
 use Rattle.accepted_runs.specs.typed_memory.inner.Worlds.{World}
-use Rattle.accepted_runs.proofs.typed_holders.Data.{DataAre}
-use Rattle.accepted_runs.proofs.typed_holders.Effects.{Changed, EffectFits}
-use Rattle.accepted_runs.proofs.typed_holders.Entries.{fit_data, operands_fit}
-use Rattle.accepted_runs.proofs.typed_holders.GoesOn.{typed_module}
-use Rattle.accepted_runs.proofs.typed_holders.Performs.{defines_results}
-use Rattle.accepted_runs.proofs.typed_holders.RowForms.{row_fits}
-use Rattle.accepted_runs.proofs.typed_holders.ShapesTold.{result_told}
+use Rattle.accepted_runs.proofs.tracked_frames.Typed.Data.{DataAre}
+use Rattle.accepted_runs.proofs.tracked_frames.Typed.Effects.{Changed, EffectFits}
+use Rattle.accepted_runs.proofs.tracked_frames.Typed.Entries.{fit_data, operands_fit}
+use Rattle.accepted_runs.proofs.tracked_frames.Typed.GoesOn.{typed_module}
+use Rattle.accepted_runs.proofs.tracked_frames.Typed.Performs.{defines_results}
+use Rattle.accepted_runs.proofs.tracked_frames.Typed.RowForms.{row_fits}
+use Rattle.accepted_runs.proofs.tracked_frames.Typed.ShapesTold.{result_told}
 use Rattle.owned_counts.specs.inner.OwnedRows.{IsDone}
 use Rattle.owned_counts.proofs.BroughtOwned.{brings_all, brings_none}
 use Rattle.owned_counts.proofs.GivenOwned.{given_as}

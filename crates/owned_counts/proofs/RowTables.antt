@@ -16,9 +16,9 @@ use Rattle.item_operands.specs.Roles.{by_row, last_roles, roles_for, taken_each}
 use Rattle.item_operands.specs.declared.taken.Taken.{Taken}
 use Rattle.ownership_marks.specs.Marks.{ends_owned}
 use Rattle.accepted_runs.specs.accepted_values.accepted_modules.sil_types.Typing.FormRules.{may_stand_owned}
-use Rattle.stored_counts.specs.holder_counts.holder_model.Effects.{effect_of}
-use Rattle.stored_counts.specs.holder_counts.holder_model.declared.row_effect.RowEffect.{RowEffect}
-use Rattle.stored_counts.specs.holder_counts.holder_model.declared.row_effect.RowEffect.TheVariants as row
+use Rattle.stored_counts.specs.holder_laws.holder_model.Effects.{effect_of}
+use Rattle.stored_counts.specs.holder_laws.holder_model.declared.row_effect.RowEffect.{RowEffect}
+use Rattle.stored_counts.specs.holder_laws.holder_model.declared.row_effect.RowEffect.TheVariants as row
 
 -- an operand of this role stays
 abbrev pub stays : Role → Bool

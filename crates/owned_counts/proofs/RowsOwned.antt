@@ -41,25 +41,25 @@ use Rattle.accepted_runs.specs.accepted_values.run_typing.StorageForms.{IsNamed}
 use Rattle.accepted_runs.specs.accepted_values.run_typing.lowered_run.LowEffects.{is_first_write}
 use Rattle.accepted_runs.specs.accepted_values.run_typing.lowered_run.Operation.{Operation}
 use Rattle.accepted_runs.specs.accepted_values.run_typing.lowered_run.Operation.TheVariants as operation
-use Rattle.stored_counts.specs.holder_counts.holder_model.Data.{AddressOf, Datum, ValueOf, references_in}
-use Rattle.stored_counts.specs.holder_counts.holder_model.Effects as effects
-use Rattle.stored_counts.specs.holder_counts.holder_model.Effects.{Change, Effect, Faults, effect_by, effect_of, unchanged}
-use Rattle.stored_counts.specs.holder_counts.holder_model.Faults.{HolderFault, NamesDead, NotLastSlot}
-use Rattle.stored_counts.specs.holder_counts.holder_model.Frames.{Entry, Operands, and_more, any_dead, datum_in, datum_or_fault, ends}
-use Rattle.stored_counts.specs.holder_counts.holder_model.Frames.{entry_at, operand, operand_data, operands_of, unless_dead, used_datum, with_ok}
-use Rattle.stored_counts.specs.holder_counts.holder_model.Holders.{in_cells, of_references}
-use Rattle.stored_counts.specs.holder_counts.holder_model.MemoryEffects as memory_effects
-use Rattle.stored_counts.specs.holder_counts.holder_model.MemoryEffects.{asked_before, at_places, fault_of, holds, references_at, takes, where_held}
-use Rattle.stored_counts.specs.holder_counts.holder_model.ModuleShapes.{shapes_in, shapes_of}
-use Rattle.stored_counts.specs.holder_counts.holder_model.Outcomes.{Numbers}
-use Rattle.stored_counts.specs.holder_counts.holder_model.declared.row_effect.RowEffect.{RowEffect}
-use Rattle.stored_counts.specs.holder_counts.holder_model.declared.row_effect.RowEffect.TheVariants as row
-use Rattle.stored_counts.specs.holder_counts.inner.Keeping.{IsAliveAt, IsWithin}
-use Rattle.stored_counts.specs.holder_counts.inner.Naming.{IsAlive}
-use Rattle.stored_counts.specs.holder_counts.inner.Taking.{references_ended, references_ended_by}
-use Rattle.stored_counts.proofs.holder_counts.Alive.{alive_home}
-use Rattle.stored_counts.proofs.holder_counts.Entries.{chosen_ok, ok_through}
-use Rattle.stored_counts.proofs.holder_counts.Sums.{total_append}
+use Rattle.stored_counts.specs.holder_laws.holder_model.Data.{AddressOf, Datum, ValueOf, references_in}
+use Rattle.stored_counts.specs.holder_laws.holder_model.Effects as effects
+use Rattle.stored_counts.specs.holder_laws.holder_model.Effects.{Change, Effect, Faults, effect_by, effect_of, unchanged}
+use Rattle.stored_counts.specs.holder_laws.holder_model.Faults.{HolderFault, NamesDead, NotLastSlot}
+use Rattle.stored_counts.specs.holder_laws.holder_model.Frames.{Entry, Operands, and_more, any_dead, datum_in, datum_or_fault, ends}
+use Rattle.stored_counts.specs.holder_laws.holder_model.Frames.{entry_at, operand, operand_data, operands_of, unless_dead, used_datum, with_ok}
+use Rattle.stored_counts.specs.holder_laws.holder_model.Holders.{in_cells, of_references}
+use Rattle.stored_counts.specs.holder_laws.holder_model.MemoryEffects as memory_effects
+use Rattle.stored_counts.specs.holder_laws.holder_model.MemoryEffects.{asked_before, at_places, fault_of, holds, references_at, takes, where_held}
+use Rattle.stored_counts.specs.holder_laws.holder_model.ModuleShapes.{shapes_in, shapes_of}
+use Rattle.stored_counts.specs.holder_laws.holder_model.Outcomes.{Numbers}
+use Rattle.stored_counts.specs.holder_laws.holder_model.declared.row_effect.RowEffect.{RowEffect}
+use Rattle.stored_counts.specs.holder_laws.holder_model.declared.row_effect.RowEffect.TheVariants as row
+use Rattle.stored_counts.specs.holder_laws.inner.Counts.Keeping.{IsAliveAt, IsWithin}
+use Rattle.stored_counts.specs.holder_laws.inner.Counts.Naming.{IsAlive}
+use Rattle.stored_counts.specs.holder_laws.inner.Counts.Taking.{references_ended, references_ended_by}
+use Rattle.stored_counts.proofs.holder_laws.Counts.Alive.{alive_home}
+use Rattle.stored_counts.proofs.holder_laws.Counts.Entries.{chosen_ok, ok_through}
+use Rattle.stored_counts.proofs.holder_laws.Counts.Sums.{total_append}
 use Rattle.stored_counts.specs.inner.Numbers.{AreNamesStored}
 use Rattle.stored_counts.specs.inner.Rows.{BringsAll, BringsNone, HandsOn, IsRemoved, IsTaken, KeepNone, Loads, Owns, Stores, TakesNone}
 use Rattle.stored_counts.proofs.RowsMade.{IsChange}
@@ -67,8 +67,8 @@ use Rattle.accepted_runs.specs.typed_memory.inner.Worlds.{DatumIs, PlaceIs, Suit
 use Rattle.accepted_runs.proofs.typed_memory.Homes.{PlaceCells, place_cells}
 use Rattle.accepted_runs.proofs.typed_memory.StoredValues.{named_suits_storage}
 use Rattle.accepted_runs.proofs.typed_memory.Trivials.{no_references}
-use Rattle.accepted_runs.proofs.typed_holders.Data.{DataAre, read_place, read_value}
-use Rattle.accepted_runs.proofs.typed_holders.Operands.{operands_read}
+use Rattle.accepted_runs.proofs.tracked_frames.Typed.Data.{DataAre, read_place, read_value}
+use Rattle.accepted_runs.proofs.tracked_frames.Typed.Operands.{operands_read}
 use Rattle.owned_counts.specs.inner.OwnedRows.{AreRowsOwned, HasItsWords, IsDone, LoadsBy, StoresBy}
 use Rattle.owned_counts.proofs.BroughtOwned.{brings_bare}
 use Rattle.owned_counts.proofs.OwnedInsts as inst

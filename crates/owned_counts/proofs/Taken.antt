@@ -6,9 +6,9 @@ use Rattle.ownership_chains.specs.declared.facts.Facts.{Facts}
 use Rattle.sil_ast.specs.declared.place.ValueId.{ValueId}
 use Rattle.type_definitions.specs.declared.kind.Kind.{Kind}
 use Rattle.type_definitions.specs.declared.kind.Kind.TheVariants as kind
-use Rattle.stored_counts.specs.holder_counts.holder_model.Data.{Datum}
-use Rattle.stored_counts.specs.holder_counts.holder_model.Frames.{Entry, datum_in, entry_at, made_entry}
-use Rattle.accepted_runs.proofs.typed_holders.Data.{IsBare}
+use Rattle.stored_counts.specs.holder_laws.holder_model.Data.{Datum}
+use Rattle.stored_counts.specs.holder_laws.holder_model.Frames.{Entry, datum_in, entry_at, made_entry}
+use Rattle.accepted_runs.proofs.tracked_frames.Typed.Data.{IsBare}
 
 module _ (facts : ValueId → Option Facts) (entries : List Entry) where
   abbrev pub kind_in : ValueId → Kind

@@ -14,16 +14,16 @@ use Rattle.sil_ast.specs.declared.place.ValueId.{ValueId}
 use Rattle.type_definitions.specs.declared.kind.Kind.{Kind}
 use Rattle.type_definitions.specs.declared.kind.Kind.TheVariants as kind
 use Rattle.run_values.specs.Values.{Value}
-use Rattle.stored_counts.specs.holder_counts.holder_model.Data.{AddressOf, Datum, FunctionOf, ValueOf}
-use Rattle.stored_counts.specs.holder_counts.holder_model.Frames.{Entry, Held, datum_in, ends, entry_at, has_any, held_references, made_entry}
-use Rattle.stored_counts.specs.holder_counts.holder_model.HolderStates.{in_entry}
-use Rattle.stored_counts.specs.holder_counts.holder_model.Holders.{of_references}
-use Rattle.stored_counts.specs.holder_counts.inner.Naming.{in_data, in_datum}
-use Rattle.stored_counts.specs.holder_counts.inner.Taking.{owned_references, references_ended, references_ended_by}
-use Rattle.stored_counts.proofs.holder_counts.Entries.{made_total}
-use Rattle.stored_counts.proofs.holder_counts.Sums.{total_append, total_cons}
+use Rattle.stored_counts.specs.holder_laws.holder_model.Data.{AddressOf, Datum, FunctionOf, ValueOf}
+use Rattle.stored_counts.specs.holder_laws.holder_model.Frames.{Entry, Held, datum_in, ends, entry_at, has_any, held_references, made_entry}
+use Rattle.stored_counts.specs.holder_laws.holder_model.HolderStates.{in_entry}
+use Rattle.stored_counts.specs.holder_laws.holder_model.Holders.{of_references}
+use Rattle.stored_counts.specs.holder_laws.inner.Counts.Naming.{in_data, in_datum}
+use Rattle.stored_counts.specs.holder_laws.inner.Counts.Taking.{owned_references, references_ended, references_ended_by}
+use Rattle.stored_counts.proofs.holder_laws.Counts.Entries.{made_total}
+use Rattle.stored_counts.proofs.holder_laws.Counts.Sums.{total_append, total_cons}
 use Rattle.stored_counts.specs.inner.Rows.{TakesAll, TakesNone}
-use Rattle.accepted_runs.proofs.typed_holders.Data.{IsBare}
+use Rattle.accepted_runs.proofs.tracked_frames.Typed.Data.{IsBare}
 use Rattle.owned_counts.proofs.Taken.{IsTakenAs, kind_in}
 
 -- the role ends a value of this kind

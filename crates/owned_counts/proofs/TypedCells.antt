@@ -18,10 +18,10 @@ use Rattle.value_parts.specs.inner.Storages.{holds_no_storage, no_storage_layer}
 use Rattle.value_parts.proofs.Inductions.{InParts, by_parts}
 use Rattle.value_parts.proofs.Cells.{cells_back, cells_length}
 use Rattle.value_parts.proofs.Suiting.{suits_fits}
-use Rattle.stored_counts.specs.holder_counts.holder_model.Holders.{in_cell, in_cells, of_references, same_storage}
-use Rattle.stored_counts.specs.holder_counts.inner.Keeping.{KeepsStrongly}
-use Rattle.stored_counts.proofs.holder_counts.Sums.{total_cons}
-use Rattle.stored_counts.proofs.holder_counts.Values.{read_counted}
+use Rattle.stored_counts.specs.holder_laws.holder_model.Holders.{in_cell, in_cells, of_references, same_storage}
+use Rattle.stored_counts.specs.holder_laws.inner.Counts.Keeping.{KeepsStrongly}
+use Rattle.stored_counts.proofs.holder_laws.Counts.Sums.{total_cons}
+use Rattle.stored_counts.proofs.holder_laws.Counts.Values.{read_counted}
 use Rattle.stored_counts.specs.inner.Rows.{KeepNone}
 use Rattle.accepted_runs.specs.typed_memory.inner.Worlds.{CellIs, Suits, World, cell_shapes, each_cell_shapes, names}
 use Rattle.accepted_runs.proofs.typed_memory.CellsTyped.{cells_typed}

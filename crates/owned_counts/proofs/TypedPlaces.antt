@@ -14,8 +14,8 @@ use Rattle.run_values.specs.Memory.{Memory, object_at}
 use Rattle.run_values.specs.Places.{Place, cells_at, home_cells}
 use Rattle.run_values.specs.Shapes.{Shape}
 use Rattle.run_values.specs.Values.{Value, references_of}
-use Rattle.stored_counts.specs.holder_counts.holder_model.Outcomes.{Numbers}
-use Rattle.stored_counts.specs.holder_counts.inner.Keeping.{IsAliveAt, IsWithin}
+use Rattle.stored_counts.specs.holder_laws.holder_model.Outcomes.{Numbers}
+use Rattle.stored_counts.specs.holder_laws.inner.Counts.Keeping.{IsAliveAt, IsWithin}
 use Rattle.stored_counts.specs.inner.Numbers.{AreNamesStored, IsStoredOf}
 use Rattle.accepted_runs.specs.typed_memory.inner.Worlds.{CellIs, CellsAre, IsIn, MemoryIs, ObjectIs, PlaceIs, Suits, World, cell_shapes, fields_of_class}
 use Rattle.accepted_runs.proofs.typed_memory.CellShapes.{place_within, shape_count}

@@ -10,12 +10,12 @@ use Rattle.accepted_runs.specs.accepted_values.owned_run_typing.inner.OwnedRows.
 use Rattle.accepted_runs.specs.accepted_values.run_typing.Forms.{Form, OfValue}
 use Rattle.accepted_runs.specs.accepted_values.run_typing.RowForms as lowered
 use Rattle.accepted_runs.specs.accepted_values.run_typing.RowForms.{RowForms}
-use Rattle.stored_counts.specs.holder_counts.holder_model.Data.{Datum}
-use Rattle.stored_counts.specs.holder_counts.holder_model.Effects.{effect_of}
-use Rattle.stored_counts.specs.holder_counts.holder_model.declared.row_effect.RowEffect.{RowEffect}
-use Rattle.stored_counts.specs.holder_counts.holder_model.declared.row_effect.RowEffect.TheVariants as row
+use Rattle.stored_counts.specs.holder_laws.holder_model.Data.{Datum}
+use Rattle.stored_counts.specs.holder_laws.holder_model.Effects.{effect_of}
+use Rattle.stored_counts.specs.holder_laws.holder_model.declared.row_effect.RowEffect.{RowEffect}
+use Rattle.stored_counts.specs.holder_laws.holder_model.declared.row_effect.RowEffect.TheVariants as row
 use Rattle.accepted_runs.specs.typed_memory.inner.Worlds.{World}
-use Rattle.accepted_runs.proofs.typed_holders.Data.{DataAre, read_value}
+use Rattle.accepted_runs.proofs.tracked_frames.Typed.Data.{DataAre, read_value}
 use Rattle.owned_counts.proofs.TakenOwned.{IsValue}
 
 abbrev pub IsValueForm : Form → Type 0

@@ -52,15 +52,15 @@ use Rattle.accepted_runs.proofs.accepted_values.run_typing_laws.Rows.Known.{Know
 use Rattle.accepted_runs.proofs.accepted_values.run_typing_laws.Rows.Memory.{loaded, stored}
 use Rattle.accepted_runs.proofs.accepted_values.run_typing_laws.Rows.Points.{is_at}
 use Rattle.accepted_runs.proofs.accepted_values.run_typing_laws.Rows.Shares.{of_parts, one_operand, taken_from, two_operands}
-use Rattle.stored_counts.specs.holder_counts.holder_model.Data.{AddressOf, Datum}
-use Rattle.stored_counts.specs.holder_counts.holder_model.Effects.{Change, effect_of}
-use Rattle.stored_counts.specs.holder_counts.holder_model.Frames.{Entry, Operands}
-use Rattle.stored_counts.specs.holder_counts.holder_model.MemoryEffects.{copies_with, takes}
-use Rattle.stored_counts.specs.holder_counts.holder_model.declared.row_effect.RowEffect.{RowEffect}
-use Rattle.stored_counts.specs.holder_counts.holder_model.declared.row_effect.RowEffect.TheVariants as row
+use Rattle.stored_counts.specs.holder_laws.holder_model.Data.{AddressOf, Datum}
+use Rattle.stored_counts.specs.holder_laws.holder_model.Effects.{Change, effect_of}
+use Rattle.stored_counts.specs.holder_laws.holder_model.Frames.{Entry, Operands}
+use Rattle.stored_counts.specs.holder_laws.holder_model.MemoryEffects.{copies_with, takes}
+use Rattle.stored_counts.specs.holder_laws.holder_model.declared.row_effect.RowEffect.{RowEffect}
+use Rattle.stored_counts.specs.holder_laws.holder_model.declared.row_effect.RowEffect.TheVariants as row
 use Rattle.accepted_runs.specs.typed_memory.inner.Worlds.{World}
-use Rattle.accepted_runs.proofs.typed_holders.Data.{DataAre, read_place}
-use Rattle.accepted_runs.proofs.typed_holders.TrivialShapes.{trivial_shape}
+use Rattle.accepted_runs.proofs.tracked_frames.Typed.Data.{DataAre, read_place}
+use Rattle.accepted_runs.proofs.tracked_frames.Typed.TrivialShapes.{trivial_shape}
 use Rattle.owned_counts.specs.inner.OwnedRows.{HasItsWords, IsDone, IsStorageOf, LoadsBy, StoresBy}
 use Rattle.owned_counts.proofs.OwnedInsts as inst
 

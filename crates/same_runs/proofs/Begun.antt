@@ -22,11 +22,11 @@ use Rattle.stored_runs.specs.lowered_run.LowFrames.{LowFrame, no_values}
 use Rattle.stored_runs.specs.lowered_run.LowOutcomes.{low_begins}
 use Rattle.stored_runs.specs.lowered_run.LowStepParts.{new_frame}
 use Rattle.stored_runs.specs.lowering_laws.lowering_model.LoweredModules.{lowered_body}
-use Rattle.stored_runs.proofs.holder_counts.Sums.{total_none}
+use Rattle.stored_runs.proofs.holder_laws.Counts.Sums.{total_none}
 use Rattle.stored_runs.specs.stored_counts.inner.Numbers.{AreCounts, holders_of}
 use Rattle.stored_runs.proofs.stored_counts.Turns.{same_numbers}
-use Rattle.stored_runs.proofs.typed_holders.GoesOn.{accepted_body}
-use Rattle.stored_runs.proofs.typed_holders.TypedSteps.{begin_typed}
+use Rattle.stored_runs.proofs.tracked_frames.Typed.GoesOn.{accepted_body}
+use Rattle.stored_runs.proofs.tracked_frames.Typed.TypedSteps.{begin_typed}
 use Rattle.stored_runs.specs.inner.Frames.{IsFrameFor, IsTaskFor}
 use Rattle.stored_runs.specs.inner.Lowering.{LowersSo}
 use Rattle.stored_runs.specs.inner.Names.{lowered_number}

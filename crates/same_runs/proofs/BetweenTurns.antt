@@ -34,13 +34,13 @@ use Rattle.stored_runs.specs.lowered_run.LowStepParts.{LowNext, LowState}
 use Rattle.stored_runs.specs.lowered_run.LowSteps as lowered_run
 use Rattle.stored_runs.specs.lowered_run.Stored.{no_numbers, numbers_of}
 use Rattle.stored_runs.specs.lowering_laws.lowering_model.LoweredModules.{lowered, lowered_body}
-use Rattle.stored_runs.specs.holder_steps.inner.Ways.{Acts, DropsOne, Enters, FinishesOne, GoesBehind, Leaves, Performs, Reaches, StepsBy, TakesEdge}
-use Rattle.stored_runs.proofs.holder_steps.StepsTold.{steps_told}
+use Rattle.stored_runs.specs.holder_laws.inner.Steps.Ways.{Acts, DropsOne, Enters, FinishesOne, GoesBehind, Leaves, Performs, Reaches, StepsBy, TakesEdge}
+use Rattle.stored_runs.proofs.holder_laws.Steps.StepsTold.{steps_told}
 use Rattle.stored_runs.specs.stored_counts.inner.Numbers.{AreCounts}
 use Rattle.stored_runs.specs.owned_counts.inner.CountedReturns.{ReturnsFrom}
 use Rattle.stored_runs.proofs.owned_counts.CountedReturns.{left_counted}
-use Rattle.stored_runs.specs.typed_holders.inner.TypedStates.{IsTypedState}
-use Rattle.stored_runs.proofs.typed_holders.TypedSteps.{steps_typed}
+use Rattle.stored_runs.specs.tracked_frames.inner.Typed.TypedStates.{IsTypedState}
+use Rattle.stored_runs.proofs.tracked_frames.Typed.TypedSteps.{steps_typed}
 use Rattle.stored_runs.specs.inner.PlaceRows.{LowGoes}
 use Rattle.stored_runs.specs.inner.States.{IsStateFor}
 use Rattle.stored_runs.specs.inner.TypedSteps.{IsTypedFor}

@@ -46,26 +46,26 @@ use Rattle.stored_runs.specs.lowered_run.holder_model.Outcomes.{Numbers}
 use Rattle.stored_runs.specs.lowered_run.holder_model.Standing.{stands_at}
 use Rattle.stored_runs.specs.lowered_run.holder_model.States.{Drops, Finishes, Runs, Task}
 use Rattle.stored_runs.specs.lowered_run.holder_model.Steps as holder_run
-use Rattle.stored_runs.specs.holder_counts.inner.Taking.{IsBelow, references_begun, references_ended}
-use Rattle.stored_runs.specs.holder_steps.inner.Ways.{Acts, Enters, GoesBehind, Performs, StepsBy, left_with, lent_at, turned, waiting}
-use Rattle.stored_runs.proofs.holder_steps.StepsTold.{steps_told}
+use Rattle.stored_runs.specs.holder_laws.inner.Counts.Taking.{IsBelow, references_begun, references_ended}
+use Rattle.stored_runs.specs.holder_laws.inner.Steps.Ways.{Acts, Enters, GoesBehind, Performs, StepsBy, left_with, lent_at, turned, waiting}
+use Rattle.stored_runs.proofs.holder_laws.Steps.StepsTold.{steps_told}
 use Rattle.stored_runs.specs.stored_counts.inner.Numbers.{AreCounts}
 use Rattle.stored_runs.proofs.stored_counts.FrameTurns.{calls_stored}
 use Rattle.stored_runs.proofs.stored_counts.Turns.{kept_stored}
 use Rattle.stored_runs.proofs.owned_counts.BroughtOwned.{brings_bare}
 use Rattle.stored_runs.proofs.CallsAlone.{op_of}
-use Rattle.stored_runs.proofs.guarded_entries.held_places.CallsPlaced as placed
-use Rattle.stored_runs.proofs.guarded_entries.held_places.CallsPlaced.{CallsBody}
-use Rattle.stored_runs.proofs.guarded_entries.held_places.FirstFrames.{IsFirst}
-use Rattle.stored_runs.proofs.guarded_entries.held_places.Lent.{lent_inside}
-use Rattle.stored_runs.proofs.guarded_entries.held_places.TrailsSo.{trail_laws}
-use Rattle.stored_runs.proofs.guarded_entries.held_places.TypingSo.{typing_laws}
-use Rattle.stored_runs.specs.guarded_entries.held_places.inner.FramePlaces.{HoldsPlaces}
-use Rattle.stored_runs.specs.guarded_entries.held_places.inner.PlaceStates.{TasksPlaced}
-use Rattle.stored_runs.specs.typed_holders.inner.TypedStates.{EntriesAre, FrameIs, TasksAre}
-use Rattle.stored_runs.specs.typed_holders.typed_memory.inner.Worlds.{World}
-use Rattle.stored_runs.proofs.typed_holders.Entries.{fit_data, operands_fit}
-use Rattle.stored_runs.proofs.typed_holders.GoesOn.{accepted_body}
+use Rattle.stored_runs.proofs.accepted_runs.tracked_frames.Placed.CallsPlaced as placed
+use Rattle.stored_runs.proofs.accepted_runs.tracked_frames.Placed.CallsPlaced.{CallsBody}
+use Rattle.stored_runs.proofs.accepted_runs.tracked_frames.Placed.FirstFrames.{IsFirst}
+use Rattle.stored_runs.proofs.accepted_runs.tracked_frames.Placed.Lent.{lent_inside}
+use Rattle.stored_runs.proofs.accepted_runs.tracked_frames.Placed.TrailsSo.{trail_laws}
+use Rattle.stored_runs.proofs.accepted_runs.tracked_frames.Placed.TypingSo.{typing_laws}
+use Rattle.stored_runs.specs.accepted_runs.tracked_frames.inner.Placed.FramePlaces.{HoldsPlaces}
+use Rattle.stored_runs.specs.accepted_runs.tracked_frames.inner.Placed.PlaceStates.{TasksPlaced}
+use Rattle.stored_runs.specs.tracked_frames.inner.Typed.TypedStates.{EntriesAre, FrameIs, TasksAre}
+use Rattle.stored_runs.specs.tracked_frames.typed_memory.inner.Worlds.{World}
+use Rattle.stored_runs.proofs.tracked_frames.Typed.Entries.{fit_data, operands_fit}
+use Rattle.stored_runs.proofs.tracked_frames.Typed.GoesOn.{accepted_body}
 use Rattle.same_runs.specs.inner.Owed.{AreCallsCounted, AtInst, effect_there}
 use Rattle.same_runs.proofs.CallsCountedArguments.{NamesNothing, args_fit, arguments_hold, bare_ended, given, named_function, numbers_bare}
 use Rattle.same_runs.proofs.CallsCountedPlaces.{HoldsTheSame, handed_same, lent_typed, may_be_handed}

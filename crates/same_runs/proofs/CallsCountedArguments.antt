@@ -50,17 +50,17 @@ use Rattle.stored_runs.specs.lowered_run.holder_model.Calling.{as_argument}
 use Rattle.stored_runs.specs.lowered_run.holder_model.Data.{AddressOf, Datum, FunctionOf, ValueOf, all_of, as_function, as_value, references_in, values_of, with_first}
 use Rattle.stored_runs.specs.lowered_run.holder_model.Frames.{Entry, Operands, operands_of}
 use Rattle.stored_runs.specs.lowered_run.holder_model.Holders.{of_references}
-use Rattle.stored_runs.specs.holder_counts.inner.Taking.{owned_references, references_begun, references_ended, references_ended_by}
-use Rattle.stored_runs.proofs.holder_counts.Sums.{total_append}
+use Rattle.stored_runs.specs.holder_laws.inner.Counts.Taking.{owned_references, references_begun, references_ended, references_ended_by}
+use Rattle.stored_runs.proofs.holder_laws.Counts.Sums.{total_append}
 use Rattle.stored_runs.proofs.owned_counts.GivenOwned.{given_as}
 use Rattle.stored_runs.proofs.owned_counts.HandedOver.{HasItsType}
 use Rattle.stored_runs.proofs.owned_counts.Handing.{arguments_handed}
 use Rattle.stored_runs.proofs.owned_counts.Taken.{IsTakenAs, kind_in}
 use Rattle.stored_runs.proofs.owned_counts.TakenOwned.{ends_kind, keeps_one, taken_total}
-use Rattle.stored_runs.specs.typed_holders.inner.TypedStates.{EntriesAre}
-use Rattle.stored_runs.specs.typed_holders.typed_memory.inner.Worlds.{DatumIs, World}
-use Rattle.stored_runs.proofs.typed_holders.Entries.{FitEach, operands_fit}
-use Rattle.stored_runs.proofs.typed_holders.GoesOn.{typed_module}
+use Rattle.stored_runs.specs.tracked_frames.inner.Typed.TypedStates.{EntriesAre}
+use Rattle.stored_runs.specs.tracked_frames.typed_memory.inner.Worlds.{DatumIs, World}
+use Rattle.stored_runs.proofs.tracked_frames.Typed.Entries.{FitEach, operands_fit}
+use Rattle.stored_runs.proofs.tracked_frames.Typed.GoesOn.{typed_module}
 
 -- ---- operands that name nothing
 

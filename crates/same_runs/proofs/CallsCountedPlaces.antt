@@ -16,8 +16,8 @@ use Rattle.sil_ast.specs.declared.decl.Storage.{Storage}
 use Rattle.sil_ast.specs.declared.module.Module.{Module}
 use Rattle.sil_ast.specs.declared.place.ObjectId.{ObjectId}
 use Rattle.stored_runs.specs.accepted_values.run_typing.Forms.{Form}
-use Rattle.stored_runs.specs.holder_counts.inner.Keeping.{IsAliveAt}
-use Rattle.stored_runs.proofs.holder_counts.Places.{emptied_counted}
+use Rattle.stored_runs.specs.holder_laws.inner.Counts.Keeping.{IsAliveAt}
+use Rattle.stored_runs.proofs.holder_laws.Counts.Places.{emptied_counted}
 use Rattle.stored_runs.specs.lowered_run.holder_model.Calling.{are_as_before, emptied_for, handed_over, is_as_before, lent_places, lent_with}
 use Rattle.stored_runs.specs.lowered_run.holder_model.Data.{Datum, as_place}
 use Rattle.stored_runs.specs.lowered_run.holder_model.Frames.{LentPlace}
@@ -25,8 +25,8 @@ use Rattle.stored_runs.specs.lowered_run.holder_model.Holders.{in_memory}
 use Rattle.stored_runs.specs.lowered_run.holder_model.MemoryEffects.{holds}
 use Rattle.stored_runs.proofs.owned_counts.TypedCells.{empty_place}
 use Rattle.stored_runs.proofs.owned_counts.TypedPlaces.{typed_within}
-use Rattle.stored_runs.specs.typed_holders.typed_memory.inner.Worlds.{DatumIs, MemoryIs, PlaceIs, World}
-use Rattle.stored_runs.proofs.typed_holders.Data.{DataAre}
+use Rattle.stored_runs.specs.tracked_frames.typed_memory.inner.Worlds.{DatumIs, MemoryIs, PlaceIs, World}
+use Rattle.stored_runs.proofs.tracked_frames.Typed.Data.{DataAre}
 use Rattle.stored_runs.proofs.typed_memory.Homes.{place_cells, place_emptied}
 
 -- ---- empty cells stay empty where others are emptied

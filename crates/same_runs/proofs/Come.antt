@@ -10,8 +10,8 @@ use Rattle.stored_runs.specs.lowered_run.holder_model.ModuleFacts.{facts_of}
 use Rattle.stored_runs.specs.lowered_run.holder_model.Outcomes.{begins, run}
 use Rattle.stored_runs.specs.lowered_run.holder_model.States.{Ends, Faulted, Goes, step_on}
 use Rattle.stored_runs.specs.lowered_run.holder_model.Steps as holder_run
-use Rattle.stored_runs.specs.typed_holders.inner.TypedStates.{IsTypedState}
-use Rattle.stored_runs.proofs.typed_holders.TypedSteps.{begin_typed, steps_typed}
+use Rattle.stored_runs.specs.tracked_frames.inner.Typed.TypedStates.{IsTypedState}
+use Rattle.stored_runs.proofs.tracked_frames.Typed.TypedSteps.{begin_typed, steps_typed}
 use Rattle.same_runs.specs.inner.Owed.{IsComeTo}
 use Rattle.same_runs.proofs.DeinitsCalled.{AreCalled, begin_called, steps_called}
 

@@ -47,16 +47,16 @@ use Rattle.stored_runs.specs.lowered_run.holder_model.Holders.{of_references}
 use Rattle.stored_runs.specs.lowered_run.holder_model.ModuleFacts.{facts_of, facts_told}
 use Rattle.stored_runs.specs.lowered_run.holder_model.Standing.{stands_at}
 use Rattle.stored_runs.specs.lowered_run.holder_model.States.{Task}
-use Rattle.stored_runs.specs.holder_counts.inner.Naming.{in_data, in_datum}
-use Rattle.stored_runs.specs.holder_counts.inner.Taking.{references_begun, references_ended, references_ended_by}
-use Rattle.stored_runs.proofs.holder_counts.Sums.{total_append, total_cons}
-use Rattle.stored_runs.specs.holder_steps.inner.Ways as ways
-use Rattle.stored_runs.specs.holder_steps.inner.Ways.{StandsAtEnd}
+use Rattle.stored_runs.specs.holder_laws.inner.Counts.Naming.{in_data, in_datum}
+use Rattle.stored_runs.specs.holder_laws.inner.Counts.Taking.{references_begun, references_ended, references_ended_by}
+use Rattle.stored_runs.proofs.holder_laws.Counts.Sums.{total_append, total_cons}
+use Rattle.stored_runs.specs.holder_laws.inner.Steps.Ways as ways
+use Rattle.stored_runs.specs.holder_laws.inner.Steps.Ways.{StandsAtEnd}
 use Rattle.stored_runs.proofs.owned_counts.BroughtOwned.{HoldsNothing, MayHold, brings_all, brings_none}
 use Rattle.stored_runs.proofs.owned_counts.GivenOwned.{given_as}
 use Rattle.stored_runs.proofs.owned_counts.Taken.{IsTakenAs}
 use Rattle.stored_runs.proofs.owned_counts.TakenOwned.{GivesUp, IsValue, Keeps, gives_one, keeps_one, takes_all}
-use Rattle.stored_runs.proofs.typed_holders.GoesOn.{Running, accepted_body}
+use Rattle.stored_runs.proofs.tracked_frames.Typed.GoesOn.{Running, accepted_body}
 
 -- ---- lists
 

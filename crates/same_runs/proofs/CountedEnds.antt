@@ -48,17 +48,17 @@ use Rattle.stored_runs.specs.lowered_run.holder_model.Outcomes.{Numbers}
 use Rattle.stored_runs.specs.lowered_run.holder_model.Standing.{stands_at}
 use Rattle.stored_runs.specs.lowered_run.holder_model.States.{Ends, Goes, Runs, Task}
 use Rattle.stored_runs.specs.lowered_run.LowStepParts.{taken_value}
-use Rattle.stored_runs.specs.holder_counts.inner.Taking.{IsBelow, references_begun, references_ended}
-use Rattle.stored_runs.specs.holder_steps.inner.Ways.{Chooses, GoesBehind, StandsAtEnd, TakesEdge, left_with, operands_in, turned}
+use Rattle.stored_runs.specs.holder_laws.inner.Counts.Taking.{IsBelow, references_begun, references_ended}
+use Rattle.stored_runs.specs.holder_laws.inner.Steps.Ways.{Chooses, GoesBehind, StandsAtEnd, TakesEdge, left_with, operands_in, turned}
 use Rattle.stored_runs.specs.stored_counts.inner.Numbers.{AreCounts}
 use Rattle.stored_runs.proofs.stored_counts.Turns.{kept_stored}
 use Rattle.stored_runs.proofs.owned_counts.TakenOwned.{IsValue, Keeps}
 use Rattle.stored_runs.proofs.typed_memory.Grouped.{enum_choice}
-use Rattle.stored_runs.specs.typed_holders.typed_memory.inner.Worlds.{Suits, World, names}
-use Rattle.stored_runs.proofs.typed_holders.Data.{read_value}
-use Rattle.stored_runs.proofs.typed_holders.Edges.{end_forms, one_operand}
-use Rattle.stored_runs.proofs.typed_holders.Entries.{FitEach, operands_fit}
-use Rattle.stored_runs.proofs.typed_holders.GoesOn.{Running, accepted_body}
+use Rattle.stored_runs.specs.tracked_frames.typed_memory.inner.Worlds.{Suits, World, names}
+use Rattle.stored_runs.proofs.tracked_frames.Typed.Data.{read_value}
+use Rattle.stored_runs.proofs.tracked_frames.Typed.Edges.{end_forms, one_operand}
+use Rattle.stored_runs.proofs.tracked_frames.Typed.Entries.{FitEach, operands_fit}
+use Rattle.stored_runs.proofs.tracked_frames.Typed.GoesOn.{Running, accepted_body}
 use Rattle.value_parts.specs.inner.Choices.{IsChoice}
 use Rattle.stored_runs.proofs.TypedEnds.{IsOfValue, case_bare, edges_by, takes_values}
 use Rattle.same_runs.proofs.CountedEdges.{Balances, IsCase, branch_balances, cond_op, br_op, one_by, switch_balances, switch_op}

@@ -17,10 +17,10 @@ use Rattle.stored_runs.specs.lowered_run.holder_model.Holders.{of_references, on
 use Rattle.stored_runs.specs.lowered_run.holder_model.ModuleFacts.{facts_of, facts_told}
 use Rattle.stored_runs.specs.lowered_run.holder_model.Outcomes.{Numbers}
 use Rattle.stored_runs.specs.lowered_run.holder_model.States.{Runs, Task}
-use Rattle.stored_runs.specs.holder_counts.inner.Taking.{IsBelow, in_entries, references_begun, references_ended}
-use Rattle.stored_runs.proofs.holder_counts.Moves.{items_counted}
-use Rattle.stored_runs.proofs.holder_counts.Sums.{total_cons}
-use Rattle.stored_runs.specs.holder_steps.inner.Ways.{left_with, moved, operands_in}
+use Rattle.stored_runs.specs.holder_laws.inner.Counts.Taking.{IsBelow, in_entries, references_begun, references_ended}
+use Rattle.stored_runs.proofs.holder_laws.Counts.Moves.{items_counted}
+use Rattle.stored_runs.proofs.holder_laws.Counts.Sums.{total_cons}
+use Rattle.stored_runs.specs.holder_laws.inner.Steps.Ways.{left_with, moved, operands_in}
 use Rattle.stored_runs.specs.stored_counts.inner.Numbers.{AreCounts}
 use Rattle.stored_runs.proofs.stored_counts.Turns.{kept_stored}
 

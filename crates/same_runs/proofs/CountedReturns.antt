@@ -13,11 +13,11 @@ use Rattle.stored_runs.specs.lowered_run.holder_model.Holders.{one_object}
 use Rattle.stored_runs.specs.lowered_run.holder_model.ModuleFacts.{facts_of, facts_told}
 use Rattle.stored_runs.specs.lowered_run.holder_model.Standing.{stands_at}
 use Rattle.stored_runs.specs.lowered_run.holder_model.States.{Task}
-use Rattle.stored_runs.specs.holder_counts.inner.Naming.{in_data, in_datum}
-use Rattle.stored_runs.specs.holder_counts.inner.Taking.{in_entries}
-use Rattle.stored_runs.proofs.holder_counts.Entries.{ends_counted}
-use Rattle.stored_runs.proofs.holder_counts.Moves.{operands_are}
-use Rattle.stored_runs.proofs.holder_counts.Sums.{total_cons}
+use Rattle.stored_runs.specs.holder_laws.inner.Counts.Naming.{in_data, in_datum}
+use Rattle.stored_runs.specs.holder_laws.inner.Counts.Taking.{in_entries}
+use Rattle.stored_runs.proofs.holder_laws.Counts.Entries.{ends_counted}
+use Rattle.stored_runs.proofs.holder_laws.Counts.Moves.{operands_are}
+use Rattle.stored_runs.proofs.holder_laws.Counts.Sums.{total_cons}
 use Rattle.stored_runs.specs.owned_counts.inner.CountedReturns.{ReturnsFrom}
 use Rattle.stored_runs.proofs.owned_counts.CountedReturns.{ended}
 use Rattle.same_runs.proofs.CountedMoves.{none_held}

@@ -47,22 +47,22 @@ use Rattle.stored_runs.specs.lowered_run.holder_model.Outcomes.{Numbers}
 use Rattle.stored_runs.specs.lowered_run.holder_model.Standing.{stands_at}
 use Rattle.stored_runs.specs.lowered_run.holder_model.StepParts.{new_frame}
 use Rattle.stored_runs.specs.lowered_run.holder_model.States.{Finishes, Runs, Task}
-use Rattle.stored_runs.specs.holder_counts.inner.Moving.{in_tasks}
-use Rattle.stored_runs.specs.holder_counts.inner.Naming.{in_datum}
-use Rattle.stored_runs.specs.holder_counts.inner.Taking.{references_begun}
-use Rattle.stored_runs.proofs.holder_counts.Moves.{entries_counted, first_task}
-use Rattle.stored_runs.specs.holder_steps.inner.Ways.{Acts, Enters, GoesBehind, Leaves, Reaches, StandsAtEnd, left_with, operands_in, turned}
+use Rattle.stored_runs.specs.holder_laws.inner.Counts.Moving.{in_tasks}
+use Rattle.stored_runs.specs.holder_laws.inner.Counts.Naming.{in_datum}
+use Rattle.stored_runs.specs.holder_laws.inner.Counts.Taking.{references_begun}
+use Rattle.stored_runs.proofs.holder_laws.Counts.Moves.{entries_counted, first_task}
+use Rattle.stored_runs.specs.holder_laws.inner.Steps.Ways.{Acts, Enters, GoesBehind, Leaves, Reaches, StandsAtEnd, left_with, operands_in, turned}
 use Rattle.stored_runs.specs.stored_counts.inner.Numbers.{AreCounts}
 use Rattle.stored_runs.proofs.stored_counts.Turns.{kept_stored, tasks_stored}
 use Rattle.stored_runs.proofs.owned_counts.BroughtOwned.{HoldsNothing, brings_none}
 use Rattle.stored_runs.proofs.owned_counts.TakenOwned.{IsValue}
 use Rattle.stored_runs.specs.owned_counts.inner.CountedReturns.{ReturnsFrom}
 use Rattle.stored_runs.proofs.owned_counts.CountedReturns.{returns_counted}
-use Rattle.stored_runs.specs.typed_holders.inner.TypedStates.{IsTypedState}
-use Rattle.stored_runs.proofs.typed_holders.Data.{IsBare, bare_where, read_value}
-use Rattle.stored_runs.proofs.typed_holders.GoesOn.{Running, accepted_body}
-use Rattle.stored_runs.specs.typed_holders.typed_memory.inner.Worlds.{DatumIs}
-use Rattle.stored_runs.proofs.typed_holders.Returns.{returned}
+use Rattle.stored_runs.specs.tracked_frames.inner.Typed.TypedStates.{IsTypedState}
+use Rattle.stored_runs.proofs.tracked_frames.Typed.Data.{IsBare, bare_where, read_value}
+use Rattle.stored_runs.proofs.tracked_frames.Typed.GoesOn.{Running, accepted_body}
+use Rattle.stored_runs.specs.tracked_frames.typed_memory.inner.Worlds.{DatumIs}
+use Rattle.stored_runs.proofs.tracked_frames.Typed.Returns.{returned}
 use Rattle.same_runs.proofs.CountedEnds.{CountedNext, branch_counted, chosen_counted}
 use Rattle.same_runs.proofs.CountedReturns.{returned_total}
 use Rattle.same_runs.proofs.DeinitBodies.{HasDeinit, deinit_body}

@@ -23,11 +23,11 @@ use Rattle.stored_runs.specs.lowered_run.holder_model.ModuleFacts.{ModuleFacts, 
 use Rattle.stored_runs.specs.lowered_run.holder_model.Standing.{stands_at}
 use Rattle.stored_runs.specs.lowered_run.holder_model.States.{Ends, Goes, Runs, Task, dropping}
 use Rattle.stored_runs.specs.lowered_run.holder_model.Steps as steps
-use Rattle.stored_runs.specs.holder_steps.inner.Ways.{Acts, DropsOne, Enters, FinishesOne, GoesBehind, Leaves, Performs, Reaches, StepsBy, TakesEdge, left_with, lent_at}
-use Rattle.stored_runs.proofs.holder_steps.StepsTold.{steps_told}
-use Rattle.stored_runs.proofs.holder_steps.TaskStacks.{below_another, going_dropping}
-use Rattle.stored_runs.specs.typed_holders.inner.TypedStates.{IsTypedState, TasksAre}
-use Rattle.stored_runs.specs.holder_steps.inner.Stacks.{Below, Going}
+use Rattle.stored_runs.specs.holder_laws.inner.Steps.Ways.{Acts, DropsOne, Enters, FinishesOne, GoesBehind, Leaves, Performs, Reaches, StepsBy, TakesEdge, left_with, lent_at}
+use Rattle.stored_runs.proofs.holder_laws.Steps.StepsTold.{steps_told}
+use Rattle.stored_runs.proofs.holder_laws.Steps.TaskStacks.{below_another, going_dropping}
+use Rattle.stored_runs.specs.tracked_frames.inner.Typed.TypedStates.{IsTypedState, TasksAre}
+use Rattle.stored_runs.specs.holder_laws.inner.Steps.Stacks.{Below, Going}
 use Rattle.stored_runs.specs.lowered_run.holder_model.Outcomes.{begins}
 use Rattle.stored_runs.specs.lowered_run.holder_model.StepParts.{new_frame}
 use Rattle.numbered_form.specs.Names.{Name}

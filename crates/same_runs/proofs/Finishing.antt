@@ -24,12 +24,12 @@ use Rattle.stored_runs.specs.lowered_run.LowStepParts.{LowNext, LowState}
 use Rattle.stored_runs.specs.lowered_run.LowSteps as steps
 use Rattle.stored_runs.specs.lowered_run.Stored.{unnamed}
 use Rattle.stored_runs.specs.lowering_laws.lowering_model.LoweredModules.{lowered}
-use Rattle.stored_runs.specs.holder_steps.inner.Ways as holder
+use Rattle.stored_runs.specs.holder_laws.inner.Steps.Ways as holder
 use Rattle.stored_runs.specs.lowered_steps.inner.LowWays as ways
 use Rattle.stored_runs.proofs.lowered_steps.LowTaken.{told_taken}
-use Rattle.stored_runs.specs.holder_counts.inner.Moving.{in_tasks}
-use Rattle.stored_runs.proofs.holder_counts.Moves.{deinits_counted, drops_counted}
-use Rattle.stored_runs.proofs.holder_counts.Places.{phases_counted}
+use Rattle.stored_runs.specs.holder_laws.inner.Counts.Moving.{in_tasks}
+use Rattle.stored_runs.proofs.holder_laws.Counts.Moves.{deinits_counted, drops_counted}
+use Rattle.stored_runs.proofs.holder_laws.Counts.Places.{phases_counted}
 use Rattle.stored_runs.specs.stored_counts.inner.Numbers.{AreCounts, AreNamesStored, holders_of}
 use Rattle.stored_runs.proofs.stored_counts.Turns.{deaths_stored, same_numbers, tasks_stored}
 use Rattle.stored_runs.specs.inner.Frames.{AreTasksFor, HasFullParts}

@@ -12,26 +12,26 @@ use Rattle.argument_conventions.specs.declared.row.Content.TheVariants as conten
 use Rattle.item_operands.specs.Items.{item_defined, item_taken}
 use Rattle.item_operands.specs.declared.taken.Taken.{Taken}
 use Rattle.numbered_form.specs.Lists.{Each}
-use Rattle.stored_runs.proofs.guarded_entries.held_places.CallsPlaced as placed
-use Rattle.stored_runs.proofs.guarded_entries.held_places.CallsPlaced.{CallsBody}
-use Rattle.stored_runs.proofs.guarded_entries.held_places.FirstFrames.{IsFirst, body}
-use Rattle.stored_runs.proofs.guarded_entries.held_places.Keeping.{slot_no_part}
-use Rattle.stored_runs.proofs.guarded_entries.held_places.Lending.{lent_by_one, part_full}
-use Rattle.stored_runs.proofs.guarded_entries.held_places.Reading.{operand_within}
-use Rattle.stored_runs.proofs.guarded_entries.held_places.TrailsSo.{trail_laws}
-use Rattle.stored_runs.proofs.guarded_entries.held_places.TypingSo.{typing_laws}
-use Rattle.stored_runs.proofs.guarded_entries.held_places.placed_values.ArgumentsTold.{entry_source}
-use Rattle.stored_runs.specs.guarded_entries.held_places.accepted_memory.memory_accesses.Operations.{operations_of}
-use Rattle.stored_runs.specs.guarded_entries.held_places.accepted_memory.memory_accesses.Rows.{is_part}
-use Rattle.stored_runs.specs.guarded_entries.held_places.accepted_memory.memory_accesses.Sources.{argument_source_or, handed_source, source_at, sources_of}
-use Rattle.stored_runs.specs.guarded_entries.held_places.accepted_memory.memory_accesses.declared.source.Source.{Source}
-use Rattle.stored_runs.specs.guarded_entries.held_places.accepted_memory.memory_accesses.declared.source.Source.TheVariants as source
-use Rattle.stored_runs.specs.guarded_entries.held_places.accepted_places.inner.Stacks.{slots_on}
-use Rattle.stored_runs.specs.guarded_entries.held_places.inner.FramePlaces.{HoldsPlaces, Names}
-use Rattle.stored_runs.specs.guarded_entries.held_places.inner.PlaceStates.{TasksPlaced}
-use Rattle.stored_runs.specs.guarded_entries.held_places.inner.Premises.{HandsOver, ReadsOperands}
-use Rattle.stored_runs.specs.guarded_entries.held_places.inner.Roots.{IsThere}
-use Rattle.stored_runs.specs.guarded_entries.held_places.inner.TakenPlaces.{AreAlike}
+use Rattle.stored_runs.proofs.accepted_runs.tracked_frames.Placed.CallsPlaced as placed
+use Rattle.stored_runs.proofs.accepted_runs.tracked_frames.Placed.CallsPlaced.{CallsBody}
+use Rattle.stored_runs.proofs.accepted_runs.tracked_frames.Placed.FirstFrames.{IsFirst, body}
+use Rattle.stored_runs.proofs.accepted_runs.tracked_frames.Placed.Keeping.{slot_no_part}
+use Rattle.stored_runs.proofs.accepted_runs.tracked_frames.Placed.Lending.{lent_by_one, part_full}
+use Rattle.stored_runs.proofs.accepted_runs.tracked_frames.Placed.Reading.{operand_within}
+use Rattle.stored_runs.proofs.accepted_runs.tracked_frames.Placed.TrailsSo.{trail_laws}
+use Rattle.stored_runs.proofs.accepted_runs.tracked_frames.Placed.TypingSo.{typing_laws}
+use Rattle.stored_runs.proofs.accepted_runs.tracked_frames.placed_values.ArgumentsTold.{entry_source}
+use Rattle.stored_runs.specs.accepted_runs.tracked_frames.accepted_memory.memory_accesses.Operations.{operations_of}
+use Rattle.stored_runs.specs.accepted_runs.tracked_frames.accepted_memory.memory_accesses.Rows.{is_part}
+use Rattle.stored_runs.specs.accepted_runs.tracked_frames.accepted_memory.memory_accesses.Sources.{argument_source_or, handed_source, source_at, sources_of}
+use Rattle.stored_runs.specs.accepted_runs.tracked_frames.accepted_memory.memory_accesses.declared.source.Source.{Source}
+use Rattle.stored_runs.specs.accepted_runs.tracked_frames.accepted_memory.memory_accesses.declared.source.Source.TheVariants as source
+use Rattle.stored_runs.specs.accepted_runs.tracked_frames.accepted_places.inner.Stacks.{slots_on}
+use Rattle.stored_runs.specs.accepted_runs.tracked_frames.inner.Placed.FramePlaces.{HoldsPlaces, Names}
+use Rattle.stored_runs.specs.accepted_runs.tracked_frames.inner.Placed.PlaceStates.{TasksPlaced}
+use Rattle.stored_runs.specs.accepted_runs.tracked_frames.inner.Placed.Premises.{HandsOver, ReadsOperands}
+use Rattle.stored_runs.specs.accepted_runs.tracked_frames.inner.Placed.Roots.{IsThere}
+use Rattle.stored_runs.specs.accepted_runs.tracked_frames.inner.Placed.TakenPlaces.{AreAlike}
 use Rattle.point_checks.proofs.Among.{Among, among_left, among_right}
 use Rattle.run_values.specs.Memory.{Memory}
 use Rattle.run_values.specs.Places.{Place, is_there_at, value_at}
@@ -57,8 +57,8 @@ use Rattle.stored_runs.specs.lowered_run.holder_model.ModuleFacts.{facts_of, fac
 use Rattle.stored_runs.specs.lowered_run.holder_model.ModuleShapes.{shapes_in, shapes_of}
 use Rattle.stored_runs.specs.lowered_run.holder_model.Standing.{stands_at}
 use Rattle.stored_runs.specs.lowered_run.holder_model.States.{Runs, Task}
-use Rattle.stored_runs.specs.typed_holders.inner.TypedStates.{FrameIs, TasksAre}
-use Rattle.stored_runs.proofs.typed_holders.GoesOn.{accepted_body}
+use Rattle.stored_runs.specs.tracked_frames.inner.Typed.TypedStates.{FrameIs, TasksAre}
+use Rattle.stored_runs.proofs.tracked_frames.Typed.GoesOn.{accepted_body}
 use Rattle.stored_runs.specs.inner.CallsAlong.{lent_in}
 use Rattle.stored_runs.specs.inner.Entering.{IsAddressFor, IsFullPart}
 use Rattle.same_runs.specs.inner.Owed.{ArePartsHandedFull, AtInst, effect_there}

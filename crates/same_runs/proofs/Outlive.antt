@@ -7,17 +7,17 @@ use Rattle.argument_conventions.specs.Rows.{address_row}
 use Rattle.argument_conventions.specs.declared.row.AddressRow.{AddressRow}
 use Rattle.item_operands.specs.Items.{item_defined}
 use Rattle.numbered_form.specs.Lists.{Each}
-use Rattle.stored_runs.proofs.guarded_entries.held_places.accepted_places.Fields.{has_among}
-use Rattle.stored_runs.proofs.guarded_entries.held_places.accepted_places.Naming.{MakesAddress, address_made}
-use Rattle.stored_runs.proofs.guarded_entries.held_places.accepted_values.Counted.{stands}
-use Rattle.stored_runs.proofs.guarded_entries.held_places.placed_values.ArgumentsTold.{entry_source}
-use Rattle.stored_runs.specs.guarded_entries.held_places.accepted_memory.memory_accesses.Sources.{argument_source_or, handed_source, source_at, sources_of}
-use Rattle.stored_runs.specs.guarded_entries.held_places.accepted_memory.memory_accesses.declared.source.Source.{Source}
-use Rattle.stored_runs.specs.guarded_entries.held_places.accepted_memory.memory_accesses.declared.source.Source.TheVariants as source
-use Rattle.stored_runs.specs.guarded_entries.held_places.accepted_places.inner.Located.{IsRoot}
-use Rattle.stored_runs.specs.guarded_entries.held_places.inner.FramePlaces.{HoldsPlaces}
-use Rattle.stored_runs.specs.guarded_entries.held_places.inner.PlaceStates.{BelowPlaced, TasksPlaced}
-use Rattle.stored_runs.specs.guarded_entries.held_places.inner.Roots.{argument}
+use Rattle.stored_runs.proofs.accepted_runs.tracked_frames.accepted_places.Fields.{has_among}
+use Rattle.stored_runs.proofs.accepted_runs.tracked_frames.accepted_places.Naming.{MakesAddress, address_made}
+use Rattle.stored_runs.proofs.accepted_runs.tracked_frames.accepted_values.Counted.{stands}
+use Rattle.stored_runs.proofs.accepted_runs.tracked_frames.placed_values.ArgumentsTold.{entry_source}
+use Rattle.stored_runs.specs.accepted_runs.tracked_frames.accepted_memory.memory_accesses.Sources.{argument_source_or, handed_source, source_at, sources_of}
+use Rattle.stored_runs.specs.accepted_runs.tracked_frames.accepted_memory.memory_accesses.declared.source.Source.{Source}
+use Rattle.stored_runs.specs.accepted_runs.tracked_frames.accepted_memory.memory_accesses.declared.source.Source.TheVariants as source
+use Rattle.stored_runs.specs.accepted_runs.tracked_frames.accepted_places.inner.Located.{IsRoot}
+use Rattle.stored_runs.specs.accepted_runs.tracked_frames.inner.Placed.FramePlaces.{HoldsPlaces}
+use Rattle.stored_runs.specs.accepted_runs.tracked_frames.inner.Placed.PlaceStates.{BelowPlaced, TasksPlaced}
+use Rattle.stored_runs.specs.accepted_runs.tracked_frames.inner.Placed.Roots.{argument}
 use Rattle.point_checks.proofs.Among.{contained_among}
 use Rattle.run_values.specs.Cells.{cell_count, in_cells}
 use Rattle.run_values.specs.Memory.{Memory, object_at, with_object}
@@ -42,10 +42,10 @@ use Rattle.stored_runs.specs.lowered_run.holder_model.Frames.{Frame}
 use Rattle.stored_runs.specs.lowered_run.holder_model.States.{Drops, Finishes, Runs, Task}
 use Rattle.stored_runs.specs.lowered_run.LowFrames as low_frames
 use Rattle.stored_runs.specs.lowered_run.LowFrames.{LowFrame}
-use Rattle.stored_runs.specs.typed_holders.inner.TypedStates.{DeinitsTyped, DroppedTyped, FinishedTyped, FrameIs, GoesTyped, TasksAre, WaitsTyped}
-use Rattle.stored_runs.specs.typed_holders.holder_steps.inner.Stacks.{Below}
-use Rattle.stored_runs.specs.typed_holders.typed_memory.inner.Worlds.{World}
-use Rattle.stored_runs.proofs.typed_holders.GoesOn.{accepted_body}
+use Rattle.stored_runs.specs.tracked_frames.inner.Typed.TypedStates.{DeinitsTyped, DroppedTyped, FinishedTyped, FrameIs, GoesTyped, TasksAre, WaitsTyped}
+use Rattle.stored_runs.specs.tracked_frames.holder_laws.inner.Steps.Stacks.{Below}
+use Rattle.stored_runs.specs.tracked_frames.typed_memory.inner.Worlds.{World}
+use Rattle.stored_runs.proofs.tracked_frames.Typed.GoesOn.{accepted_body}
 use Rattle.stored_runs.specs.inner.Frames.{AreTasksFor, AreValuesFor, HasFullParts, IsDatumFor, IsFrameFor, IsGivenPlace, IsTaskFor}
 use Rattle.stored_runs.specs.inner.Lowering.{IsOwnName}
 use Rattle.stored_runs.specs.inner.Names.{IsCurrent, lowered_number}

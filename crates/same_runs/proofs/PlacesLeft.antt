@@ -22,37 +22,37 @@ use Rattle.sil_ast.specs.declared.place.PointId.{PointId}
 use Rattle.sil_ast.specs.declared.place.ValueId.{ValueId}
 use Rattle.sil_cfg.specs.declared.item.Item.TheVariants as item
 use Rattle.type_definitions.specs.Declarations.{declarations_of}
-use Rattle.stored_runs.specs.memory_cells.inner.Cells.{has_cell}
-use Rattle.stored_runs.proofs.memory_cells.PlaceCells.{not_cell}
+use Rattle.stored_runs.specs.holder_laws.inner.Cells.Cells.{has_cell}
+use Rattle.stored_runs.proofs.holder_laws.Cells.PlaceCells.{not_cell}
 use Rattle.stored_runs.specs.accepted_values.accepted_modules.inner.Checked.{IsVerified}
 use Rattle.stored_runs.specs.accepted_values.inner.Known.{IsAcceptedBody}
 use Rattle.stored_runs.specs.accepted_runs.inner.RightStates.{IsRightState}
-use Rattle.stored_runs.specs.followed_objects.inner.Said.{said}
-use Rattle.stored_runs.specs.held_objects.built_objects.inner.FrameObjects.{HoldsObjects}
-use Rattle.stored_runs.specs.held_objects.inner.ObjectStates.{TasksBuild}
-use Rattle.stored_runs.proofs.guarded_entries.held_places.AtItem as at_item
-use Rattle.stored_runs.proofs.guarded_entries.held_places.AtSlots as at_slots
-use Rattle.stored_runs.proofs.guarded_entries.held_places.AtSlots.{Deallocates, StandsHere}
-use Rattle.stored_runs.proofs.guarded_entries.held_places.Locating.{IsInObject, IsOperandAt, operand_at}
-use Rattle.stored_runs.proofs.guarded_entries.held_places.PlaceRows.{DoesOne, does_second, named_first}
-use Rattle.stored_runs.proofs.guarded_entries.held_places.Reading.{operand_within}
-use Rattle.stored_runs.proofs.guarded_entries.held_places.RowsAt.{Removes, is_at_one, is_removal, is_store, removal}
-use Rattle.stored_runs.proofs.guarded_entries.held_places.RowsPlaced.{StandsBefore, operand_among}
-use Rattle.stored_runs.proofs.guarded_entries.held_places.TrailsSo.{trail_laws}
-use Rattle.stored_runs.proofs.guarded_entries.held_places.TypingSo.{typing_laws}
-use Rattle.stored_runs.proofs.guarded_entries.held_places.accepted_places.OperationsRight.{of_slots}
-use Rattle.stored_runs.specs.guarded_entries.held_places.accepted_memory.memory_accesses.Operations.{access_kind_of, load_operation, operated, operation_by}
-use Rattle.stored_runs.specs.guarded_entries.held_places.accepted_memory.memory_accesses.Rows.{has_by, is_part}
-use Rattle.stored_runs.specs.guarded_entries.held_places.accepted_memory.memory_accesses.Sources.{is_slot_source, source_at, sources_of}
-use Rattle.stored_runs.specs.guarded_entries.held_places.accepted_memory.memory_accesses.declared.access.Operation.TheVariants as operation
-use Rattle.stored_runs.specs.guarded_entries.held_places.accepted_memory.memory_accesses.declared.source.Source.{Source}
-use Rattle.stored_runs.specs.guarded_entries.held_places.accepted_memory.memory_accesses.declared.source.Source.TheVariants as source
-use Rattle.stored_runs.specs.guarded_entries.held_places.inner.FramePlaces.{HoldsPlaces, Names}
-use Rattle.stored_runs.specs.guarded_entries.held_places.inner.Items.{StandsAtItem}
-use Rattle.stored_runs.specs.guarded_entries.held_places.inner.PlaceStates.{TasksPlaced}
-use Rattle.stored_runs.specs.guarded_entries.held_places.inner.Roots.{IsThere, argument, is_shared, is_shared_source}
-use Rattle.stored_runs.specs.guarded_entries.held_places.inner.TakenPlaces.{AreNamedBy}
-use Rattle.stored_runs.specs.holder_steps.inner.Ways.{left_with}
+use Rattle.stored_runs.specs.accepted_runs.inner.Built.Said.{said}
+use Rattle.stored_runs.specs.holder_laws.inner.Built.FrameObjects.{HoldsObjects}
+use Rattle.stored_runs.specs.holder_laws.inner.Held.ObjectStates.{TasksBuild}
+use Rattle.stored_runs.proofs.accepted_runs.tracked_frames.Placed.AtItem as at_item
+use Rattle.stored_runs.proofs.accepted_runs.tracked_frames.Placed.AtSlots as at_slots
+use Rattle.stored_runs.proofs.accepted_runs.tracked_frames.Placed.AtSlots.{Deallocates, StandsHere}
+use Rattle.stored_runs.proofs.accepted_runs.tracked_frames.Placed.Locating.{IsInObject, IsOperandAt, operand_at}
+use Rattle.stored_runs.proofs.accepted_runs.tracked_frames.Placed.PlaceRows.{DoesOne, does_second, named_first}
+use Rattle.stored_runs.proofs.accepted_runs.tracked_frames.Placed.Reading.{operand_within}
+use Rattle.stored_runs.proofs.accepted_runs.tracked_frames.Placed.RowsAt.{Removes, is_at_one, is_removal, is_store, removal}
+use Rattle.stored_runs.proofs.accepted_runs.tracked_frames.Placed.RowsPlaced.{StandsBefore, operand_among}
+use Rattle.stored_runs.proofs.accepted_runs.tracked_frames.Placed.TrailsSo.{trail_laws}
+use Rattle.stored_runs.proofs.accepted_runs.tracked_frames.Placed.TypingSo.{typing_laws}
+use Rattle.stored_runs.proofs.accepted_runs.tracked_frames.accepted_places.OperationsRight.{of_slots}
+use Rattle.stored_runs.specs.accepted_runs.tracked_frames.accepted_memory.memory_accesses.Operations.{access_kind_of, load_operation, operated, operation_by}
+use Rattle.stored_runs.specs.accepted_runs.tracked_frames.accepted_memory.memory_accesses.Rows.{has_by, is_part}
+use Rattle.stored_runs.specs.accepted_runs.tracked_frames.accepted_memory.memory_accesses.Sources.{is_slot_source, source_at, sources_of}
+use Rattle.stored_runs.specs.accepted_runs.tracked_frames.accepted_memory.memory_accesses.declared.access.Operation.TheVariants as operation
+use Rattle.stored_runs.specs.accepted_runs.tracked_frames.accepted_memory.memory_accesses.declared.source.Source.{Source}
+use Rattle.stored_runs.specs.accepted_runs.tracked_frames.accepted_memory.memory_accesses.declared.source.Source.TheVariants as source
+use Rattle.stored_runs.specs.accepted_runs.tracked_frames.inner.Placed.FramePlaces.{HoldsPlaces, Names}
+use Rattle.stored_runs.specs.accepted_runs.tracked_frames.inner.Placed.Items.{StandsAtItem}
+use Rattle.stored_runs.specs.accepted_runs.tracked_frames.inner.Placed.PlaceStates.{TasksPlaced}
+use Rattle.stored_runs.specs.accepted_runs.tracked_frames.inner.Placed.Roots.{IsThere, argument, is_shared, is_shared_source}
+use Rattle.stored_runs.specs.accepted_runs.tracked_frames.inner.Placed.TakenPlaces.{AreNamedBy}
+use Rattle.stored_runs.specs.holder_laws.inner.Steps.Ways.{left_with}
 use Rattle.stored_runs.specs.lowered_run.holder_model.Data.{AddressOf, ValueOf}
 use Rattle.stored_runs.specs.lowered_run.holder_model.Effects.{effect_of}
 use Rattle.stored_runs.specs.lowered_run.holder_model.Frames.{Frame}
@@ -63,7 +63,7 @@ use Rattle.stored_runs.specs.lowered_run.holder_model.Standing.{stands_at}
 use Rattle.stored_runs.specs.lowered_run.holder_model.States.{Runs}
 use Rattle.stored_runs.specs.lowered_run.holder_model.declared.row_effect.RowEffect.TheVariants as row
 use Rattle.stored_runs.specs.lowered_run.LowStepParts.{LowState}
-use Rattle.stored_runs.specs.typed_holders.inner.TypedStates.{FrameIs, TasksAre}
+use Rattle.stored_runs.specs.tracked_frames.inner.Typed.TypedStates.{FrameIs, TasksAre}
 use Rattle.stored_runs.specs.inner.Frames.{HasFullParts}
 use Rattle.stored_runs.specs.inner.TypedSteps.{IsTypedFor}
 use Rattle.stored_runs.proofs.TypedInsts.{given_typed, operand_forms}

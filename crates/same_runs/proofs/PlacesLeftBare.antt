@@ -36,10 +36,10 @@ use Rattle.stored_runs.proofs.accepted_values.run_typing_laws.Rows.Finding.{fail
 use Rattle.stored_runs.proofs.accepted_values.run_typing_laws.Rows.Layers.{target-Address}
 use Rattle.stored_runs.proofs.accepted_values.run_typing_laws.Rows.Mentioned.{function_named}
 use Rattle.stored_runs.proofs.accepted_values.run_typing_laws.Rows.Storage.{behind_address, object_in_storage}
-use Rattle.stored_runs.specs.guarded_entries.held_places.accepted_memory.memory_accesses.Sources.{source_at, sources_of}
-use Rattle.stored_runs.specs.guarded_entries.held_places.tracked_frames.placed_values.inner.Arguments.{IsTold}
-use Rattle.stored_runs.proofs.guarded_entries.held_places.accepted_places.Made.{argument_there}
-use Rattle.stored_runs.proofs.guarded_entries.held_places.placed_values.ArgumentsTold.{arguments_told}
+use Rattle.stored_runs.specs.accepted_runs.tracked_frames.accepted_memory.memory_accesses.Sources.{source_at, sources_of}
+use Rattle.stored_runs.specs.accepted_runs.tracked_frames.placed_values.inner.Arguments.{IsTold}
+use Rattle.stored_runs.proofs.accepted_runs.tracked_frames.accepted_places.Made.{argument_there}
+use Rattle.stored_runs.proofs.accepted_runs.tracked_frames.placed_values.ArgumentsTold.{arguments_told}
 use Rattle.stored_runs.specs.inner.Frames.{IsGivenPlace}
 use Rattle.same_runs.proofs.Outlive.{IsArgumentSource, given_source}
 

@@ -14,27 +14,27 @@ use Rattle.sil_ast.specs.declared.module.Module.{Module}
 use Rattle.sil_ast.specs.declared.place.ValueId.{ValueId}
 use Rattle.sil_cfg.specs.declared.item.Item.TheVariants as item
 use Rattle.type_definitions.specs.Declarations.{declarations_of}
-use Rattle.stored_runs.specs.memory_cells.inner.Cells.{has_cell}
-use Rattle.stored_runs.proofs.memory_cells.PlaceCells.{not_cell}
+use Rattle.stored_runs.specs.holder_laws.inner.Cells.Cells.{has_cell}
+use Rattle.stored_runs.proofs.holder_laws.Cells.PlaceCells.{not_cell}
 use Rattle.stored_runs.specs.accepted_values.accepted_modules.inner.Checked.{IsVerified}
 use Rattle.stored_runs.specs.accepted_values.accepted_modules.sil_types.Typing.Shapes.{is_trivial_object}
 use Rattle.stored_runs.specs.accepted_values.inner.Known.{IsAcceptedBody}
-use Rattle.stored_runs.proofs.guarded_entries.held_places.Calls.{among_any}
-use Rattle.stored_runs.proofs.guarded_entries.held_places.Given.{given_from, mapped_get}
-use Rattle.stored_runs.proofs.guarded_entries.held_places.placed_values.ArgumentsTold.{told_arguments}
-use Rattle.stored_runs.specs.guarded_entries.held_places.accepted_memory.memory_accesses.Sources.{handed_source, source_at, sources_of}
-use Rattle.stored_runs.specs.guarded_entries.held_places.accepted_memory.memory_accesses.declared.source.Source.TheVariants as source
-use Rattle.stored_runs.specs.guarded_entries.held_places.inner.FramePlaces.{Frees, IsFree, Names, is_lent, lends}
-use Rattle.stored_runs.specs.guarded_entries.held_places.inner.PlaceStates.{BelowPlaced, TasksPlaced, as_given}
-use Rattle.stored_runs.specs.guarded_entries.held_places.inner.Roots.{argument}
+use Rattle.stored_runs.proofs.accepted_runs.tracked_frames.Placed.Calls.{among_any}
+use Rattle.stored_runs.proofs.accepted_runs.tracked_frames.Placed.Given.{given_from, mapped_get}
+use Rattle.stored_runs.proofs.accepted_runs.tracked_frames.placed_values.ArgumentsTold.{told_arguments}
+use Rattle.stored_runs.specs.accepted_runs.tracked_frames.accepted_memory.memory_accesses.Sources.{handed_source, source_at, sources_of}
+use Rattle.stored_runs.specs.accepted_runs.tracked_frames.accepted_memory.memory_accesses.declared.source.Source.TheVariants as source
+use Rattle.stored_runs.specs.accepted_runs.tracked_frames.inner.Placed.FramePlaces.{Frees, IsFree, Names, is_lent, lends}
+use Rattle.stored_runs.specs.accepted_runs.tracked_frames.inner.Placed.PlaceStates.{BelowPlaced, TasksPlaced, as_given}
+use Rattle.stored_runs.specs.accepted_runs.tracked_frames.inner.Placed.Roots.{argument}
 use Rattle.stored_runs.specs.lowered_run.holder_model.Calling.{argument_data, places_given}
 use Rattle.stored_runs.specs.lowered_run.holder_model.Data.{AddressOf}
 use Rattle.stored_runs.specs.lowered_run.holder_model.Frames.{Frame, LentPlace, datum_in, entry_at, has_any}
 use Rattle.stored_runs.specs.lowered_run.holder_model.States.{Drops, Finishes, Runs, Task}
-use Rattle.stored_runs.specs.typed_holders.holder_steps.inner.Stacks.{Below}
-use Rattle.stored_runs.specs.typed_holders.inner.TypedStates.{DeinitsTyped, DroppedTyped, FinishedTyped, FrameIs, GoesTyped, TasksAre, WaitsTyped}
-use Rattle.stored_runs.specs.typed_holders.typed_memory.inner.Worlds.{World}
-use Rattle.stored_runs.proofs.typed_holders.GoesOn.{accepted_body}
+use Rattle.stored_runs.specs.tracked_frames.holder_laws.inner.Steps.Stacks.{Below}
+use Rattle.stored_runs.specs.tracked_frames.inner.Typed.TypedStates.{DeinitsTyped, DroppedTyped, FinishedTyped, FrameIs, GoesTyped, TasksAre, WaitsTyped}
+use Rattle.stored_runs.specs.tracked_frames.typed_memory.inner.Worlds.{World}
+use Rattle.stored_runs.proofs.tracked_frames.Typed.GoesOn.{accepted_body}
 use Rattle.same_runs.proofs.Outlive.{given_source}
 use Rattle.same_runs.proofs.PlacesLeftTasks.{AreApartFrom, IsApartFrom}
 

@@ -12,11 +12,11 @@ use Rattle.run_values.specs.Values.{Value}
 use Rattle.sil_ast.specs.declared.decl.Storage.{Storage}
 use Rattle.sil_ast.specs.declared.module.Module.{Module}
 use Rattle.sil_ast.specs.declared.place.ObjectId.{ObjectId}
-use Rattle.stored_runs.specs.memory_cells.inner.Cells.{AreApart, IsFullCell, IsPlace, behind, cell_at, has_cell}
-use Rattle.stored_runs.proofs.memory_cells.Lists.{element, get_left, get_right, put_out}
-use Rattle.stored_runs.proofs.memory_cells.PlaceCells.{cell_outside, full_cells, full_value, not_cell, offset_of}
+use Rattle.stored_runs.specs.holder_laws.inner.Cells.Cells.{AreApart, IsFullCell, IsPlace, behind, cell_at, has_cell}
+use Rattle.stored_runs.proofs.holder_laws.Cells.Lists.{element, get_left, get_right, put_out}
+use Rattle.stored_runs.proofs.holder_laws.Cells.PlaceCells.{cell_outside, full_cells, full_value, not_cell, offset_of}
 use Rattle.stored_runs.specs.accepted_values.run_typing.Forms.{has_no_storage}
-use Rattle.stored_runs.specs.typed_holders.typed_memory.inner.Worlds.{IsIn, PlaceIs, World, cell_shapes}
+use Rattle.stored_runs.specs.tracked_frames.typed_memory.inner.Worlds.{IsIn, PlaceIs, World, cell_shapes}
 use Rattle.stored_runs.proofs.accepted_values.run_typing_laws.Rows.Finding.{each_at}
 use Rattle.stored_runs.proofs.typed_memory.CellShapes.{place_within, shape_count}
 use Rattle.stored_runs.proofs.typed_memory.Zips.{Within}

@@ -12,22 +12,22 @@ use Rattle.sil_ast.specs.declared.place.FuncId.{FuncId}
 use Rattle.sil_ast.specs.declared.place.ObjectId.{ObjectId}
 use Rattle.sil_ast.specs.declared.place.ValueId.{ValueId}
 use Rattle.type_definitions.specs.Declarations.{declarations_of}
-use Rattle.stored_runs.specs.memory_cells.inner.Cells.{AreApart}
+use Rattle.stored_runs.specs.holder_laws.inner.Cells.Cells.{AreApart}
 use Rattle.stored_runs.specs.accepted_values.accepted_modules.inner.Checked.{IsVerified}
 use Rattle.stored_runs.specs.accepted_values.inner.Known.{IsAcceptedBody}
-use Rattle.stored_runs.specs.guarded_entries.held_places.inner.FramePlaces.{HoldsPlaces, Names}
-use Rattle.stored_runs.specs.guarded_entries.held_places.inner.PlaceStates.{BelowPlaced, TasksPlaced}
-use Rattle.stored_runs.specs.guarded_entries.held_places.inner.Roots.{argument}
+use Rattle.stored_runs.specs.accepted_runs.tracked_frames.inner.Placed.FramePlaces.{HoldsPlaces, Names}
+use Rattle.stored_runs.specs.accepted_runs.tracked_frames.inner.Placed.PlaceStates.{BelowPlaced, TasksPlaced}
+use Rattle.stored_runs.specs.accepted_runs.tracked_frames.inner.Placed.Roots.{argument}
 use Rattle.stored_runs.specs.lowered_run.holder_model.Calling.{as_argument}
 use Rattle.stored_runs.specs.lowered_run.holder_model.Data.{AddressOf, Datum, as_place}
 use Rattle.stored_runs.specs.lowered_run.holder_model.Frames.{Frame}
 use Rattle.stored_runs.specs.lowered_run.holder_model.States.{Drops, Finishes, Runs, Task}
 use Rattle.stored_runs.specs.lowered_run.LowFrames as low_frames
 use Rattle.stored_runs.specs.lowered_run.LowFrames.{LowFrame}
-use Rattle.stored_runs.specs.typed_holders.holder_steps.inner.Stacks.{Below}
-use Rattle.stored_runs.specs.typed_holders.inner.TypedStates.{DeinitsTyped, DroppedTyped, FinishedTyped, FrameIs, GoesTyped, TasksAre, WaitsTyped}
-use Rattle.stored_runs.specs.typed_holders.typed_memory.inner.Worlds.{World}
-use Rattle.stored_runs.proofs.typed_holders.GoesOn.{accepted_body}
+use Rattle.stored_runs.specs.tracked_frames.holder_laws.inner.Steps.Stacks.{Below}
+use Rattle.stored_runs.specs.tracked_frames.inner.Typed.TypedStates.{DeinitsTyped, DroppedTyped, FinishedTyped, FrameIs, GoesTyped, TasksAre, WaitsTyped}
+use Rattle.stored_runs.specs.tracked_frames.typed_memory.inner.Worlds.{World}
+use Rattle.stored_runs.proofs.tracked_frames.Typed.GoesOn.{accepted_body}
 use Rattle.stored_runs.specs.inner.Frames.{AreTasksFor, AreValuesFor, HasFullParts, IsDatumFor, IsFrameFor, IsGivenPlace, IsTaskFor}
 use Rattle.stored_runs.specs.inner.Names.{lowered_number}
 use Rattle.stored_runs.proofs.LoweredSo.{are_lowered_so}

@@ -9,14 +9,14 @@ use Rattle.sil_ast.specs.declared.decl.Storage.{Storage}
 use Rattle.sil_ast.specs.declared.function.Function.{Function}
 use Rattle.sil_ast.specs.declared.module.Module.{Module}
 use Rattle.stored_runs.specs.accepted_values.run_typing.Forms.{Form}
-use Rattle.stored_runs.proofs.guarded_entries.held_places.PlainAddresses.{named_shape, place_typed}
+use Rattle.stored_runs.proofs.accepted_runs.tracked_frames.Placed.PlainAddresses.{named_shape, place_typed}
 use Rattle.stored_runs.specs.lowered_run.holder_model.Data.{AddressOf, Datum}
 use Rattle.stored_runs.specs.lowered_run.holder_model.Frames.{Frame}
 use Rattle.stored_runs.specs.lowered_run.holder_model.States.{Drops, Finishes, Runs, Task}
-use Rattle.stored_runs.specs.typed_holders.holder_steps.inner.Stacks.{Below}
-use Rattle.stored_runs.specs.typed_holders.inner.TypedStates.{DeinitsTyped, DroppedTyped, FinishedTyped, FrameIs, GoesTyped, TasksAre, WaitsTyped}
-use Rattle.stored_runs.specs.typed_holders.typed_memory.inner.Worlds.{DatumIs, PlaceIs, World}
-use Rattle.stored_runs.proofs.typed_holders.Data.{DataAre}
+use Rattle.stored_runs.specs.tracked_frames.holder_laws.inner.Steps.Stacks.{Below}
+use Rattle.stored_runs.specs.tracked_frames.inner.Typed.TypedStates.{DeinitsTyped, DroppedTyped, FinishedTyped, FrameIs, GoesTyped, TasksAre, WaitsTyped}
+use Rattle.stored_runs.specs.tracked_frames.typed_memory.inner.Worlds.{DatumIs, PlaceIs, World}
+use Rattle.stored_runs.proofs.tracked_frames.Typed.Data.{DataAre}
 use Rattle.same_runs.proofs.PlacesLeftBare.{bare_argument}
 use Rattle.same_runs.proofs.PlacesLeftCells.{apart_by_types}
 use Rattle.same_runs.proofs.PlacesLeftTasks.{AreApartFrom, IsApartFrom}

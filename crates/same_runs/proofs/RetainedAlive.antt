@@ -16,16 +16,16 @@ use Rattle.stored_runs.specs.accepted_values.accepted_modules.inner.Checked.{IsV
 use Rattle.stored_runs.specs.accepted_values.inner.Known.{IsAcceptedBody}
 use Rattle.stored_runs.proofs.accepted_values.Facts.{run_facts}
 use Rattle.stored_runs.specs.accepted_runs.inner.RightStates.{IsRightState}
-use Rattle.stored_runs.specs.holder_counts.inner.Doing.{Leaves}
-use Rattle.stored_runs.specs.holder_counts.inner.Doing as doing
-use Rattle.stored_runs.specs.holder_counts.inner.Naming.{HoldsNone, IsAlive, LoadsStrongly, in_data, in_datum}
-use Rattle.stored_runs.proofs.holder_counts.Alive.{after_phase}
-use Rattle.stored_runs.proofs.holder_counts.Changes.{changes_told}
-use Rattle.stored_runs.proofs.holder_counts.Places.{live_not_dead}
-use Rattle.stored_runs.proofs.holder_counts.Sums.{total_cons}
-use Rattle.stored_runs.proofs.guarded_entries.Changing.{changes_alive, given_alive}
-use Rattle.stored_runs.proofs.guarded_entries.Named.{dead_named}
-use Rattle.stored_runs.proofs.guarded_entries.TypedGiven.{typed_for_rows}
+use Rattle.stored_runs.specs.holder_laws.inner.Counts.Doing.{Leaves}
+use Rattle.stored_runs.specs.holder_laws.inner.Counts.Doing as doing
+use Rattle.stored_runs.specs.holder_laws.inner.Counts.Naming.{HoldsNone, IsAlive, LoadsStrongly, in_data, in_datum}
+use Rattle.stored_runs.proofs.holder_laws.Counts.Alive.{after_phase}
+use Rattle.stored_runs.proofs.holder_laws.Counts.Changes.{changes_told}
+use Rattle.stored_runs.proofs.holder_laws.Counts.Places.{live_not_dead}
+use Rattle.stored_runs.proofs.holder_laws.Counts.Sums.{total_cons}
+use Rattle.stored_runs.proofs.accepted_runs.Guarded.Changing.{changes_alive, given_alive}
+use Rattle.stored_runs.proofs.accepted_runs.Guarded.Named.{dead_named}
+use Rattle.stored_runs.proofs.accepted_runs.Guarded.TypedGiven.{typed_for_rows}
 use Rattle.stored_runs.specs.lowered_run.holder_model.Data.{Datum, ValueOf}
 use Rattle.stored_runs.specs.lowered_run.holder_model.Effects as effects
 use Rattle.stored_runs.specs.lowered_run.holder_model.Effects.{Change}
@@ -37,8 +37,8 @@ use Rattle.stored_runs.specs.lowered_run.holder_model.ModuleFacts.{facts_of, fac
 use Rattle.stored_runs.specs.lowered_run.holder_model.ModuleShapes.{ModuleShapes, shapes_in, shapes_of}
 use Rattle.stored_runs.specs.lowered_run.holder_model.Standing.{stands_at}
 use Rattle.stored_runs.specs.lowered_run.holder_model.States.{Runs}
-use Rattle.stored_runs.specs.typed_holders.inner.TypedStates.{FrameIs, TasksAre}
-use Rattle.stored_runs.proofs.typed_holders.GoesOn.{accepted_body}
+use Rattle.stored_runs.specs.tracked_frames.inner.Typed.TypedStates.{FrameIs, TasksAre}
+use Rattle.stored_runs.proofs.tracked_frames.Typed.GoesOn.{accepted_body}
 use Rattle.same_runs.specs.inner.Owed.{AreRetainedAlive, AtInst, effect_there}
 
 -- what is live isn't dead

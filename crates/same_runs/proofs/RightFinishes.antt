@@ -10,10 +10,10 @@ use Rattle.stored_runs.specs.lowered_run.holder_model.HolderStates.{HolderState}
 use Rattle.stored_runs.specs.lowered_run.holder_model.Holders.{one_object}
 use Rattle.stored_runs.specs.lowered_run.holder_model.States.{Finishes, Task}
 use Rattle.stored_runs.specs.accepted_runs.inner.RightStates.{IsRightState}
-use Rattle.stored_runs.specs.followed_objects.inner.Said.{said}
-use Rattle.stored_runs.specs.guarded_entries.inner.GuardedStates.{finishes_of, is_deiniting_phase}
-use Rattle.stored_runs.specs.held_objects.inner.ObjectStates.{TasksBuild}
-use Rattle.stored_runs.proofs.guarded_entries.Named.{counts_itself}
+use Rattle.stored_runs.specs.accepted_runs.inner.Built.Said.{said}
+use Rattle.stored_runs.specs.accepted_runs.inner.Guarded.GuardedStates.{finishes_of, is_deiniting_phase}
+use Rattle.stored_runs.specs.holder_laws.inner.Held.ObjectStates.{TasksBuild}
+use Rattle.stored_runs.proofs.accepted_runs.Guarded.Named.{counts_itself}
 use Rattle.same_runs.proofs.Finishing.{FinishesWhole}
 
 module _ (m : Module) (s : HolderState) (right : IsRightState m s) (o : ObjectId) (rest : List (Task Frame)) (is : s.tasks ≡ Finishes [] o ∷ rest) where

@@ -16,8 +16,8 @@ use Rattle.stored_runs.specs.lowered_run.holder_model.States.{Ends, Runs, Trappe
 use Rattle.stored_runs.specs.lowered_run.holder_model.declared.trap.Trap.{Trap}
 use Rattle.stored_runs.specs.lowered_run.LowOutcomes.{low_outcome_at}
 use Rattle.stored_runs.specs.lowered_run.LowStepParts.{LowNext, LowState}
-use Rattle.stored_runs.specs.typed_holders.inner.TypedStates.{FrameIs, TasksAre}
-use Rattle.stored_runs.proofs.typed_holders.GoesOn.{accepted_body, typed_module}
+use Rattle.stored_runs.specs.tracked_frames.inner.Typed.TypedStates.{FrameIs, TasksAre}
+use Rattle.stored_runs.proofs.tracked_frames.Typed.GoesOn.{accepted_body, typed_module}
 use Rattle.stored_runs.specs.inner.Along.{IsNextAlong}
 use Rattle.stored_runs.specs.inner.FrameSteps.{StepsAlong}
 use Rattle.stored_runs.specs.inner.Lowering.{LowersSo}

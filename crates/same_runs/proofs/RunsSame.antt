@@ -20,7 +20,7 @@ use Rattle.stored_runs.specs.lowered_run.LowOutcomes.{LowEndsSo, low_begins, low
 use Rattle.stored_runs.specs.lowered_run.LowStepParts.{LowNext, LowState}
 use Rattle.stored_runs.specs.lowered_run.LowSteps as steps
 use Rattle.stored_runs.specs.lowering_laws.lowering_model.LoweredModules.{lowered, lowered_body}
-use Rattle.stored_runs.proofs.typed_holders.TypedSteps.{steps_typed}
+use Rattle.stored_runs.proofs.tracked_frames.Typed.TypedSteps.{steps_typed}
 use Rattle.stored_runs.specs.inner.PlaceRows.{LowGoes}
 use Rattle.stored_runs.specs.inner.Runs.{IsOutcomeFor, LoweredRunsAreSame}
 use Rattle.stored_runs.specs.inner.States.{IsStateFor}

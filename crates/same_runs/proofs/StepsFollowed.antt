@@ -27,13 +27,13 @@ use Rattle.stored_runs.specs.lowered_run.holder_model.Steps as holder_run
 use Rattle.stored_runs.specs.lowered_run.holder_model.declared.row_effect.RowEffect.TheVariants as row
 use Rattle.stored_runs.specs.lowered_run.LowStepParts.{LowNext, LowState}
 use Rattle.stored_runs.specs.accepted_values.accepted_modules.inner.Checked.{IsVerified}
-use Rattle.stored_runs.specs.holder_steps.inner.Ways.{Acts, Enters, GoesBehind, Performs, StepsBy, left_with}
-use Rattle.stored_runs.proofs.holder_steps.StepsTold.{steps_told}
-use Rattle.stored_runs.proofs.holder_counts.Moves.{drops_counted}
-use Rattle.stored_runs.specs.typed_holders.inner.TypedStates.{FrameIs, TasksAre}
-use Rattle.stored_runs.proofs.typed_holders.GoesOn.{Running, typed_module}
+use Rattle.stored_runs.specs.holder_laws.inner.Steps.Ways.{Acts, Enters, GoesBehind, Performs, StepsBy, left_with}
+use Rattle.stored_runs.proofs.holder_laws.Steps.StepsTold.{steps_told}
+use Rattle.stored_runs.proofs.holder_laws.Counts.Moves.{drops_counted}
+use Rattle.stored_runs.specs.tracked_frames.inner.Typed.TypedStates.{FrameIs, TasksAre}
+use Rattle.stored_runs.proofs.tracked_frames.Typed.GoesOn.{Running, typed_module}
 use Rattle.stored_runs.specs.stored_counts.inner.Numbers.{AreCounts}
-use Rattle.stored_runs.proofs.guarded_entries.Named.{counts_itself}
+use Rattle.stored_runs.proofs.accepted_runs.Guarded.Named.{counts_itself}
 use Rattle.stored_runs.specs.inner.Along.{IsNextAlong, IsNoFault}
 use Rattle.stored_runs.specs.inner.FrameSteps.{StepsAlong}
 use Rattle.stored_runs.specs.inner.PlaceRows.{LowGoes}

@@ -33,11 +33,11 @@ use Rattle.stored_runs.specs.lowered_run.LowStepParts.{LowState}
 use Rattle.stored_runs.specs.lowering_laws.lowering_model.LoweredInsts.{lowering_of}
 use Rattle.stored_runs.specs.lowering_laws.lowering_model.LoweredModules.{lowered}
 use Rattle.stored_runs.specs.lowering_laws.ownership_origins.Renamings.{renames}
-use Rattle.stored_runs.specs.typed_holders.inner.TypedStates.{FrameIs}
-use Rattle.stored_runs.specs.typed_holders.typed_memory.inner.Worlds.{World, names}
+use Rattle.stored_runs.specs.tracked_frames.inner.Typed.TypedStates.{FrameIs}
+use Rattle.stored_runs.specs.tracked_frames.typed_memory.inner.Worlds.{World, names}
 use Rattle.stored_runs.proofs.accepted_trails.Tests.{same_value}
-use Rattle.stored_runs.proofs.typed_holders.Data.{DataAre}
-use Rattle.stored_runs.proofs.typed_holders.ShapesTold.{shape_in, shape_told}
+use Rattle.stored_runs.proofs.tracked_frames.Typed.Data.{DataAre}
+use Rattle.stored_runs.proofs.tracked_frames.Typed.ShapesTold.{shape_in, shape_told}
 use Rattle.stored_runs.proofs.typed_memory.Grouped.{Members, suits_group}
 use Rattle.stored_runs.specs.inner.Lowering.{IsOwnName}
 use Rattle.stored_runs.specs.inner.Names.{IsOld, lowered_number}

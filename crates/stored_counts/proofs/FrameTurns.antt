@@ -17,11 +17,11 @@ use Rattle.lowered_run.specs.holder_model.ModuleFacts.{ModuleFacts, facts_told}
 use Rattle.lowered_run.specs.holder_model.Outcomes.{returned_holders}
 use Rattle.lowered_run.specs.holder_model.StepParts.{new_frame}
 use Rattle.lowered_run.specs.holder_model.States.{Finishes, Runs, Task}
-use Rattle.holder_counts.specs.inner.Moving.{in_tasks}
-use Rattle.holder_counts.specs.inner.Taking.{in_entries}
-use Rattle.holder_counts.proofs.Entries.{ends_counted}
-use Rattle.holder_counts.proofs.Moves.{entries_counted, first_task, moves_counted, operands_are}
-use Rattle.holder_counts.proofs.Sums.{total_cons}
+use Rattle.holder_laws.specs.inner.Counts.Moving.{in_tasks}
+use Rattle.holder_laws.specs.inner.Counts.Taking.{in_entries}
+use Rattle.holder_laws.proofs.Counts.Entries.{ends_counted}
+use Rattle.holder_laws.proofs.Counts.Moves.{entries_counted, first_task, moves_counted, operands_are}
+use Rattle.holder_laws.proofs.Counts.Sums.{total_cons}
 use Rattle.stored_counts.specs.inner.FrameTurns.{AreCallsStored, AreDeinitCallsStored, AreDeinitReturnsStored, AreHandedStored, AreLeftStored, AreReturnsStored, LeavesNothing, Reads, ended_in}
 use Rattle.stored_counts.proofs.Turns.{kept_stored, same_numbers, tasks_stored}
 

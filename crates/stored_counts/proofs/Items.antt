@@ -12,8 +12,8 @@ use Rattle.lowered_run.specs.holder_model.ModuleFacts.{ModuleFacts}
 use Rattle.lowered_run.specs.holder_model.Outcomes.{Numbers}
 use Rattle.lowered_run.specs.LowStepParts.{numbers_for}
 use Rattle.lowered_run.specs.Stored.{each_changed, new_numbers, numbers_of, one_more}
-use Rattle.holder_counts.specs.holder_steps.inner.Ways.{left_with, moved}
-use Rattle.holder_counts.proofs.Moves.{items_counted}
+use Rattle.holder_laws.specs.inner.Steps.Ways.{left_with, moved}
+use Rattle.holder_laws.proofs.Counts.Moves.{items_counted}
 use Rattle.stored_counts.specs.inner.Items.{AreItemsStored, AreMade}
 use Rattle.stored_counts.specs.inner.Numbers.{holders_of}
 use Rattle.stored_counts.proofs.StoredCounts.{each_at, each_length, more_strong_by, new_at, references_more, strong_more}

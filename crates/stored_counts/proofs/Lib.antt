@@ -7,5 +7,4 @@ pub mod QuietRows
 pub mod RowBalance
 pub mod FrameTurns
 pub mod Alike
-pub use Rattle.holder_counts.proofs as holder_counts
-pub use Rattle.holder_counts.proofs.holder_steps as holder_steps
+pub use Rattle.holder_laws.proofs as holder_laws

@@ -35,15 +35,15 @@ use Rattle.lowered_run.specs.holder_model.declared.row_effect.RowEffect.TheVaria
 use Rattle.lowered_run.specs.LowEffects as low
 use Rattle.lowered_run.specs.LowEffects.{stored_behind, stored_by}
 use Rattle.lowered_run.specs.Stored.{unnamed}
-use Rattle.holder_counts.specs.inner.Doing as doing
-use Rattle.holder_counts.specs.inner.Doing.{Leaves, giving}
-use Rattle.holder_counts.specs.inner.Naming.{in_data, in_datum}
-use Rattle.holder_counts.specs.inner.Taking.{owned_references, references_begun, references_ended}
-use Rattle.holder_counts.proofs.Alive.{members_named, values_named}
-use Rattle.holder_counts.proofs.Changes.{changes_told}
-use Rattle.holder_counts.proofs.Places.{emptied_counted, new_counted, places_counted, references_counted}
-use Rattle.holder_counts.proofs.Sums.{total_append, total_cons}
-use Rattle.holder_counts.proofs.Values.{read_counted}
+use Rattle.holder_laws.specs.inner.Counts.Doing as doing
+use Rattle.holder_laws.specs.inner.Counts.Doing.{Leaves, giving}
+use Rattle.holder_laws.specs.inner.Counts.Naming.{in_data, in_datum}
+use Rattle.holder_laws.specs.inner.Counts.Taking.{owned_references, references_begun, references_ended}
+use Rattle.holder_laws.proofs.Counts.Alive.{members_named, values_named}
+use Rattle.holder_laws.proofs.Counts.Changes.{changes_told}
+use Rattle.holder_laws.proofs.Counts.Places.{emptied_counted, new_counted, places_counted, references_counted}
+use Rattle.holder_laws.proofs.Counts.Sums.{total_append, total_cons}
+use Rattle.holder_laws.proofs.Counts.Values.{read_counted}
 use Rattle.stored_counts.specs.inner.Items.{AreMade, AreNamesBehind}
 use Rattle.stored_counts.specs.inner.Rows.{AreRowsCounted, HandsOn, IsRemoved, IsRowCounted, IsTaken, Loads, Owns, Stores, TakesNone}
 use Rattle.stored_counts.proofs.QuietRows.{changes_names, stays_stored, untold_quiet}

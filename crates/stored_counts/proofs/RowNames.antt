@@ -14,10 +14,10 @@ use Rattle.lowered_run.specs.holder_model.Holders.{in_cell, in_cells, in_memory,
 use Rattle.lowered_run.specs.holder_model.Outcomes.{Numbers}
 use Rattle.lowered_run.specs.LowEffects.{is_first_write}
 use Rattle.lowered_run.specs.Stored.{named, unnamed, unowned_named, weakly_named}
-use Rattle.holder_counts.specs.inner.Keeping.{KeepsStrongly}
-use Rattle.holder_counts.proofs.Most.{at_place_most}
-use Rattle.holder_counts.proofs.Places.{emptied_counted, places_counted}
-use Rattle.holder_counts.proofs.Sums.{total_cons}
+use Rattle.holder_laws.specs.inner.Counts.Keeping.{KeepsStrongly}
+use Rattle.holder_laws.proofs.Counts.Most.{at_place_most}
+use Rattle.holder_laws.proofs.Counts.Places.{emptied_counted, places_counted}
+use Rattle.holder_laws.proofs.Counts.Sums.{total_cons}
 use Rattle.stored_counts.specs.inner.Items.{AreNamesBehind}
 use Rattle.stored_counts.specs.inner.Numbers.{AreNamesStored}
 use Rattle.stored_counts.specs.inner.Rows.{IsTaken, IsWritten, KeepNone}

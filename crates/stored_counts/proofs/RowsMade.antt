@@ -24,7 +24,7 @@ use Rattle.lowered_run.specs.holder_model.ModuleShapes.{ModuleShapes, case_place
 use Rattle.lowered_run.specs.holder_model.declared.row_effect.RowEffect.{RowEffect}
 use Rattle.lowered_run.specs.holder_model.declared.row_effect.RowEffect.TheVariants as row
 use Rattle.lowered_run.specs.holder_model.declared.trap.Trap.TheVariants as trap
-use Rattle.holder_counts.specs.inner.Doing.{giving}
+use Rattle.holder_laws.specs.inner.Counts.Doing.{giving}
 
 abbrev E : Type 0
 E = Effect HolderFault

@@ -13,9 +13,9 @@ use Rattle.lowered_run.specs.holder_model.Holders.{in_cells, in_memory, one_obje
 use Rattle.lowered_run.specs.holder_model.ModuleFacts.{ModuleFacts}
 use Rattle.lowered_run.specs.holder_model.Outcomes.{Numbers}
 use Rattle.lowered_run.specs.Stored.{numbers_of, one_less}
-use Rattle.holder_counts.specs.holder_steps.inner.Ways.{deinitialising, finished}
-use Rattle.holder_counts.proofs.Moves.{deinits_counted, drops_counted, finishes_counted}
-use Rattle.holder_counts.proofs.Places.{deaths_counted, live_not_dead, made_object, phases_counted}
+use Rattle.holder_laws.specs.inner.Steps.Ways.{deinitialising, finished}
+use Rattle.holder_laws.proofs.Counts.Moves.{deinits_counted, drops_counted, finishes_counted}
+use Rattle.holder_laws.proofs.Counts.Places.{deaths_counted, live_not_dead, made_object, phases_counted}
 use Rattle.stored_counts.specs.inner.Numbers.{holders_of}
 use Rattle.stored_counts.specs.inner.Turns.{AreDeathsStored, AreDeinitsStored, AreDropsStored, AreKeptStored, AreTasksStored, with_dropped}
 use Rattle.stored_counts.proofs.StoredCounts.{changed_length, less_strong_by, less_unowned_by, less_weak_by, one_changed, strong_less, unnamed_at, unnamed_length}

@@ -1,6 +1,6 @@
 //! Stored numbers that are counts before a step are counts behind it, each law on a call that does nothing. The lemmas behind them are in `proofs/`.
 
-ghost use Rattle.holder_counts.specs.inner.Moving.{InEach};
+ghost use Rattle.holder_laws.specs.inner.Counts.Moving.{InEach};
 ghost use Rattle.stored_counts.specs.inner.Alike.{AreStoredAlike, AreUnnamedAlike};
 ghost use Rattle.stored_counts.specs.inner.FrameTurns.{
   AreCallsStored,

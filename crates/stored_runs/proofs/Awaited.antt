@@ -25,9 +25,9 @@ use Rattle.lowered_steps.specs.lowered_run.holder_model.ModuleShapes.{shapes_in,
 use Rattle.lowered_steps.specs.lowered_run.holder_model.Standing.{stands_at}
 use Rattle.lowered_steps.specs.lowered_run.holder_model.States.{Ends, Goes, Runs, Task, dropping}
 use Rattle.lowered_steps.specs.lowered_run.holder_model.Steps as steps
-use Rattle.owned_counts.specs.holder_steps.inner.Ways.{Acts, DropsOne, Enters, FinishesOne, GoesBehind, Leaves, Performs, Reaches, StepsBy, TakesEdge, left_with, lent_at}
-use Rattle.owned_counts.proofs.holder_steps.StepsTold.{steps_told}
-use Rattle.owned_counts.proofs.holder_steps.TaskStacks.{below_another, going_dropping}
+use Rattle.owned_counts.specs.holder_laws.inner.Steps.Ways.{Acts, DropsOne, Enters, FinishesOne, GoesBehind, Leaves, Performs, Reaches, StepsBy, TakesEdge, left_with, lent_at}
+use Rattle.owned_counts.proofs.holder_laws.Steps.StepsTold.{steps_told}
+use Rattle.owned_counts.proofs.holder_laws.Steps.TaskStacks.{below_another, going_dropping}
 use Rattle.stored_runs.specs.inner.Awaited.{AreAwaited, AreAwaitedBelow, AreStepsAwaited, AwaitsCall, BeginAwaited}
 use Rattle.stored_runs.specs.inner.Returned.{WaitsAtCall}
 use Rattle.stored_runs.proofs.CallsAlone.{calls_alone}

@@ -52,7 +52,7 @@ use Rattle.lowered_numbering_laws.specs.lowering_laws.lowering_model.LoweredInst
 use Rattle.lowered_numbering_laws.specs.lowering_laws.lowering_model.LoweredModules.{lowered, lowered_body, lowered_by, lowered_function}
 use Rattle.lowered_numbering_laws.specs.lowering_laws.lowering_model.Numbers.{new_number, numbering_of, renumbered, renumbered_inst}
 use Rattle.lowered_numbering_laws.specs.lowering_laws.lowering_model.declared.lowering.Lowering.TheVariants as lowering
-use Rattle.owned_counts.specs.holder_steps.inner.Ways as holder
+use Rattle.owned_counts.specs.holder_laws.inner.Steps.Ways as holder
 use Rattle.lowered_steps.specs.inner.LowWays as ways
 use Rattle.stored_runs.specs.inner.Along.{AreTotalsFor, IsNextAlong, IsNoFault}
 use Rattle.stored_runs.specs.inner.CallsAlong.{AreCallsAlong, CallsRight, HandsRight, lent_in}

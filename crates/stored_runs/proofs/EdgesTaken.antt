@@ -44,7 +44,7 @@ use Rattle.lowered_steps.specs.lowered_run.LowFrames.{LowFrame, and_others, read
 use Rattle.lowered_steps.specs.lowered_run.LowStepParts.{LowNext, LowState, taken_value, values_taken}
 use Rattle.lowered_numbering_laws.specs.lowering_laws.lowering_model.LoweredModules.{lowered, lowered_body}
 use Rattle.lowered_numbering_laws.specs.lowering_laws.lowering_model.Numbers.{renumbered_edge, renumbered_inst, renumbered_operand}
-use Rattle.owned_counts.specs.holder_steps.inner.Ways as holder
+use Rattle.owned_counts.specs.holder_laws.inner.Steps.Ways as holder
 use Rattle.lowered_steps.specs.inner.LowWays as ways
 use Rattle.stored_runs.specs.inner.Along.{AreTotalsFor, IsNextAlong, IsNoFault, TakesNoAddress}
 use Rattle.stored_runs.specs.inner.EdgesTaken.{AreEdgesTaken}

@@ -49,7 +49,7 @@ use Rattle.lowered_steps.specs.lowered_run.LowStepParts.{LowNext, LowState, take
 use Rattle.lowered_steps.specs.lowered_run.LowSteps as steps
 use Rattle.lowered_numbering_laws.specs.lowering_laws.lowering_model.LoweredModules.{lowered, lowered_body}
 use Rattle.lowered_numbering_laws.specs.lowering_laws.lowering_model.Numbers.{renumbered_inst, renumbered_operand}
-use Rattle.owned_counts.specs.holder_steps.inner.Ways as holder
+use Rattle.owned_counts.specs.holder_laws.inner.Steps.Ways as holder
 use Rattle.lowered_steps.specs.inner.LowWays as ways
 use Rattle.stored_runs.specs.inner.Along.{AreTotalsFor, IsNextAlong, IsNoFault}
 use Rattle.stored_runs.specs.inner.EndsAlong.{AreEndsAlong, ComesPlain, MayReturnTo}

@@ -12,8 +12,8 @@ use Rattle.run_values.specs.Places.{Home, Inside, OnStack, Place, filled, home_c
 use Rattle.run_values.specs.Shapes.{Shape, Shapes, NoMember, Member, Integer, Reference, Struct, Tuple, Enum, Stored, Unknown, each_by_layers, listed}
 use Rattle.run_values.specs.Values.{Value, members_of}
 use Rattle.value_parts.proofs.Inductions.{InParts, by_parts}
-use Rattle.memory_cells.specs.inner.Cells.{IsFullCell, cell_at}
-use Rattle.memory_cells.proofs.PlaceCells.{full_cells, full_value}
+use Rattle.owned_counts.specs.holder_laws.inner.Cells.Cells.{IsFullCell, cell_at}
+use Rattle.owned_counts.proofs.holder_laws.Cells.PlaceCells.{full_cells, full_value}
 use Rattle.stored_runs.proofs.HandedOver.{set_cases}
 use Rattle.stored_runs.proofs.RowSteps.{KeepsFull}
 

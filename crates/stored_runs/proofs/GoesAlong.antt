@@ -30,7 +30,7 @@ use Rattle.lowered_steps.specs.lowered_run.LowStepParts.{LowNext, LowState, numb
 use Rattle.lowered_steps.specs.lowered_run.Stored.{new_numbers}
 use Rattle.lowered_numbering_laws.proofs.lowering_laws.Lists.{each_weaker}
 use Rattle.lowered_numbering_laws.specs.lowering_laws.lowering_model.LoweredModules.{lowered, lowered_body}
-use Rattle.owned_counts.specs.holder_steps.inner.Ways as holder
+use Rattle.owned_counts.specs.holder_laws.inner.Steps.Ways as holder
 use Rattle.lowered_steps.specs.inner.LowWays as ways
 use Rattle.stored_runs.specs.inner.Along.{AreTotalsFor, IsNextAlong, IsNoFault}
 use Rattle.stored_runs.specs.inner.Frames.{AreGivenPartsFull, AreTasksFor, AreValuesFor, HasFullParts, IsFrameAt, IsFrameFor, IsTaskFor}

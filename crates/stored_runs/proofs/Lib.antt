@@ -58,14 +58,12 @@ pub mod WrittenPlaces
 pub mod OwnSlots
 pub mod PlacesLeft
 pub use Rattle.owned_counts.proofs.accepted_values as accepted_values
-pub use Rattle.owned_counts.proofs.typed_holders as typed_holders
+pub use Rattle.owned_counts.proofs.tracked_frames as tracked_frames
 pub use Rattle.owned_counts.proofs.accepted_runs as accepted_runs
 pub use Rattle.owned_counts.proofs.stored_counts as stored_counts
-pub use Rattle.owned_counts.proofs.holder_steps as holder_steps
+pub use Rattle.owned_counts.proofs.holder_laws as holder_laws
 pub use Rattle.owned_counts.proofs.accepted_trails as accepted_trails
-pub use Rattle.owned_counts.proofs.holder_counts as holder_counts
 pub use Rattle.owned_counts.proofs.typed_memory as typed_memory
 pub use Rattle.owned_counts.proofs as owned_counts
-pub use Rattle.owned_counts.proofs.guarded_entries as guarded_entries
 pub use Rattle.lowered_steps.proofs as lowered_steps
-pub use Rattle.memory_cells.proofs as memory_cells
+pub use Rattle.owned_counts.proofs.holder_laws as holder_laws

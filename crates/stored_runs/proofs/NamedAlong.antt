@@ -38,7 +38,7 @@ use Rattle.lowered_numbering_laws.specs.lowering_laws.lowering_model.LoweredInst
 use Rattle.lowered_numbering_laws.specs.lowering_laws.lowering_model.NewInsts.{retain, release}
 use Rattle.lowered_numbering_laws.specs.lowering_laws.lowering_model.Numbers.{renumbered_inst}
 use Rattle.lowered_numbering_laws.specs.lowering_laws.lowering_model.declared.lowering.Lowering.TheVariants as lowering
-use Rattle.owned_counts.specs.holder_steps.inner.Ways as holder
+use Rattle.owned_counts.specs.holder_laws.inner.Steps.Ways as holder
 use Rattle.stored_runs.specs.inner.Lowering.{IsOtherName}
 use Rattle.stored_runs.specs.inner.Memories.{IsMemoryFor}
 use Rattle.stored_runs.specs.inner.PlaceRows.{GoesAlong, LowGoes, StandsAt, stored_for}

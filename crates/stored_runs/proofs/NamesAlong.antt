@@ -52,7 +52,7 @@ use Rattle.lowered_steps.specs.lowered_run.holder_model.memory_accesses.declared
 use Rattle.lowered_steps.specs.lowered_run.LowEffects.{low_effect, stored_behind, stored_by, accessed, is_first_write, stored_at, value_stored, taken_at}
 use Rattle.lowered_steps.specs.lowered_run.LowStepParts.{LowState}
 use Rattle.lowered_numbering_laws.specs.lowering_laws.ownership_origins.Renamings.{renames}
-use Rattle.owned_counts.specs.holder_steps.inner.Ways as holder
+use Rattle.owned_counts.specs.holder_laws.inner.Steps.Ways as holder
 use Rattle.stored_runs.specs.inner.PlaceRows.{GoesAlong, StandsAt, stored_for}
 use Rattle.stored_runs.proofs.RowSteps.{parts_kept}
 use Rattle.stored_runs.proofs.RowsBehind.{accessed_so, from, low_shapes, low_told, made, num}

@@ -25,12 +25,12 @@ use Rattle.owned_counts.specs.accepted_values.inner.Known.{IsAcceptedBody}
 use Rattle.owned_counts.proofs.accepted_values.Counted.{stands}
 use Rattle.lowered_steps.specs.lowered_run.holder_model.Effects.{effect_of}
 use Rattle.lowered_steps.specs.lowered_run.holder_model.declared.row_effect.RowEffect.TheVariants as row
-use Rattle.owned_counts.specs.typed_holders.placed_values.accepted_memory.memory_accesses.Operations.{access_kind_of, address_of, addresses_of, deallocates_by}
-use Rattle.owned_counts.specs.typed_holders.placed_values.accepted_memory.memory_accesses.Sources.{argument_source_or, handed_source, is_slot, is_slot_source, sources_of}
-use Rattle.owned_counts.proofs.typed_holders.placed_values.ArgumentsTold.{entry_source}
-use Rattle.owned_counts.proofs.typed_holders.placed_values.accepted_places.Fields.{has_among}
-use Rattle.owned_counts.proofs.typed_holders.placed_values.accepted_places.ItemStacks.{accepted_in}
-use Rattle.owned_counts.proofs.typed_holders.placed_values.accepted_places.OperationsRight.{of_slots}
+use Rattle.owned_counts.specs.tracked_frames.placed_values.accepted_memory.memory_accesses.Operations.{access_kind_of, address_of, addresses_of, deallocates_by}
+use Rattle.owned_counts.specs.tracked_frames.placed_values.accepted_memory.memory_accesses.Sources.{argument_source_or, handed_source, is_slot, is_slot_source, sources_of}
+use Rattle.owned_counts.proofs.tracked_frames.placed_values.ArgumentsTold.{entry_source}
+use Rattle.owned_counts.proofs.tracked_frames.placed_values.accepted_places.Fields.{has_among}
+use Rattle.owned_counts.proofs.tracked_frames.placed_values.accepted_places.ItemStacks.{accepted_in}
+use Rattle.owned_counts.proofs.tracked_frames.placed_values.accepted_places.OperationsRight.{of_slots}
 use Rattle.stored_runs.specs.inner.OwnSlots.{AreSlotsOwn}
 
 removes_by : (o : Op) → effect_of o ≡ row.RemovesSlot → o ≡ op.DeallocStack

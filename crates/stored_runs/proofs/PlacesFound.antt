@@ -35,8 +35,8 @@ use Rattle.lowered_numbering_laws.specs.lowering_laws.lowering_model.LoweredInst
 use Rattle.lowered_numbering_laws.specs.lowering_laws.lowering_model.declared.lowering.Lowering.TheVariants as lowering
 use Rattle.lowered_numbering_laws.specs.lowering_laws.ownership_origins.Renamings.{renames}
 use Rattle.owned_counts.specs.accepted_values.run_typing.Forms.{Form, OfPlace, OfValue}
-use Rattle.owned_counts.specs.typed_holders.typed_memory.inner.Worlds.{PlaceIs, Suits, World}
-use Rattle.owned_counts.proofs.typed_holders.Data.{DataAre, read_place, read_value}
+use Rattle.owned_counts.specs.tracked_frames.typed_memory.inner.Worlds.{PlaceIs, Suits, World}
+use Rattle.owned_counts.proofs.tracked_frames.Typed.Data.{DataAre, read_place, read_value}
 use Rattle.stored_runs.proofs.StrongCells.{held}
 
 -- ---- rows and their operations

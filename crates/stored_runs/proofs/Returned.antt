@@ -29,7 +29,7 @@ use Rattle.lowered_numbering_laws.specs.lowering_laws.ownership_origins.Renaming
 use Rattle.lowered_numbering_laws.specs.lowering_laws.lowering_model.LoweredInsts.{lowering_of}
 use Rattle.lowered_numbering_laws.specs.lowering_laws.lowering_model.LoweredModules.{lowered, lowered_body}
 use Rattle.lowered_numbering_laws.specs.lowering_laws.lowering_model.declared.lowering.Lowering.TheVariants as lowering
-use Rattle.owned_counts.specs.holder_steps.inner.Ways as holder
+use Rattle.owned_counts.specs.holder_laws.inner.Steps.Ways as holder
 use Rattle.lowered_steps.specs.inner.LowWays as ways
 use Rattle.stored_runs.specs.inner.Along.{AreTotalsFor, IsNextAlong, IsNoFault}
 use Rattle.stored_runs.specs.inner.Frames.{AreTasksFor, HasFullParts, IsFrameAt, IsFrameFor, IsTaskFor}

@@ -32,7 +32,7 @@ use Rattle.lowered_steps.specs.lowered_run.LowStepParts.{LowState, numbers_for, 
 use Rattle.lowered_steps.specs.lowered_run.LowSteps as steps
 use Rattle.lowered_steps.specs.lowered_run.Stored.{each_changed, new_numbers, one_more}
 use Rattle.lowered_numbering_laws.specs.lowering_laws.lowering_model.LoweredModules.{lowered, lowered_body}
-use Rattle.owned_counts.specs.holder_steps.inner.Ways as holder
+use Rattle.owned_counts.specs.holder_laws.inner.Steps.Ways as holder
 use Rattle.lowered_steps.specs.inner.LowWays.{moved}
 use Rattle.stored_runs.specs.inner.Along.{AreTotalsFor, IsAlong}
 use Rattle.stored_runs.specs.inner.Frames.{AreGivenPartsFull, AreTasksFor, AreValuesFor, HasFullParts, IsFrameAt, IsFrameFor, IsTaskFor}

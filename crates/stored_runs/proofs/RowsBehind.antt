@@ -41,7 +41,7 @@ use Rattle.lowered_numbering_laws.specs.lowering_laws.lowering_model.Numbers.{re
 use Rattle.owned_counts.specs.accepted_trails.inner.Defined.{makes}
 use Rattle.owned_counts.proofs.accepted_trails.Tests.{each_among}
 use Rattle.lowered_numbering_laws.proofs.lowering_laws.Lists.{each_weaker}
-use Rattle.owned_counts.specs.holder_steps.inner.Ways as holder
+use Rattle.owned_counts.specs.holder_laws.inner.Steps.Ways as holder
 use Rattle.stored_runs.specs.inner.Frames.{AreGivenPartsFull, AreValuesFor, HasFullParts}
 use Rattle.stored_runs.specs.inner.Lowering.{IsOwnName}
 use Rattle.stored_runs.specs.inner.Memories.{IsMemoryFor}

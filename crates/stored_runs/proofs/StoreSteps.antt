@@ -46,7 +46,7 @@ use Rattle.lowered_numbering_laws.specs.lowering_laws.lowering_model.LoweredBloc
 use Rattle.lowered_numbering_laws.specs.lowering_laws.lowering_model.LoweredInsts.{becomes_by, lowering_of, plain_store, stores_by}
 use Rattle.lowered_numbering_laws.specs.lowering_laws.lowering_model.NewInsts.{loaded_from, load, release}
 use Rattle.lowered_numbering_laws.specs.lowering_laws.lowering_model.Numbers.{renumbered_inst}
-use Rattle.owned_counts.specs.holder_steps.inner.Ways as holder
+use Rattle.owned_counts.specs.holder_laws.inner.Steps.Ways as holder
 use Rattle.stored_runs.specs.inner.Memories.{IsMemoryFor, MayBeTaken}
 use Rattle.stored_runs.specs.inner.PlaceRows.{GoesAlong, LowGoes, StandsAt, operand_value, stored_for}
 use Rattle.stored_runs.proofs.MemoriesFor.{place_filled, place_for}

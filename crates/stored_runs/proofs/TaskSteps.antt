@@ -21,8 +21,8 @@ use Rattle.lowered_steps.specs.lowered_run.LowStepParts.{LowNext, LowState}
 use Rattle.lowered_steps.specs.lowered_run.LowSteps as steps
 use Rattle.lowered_steps.specs.lowered_run.Stored.{numbers_of, one_less}
 use Rattle.lowered_numbering_laws.specs.lowering_laws.lowering_model.LoweredModules.{lowered}
-use Rattle.owned_counts.specs.holder_steps.inner.Ways as holder
-use Rattle.owned_counts.specs.holder_steps.inner.Ways.{DropsOne}
+use Rattle.owned_counts.specs.holder_laws.inner.Steps.Ways as holder
+use Rattle.owned_counts.specs.holder_laws.inner.Steps.Ways.{DropsOne}
 use Rattle.lowered_steps.specs.inner.LowWays as ways
 use Rattle.lowered_steps.specs.inner.LowWays.{Falls, ReleasesOne, StepsBy, released}
 use Rattle.lowered_steps.proofs.LowTaken.{told_taken}

@@ -44,15 +44,15 @@ use Rattle.lowered_steps.specs.lowered_run.holder_model.ModuleShapes.{shapes_in,
 use Rattle.lowered_steps.specs.lowered_run.holder_model.Standing.{stands_at}
 use Rattle.lowered_steps.specs.lowered_run.holder_model.Steps as holder_run
 use Rattle.lowered_steps.specs.lowered_run.LowStepParts.{values_taken}
-use Rattle.owned_counts.specs.typed_holders.inner.TypedStates.{EntriesAre, FrameIs}
-use Rattle.owned_counts.specs.typed_holders.typed_memory.inner.Worlds.{CellIs, DatumIs, IsWorldOf, MemoryIs, PlaceIs, World, cell_shapes, each_cell_shapes}
+use Rattle.owned_counts.specs.tracked_frames.inner.Typed.TypedStates.{EntriesAre, FrameIs}
+use Rattle.owned_counts.specs.tracked_frames.typed_memory.inner.Worlds.{CellIs, DatumIs, IsWorldOf, MemoryIs, PlaceIs, World, cell_shapes, each_cell_shapes}
 use Rattle.owned_counts.proofs.typed_memory.Homes.{PlaceCells, place_cells}
-use Rattle.owned_counts.proofs.typed_holders.Data.{DataAre}
-use Rattle.owned_counts.proofs.typed_holders.Effects.{EffectFits}
-use Rattle.owned_counts.proofs.typed_holders.Entries.{FitEach, fit_data, operands_fit}
-use Rattle.owned_counts.proofs.typed_holders.GoesOn.{accepted_body, typed_module}
-use Rattle.owned_counts.proofs.typed_holders.RowForms.{row_fits}
-use Rattle.owned_counts.proofs.typed_holders.ShapesTold.{result_told}
+use Rattle.owned_counts.proofs.tracked_frames.Typed.Data.{DataAre}
+use Rattle.owned_counts.proofs.tracked_frames.Typed.Effects.{EffectFits}
+use Rattle.owned_counts.proofs.tracked_frames.Typed.Entries.{FitEach, fit_data, operands_fit}
+use Rattle.owned_counts.proofs.tracked_frames.Typed.GoesOn.{accepted_body, typed_module}
+use Rattle.owned_counts.proofs.tracked_frames.Typed.RowForms.{row_fits}
+use Rattle.owned_counts.proofs.tracked_frames.Typed.ShapesTold.{result_told}
 use Rattle.stored_runs.specs.inner.CallsAlong.{HandsRight, MayBeHandedOver, lent_in}
 use Rattle.stored_runs.specs.inner.Entering.{IsAddressFor, IsFullPart}
 use Rattle.stored_runs.specs.inner.Memories.{MayBeTaken}

@@ -45,10 +45,10 @@ use Rattle.lowered_steps.specs.lowered_run.holder_model.HolderStates.{HolderStat
 use Rattle.lowered_steps.specs.lowered_run.holder_model.ModuleFacts.{facts_of, facts_told}
 use Rattle.lowered_steps.specs.lowered_run.holder_model.Standing.{stands_at}
 use Rattle.lowered_steps.specs.lowered_run.LowStepParts.{taken_value}
-use Rattle.owned_counts.specs.typed_holders.inner.TypedStates.{FrameIs}
-use Rattle.owned_counts.specs.typed_holders.typed_memory.inner.Worlds.{DatumIs, World}
-use Rattle.owned_counts.proofs.typed_holders.Entries.{FitEach, operands_fit}
-use Rattle.owned_counts.proofs.typed_holders.GoesOn.{typed_module}
+use Rattle.owned_counts.specs.tracked_frames.inner.Typed.TypedStates.{FrameIs}
+use Rattle.owned_counts.specs.tracked_frames.typed_memory.inner.Worlds.{DatumIs, World}
+use Rattle.owned_counts.proofs.tracked_frames.Typed.Entries.{FitEach, operands_fit}
+use Rattle.owned_counts.proofs.tracked_frames.Typed.GoesOn.{typed_module}
 use Rattle.stored_runs.specs.inner.EndsAlong.{ComesPlain}
 use Rattle.stored_runs.specs.inner.Frames.{IsNoAddress}
 use Rattle.stored_runs.specs.inner.TypedEnds.{AreEndsPlain}

@@ -16,11 +16,11 @@ use Rattle.lowered_steps.specs.lowered_run.holder_model.ModuleFacts.{facts_of, f
 use Rattle.lowered_steps.specs.lowered_run.holder_model.Standing.{stands_at}
 use Rattle.lowered_steps.specs.lowered_run.holder_model.States.{Task}
 use Rattle.lowered_steps.specs.lowered_run.LowStepParts.{LowState}
-use Rattle.owned_counts.specs.typed_holders.inner.TypedStates.{FrameIs}
-use Rattle.owned_counts.specs.typed_holders.typed_memory.inner.Worlds.{World}
-use Rattle.owned_counts.proofs.typed_holders.Data.{DataAre}
-use Rattle.owned_counts.proofs.typed_holders.Entries.{FitEach, fit_data, operands_fit}
-use Rattle.owned_counts.proofs.typed_holders.GoesOn.{typed_module}
+use Rattle.owned_counts.specs.tracked_frames.inner.Typed.TypedStates.{FrameIs}
+use Rattle.owned_counts.specs.tracked_frames.typed_memory.inner.Worlds.{World}
+use Rattle.owned_counts.proofs.tracked_frames.Typed.Data.{DataAre}
+use Rattle.owned_counts.proofs.tracked_frames.Typed.Entries.{FitEach, fit_data, operands_fit}
+use Rattle.owned_counts.proofs.tracked_frames.Typed.GoesOn.{typed_module}
 use Rattle.stored_runs.specs.inner.PlaceRows.{StandsAt}
 
 abbrev pub operand_forms : Module → Function → Inst → List Form

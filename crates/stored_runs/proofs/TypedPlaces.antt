@@ -22,7 +22,7 @@ use Rattle.lowered_steps.specs.lowered_run.holder_model.Holders.{kept_references
 use Rattle.lowered_steps.specs.lowered_run.holder_model.MemoryEffects.{references_at}
 use Rattle.owned_counts.specs.accepted_values.run_typing.Forms.{has_no_storage}
 use Rattle.owned_counts.specs.accepted_values.run_typing.StorageForms.{IsNamed}
-use Rattle.owned_counts.specs.typed_holders.typed_memory.inner.Worlds.{CellIs, MemoryIs, PlaceIs, World, cell_shapes, each_cell_shapes, names}
+use Rattle.owned_counts.specs.tracked_frames.typed_memory.inner.Worlds.{CellIs, MemoryIs, PlaceIs, World, cell_shapes, each_cell_shapes, names}
 use Rattle.owned_counts.proofs.typed_memory.CellShapes.{shape_count}
 use Rattle.owned_counts.proofs.typed_memory.CellsTyped.{cells_typed, nothing_is_none}
 use Rattle.owned_counts.proofs.typed_memory.Homes.{PlaceCells, place_cells}

@@ -31,9 +31,9 @@ use Rattle.lowered_steps.specs.lowered_run.LowStepParts.{LowState}
 use Rattle.lowered_numbering_laws.specs.lowering_laws.lowering_model.LoweredInsts.{lowering_of}
 use Rattle.lowered_numbering_laws.specs.lowering_laws.lowering_model.declared.lowering.Lowering.TheVariants as lowering
 use Rattle.lowered_numbering_laws.specs.lowering_laws.ownership_origins.Renamings.{renames}
-use Rattle.owned_counts.specs.typed_holders.inner.TypedStates.{FrameIs}
-use Rattle.owned_counts.specs.typed_holders.typed_memory.inner.Worlds.{Suits, World}
-use Rattle.owned_counts.proofs.typed_holders.Data.{DataAre, read_value}
+use Rattle.owned_counts.specs.tracked_frames.inner.Typed.TypedStates.{FrameIs}
+use Rattle.owned_counts.specs.tracked_frames.typed_memory.inner.Worlds.{Suits, World}
+use Rattle.owned_counts.proofs.tracked_frames.Typed.Data.{DataAre, read_value}
 use Rattle.stored_runs.specs.inner.Frames.{IsNoAddress}
 use Rattle.stored_runs.specs.inner.PlaceRows.{StandsAt}
 use Rattle.stored_runs.specs.inner.RowsRight.{RowRight, held_effect, is_place_row}

@@ -15,9 +15,9 @@ use Rattle.owned_counts.specs.accepted_values.run_typing.RowForms.{IsStoreOf, Ro
 use Rattle.owned_counts.specs.accepted_values.run_typing.RowForms as lowered
 use Rattle.owned_counts.specs.accepted_values.run_typing.EndForms.{value_in}
 use Rattle.owned_counts.specs.accepted_values.run_typing.StorageForms.{IsNamed}
-use Rattle.owned_counts.specs.typed_holders.inner.TypedStates.{FrameIs}
-use Rattle.owned_counts.proofs.typed_holders.Entries.{FitEach, fit_data, operands_fit}
-use Rattle.owned_counts.proofs.typed_holders.GoesOn.{typed_module}
+use Rattle.owned_counts.specs.tracked_frames.inner.Typed.TypedStates.{FrameIs}
+use Rattle.owned_counts.proofs.tracked_frames.Typed.Entries.{FitEach, fit_data, operands_fit}
+use Rattle.owned_counts.proofs.tracked_frames.Typed.GoesOn.{typed_module}
 use Rattle.stored_runs.specs.inner.Frames.{HasFullParts}
 use Rattle.stored_runs.specs.inner.PlaceRows.{StandsAt}
 use Rattle.stored_runs.specs.inner.RowsRight.{ArePartsFull, RowRight, StoresStrong, held_effect, is_place_row, operation_done}
@@ -56,8 +56,8 @@ use Rattle.lowered_numbering_laws.specs.lowering_laws.lowering_model.LoweredInst
 use Rattle.lowered_numbering_laws.specs.lowering_laws.lowering_model.declared.lowering.Lowering.TheVariants as lowering
 use Rattle.lowered_numbering_laws.specs.lowering_laws.ownership_origins.Renamings.{renames}
 use Rattle.owned_counts.specs.accepted_values.run_typing.Forms.{Form, OfPlace, OfValue, form_of, has_no_storage}
-use Rattle.owned_counts.specs.typed_holders.typed_memory.inner.Worlds.{IsWorldOf, MemoryIs, PlaceIs, Suits, World}
-use Rattle.owned_counts.proofs.typed_holders.Data.{DataAre}
+use Rattle.owned_counts.specs.tracked_frames.typed_memory.inner.Worlds.{IsWorldOf, MemoryIs, PlaceIs, Suits, World}
+use Rattle.owned_counts.proofs.tracked_frames.Typed.Data.{DataAre}
 use Rattle.stored_runs.specs.inner.TypedPlaces.{IsPlainPlace}
 use Rattle.stored_runs.specs.inner.TypedRows.{AreTypedPlaceRows, PlacesTold}
 use Rattle.stored_runs.proofs.TypedPlaces.{are_plain_places, are_storage_places, are_trivial_places}

@@ -34,10 +34,10 @@ use Rattle.lowered_steps.specs.lowered_run.LowStepParts.{LowNext, LowState}
 use Rattle.lowered_numbering_laws.specs.lowering_laws.lowering_model.LoweredModules.{lowered, lowered_body}
 use Rattle.lowered_steps.specs.inner.LowWays as ways
 use Rattle.lowered_steps.proofs.LowTaken.{told_taken}
-use Rattle.owned_counts.specs.typed_holders.inner.TypedStates.{DeinitsTyped, DroppedTyped, FinishedTyped, FrameIs, GoesTyped, TasksAre, WaitsTyped}
-use Rattle.owned_counts.specs.typed_holders.holder_steps.inner.Stacks.{Below}
-use Rattle.owned_counts.specs.typed_holders.typed_memory.inner.Worlds.{World}
-use Rattle.owned_counts.proofs.typed_holders.GoesOn.{accepted_body, typed_module}
+use Rattle.owned_counts.specs.tracked_frames.inner.Typed.TypedStates.{DeinitsTyped, DroppedTyped, FinishedTyped, FrameIs, GoesTyped, TasksAre, WaitsTyped}
+use Rattle.owned_counts.specs.tracked_frames.holder_laws.inner.Steps.Stacks.{Below}
+use Rattle.owned_counts.specs.tracked_frames.typed_memory.inner.Worlds.{World}
+use Rattle.owned_counts.proofs.tracked_frames.Typed.GoesOn.{accepted_body, typed_module}
 use Rattle.stored_runs.specs.inner.Along.{IsNextAlong}
 use Rattle.stored_runs.specs.inner.Awaited.{AreAwaited, AreAwaitedBelow}
 use Rattle.stored_runs.specs.inner.Entering.{HandsOver, IsAddressFor}

@@ -29,8 +29,8 @@ use Rattle.lowered_steps.specs.lowered_run.holder_model.declared.row_effect.RowE
 use Rattle.lowered_steps.specs.lowered_run.holder_model.declared.trap.Trap.{Trap}
 use Rattle.lowered_steps.specs.lowered_run.holder_model.memory_accesses.Operations.{access_kind_of, operation_by}
 use Rattle.lowered_steps.specs.lowered_run.holder_model.memory_accesses.declared.access.Operation.{Operation}
-use Rattle.owned_counts.specs.typed_holders.typed_memory.inner.Worlds.{World}
-use Rattle.owned_counts.proofs.typed_holders.Data.{DataAre}
+use Rattle.owned_counts.specs.tracked_frames.typed_memory.inner.Worlds.{World}
+use Rattle.owned_counts.proofs.tracked_frames.Typed.Data.{DataAre}
 use Rattle.stored_runs.specs.inner.Frames.{IsNoAddress}
 use Rattle.stored_runs.specs.inner.RowsRight.{TrapRight, is_place_row}
 use Rattle.stored_runs.specs.inner.TypedTraps.{AreTypedTraps}

@@ -51,9 +51,9 @@ use Rattle.lowered_steps.specs.lowered_run.holder_model.Effects.{effect_of}
 use Rattle.lowered_steps.specs.lowered_run.holder_model.Standing.{stands_at}
 use Rattle.lowered_steps.specs.lowered_run.holder_model.declared.row_effect.RowEffect.TheVariants as row
 use Rattle.lowered_numbering_laws.specs.lowering_laws.sil_types.Typing.FormRules.{is_at_storage}
-use Rattle.owned_counts.specs.typed_holders.typed_memory.inner.Worlds.{World}
-use Rattle.owned_counts.proofs.typed_holders.Data.{DataAre}
-use Rattle.owned_counts.proofs.typed_holders.TrivialShapes.{trivial_shape}
+use Rattle.owned_counts.specs.tracked_frames.typed_memory.inner.Worlds.{World}
+use Rattle.owned_counts.proofs.tracked_frames.Typed.Data.{DataAre}
+use Rattle.owned_counts.proofs.tracked_frames.Typed.TrivialShapes.{trivial_shape}
 use Rattle.stored_runs.specs.inner.WrittenPlaces.{ArePlacesWritten}
 use Rattle.stored_runs.proofs.PlacesFound.{one_place_of}
 use Rattle.stored_runs.proofs.TypedInsts.{given_typed, operand_forms}

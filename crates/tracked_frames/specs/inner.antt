@@ -1,2 +1,3 @@
-pub mod TrackedStates
-pub mod Laws
+pub mod Typed
+pub mod Tracked
+pub mod Placed

@@ -3,13 +3,13 @@ use Rattle.std.specs.Prelude.{◌≡◌, ℕ, Bool, true, false, Some, slice_get
 use Rattle.sil_ast.specs.declared.function.Function.{Function}
 use Rattle.sil_ast.specs.declared.module.Module.{Module}
 use Rattle.sil_ast.specs.declared.place.FuncId.{FuncId}
-use Rattle.held_loans.specs.followed_objects.accepted_values.accepted_modules.inner.Checked.{IsVerified}
-use Rattle.held_loans.specs.followed_objects.held_entries.holder_model.Faults.{HolderFault}
-use Rattle.held_loans.specs.followed_objects.held_entries.holder_model.HolderStates.{HolderState}
-use Rattle.held_loans.specs.followed_objects.held_entries.holder_model.ModuleFacts.{facts_of}
-use Rattle.held_loans.specs.followed_objects.held_entries.holder_model.Outcomes.{begins, may_start}
-use Rattle.held_loans.specs.followed_objects.held_entries.holder_model.States.{Ends, Faulted, Goes}
-use Rattle.held_loans.specs.followed_objects.held_entries.holder_model.Steps.{step}
+use Rattle.tracked_frames.specs.accepted_modules.inner.Checked.{IsVerified}
+use Rattle.tracked_frames.specs.holder_laws.holder_model.Faults.{HolderFault}
+use Rattle.tracked_frames.specs.holder_laws.holder_model.HolderStates.{HolderState}
+use Rattle.tracked_frames.specs.holder_laws.holder_model.ModuleFacts.{facts_of}
+use Rattle.tracked_frames.specs.holder_laws.holder_model.Outcomes.{begins, may_start}
+use Rattle.tracked_frames.specs.holder_laws.holder_model.States.{Ends, Faulted, Goes}
+use Rattle.tracked_frames.specs.holder_laws.holder_model.Steps.{step}
 
 -- a part of the invariant, which is kept while the parts before it are, and the faults that it excludes
 module _ (Before Part : Module → HolderState → Type 0) (excludes : HolderFault → Bool) where

@@ -3,13 +3,13 @@ use Rattle.std.specs.Prelude.{◌≡◌, ℕ, true, false, Some, slice_get}
 use Rattle.sil_ast.specs.declared.function.Function.{Function}
 use Rattle.sil_ast.specs.declared.module.Module.{Module}
 use Rattle.sil_ast.specs.declared.place.FuncId.{FuncId}
-use Rattle.held_loans.specs.followed_objects.accepted_values.accepted_modules.inner.Checked.{IsVerified}
-use Rattle.held_loans.specs.followed_objects.held_entries.holder_model.Faults.{HolderFault}
-use Rattle.held_loans.specs.followed_objects.held_entries.holder_model.HolderStates.{HolderState}
-use Rattle.held_loans.specs.followed_objects.held_entries.holder_model.ModuleFacts.{facts_of}
-use Rattle.held_loans.specs.followed_objects.held_entries.holder_model.Outcomes.{EndsSo, Outcome, begins, may_start, run}
-use Rattle.held_loans.specs.followed_objects.held_entries.holder_model.States.{Ends, Faulted, Goes}
-use Rattle.held_loans.specs.followed_objects.held_entries.holder_model.Steps.{step}
+use Rattle.tracked_frames.specs.accepted_modules.inner.Checked.{IsVerified}
+use Rattle.tracked_frames.specs.holder_laws.holder_model.Faults.{HolderFault}
+use Rattle.tracked_frames.specs.holder_laws.holder_model.HolderStates.{HolderState}
+use Rattle.tracked_frames.specs.holder_laws.holder_model.ModuleFacts.{facts_of}
+use Rattle.tracked_frames.specs.holder_laws.holder_model.Outcomes.{EndsSo, Outcome, begins, may_start, run}
+use Rattle.tracked_frames.specs.holder_laws.holder_model.States.{Ends, Faulted, Goes}
+use Rattle.tracked_frames.specs.holder_laws.holder_model.Steps.{step}
 use Rattle.accepted_runs.specs.inner.RightStates.{IsRightState}
 
 -- so it is of each run of an accepted module from an entry at which one may start

@@ -1,13 +1,13 @@
 -- States of a run by holders of an accepted module: what holds of each state that a run comes to.
 use Rattle.sil_ast.specs.declared.module.Module.{Module}
-use Rattle.held_loans.specs.followed_objects.held_entries.holder_model.HolderStates.{HolderState}
-use Rattle.held_loans.specs.followed_objects.typed_holders.inner.TypedStates.{IsTypedState}
-use Rattle.held_loans.specs.followed_objects.tracked_frames.inner.TrackedStates.{IsTrackedState}
-use Rattle.held_loans.specs.held_places.inner.PlaceStates.{AreSlotsRight}
-use Rattle.held_loans.specs.followed_objects.inner.Said.{said}
-use Rattle.held_loans.specs.followed_objects.held_objects.inner.ObjectStates.{AreObjectsRight}
-use Rattle.held_loans.specs.guarded_entries.inner.GuardedStates.{IsGuardedState}
-use Rattle.held_loans.specs.inner.Loans.{loans_of}
+use Rattle.tracked_frames.specs.holder_laws.holder_model.HolderStates.{HolderState}
+use Rattle.tracked_frames.specs.inner.Typed.TypedStates.{IsTypedState}
+use Rattle.tracked_frames.specs.inner.Tracked.TrackedStates.{IsTrackedState}
+use Rattle.tracked_frames.specs.inner.Placed.PlaceStates.{AreSlotsRight}
+use Rattle.accepted_runs.specs.inner.Built.Said.{said}
+use Rattle.tracked_frames.specs.holder_laws.inner.Held.ObjectStates.{AreObjectsRight}
+use Rattle.accepted_runs.specs.inner.Guarded.GuardedStates.{IsGuardedState}
+use Rattle.accepted_runs.specs.inner.Loans.Loans.{loans_of}
 
 pub record IsRightState (m : Module) (s : HolderState) : Type 0 where
   -- entries, memory and tasks have the shapes of their types

@@ -3,12 +3,12 @@ use Rattle.std.specs.Prelude.{◌<◌, ◌+◌, ◌⊎◌, ℕ, List, [], ◌∷
 use Rattle.sil_ast.specs.declared.module.Module.{Module}
 use Rattle.sil_ast.specs.declared.place.ObjectId.{ObjectId}
 use Rattle.sil_ast.specs.declared.place.ValueId.{ValueId}
-use Rattle.lockstep_runs.specs.holder_counts.holder_model.Frames.{Frame, entry_at}
-use Rattle.lockstep_runs.specs.holder_counts.holder_model.HolderStates.{in_entry}
-use Rattle.lockstep_runs.specs.holder_counts.holder_model.Holders.{one_object}
-use Rattle.lockstep_runs.specs.holder_counts.holder_model.States.{Drops, Finishes, Runs, Task}
+use Rattle.lockstep_runs.specs.holder_laws.holder_model.Frames.{Frame, entry_at}
+use Rattle.lockstep_runs.specs.holder_laws.holder_model.HolderStates.{in_entry}
+use Rattle.lockstep_runs.specs.holder_laws.holder_model.Holders.{one_object}
+use Rattle.lockstep_runs.specs.holder_laws.holder_model.States.{Drops, Finishes, Runs, Task}
 use Rattle.run_values.specs.Memory.{Memory}
-use Rattle.accepted_runs.specs.held_loans.guarded_entries.inner.GuardedStates.{BelowIsGuarded, Loans, TasksAreGuarded, finishes_of, holders_in}
+use Rattle.accepted_runs.specs.inner.Guarded.GuardedStates.{BelowIsGuarded, Loans, TasksAreGuarded, finishes_of, holders_in}
 
 -- how often the copy's held entries name the object
 abbrev pub lent_count : ℕ → ValueId → ObjectId → List (Task Frame) → ℕ

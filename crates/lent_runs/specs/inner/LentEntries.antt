@@ -8,8 +8,8 @@ use Rattle.sil_ast.specs.declared.place.FuncId.{FuncId}
 use Rattle.sil_ast.specs.declared.place.ValueId.{ValueId}
 use Rattle.sil_cfg.specs.declared.item.Item.{Item}
 use Rattle.rewriting_laws.specs.copy_removal.Rewritten.{changed_at}
-use Rattle.lockstep_runs.specs.holder_counts.holder_model.Data.{Datum}
-use Rattle.lockstep_runs.specs.holder_counts.holder_model.Frames.{Entry, Gone, Held, Lent, Plain, entry_at}
+use Rattle.lockstep_runs.specs.holder_laws.holder_model.Data.{Datum}
+use Rattle.lockstep_runs.specs.holder_laws.holder_model.Frames.{Entry, Gone, Held, Lent, Plain, entry_at}
 
 -- what is held is lent
 abbrev pub lent_entry : Entry → Entry

@@ -6,11 +6,11 @@ use Rattle.sil_ast.specs.declared.place.FuncId.{FuncId}
 use Rattle.sil_ast.specs.declared.place.ValueId.{ValueId}
 use Rattle.sil_cfg.specs.declared.item.Item.{Item}
 use Rattle.run_values.specs.Places.{Place}
-use Rattle.lockstep_runs.specs.holder_counts.holder_model.Data.{Datum, references_in}
-use Rattle.lockstep_runs.specs.holder_counts.holder_model.Frames.{Entry, Frame, Gone, Held, LentPlace, entry_at}
-use Rattle.lockstep_runs.specs.holder_counts.holder_model.HolderStates.{HolderState}
-use Rattle.lockstep_runs.specs.holder_counts.holder_model.ModuleFacts.{ModuleFacts}
-use Rattle.lockstep_runs.specs.holder_counts.holder_model.States.{Runs, Task}
+use Rattle.lockstep_runs.specs.holder_laws.holder_model.Data.{Datum, references_in}
+use Rattle.lockstep_runs.specs.holder_laws.holder_model.Frames.{Entry, Frame, Gone, Held, LentPlace, entry_at}
+use Rattle.lockstep_runs.specs.holder_laws.holder_model.HolderStates.{HolderState}
+use Rattle.lockstep_runs.specs.holder_laws.holder_model.ModuleFacts.{ModuleFacts}
+use Rattle.lockstep_runs.specs.holder_laws.holder_model.States.{Runs, Task}
 use Rattle.lockstep_runs.specs.inner.Frames.{AreSpared}
 use Rattle.lockstep_runs.specs.inner.Lockstep.{frame_at}
 use Rattle.lockstep_runs.specs.inner.Parts.{AreFramesOn}

@@ -3,12 +3,12 @@ use Rattle.std.specs.Prelude.{◌≡◌, ◌≤◌, ℕ, true, Some, slice_get}
 use Rattle.sil_ast.specs.declared.function.Function.{Function}
 use Rattle.sil_ast.specs.declared.module.Module.{Module}
 use Rattle.sil_ast.specs.declared.place.FuncId.{FuncId}
-use Rattle.holder_counts.specs.holder_model.Faults.{HolderFault}
-use Rattle.holder_counts.specs.holder_model.HolderStates.{HolderState}
-use Rattle.holder_counts.specs.holder_model.ModuleFacts.{ModuleFacts, facts_of}
-use Rattle.holder_counts.specs.holder_model.Outcomes.{EndsSo, Outcome, begins, left_by, may_start, run}
-use Rattle.holder_counts.specs.holder_model.States.{Ending, Ends}
-use Rattle.holder_counts.specs.holder_model.Steps.{step}
+use Rattle.holder_laws.specs.holder_model.Faults.{HolderFault}
+use Rattle.holder_laws.specs.holder_model.HolderStates.{HolderState}
+use Rattle.holder_laws.specs.holder_model.ModuleFacts.{ModuleFacts, facts_of}
+use Rattle.holder_laws.specs.holder_model.Outcomes.{EndsSo, Outcome, begins, left_by, may_start, run}
+use Rattle.holder_laws.specs.holder_model.States.{Ending, Ends}
+use Rattle.holder_laws.specs.holder_model.Steps.{step}
 
 -- ---- two states in which runs end
 

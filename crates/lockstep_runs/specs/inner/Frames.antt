@@ -19,21 +19,21 @@ use Rattle.type_definitions.specs.Declarations.{declarations_of}
 use Rattle.run_values.specs.Memory.{Memory, is_live}
 use Rattle.run_values.specs.Places.{Place}
 use Rattle.run_values.specs.Values as value
-use Rattle.holder_counts.specs.holder_model.Calling.{holds_something, lent_places, places_given, value_count}
-use Rattle.holder_counts.specs.holder_model.Data.{Datum, ValueOf}
-use Rattle.holder_counts.specs.holder_model.Edges.{carried_along, edge_of}
-use Rattle.holder_counts.specs.holder_model.Effects as effects
-use Rattle.holder_counts.specs.holder_model.Effects.{Change, Effect}
-use Rattle.holder_counts.specs.holder_model.Faults.{HolderFault}
-use Rattle.holder_counts.specs.holder_model.Frames.{Entry, Frame, LentPlace, Operands, datum_in, entry_at, no_entries, operands_of}
-use Rattle.holder_counts.specs.holder_model.Holders.{in_memory, of_references, one_object}
-use Rattle.holder_counts.specs.holder_model.HolderStates.{HolderState}
-use Rattle.holder_counts.specs.holder_model.MemoryEffects.{effect}
-use Rattle.holder_counts.specs.holder_model.ModuleFacts.{ModuleFacts, facts_told}
-use Rattle.holder_counts.specs.holder_model.ModuleShapes.{shapes_in}
-use Rattle.holder_counts.specs.holder_model.Standing.{stands_at}
-use Rattle.holder_counts.specs.holder_model.States.{Runs, Task}
-use Rattle.holder_counts.specs.inner.Moving.{in_tasks}
+use Rattle.holder_laws.specs.holder_model.Calling.{holds_something, lent_places, places_given, value_count}
+use Rattle.holder_laws.specs.holder_model.Data.{Datum, ValueOf}
+use Rattle.holder_laws.specs.holder_model.Edges.{carried_along, edge_of}
+use Rattle.holder_laws.specs.holder_model.Effects as effects
+use Rattle.holder_laws.specs.holder_model.Effects.{Change, Effect}
+use Rattle.holder_laws.specs.holder_model.Faults.{HolderFault}
+use Rattle.holder_laws.specs.holder_model.Frames.{Entry, Frame, LentPlace, Operands, datum_in, entry_at, no_entries, operands_of}
+use Rattle.holder_laws.specs.holder_model.Holders.{in_memory, of_references, one_object}
+use Rattle.holder_laws.specs.holder_model.HolderStates.{HolderState}
+use Rattle.holder_laws.specs.holder_model.MemoryEffects.{effect}
+use Rattle.holder_laws.specs.holder_model.ModuleFacts.{ModuleFacts, facts_told}
+use Rattle.holder_laws.specs.holder_model.ModuleShapes.{shapes_in}
+use Rattle.holder_laws.specs.holder_model.Standing.{stands_at}
+use Rattle.holder_laws.specs.holder_model.States.{Runs, Task}
+use Rattle.holder_laws.specs.inner.Counts.Moving.{in_tasks}
 use Rattle.lockstep_runs.specs.inner.Lockstep.{ArePutAlike, frame_at}
 use Rattle.lockstep_runs.specs.inner.Parts.{AreDropsCovered, AreFinishesCovered, AreFramesOn, ComeTogether, HasFunctions, call_at, entered, puts}
 

@@ -5,13 +5,13 @@ use Rattle.sil_ast.specs.declared.module.Module.{Module}
 use Rattle.sil_ast.specs.declared.place.FuncId.{FuncId}
 use Rattle.sil_cfg.specs.declared.item.Item.{Item}
 use Rattle.type_definitions.specs.Declarations.{declarations_of}
-use Rattle.holder_counts.specs.holder_model.Faults.{HolderFault}
-use Rattle.holder_counts.specs.holder_model.Frames.{Entry}
-use Rattle.holder_counts.specs.holder_model.HolderStates.{HolderState}
-use Rattle.holder_counts.specs.holder_model.ModuleFacts.{ModuleFacts, facts_of}
-use Rattle.holder_counts.specs.holder_model.Outcomes.{begins, may_start, run}
-use Rattle.holder_counts.specs.holder_model.States.{Ends, Faulted}
-use Rattle.holder_counts.specs.holder_model.Steps.{step}
+use Rattle.holder_laws.specs.holder_model.Faults.{HolderFault}
+use Rattle.holder_laws.specs.holder_model.Frames.{Entry}
+use Rattle.holder_laws.specs.holder_model.HolderStates.{HolderState}
+use Rattle.holder_laws.specs.holder_model.ModuleFacts.{ModuleFacts, facts_of}
+use Rattle.holder_laws.specs.holder_model.Outcomes.{begins, may_start, run}
+use Rattle.holder_laws.specs.holder_model.States.{Ends, Faulted}
+use Rattle.holder_laws.specs.holder_model.Steps.{step}
 use Rattle.lockstep_runs.specs.inner.Agreeing.{OutcomesAgree, RunsAgree, RunsAsItDid}
 use Rattle.lockstep_runs.specs.inner.Lockstep.{IsKeptBy}
 use Rattle.lockstep_runs.specs.inner.Frames.{FrameParts}

@@ -7,13 +7,13 @@ use Rattle.sil_ast.specs.declared.place.FuncId.{FuncId}
 use Rattle.sil_ast.specs.declared.place.ObjectId.{ObjectId}
 use Rattle.sil_cfg.specs.declared.item.Item.{Item}
 use Rattle.run_values.specs.Places.{Place}
-use Rattle.holder_counts.specs.holder_model.Faults.{HolderFault}
-use Rattle.holder_counts.specs.holder_model.Frames.{Entry, Frame, LentPlace}
-use Rattle.holder_counts.specs.holder_model.HolderStates.{HolderNext, HolderState}
-use Rattle.holder_counts.specs.holder_model.ModuleFacts.{ModuleFacts}
-use Rattle.holder_counts.specs.holder_model.Outcomes.{run}
-use Rattle.holder_counts.specs.holder_model.States.{Drops, Ending, Ends, Faulted, Finishes, Goes, OutOfTurns, Returned, Runs, Task, Trapped}
-use Rattle.holder_counts.specs.holder_model.Steps.{step}
+use Rattle.holder_laws.specs.holder_model.Faults.{HolderFault}
+use Rattle.holder_laws.specs.holder_model.Frames.{Entry, Frame, LentPlace}
+use Rattle.holder_laws.specs.holder_model.HolderStates.{HolderNext, HolderState}
+use Rattle.holder_laws.specs.holder_model.ModuleFacts.{ModuleFacts}
+use Rattle.holder_laws.specs.holder_model.Outcomes.{run}
+use Rattle.holder_laws.specs.holder_model.States.{Drops, Ending, Ends, Faulted, Finishes, Goes, OutOfTurns, Returned, Runs, Task, Trapped}
+use Rattle.holder_laws.specs.holder_model.Steps.{step}
 use Rattle.lockstep_runs.specs.inner.Agreeing.{EndsAsItDid}
 
 -- all but the tasks

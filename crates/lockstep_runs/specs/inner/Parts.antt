@@ -13,16 +13,16 @@ use Rattle.item_operands.specs.Items.{item_defined}
 use Rattle.type_definitions.specs.Declarations.{declarations_of}
 use Rattle.run_values.specs.Memory.{is_live}
 use Rattle.run_values.specs.Places.{Place}
-use Rattle.holder_counts.specs.holder_model.Calling.{value_count}
-use Rattle.holder_counts.specs.holder_model.Data.{Datum}
-use Rattle.holder_counts.specs.holder_model.Dropping.{deinits_of}
-use Rattle.holder_counts.specs.holder_model.Faults.{HolderFault}
-use Rattle.holder_counts.specs.holder_model.Frames.{Entry, Frame, LentPlace, has_any, no_entries, results_put}
-use Rattle.holder_counts.specs.holder_model.HolderStates.{HolderState, strong_holders}
-use Rattle.holder_counts.specs.holder_model.ModuleFacts.{ModuleFacts, facts_told}
-use Rattle.holder_counts.specs.holder_model.Standing.{stands_at}
-use Rattle.holder_counts.specs.holder_model.States.{Drops, Finishes, Runs, Task}
-use Rattle.holder_counts.specs.holder_model.Steps as steps
+use Rattle.holder_laws.specs.holder_model.Calling.{value_count}
+use Rattle.holder_laws.specs.holder_model.Data.{Datum}
+use Rattle.holder_laws.specs.holder_model.Dropping.{deinits_of}
+use Rattle.holder_laws.specs.holder_model.Faults.{HolderFault}
+use Rattle.holder_laws.specs.holder_model.Frames.{Entry, Frame, LentPlace, has_any, no_entries, results_put}
+use Rattle.holder_laws.specs.holder_model.HolderStates.{HolderState, strong_holders}
+use Rattle.holder_laws.specs.holder_model.ModuleFacts.{ModuleFacts, facts_told}
+use Rattle.holder_laws.specs.holder_model.Standing.{stands_at}
+use Rattle.holder_laws.specs.holder_model.States.{Drops, Finishes, Runs, Task}
+use Rattle.holder_laws.specs.holder_model.Steps as steps
 use Rattle.lockstep_runs.specs.inner.Lockstep.{AreInStep, AreLevel, ArePutAlike, AreStepsAlike, AreTasksLike, Excess, frame_at}
 
 -- the entries behind some results

@@ -6,13 +6,13 @@ use Rattle.sil_ast.specs.declared.place.PointId.{PointId}
 use Rattle.sil_ast.specs.declared.place.ValueId.{ValueId}
 use Rattle.sil_cfg.specs.Items.{point_at}
 use Rattle.sil_cfg.specs.declared.item.Item.{Item}
-use Rattle.lent_runs.specs.holder_counts.holder_model.Data.{Datum}
-use Rattle.lent_runs.specs.holder_counts.holder_model.Frames.{Entry, Frame, Gone, Held, LentPlace, entry_at}
-use Rattle.lent_runs.specs.holder_counts.holder_model.HolderStates.{HolderState}
-use Rattle.lent_runs.specs.holder_counts.holder_model.States.{Runs, Task}
+use Rattle.lent_runs.specs.holder_laws.holder_model.Data.{Datum}
+use Rattle.lent_runs.specs.holder_laws.holder_model.Frames.{Entry, Frame, Gone, Held, LentPlace, entry_at}
+use Rattle.lent_runs.specs.holder_laws.holder_model.HolderStates.{HolderState}
+use Rattle.lent_runs.specs.holder_laws.holder_model.States.{Runs, Task}
 use Rattle.lent_runs.specs.lockstep_runs.inner.Lockstep.{frame_at}
 use Rattle.run_values.specs.Places.{Place}
-use Rattle.lent_runs.specs.holder_counts.holder_model.Standing.{stands_at}
+use Rattle.lent_runs.specs.holder_laws.holder_model.Standing.{stands_at}
 use Rattle.lent_runs.specs.moved_functions.inner.Structure.{old_point}
 
 -- v and c hold the same datum in the first run, and in the second one v is gone

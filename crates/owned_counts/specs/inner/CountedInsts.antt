@@ -12,19 +12,19 @@ use Rattle.accepted_runs.specs.accepted_values.accepted_modules.inner.Checked.{I
 use Rattle.accepted_runs.specs.accepted_values.run_typing.lowered_run.LowEffects.{stored_behind}
 use Rattle.accepted_runs.specs.accepted_values.run_typing.lowered_run.LowStepParts.{numbers_for}
 use Rattle.accepted_runs.specs.accepted_values.run_typing.lowered_run.Stored.{each_changed, one_more}
-use Rattle.stored_counts.specs.holder_counts.holder_model.Effects as effects
-use Rattle.stored_counts.specs.holder_counts.holder_model.Effects.{Change}
-use Rattle.stored_counts.specs.holder_counts.holder_model.Frames.{Entry, Frame, Operands, results_put}
-use Rattle.stored_counts.specs.holder_counts.holder_model.HolderStates.{HolderState}
-use Rattle.stored_counts.specs.holder_counts.holder_model.ModuleFacts.{facts_of, facts_told}
-use Rattle.stored_counts.specs.holder_counts.holder_model.ModuleShapes.{shapes_in, shapes_of}
-use Rattle.stored_counts.specs.holder_counts.holder_model.Outcomes.{Numbers}
-use Rattle.stored_counts.specs.holder_counts.holder_model.Standing.{stands_at}
-use Rattle.stored_counts.specs.holder_counts.holder_model.States.{Runs, Task}
-use Rattle.stored_counts.specs.holder_counts.holder_model.Steps.{effect_in}
-use Rattle.stored_counts.specs.holder_counts.holder_steps.inner.Ways.{left_with, moved, operands_in}
+use Rattle.stored_counts.specs.holder_laws.holder_model.Effects as effects
+use Rattle.stored_counts.specs.holder_laws.holder_model.Effects.{Change}
+use Rattle.stored_counts.specs.holder_laws.holder_model.Frames.{Entry, Frame, Operands, results_put}
+use Rattle.stored_counts.specs.holder_laws.holder_model.HolderStates.{HolderState}
+use Rattle.stored_counts.specs.holder_laws.holder_model.ModuleFacts.{facts_of, facts_told}
+use Rattle.stored_counts.specs.holder_laws.holder_model.ModuleShapes.{shapes_in, shapes_of}
+use Rattle.stored_counts.specs.holder_laws.holder_model.Outcomes.{Numbers}
+use Rattle.stored_counts.specs.holder_laws.holder_model.Standing.{stands_at}
+use Rattle.stored_counts.specs.holder_laws.holder_model.States.{Runs, Task}
+use Rattle.stored_counts.specs.holder_laws.holder_model.Steps.{effect_in}
+use Rattle.stored_counts.specs.holder_laws.inner.Steps.Ways.{left_with, moved, operands_in}
 use Rattle.stored_counts.specs.inner.Numbers.{AreCounts}
-use Rattle.accepted_runs.specs.typed_holders.inner.TypedStates.{IsTypedState}
+use Rattle.accepted_runs.specs.tracked_frames.inner.Typed.TypedStates.{IsTypedState}
 
 -- the first frame's next instruction leaves a change
 pub record MakesChange (m : Module) (bound : ℕ) (s : HolderState) (rest : List (Task Frame)) (frame : Frame) (f : Function) (i : Inst)

@@ -11,19 +11,19 @@ use Rattle.item_operands.specs.Items.{item_defined}
 use Rattle.run_values.specs.Places.{Place}
 use Rattle.run_values.specs.Values.{Value, references_of}
 use Rattle.accepted_runs.specs.accepted_values.accepted_modules.inner.Checked.{IsVerified}
-use Rattle.stored_counts.specs.holder_counts.holder_model.Calling.{holds_something}
-use Rattle.stored_counts.specs.holder_counts.holder_model.Data.{Datum, as_value}
-use Rattle.stored_counts.specs.holder_counts.holder_model.Effects.{only, unchanged}
-use Rattle.stored_counts.specs.holder_counts.holder_model.Frames.{Entry, Frame, Operands, results_put}
-use Rattle.stored_counts.specs.holder_counts.holder_model.HolderStates.{HolderState}
-use Rattle.stored_counts.specs.holder_counts.holder_model.ModuleFacts.{facts_of, facts_told}
-use Rattle.stored_counts.specs.holder_counts.holder_model.Outcomes.{Numbers, returned_holders}
-use Rattle.stored_counts.specs.holder_counts.holder_model.Standing.{stands_at}
-use Rattle.stored_counts.specs.holder_counts.holder_model.States.{Runs, Task}
-use Rattle.stored_counts.specs.holder_counts.holder_steps.inner.Ways.{StandsAtEnd, moved, operands_in}
+use Rattle.stored_counts.specs.holder_laws.holder_model.Calling.{holds_something}
+use Rattle.stored_counts.specs.holder_laws.holder_model.Data.{Datum, as_value}
+use Rattle.stored_counts.specs.holder_laws.holder_model.Effects.{only, unchanged}
+use Rattle.stored_counts.specs.holder_laws.holder_model.Frames.{Entry, Frame, Operands, results_put}
+use Rattle.stored_counts.specs.holder_laws.holder_model.HolderStates.{HolderState}
+use Rattle.stored_counts.specs.holder_laws.holder_model.ModuleFacts.{facts_of, facts_told}
+use Rattle.stored_counts.specs.holder_laws.holder_model.Outcomes.{Numbers, returned_holders}
+use Rattle.stored_counts.specs.holder_laws.holder_model.Standing.{stands_at}
+use Rattle.stored_counts.specs.holder_laws.holder_model.States.{Runs, Task}
+use Rattle.stored_counts.specs.holder_laws.inner.Steps.Ways.{StandsAtEnd, moved, operands_in}
 use Rattle.stored_counts.specs.lowered_run.Stored.{numbers_of}
 use Rattle.stored_counts.specs.inner.Numbers.{AreCounts}
-use Rattle.accepted_runs.specs.typed_holders.inner.TypedStates.{IsTypedState}
+use Rattle.accepted_runs.specs.tracked_frames.inner.Typed.TypedStates.{IsTypedState}
 
 -- the first frame stands at its `return`, and behind the operand holds nothing
 pub record ReturnsFrom (m : Module) (bound : ℕ) (s : HolderState) (rest : List (Task Frame)) (frame : Frame) (f : Function) (i : Inst) (ops : Operands)

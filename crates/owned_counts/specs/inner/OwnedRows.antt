@@ -26,17 +26,17 @@ use Rattle.accepted_runs.specs.accepted_values.run_typing.Forms.{OfPlace, OfValu
 use Rattle.accepted_runs.specs.accepted_values.run_typing.RowForms.{operation_done}
 use Rattle.accepted_runs.specs.accepted_values.run_typing.StorageForms.{IsNamed}
 use Rattle.accepted_runs.specs.accepted_values.run_typing.lowered_run.Operation.{Operation}
-use Rattle.stored_counts.specs.holder_counts.holder_model.Data.{AddressOf, Datum}
-use Rattle.stored_counts.specs.holder_counts.holder_model.Effects as effects
-use Rattle.stored_counts.specs.holder_counts.holder_model.Effects.{Change, effect_of}
-use Rattle.stored_counts.specs.holder_counts.holder_model.Frames.{Entry, Operands, operands_of, results_put}
-use Rattle.stored_counts.specs.holder_counts.holder_model.MemoryEffects.{copies_with, effect, takes}
-use Rattle.stored_counts.specs.holder_counts.holder_model.ModuleShapes.{shapes_in, shapes_of}
-use Rattle.stored_counts.specs.holder_counts.holder_model.Outcomes.{Numbers}
-use Rattle.stored_counts.specs.holder_counts.holder_model.declared.row_effect.RowEffect.TheVariants as row
+use Rattle.stored_counts.specs.holder_laws.holder_model.Data.{AddressOf, Datum}
+use Rattle.stored_counts.specs.holder_laws.holder_model.Effects as effects
+use Rattle.stored_counts.specs.holder_laws.holder_model.Effects.{Change, effect_of}
+use Rattle.stored_counts.specs.holder_laws.holder_model.Frames.{Entry, Operands, operands_of, results_put}
+use Rattle.stored_counts.specs.holder_laws.holder_model.MemoryEffects.{copies_with, effect, takes}
+use Rattle.stored_counts.specs.holder_laws.holder_model.ModuleShapes.{shapes_in, shapes_of}
+use Rattle.stored_counts.specs.holder_laws.holder_model.Outcomes.{Numbers}
+use Rattle.stored_counts.specs.holder_laws.holder_model.declared.row_effect.RowEffect.TheVariants as row
 use Rattle.stored_counts.specs.inner.Rows.{Owns}
 use Rattle.accepted_runs.specs.typed_memory.inner.Worlds.{IsWorldOf, MemoryIs, World}
-use Rattle.accepted_runs.specs.typed_holders.inner.TypedStates.{EntriesAre}
+use Rattle.accepted_runs.specs.tracked_frames.inner.Typed.TypedStates.{EntriesAre}
 
 -- what a load does at its place, by its word: it takes or copies what its result then owns, reads what is trivial, or lends
 pub data LoadsBy (d : Declarations) (f : Function) (i : Inst) (o : Operation) (s : Shape) : Type 0 where

@@ -30,7 +30,7 @@ use Rattle.stored_runs.specs.lowered_run.holder_model.declared.row_effect.RowEff
 use Rattle.stored_runs.specs.lowered_run.holder_model.declared.trap.Trap.{Trap}
 use Rattle.stored_runs.specs.lowered_run.LowFrames.{LowFrame}
 use Rattle.stored_runs.specs.lowered_run.LowStepParts.{LowState}
-use Rattle.stored_runs.specs.holder_steps.inner.Ways.{left_with, moved}
+use Rattle.stored_runs.specs.holder_laws.inner.Steps.Ways.{left_with, moved}
 use Rattle.stored_runs.specs.stored_counts.inner.Numbers.{AreCounts}
 use Rattle.stored_runs.specs.inner.CallsAlong.{HandsFullParts}
 use Rattle.stored_runs.specs.inner.Frames.{AreTasksFor, HasFullParts}

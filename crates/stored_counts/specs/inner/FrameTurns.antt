@@ -22,8 +22,8 @@ use Rattle.lowered_run.specs.holder_model.Outcomes.{Numbers, returned_holders}
 use Rattle.lowered_run.specs.holder_model.StepParts.{new_frame}
 use Rattle.lowered_run.specs.holder_model.States.{Finishes, Runs, Task}
 use Rattle.lowered_run.specs.Stored.{numbers_of}
-use Rattle.holder_counts.specs.holder_steps.inner.Ways.{left_with, moved, operands_in, turned}
-use Rattle.holder_counts.specs.inner.Taking.{IsBelow, references_begun, references_ended}
+use Rattle.holder_laws.specs.inner.Steps.Ways.{left_with, moved, operands_in, turned}
+use Rattle.holder_laws.specs.inner.Counts.Taking.{IsBelow, references_begun, references_ended}
 use Rattle.stored_counts.specs.inner.Numbers.{AreCounts}
 
 -- ---- what is the same

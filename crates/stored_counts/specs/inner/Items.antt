@@ -17,9 +17,9 @@ use Rattle.lowered_run.specs.holder_model.Outcomes.{Numbers}
 use Rattle.lowered_run.specs.holder_model.States.{Runs, Task}
 use Rattle.lowered_run.specs.LowStepParts.{numbers_for}
 use Rattle.lowered_run.specs.Stored.{each_changed, numbers_of, one_more}
-use Rattle.holder_counts.specs.holder_steps.inner.Ways.{left_with, moved, operands_in}
-use Rattle.holder_counts.specs.inner.Moving.{IsBalanced}
-use Rattle.holder_counts.specs.inner.Taking.{IsBelow}
+use Rattle.holder_laws.specs.inner.Steps.Ways.{left_with, moved, operands_in}
+use Rattle.holder_laws.specs.inner.Counts.Moving.{IsBalanced}
+use Rattle.holder_laws.specs.inner.Counts.Taking.{IsBelow}
 use Rattle.stored_counts.specs.inner.Numbers.{AreCounts, IsStoredOf}
 
 -- the object that is made anew, if one is

@@ -27,9 +27,9 @@ use Rattle.lowered_run.specs.holder_model.Outcomes.{Numbers}
 use Rattle.lowered_run.specs.holder_model.declared.row_effect.RowEffect.{RowEffect}
 use Rattle.lowered_run.specs.holder_model.declared.row_effect.RowEffect.TheVariants as row
 use Rattle.lowered_run.specs.LowEffects.{is_first_write, stored_behind}
-use Rattle.holder_counts.specs.inner.Keeping.{IsWithin}
-use Rattle.holder_counts.specs.inner.Naming.{IsReadStrongly, in_data}
-use Rattle.holder_counts.specs.inner.Taking.{references_begun, references_ended}
+use Rattle.holder_laws.specs.inner.Counts.Keeping.{IsWithin}
+use Rattle.holder_laws.specs.inner.Counts.Naming.{IsReadStrongly, in_data}
+use Rattle.holder_laws.specs.inner.Counts.Taking.{references_begun, references_ended}
 use Rattle.stored_counts.specs.inner.Items.{AreMade, AreNamesBehind}
 use Rattle.stored_counts.specs.inner.Numbers.{AreNamesStored}
 

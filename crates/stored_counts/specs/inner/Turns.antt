@@ -11,8 +11,8 @@ use Rattle.lowered_run.specs.holder_model.ModuleFacts.{ModuleFacts}
 use Rattle.lowered_run.specs.holder_model.Outcomes.{Numbers}
 use Rattle.lowered_run.specs.holder_model.States.{Drops, Task}
 use Rattle.lowered_run.specs.Stored.{changed, numbers_of, one_less, unnamed}
-use Rattle.holder_counts.specs.inner.Moving.{in_tasks}
-use Rattle.holder_counts.specs.holder_steps.inner.Ways.{deinitialising, finished}
+use Rattle.holder_laws.specs.inner.Counts.Moving.{in_tasks}
+use Rattle.holder_laws.specs.inner.Steps.Ways.{deinitialising, finished}
 use Rattle.stored_counts.specs.inner.Numbers.{AreCounts, AreNamesStored}
 
 -- ---- what changes no count

@@ -9,7 +9,7 @@ use Rattle.lowered_steps.specs.lowered_run.holder_model.ModuleFacts.{facts_of}
 use Rattle.lowered_steps.specs.lowered_run.holder_model.Outcomes.{begins}
 use Rattle.lowered_steps.specs.lowered_run.holder_model.States.{Goes, Task}
 use Rattle.lowered_steps.specs.lowered_run.holder_model.Steps.{step}
-use Rattle.owned_counts.specs.holder_steps.inner.Stacks.{Below, Going}
+use Rattle.owned_counts.specs.holder_laws.inner.Steps.Stacks.{Below, Going}
 use Rattle.stored_runs.specs.inner.Returned.{WaitsAtCall}
 
 module _ (m : Module) where

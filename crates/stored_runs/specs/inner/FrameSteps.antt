@@ -20,7 +20,7 @@ use Rattle.lowered_steps.specs.lowered_run.holder_model.Steps as holder_run
 use Rattle.lowered_steps.specs.lowered_run.LowStepParts.{LowNext, LowState}
 use Rattle.lowered_steps.specs.lowered_run.LowSteps as steps
 use Rattle.lowered_numbering_laws.specs.lowering_laws.lowering_model.LoweredModules.{lowered}
-use Rattle.owned_counts.specs.holder_steps.inner.Ways as holder
+use Rattle.owned_counts.specs.holder_laws.inner.Steps.Ways as holder
 use Rattle.stored_runs.specs.inner.Along.{IsNextAlong, IsNoFault}
 use Rattle.stored_runs.specs.inner.CallsAlong.{CallsRight}
 use Rattle.stored_runs.specs.inner.EndsAlong.{ComesPlain, MayReturnTo}

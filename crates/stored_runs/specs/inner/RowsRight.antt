@@ -46,7 +46,7 @@ use Rattle.lowered_numbering_laws.specs.lowering_laws.lowering_model.LoweredInst
 use Rattle.lowered_numbering_laws.specs.lowering_laws.lowering_model.declared.lowering.Lowering.TheVariants as lowering
 use Rattle.lowered_numbering_laws.specs.lowering_laws.ownership_origins.Renamings.{renames}
 use Rattle.lowered_numbering_laws.specs.lowering_laws.sil_types.Typing.FormRules.{is_at_storage}
-use Rattle.owned_counts.specs.holder_steps.inner.Ways as holder
+use Rattle.owned_counts.specs.holder_laws.inner.Steps.Ways as holder
 use Rattle.stored_runs.specs.inner.Frames.{HasFullParts, IsNoAddress}
 use Rattle.stored_runs.specs.inner.Memories.{MayBeTaken}
 use Rattle.stored_runs.specs.inner.Names.{lowered_number}

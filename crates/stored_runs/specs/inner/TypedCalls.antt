@@ -11,8 +11,8 @@ use Rattle.lowered_steps.specs.lowered_run.holder_model.Frames.{Frame, Operands,
 use Rattle.lowered_steps.specs.lowered_run.holder_model.HolderStates.{HolderState}
 use Rattle.lowered_steps.specs.lowered_run.holder_model.ModuleFacts.{facts_of, facts_told}
 use Rattle.lowered_steps.specs.lowered_run.holder_model.Standing.{stands_at}
-use Rattle.owned_counts.specs.typed_holders.inner.TypedStates.{FrameIs}
-use Rattle.owned_counts.specs.typed_holders.typed_memory.inner.Worlds.{IsWorldOf, MemoryIs, World}
+use Rattle.owned_counts.specs.tracked_frames.inner.Typed.TypedStates.{FrameIs}
+use Rattle.owned_counts.specs.tracked_frames.typed_memory.inner.Worlds.{IsWorldOf, MemoryIs, World}
 use Rattle.stored_runs.specs.inner.CallsAlong.{CallsRight, HandsFullParts}
 
 -- where places that hold what is asked are full if they are parts, as the rows of calls say

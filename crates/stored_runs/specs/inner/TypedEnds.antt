@@ -9,8 +9,8 @@ use Rattle.owned_counts.specs.accepted_values.inner.Known.{IsAcceptedBody}
 use Rattle.lowered_steps.specs.lowered_run.holder_model.Frames.{Frame}
 use Rattle.lowered_steps.specs.lowered_run.holder_model.HolderStates.{HolderState}
 use Rattle.lowered_steps.specs.lowered_run.holder_model.Standing.{stands_at}
-use Rattle.owned_counts.specs.typed_holders.inner.TypedStates.{FrameIs}
-use Rattle.owned_counts.specs.typed_holders.typed_memory.inner.Worlds.{World}
+use Rattle.owned_counts.specs.tracked_frames.inner.Typed.TypedStates.{FrameIs}
+use Rattle.owned_counts.specs.tracked_frames.typed_memory.inner.Worlds.{World}
 use Rattle.stored_runs.specs.inner.EndsAlong.{ComesPlain}
 
 abbrev pub AreEndsPlain : Type 0

@@ -12,7 +12,7 @@ use Rattle.run_values.specs.Trivial.{is_trivial}
 use Rattle.lowered_steps.specs.lowered_run.holder_model.MemoryEffects.{references_at}
 use Rattle.owned_counts.specs.accepted_values.run_typing.Forms.{has_no_storage}
 use Rattle.owned_counts.specs.accepted_values.run_typing.StorageForms.{IsNamed}
-use Rattle.owned_counts.specs.typed_holders.typed_memory.inner.Worlds.{MemoryIs, PlaceIs, Suits, World}
+use Rattle.owned_counts.specs.tracked_frames.typed_memory.inner.Worlds.{MemoryIs, PlaceIs, Suits, World}
 use Rattle.stored_runs.specs.inner.Memories.{MayBeTaken}
 
 module _ (m : Module) (w : World) (memory : Memory) (y : Place) where

@@ -11,8 +11,8 @@ use Rattle.lowered_steps.specs.lowered_run.holder_model.States.{Task}
 use Rattle.lowered_steps.specs.lowered_run.holder_model.declared.row_effect.RowEffect.{RowEffect}
 use Rattle.lowered_steps.specs.lowered_run.holder_model.declared.row_effect.RowEffect.TheVariants as row
 use Rattle.lowered_steps.specs.lowered_run.LowStepParts.{LowState}
-use Rattle.owned_counts.specs.typed_holders.inner.TypedStates.{FrameIs}
-use Rattle.owned_counts.specs.typed_holders.typed_memory.inner.Worlds.{IsWorldOf, MemoryIs, World}
+use Rattle.owned_counts.specs.tracked_frames.inner.Typed.TypedStates.{FrameIs}
+use Rattle.owned_counts.specs.tracked_frames.typed_memory.inner.Worlds.{IsWorldOf, MemoryIs, World}
 use Rattle.stored_runs.specs.inner.PlaceRows.{StandsAt}
 use Rattle.stored_runs.specs.inner.RowsRight.{RowRight, held_effect, is_place_row}
 

@@ -24,8 +24,8 @@ use Rattle.lowered_steps.specs.lowered_run.holder_model.Standing.{stands_at}
 use Rattle.lowered_steps.specs.lowered_run.holder_model.States.{Finishes, Runs, Task}
 use Rattle.lowered_steps.specs.lowered_run.holder_model.Steps as holder_run
 use Rattle.lowered_steps.specs.lowered_run.LowStepParts.{LowState}
-use Rattle.owned_counts.specs.holder_steps.inner.Ways as holder
-use Rattle.owned_counts.specs.typed_holders.inner.TypedStates.{IsTypedState}
+use Rattle.owned_counts.specs.holder_laws.inner.Steps.Ways as holder
+use Rattle.owned_counts.specs.tracked_frames.inner.Typed.TypedStates.{IsTypedState}
 use Rattle.stored_runs.specs.inner.Along.{IsNoFault}
 use Rattle.stored_runs.specs.inner.Awaited.{AreAwaited}
 use Rattle.stored_runs.specs.inner.CallsAlong.{HandsFullParts}

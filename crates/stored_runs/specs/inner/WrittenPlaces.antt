@@ -18,8 +18,8 @@ use Rattle.lowered_steps.specs.lowered_run.holder_model.States.{Task}
 use Rattle.lowered_steps.specs.lowered_run.holder_model.declared.row_effect.RowEffect.TheVariants as row
 use Rattle.lowered_steps.specs.lowered_run.LowStepParts.{LowState}
 use Rattle.lowered_numbering_laws.specs.lowering_laws.sil_types.Typing.FormRules.{is_at_storage}
-use Rattle.owned_counts.specs.typed_holders.inner.TypedStates.{FrameIs}
-use Rattle.owned_counts.specs.typed_holders.typed_memory.inner.Worlds.{World}
+use Rattle.owned_counts.specs.tracked_frames.inner.Typed.TypedStates.{FrameIs}
+use Rattle.owned_counts.specs.tracked_frames.typed_memory.inner.Worlds.{World}
 use Rattle.stored_runs.specs.inner.PlaceRows.{StandsAt}
 use Rattle.std.specs.Prelude.{List, true}
 

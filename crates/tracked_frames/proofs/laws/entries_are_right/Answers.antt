@@ -1,4 +1,4 @@
-use Rattle.tracked_frames.proofs.TrackedSteps.{entries_are_right}
+use Rattle.tracked_frames.proofs.Tracked.TrackedSteps.{entries_are_right}
 use Rattle.tracked_frames.proofs.laws.entries_are_right.Goals as goal
 
 pub returns : goal.returns

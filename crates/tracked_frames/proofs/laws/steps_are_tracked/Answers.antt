@@ -1,4 +1,4 @@
-use Rattle.tracked_frames.proofs.TrackedSteps.{steps_are_tracked}
+use Rattle.tracked_frames.proofs.Tracked.TrackedSteps.{steps_are_tracked}
 use Rattle.tracked_frames.proofs.laws.steps_are_tracked.Goals as goal
 
 pub returns : goal.returns

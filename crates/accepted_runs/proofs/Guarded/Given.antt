@@ -1,0 +1,114 @@
+-- Tracked entries go along with the trail, and typed ones are of their values' kinds. What is handed on as a whole is a value.
+use Rattle.std.proofs.Common.{◌≡◌, ◌<◌, ◌⊎◌, inl, inr, List, [], ◌∷◌, refl, sym, ap, ◌∙◌, subst, Bool, true, false, Option, Some, None, Ok}
+use Rattle.std.specs.Prelude.{slice_get, unwrap_or}
+use Rattle.std.specs.List.{AllZip}
+use Rattle.std.proofs.lemmas.Bool.{false≢true}
+use Rattle.std.proofs.lemmas.Option.{slice_get_within}
+use Rattle.sil_ast.specs.declared.inst.Inst.{Inst}
+use Rattle.sil_ast.specs.declared.module.Module.{Module}
+use Rattle.type_definitions.specs.Declarations.{declarations_of}
+use Rattle.run_values.specs.Shapes.{Shape, Reference}
+use Rattle.tracked_frames.specs.accepted_values.inner.Known.{kind_at}
+use Rattle.tracked_frames.specs.accepted_values.run_typing.Forms.{Form, OfValue, form_of}
+use Rattle.tracked_frames.specs.accepted_values.run_typing.RowForms as lowered
+use Rattle.tracked_frames.specs.accepted_values.run_typing.RowForms.{RowForms}
+use Rattle.tracked_frames.specs.accepted_premises.owned_run_typing.inner.OwnedRows as owned
+use Rattle.tracked_frames.specs.accepted_premises.owned_run_typing.inner.OwnedRows.{OwnedRowForms}
+use Rattle.tracked_frames.specs.typed_memory.inner.Worlds.{DatumIs, World}
+use Rattle.tracked_frames.specs.inner.Typed.TypedStates.{EntryIs}
+use Rattle.tracked_frames.proofs.Typed.Data.{read_value}
+use Rattle.tracked_frames.specs.inner.Tracked.TrackedStates.{GoesAlong}
+use Rattle.tracked_frames.specs.inner.Tracked.TrackedStates as tracked
+use Rattle.tracked_frames.specs.holder_laws.holder_model.Data.{Datum}
+use Rattle.tracked_frames.specs.holder_laws.holder_model.Effects.{effect_of}
+use Rattle.tracked_frames.specs.holder_laws.holder_model.Frames.{Entry, Gone, Held, Lent, Plain, entry_at, made_entry}
+use Rattle.tracked_frames.specs.holder_laws.holder_model.declared.row_effect.RowEffect.{RowEffect}
+use Rattle.tracked_frames.specs.holder_laws.holder_model.declared.row_effect.RowEffect.TheVariants as row
+use Rattle.accepted_runs.specs.inner.Guarded.Given.{AreTrackedAlong, AreTypedOfKinds, HandTypedValues}
+use Rattle.accepted_runs.specs.inner.Guarded.Guards.{IsThere}
+use Rattle.accepted_runs.specs.inner.Guarded.Rows.{HandsValues}
+
+-- ---- entries
+
+there : (e : Entry) → tracked.IsThere e → IsThere e
+there Gone h gone = h
+there (Held x) h gone = absurd (cc)
+there (Lent x) h gone = absurd (cc)
+there (Plain x) h gone = absurd (cc)
+
+pub tracked_along : AreTrackedAlong
+tracked_along d f frame along = record {
+  tracked = along.tracked;
+  others = λ v not_owned not_scope made.
+      there (entry_at frame.entries v) (along.others v (record { not_owned = not_owned; not_scope = not_scope }) made);
+}
+
+pub typed_of_kinds : AreTypedOfKinds
+typed_of_kinds m w f entries are v = at (slice_get entries v.0) refl
+  where
+    by : (e : Entry) → EntryIs m w (kind_at (declarations_of m) f v) (form_of (declarations_of m) f v) e → (e ≡ Gone) ⊎ ((x : Datum) × (made_entry (kind_at (declarations_of m) f v) x ≡ Ok e))
+    by _ EntryIs.gone = inl refl
+    by _ (EntryIs.made x e made typed) = inr (x, made)
+
+    at : (o : Option Entry) → slice_get entries v.0 ≡ o → (entry_at entries v ≡ Gone) ⊎ ((x : Datum) × (made_entry (kind_at (declarations_of m) f v) x ≡ Ok (entry_at entries v)))
+    at None is = inl (ap (λ (o : Option Entry). unwrap_or o Gone) is)
+    at (Some e) is = by (entry_at entries v) (are.each v (subst (λ n. v.0 < n) are.size (slice_get_within entries v.0 e is)))
+
+-- ---- operands
+
+-- the row hands on or copies its operand as a whole
+abbrev is_handing : RowEffect → Bool
+is_handing row.GivesOperand = true
+is_handing row.CopiesOperand = true
+is_handing _ = false
+
+module _ (m : Module) (w : World) (i : Inst) where
+  another : (xs : List Datum) (r : RowEffect) → effect_of i.op ≡ r → is_handing r ≡ false → HandsValues i xs
+  another xs r is none x (inl gives) same = absurd (false≢true (sym none ∙ ap is_handing (sym is ∙ gives)))
+  another xs r is none x (inr copies) same = absurd (false≢true (sym none ∙ ap is_handing (sym is ∙ copies)))
+
+  a_value : (s : Shape) (xs : List Datum) → AllZip (DatumIs m w) (OfValue s ∷ []) xs → HandsValues i xs
+  a_value s [] typed x how same = absurd typed
+  a_value s (y ∷ []) typed x how same =
+      let v = read_value m w typed.0 s refl in
+      let alike : y ≡ x = cc in
+      (v.0, sym alike ∙ v.1)
+  a_value s (y ∷ z ∷ xs) typed x how same = absurd typed.1
+
+  by_lowered : {ins outs : List Form} → RowForms m i ins outs → (xs : List Datum) → AllZip (DatumIs m w) ins xs → HandsValues i xs
+  by_lowered (lowered.looks form is) xs typed = another xs _ is refl
+  by_lowered (lowered.literal n width is number residue) xs typed = another xs _ is refl
+  by_lowered (lowered.function g is function) xs typed = another xs _ is refl
+  by_lowered (lowered.computes b is named) xs typed = another xs _ is refl
+  by_lowered (lowered.traps text is told) xs typed = another xs _ is refl
+  by_lowered (lowered.object class is declared) xs typed = another xs _ is refl
+  by_lowered (lowered.slot how s is shape) xs typed = another xs _ is refl
+  by_lowered (lowered.removes s is) xs typed = another xs _ is refl
+  by_lowered (lowered.upcast class above is below) xs typed = a_value (Reference class) xs typed
+  by_lowered (lowered.retains s is bare) xs typed = another xs _ is refl
+  by_lowered (lowered.drops s is bare) xs typed = another xs _ is refl
+  by_lowered (lowered.loads s is done bare) xs typed = another xs _ is refl
+  by_lowered (lowered.stores s is done bare) xs typed = another xs _ is refl
+  by_lowered (lowered.loads_name how s o is named done _) xs typed = another xs _ is refl
+  by_lowered (lowered.stores_name how s o is named done write) xs typed = another xs _ is refl
+  by_lowered (lowered.destroys_name how s is named done) xs typed = another xs _ is refl
+  by_lowered (lowered.groups s ss is group) xs typed = another xs _ is refl
+  by_lowered (lowered.chooses_plain s k c is of_enum at there no_payload) xs typed = another xs _ is refl
+  by_lowered (lowered.chooses_full s payload k c is of_enum at there has) xs typed = another xs _ is refl
+  by_lowered (lowered.member s part k is number there) xs typed = another xs _ is refl
+  by_lowered (lowered.member_address s part k is number there) xs typed = another xs _ is refl
+  by_lowered (lowered.field_address class named s k is member owner number there) xs typed = another xs _ is refl
+  by_lowered (lowered.calls g callee is there bodied) xs typed = another xs _ is refl
+  by_lowered (lowered.calls_out g callee widths is there bodiless) xs typed = another xs _ is refl
+
+  by_row : {ins outs : List Form} → OwnedRowForms m i ins outs → (xs : List Datum) → AllZip (DatumIs m w) ins xs → HandsValues i xs
+  by_row (owned.also_lowered ins outs forms) xs typed = by_lowered forms xs typed
+  by_row (owned.gives s is bare) xs typed = a_value s xs typed
+  by_row (owned.copies s is bare) xs typed = a_value s xs typed
+  by_row (owned.loads s o is done _ bare) xs typed = another xs _ is refl
+  by_row (owned.stores s o is done write bare) xs typed = another xs _ is refl
+  by_row (owned.destroys s is done bare) xs typed = another xs _ is refl
+  by_row (owned.members s ss is group) xs typed = another xs _ is refl
+
+pub hand_typed_values : HandTypedValues
+hand_typed_values m w i ins outs xs row typed = by_row m w i row xs typed

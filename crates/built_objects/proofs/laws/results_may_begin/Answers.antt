@@ -1,5 +1,0 @@
-use Rattle.built_objects.proofs.Handing.{begin_again, begin_whole, name_field, name_member}
-use Rattle.built_objects.proofs.laws.results_may_begin.Goals as goal
-
-pub returns : goal.returns
-returns c = record { whole = begin_whole; again = begin_again; field = name_field; member = name_member }

@@ -1,0 +1,4 @@
+pub mod Below
+pub mod Drops
+pub mod Items
+pub mod Entering

@@ -1,0 +1,17 @@
+pub mod Data
+pub mod Operands
+pub mod Entries
+pub mod TrivialShapes
+pub mod WithoutOwner
+pub mod Effects
+pub mod ShapesTold
+pub mod RowValues
+pub mod RowPlaces
+pub mod RowForms
+pub mod Stacks
+pub mod GoesOn
+pub mod Performs
+pub mod Edges
+pub mod Returns
+pub mod Drops
+pub mod TypedSteps

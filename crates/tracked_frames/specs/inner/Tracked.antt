@@ -1,0 +1,2 @@
+pub mod TrackedStates
+pub mod Laws
