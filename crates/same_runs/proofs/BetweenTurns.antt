@@ -47,7 +47,7 @@ use Rattle.stored_runs.specs.inner.TypedSteps.{IsTypedFor}
 use Rattle.stored_runs.proofs.Awaited.{steps_awaited}
 use Rattle.same_runs.specs.inner.BetweenTurns.{AreTotalsHeld, AreTotalsTold, all_holders}
 use Rattle.same_runs.specs.inner.Followed.{Follows, GoesToo}
-use Rattle.same_runs.specs.inner.Owed.{IsComeTo}
+use Rattle.same_runs.specs.inner.InRightStates.{IsComeTo}
 use Rattle.same_runs.proofs.Begun.{begin_typed_for}
 use Rattle.same_runs.proofs.Come.{comes_right}
 use Rattle.same_runs.proofs.StepsFollowed.{steps_followed}

@@ -12,7 +12,7 @@ use Rattle.stored_runs.specs.lowered_run.holder_model.States.{Ends, Faulted, Goe
 use Rattle.stored_runs.specs.lowered_run.holder_model.Steps as holder_run
 use Rattle.stored_runs.specs.typed_holders.inner.TypedStates.{IsTypedState}
 use Rattle.stored_runs.proofs.typed_holders.TypedSteps.{begin_typed, steps_typed}
-use Rattle.same_runs.specs.inner.Owed.{IsComeTo}
+use Rattle.same_runs.specs.inner.InRightStates.{IsComeTo}
 use Rattle.same_runs.proofs.DeinitsCalled.{AreCalled, begin_called, steps_called}
 
 module _ (m : Module) (bound : ℕ) where

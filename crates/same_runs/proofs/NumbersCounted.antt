@@ -18,7 +18,7 @@ use Rattle.stored_runs.specs.inner.TypedSteps.{IsTypedFor}
 use Rattle.stored_runs.proofs.StayingSteps.{function_there}
 use Rattle.same_runs.specs.inner.Followed.{GoesToo}
 use Rattle.same_runs.specs.inner.Laws.{AreNumbersCounts}
-use Rattle.same_runs.specs.inner.Owed.{IsComeTo}
+use Rattle.same_runs.specs.inner.InRightStates.{IsComeTo}
 use Rattle.same_runs.proofs.Begun.{begin_typed_for, lowers}
 use Rattle.same_runs.proofs.RunsSame.{RunsOn, comes_on, follows, next_typed, onward}
 

@@ -51,7 +51,7 @@ use Rattle.stored_runs.specs.inner.Lowering.{IsOwnName}
 use Rattle.stored_runs.specs.inner.Names.{IsCurrent, lowered_number}
 use Rattle.stored_runs.proofs.LoweredSo.{are_lowered_so}
 use Rattle.stored_runs.proofs.StayingSteps.{low_frame}
-use Rattle.same_runs.specs.inner.Owed.{PartsOutlive}
+use Rattle.same_runs.specs.inner.InRightStates.{PartsOutlive}
 
 -- ---- an argument of the entry is as it was given
 

@@ -13,10 +13,10 @@ use Rattle.stored_runs.specs.lowered_run.LowStepParts.{LowState}
 use Rattle.stored_runs.specs.inner.RowsRight.{RowRight, is_place_row}
 use Rattle.stored_runs.specs.inner.TypedPlainRows.{is_plain_row}
 use Rattle.stored_runs.specs.inner.TypedSteps.{IsTypedFor}
-use Rattle.stored_runs.proofs.PlacesLeft.{are_places_told}
+use Rattle.stored_runs.proofs.PlacesTold.{are_places_told}
 use Rattle.stored_runs.proofs.TypedPlainRows.{are_typed_plain_rows}
 use Rattle.stored_runs.proofs.TypedRows.{are_typed_place_rows}
-use Rattle.same_runs.specs.inner.Owed.{ArePlacesLeft, AreRetainedAlive, AtInst, IsNoCall, LeavesSo, RowsAreRight}
+use Rattle.same_runs.specs.inner.InRightStates.{ArePartsSpared, AreRetainedAlive, AtInst, IsNoCall, LeavesSo, RowsAreRight}
 use Rattle.same_runs.proofs.RowsFound.{accepted, frame_is, stands}
 use Rattle.same_runs.proofs.TakenApartRows.{apart_right}
 
@@ -52,7 +52,7 @@ row_so row.AddressesMember = RowSo.plain refl
 row_so row.AddressesField = RowSo.plain refl
 row_so row.CallsFunction = RowSo.calls refl
 
-module _ (places : ArePlacesLeft) (m : Module) (bound : ℕ) (s : HolderState) (verified : IsVerified m) (right : IsRightState m s) (l : LowState) (x : AtInst m s)
+module _ (places : ArePartsSpared) (m : Module) (bound : ℕ) (s : HolderState) (verified : IsVerified m) (right : IsRightState m s) (l : LowState) (x : AtInst m s)
     (h : IsTypedFor m s l) (other : IsNoCall m bound s x) (c : Change) (slots : List Place) (entries : List Entry) (leaves : LeavesSo m bound s x c slots entries) where
   row_right : RowRight m s l x.frame x.f x.i x.ops c
   row_right = by (row_so (effect_of x.i.op))
@@ -70,6 +70,6 @@ module _ (places : ArePlacesLeft) (m : Module) (bound : ℕ) (s : HolderState) (
           apart_right m s l h.typed.world x.frame x.rest x.f x.i x.ops c (accepted m bound s l x h) (frame_is m bound s l x h) (stands m bound s l x h) e leaves.makes
       by (RowSo.calls e) = absurd (other e)
 
-pub rows_right : ArePlacesLeft → AreRetainedAlive → RowsAreRight
+pub rows_right : ArePartsSpared → AreRetainedAlive → RowsAreRight
 rows_right places alive m bound s verified right l x h other c slots entries leaves =
     (row_right places m bound s verified right l x h other c slots entries leaves, alive m bound s verified right x other c slots entries leaves)

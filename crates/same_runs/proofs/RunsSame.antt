@@ -28,7 +28,7 @@ use Rattle.stored_runs.specs.inner.TypedSteps.{IsTypedFor}
 use Rattle.stored_runs.proofs.Awaited.{steps_awaited}
 use Rattle.stored_runs.proofs.StayingSteps.{function_there}
 use Rattle.same_runs.specs.inner.Followed.{EndsToo, Follows, GoesToo, left_of}
-use Rattle.same_runs.specs.inner.Owed.{IsComeTo}
+use Rattle.same_runs.specs.inner.InRightStates.{IsComeTo}
 use Rattle.same_runs.proofs.Begun.{begin_typed_for, lowers}
 use Rattle.same_runs.proofs.StepsFollowed.{steps_followed}
 

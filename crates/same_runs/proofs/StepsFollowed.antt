@@ -43,7 +43,7 @@ use Rattle.stored_runs.proofs.CallsAlone.{calls_alone, calls_or, op_of}
 use Rattle.stored_runs.proofs.TypedSteps.{typed_calls_step, typed_deinits_step, typed_ends_step}
 use Rattle.same_runs.specs.inner.Followed.{Follows, GoesToo, StepsToo, low_next_of}
 use Rattle.same_runs.specs.inner.Laws.{AreStepsFollowed}
-use Rattle.same_runs.specs.inner.Owed.{AtInst, IsComeTo, LeavesSo, RowsAreRight, effect_there}
+use Rattle.same_runs.specs.inner.InRightStates.{AtInst, IsComeTo, LeavesSo, RowsAreRight, effect_there}
 use Rattle.stored_runs.specs.accepted_runs.inner.RightStates.{IsRightState}
 use Rattle.stored_runs.proofs.owned_counts.CountedInsts.{insts_counted}
 use Rattle.stored_runs.proofs.owned_counts.CountedReturns.{left_counted}
@@ -57,7 +57,7 @@ use Rattle.same_runs.proofs.Finishing.{dropped_followed, dropping_followed, fini
 use Rattle.same_runs.proofs.HandedFull.{parts_handed_full}
 use Rattle.same_runs.proofs.Outlive.{parts_outlive}
 use Rattle.same_runs.proofs.CallsCounted.{calls_counted}
-use Rattle.same_runs.proofs.PlacesLeft.{places_left}
+use Rattle.same_runs.proofs.SparedParts.{parts_spared}
 use Rattle.same_runs.proofs.RetainedAlive.{retained_alive}
 use Rattle.same_runs.proofs.RowsFollowed.{row_followed}
 use Rattle.same_runs.proofs.RowsRight.{rows_right}
@@ -65,7 +65,7 @@ use Rattle.same_runs.proofs.TrapsRight.{traps_are_right}
 use Rattle.same_runs.proofs.RowsFound.{rows_go_along, rows_trap_along}
 
 pub rows_are_right : RowsAreRight
-rows_are_right = rows_right places_left retained_alive
+rows_are_right = rows_right parts_spared retained_alive
 
 module _ (m : Module) (bound : ℕ) (s : HolderState) (verified : IsVerified m) (comes : IsComeTo m bound s) (l : LowState) (h : IsTypedFor m s l) where
   abbrev told : ModuleFacts

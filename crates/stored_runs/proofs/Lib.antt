@@ -56,7 +56,7 @@ pub mod TypedPlainRows
 pub mod TypedTraps
 pub mod WrittenPlaces
 pub mod OwnSlots
-pub mod PlacesLeft
+pub mod PlacesTold
 pub use Rattle.owned_counts.proofs.accepted_values as accepted_values
 pub use Rattle.owned_counts.proofs.typed_holders as typed_holders
 pub use Rattle.owned_counts.proofs.accepted_runs as accepted_runs

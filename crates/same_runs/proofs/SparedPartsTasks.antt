@@ -33,7 +33,7 @@ use Rattle.stored_runs.specs.inner.Names.{lowered_number}
 use Rattle.stored_runs.proofs.LoweredSo.{are_lowered_so}
 use Rattle.stored_runs.proofs.StayingSteps.{low_frame}
 use Rattle.same_runs.proofs.Outlive.{current, given_source}
-use Rattle.same_runs.proofs.PlacesLeftCells.{still_full}
+use Rattle.same_runs.proofs.SparedPartsCells.{still_full}
 
 -- ---- what frames were given
 

@@ -36,7 +36,7 @@ use Rattle.stored_runs.specs.typed_holders.inner.TypedStates.{DeinitsTyped, Drop
 use Rattle.stored_runs.specs.typed_holders.typed_memory.inner.Worlds.{World}
 use Rattle.stored_runs.proofs.typed_holders.GoesOn.{accepted_body}
 use Rattle.same_runs.proofs.Outlive.{given_source}
-use Rattle.same_runs.proofs.PlacesLeftTasks.{AreApartFrom, IsApartFrom}
+use Rattle.same_runs.proofs.SparedPartsTasks.{AreApartFrom, IsApartFrom}
 
 module _ (m : Module) (n : ℕ) where
   -- no argument of the frame has the cell

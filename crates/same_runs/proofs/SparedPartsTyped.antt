@@ -17,9 +17,9 @@ use Rattle.stored_runs.specs.typed_holders.holder_steps.inner.Stacks.{Below}
 use Rattle.stored_runs.specs.typed_holders.inner.TypedStates.{DeinitsTyped, DroppedTyped, FinishedTyped, FrameIs, GoesTyped, TasksAre, WaitsTyped}
 use Rattle.stored_runs.specs.typed_holders.typed_memory.inner.Worlds.{DatumIs, PlaceIs, World}
 use Rattle.stored_runs.proofs.typed_holders.Data.{DataAre}
-use Rattle.same_runs.proofs.PlacesLeftBare.{bare_argument}
-use Rattle.same_runs.proofs.PlacesLeftCells.{apart_by_types}
-use Rattle.same_runs.proofs.PlacesLeftTasks.{AreApartFrom, IsApartFrom}
+use Rattle.same_runs.proofs.SparedPartsBare.{bare_argument}
+use Rattle.same_runs.proofs.SparedPartsCells.{apart_by_types}
+use Rattle.same_runs.proofs.SparedPartsTasks.{AreApartFrom, IsApartFrom}
 
 -- ---- storage
 
