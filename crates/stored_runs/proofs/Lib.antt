@@ -69,3 +69,4 @@ pub use Rattle.owned_counts.proofs as owned_counts
 pub use Rattle.owned_counts.proofs.guarded_entries as guarded_entries
 pub use Rattle.lowered_steps.proofs as lowered_steps
 pub use Rattle.memory_cells.proofs as memory_cells
+pub use Rattle.lowered_typing_laws.proofs as lowered_typing_laws
