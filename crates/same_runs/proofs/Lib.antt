@@ -14,12 +14,12 @@ pub mod CountedTurns
 pub mod Come
 pub mod RightFinishes
 pub mod RowsFound
+pub mod GivenParts
 pub mod Outlive
 pub mod HandedFull
 pub mod TrapsRight
 pub mod TakenApart
 pub mod TakenApartRows
-pub mod RowsRight
 pub mod SparedPartsBare
 pub mod SparedPartsCells
 pub mod SparedPartsTasks
@@ -27,6 +27,7 @@ pub mod SparedPartsBelow
 pub mod SparedPartsTyped
 pub mod SparedParts
 pub mod RetainedAlive
+pub mod RowsRight
 pub mod CallsCountedPlaces
 pub mod CallsCountedArguments
 pub mod CallsCounted

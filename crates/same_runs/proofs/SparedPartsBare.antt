@@ -41,7 +41,7 @@ use Rattle.stored_runs.specs.guarded_entries.held_places.tracked_frames.placed_v
 use Rattle.stored_runs.proofs.guarded_entries.held_places.accepted_places.Made.{argument_there}
 use Rattle.stored_runs.proofs.guarded_entries.held_places.placed_values.ArgumentsTold.{arguments_told}
 use Rattle.stored_runs.specs.inner.Frames.{IsGivenPlace}
-use Rattle.same_runs.proofs.Outlive.{IsArgumentSource, given_source}
+use Rattle.same_runs.proofs.GivenParts.{IsArgumentSource, given_source}
 
 -- what is handed over by its address is an object by its type
 address_type : (d : Declarations) (c : ArgumentConvention) (row : AddressRow) (t : TypeName) → address_row c ≡ Some row → fits_by d c t ≡ true

@@ -35,7 +35,7 @@ use Rattle.stored_runs.specs.typed_holders.holder_steps.inner.Stacks.{Below}
 use Rattle.stored_runs.specs.typed_holders.inner.TypedStates.{DeinitsTyped, DroppedTyped, FinishedTyped, FrameIs, GoesTyped, TasksAre, WaitsTyped}
 use Rattle.stored_runs.specs.typed_holders.typed_memory.inner.Worlds.{World}
 use Rattle.stored_runs.proofs.typed_holders.GoesOn.{accepted_body}
-use Rattle.same_runs.proofs.Outlive.{given_source}
+use Rattle.same_runs.proofs.GivenParts.{given_source}
 use Rattle.same_runs.proofs.SparedPartsTasks.{AreApartFrom, IsApartFrom}
 
 module _ (m : Module) (n : ℕ) where
