@@ -1,5 +1,5 @@
 mod Entering
-mod Stays
+pub mod Stays
 mod OneEntry
 mod Reported
 mod LeftRuns

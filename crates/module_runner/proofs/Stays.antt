@@ -2,6 +2,7 @@
 use Rattle.std.proofs.Common.{◌≡◌, ◌∙◌, ◌⊎◌, inl, inr, ℕ, true, false, not, ◌&&◌, refl, sym, ap, List, [], ◌∷◌, map, Some, slice_get, true≢false, zero, suc}
 use Rattle.std.specs.Prelude.{Bool, IfOk, Result, Ok, Err}
 use Rattle.argument_conventions.specs.Arguments.{arguments_of}
+use Rattle.copy_pairing.proofs.Shapes.{rewritten_declares}
 use Rattle.copy_removal.specs.Optimised.{IsOptimised, Rewrites, done, lends, more, moves}
 use Rattle.copy_removal.specs.Rewritten.{changed_at, lent, lent_block, moved, moved_block, with_function}
 use Rattle.copy_removal.specs.inner.Laws.{AreUnique}
@@ -28,14 +29,10 @@ is_one unique false m k other one two = one ∙ sym two
 
 -- declarations
 
-rewriting_declares : (m : Module) (n : ℕ) (p : PointId) (next : Module) → Rewrites m n p next → declarations_of next ≡ declarations_of m
-rewriting_declares m n p _ (lends f c v there copy can) = refl
-rewriting_declares m n p _ (moves f c v there copy not_lent can) = refl
-
 optimised_declares : (m k : Module) → IsOptimised m k → declarations_of k ≡ declarations_of m
 optimised_declares m _ (done _ none) = refl
 optimised_declares m k (more _ next _ first rest) =
-    optimised_declares next k rest ∙ rewriting_declares m first.function first.point next first.rewrites
+    optimised_declares next k rest ∙ rewritten_declares m first.function first.point next first.rewrites
 
 pub left_declares : (optimises : Bool) (m k : Module) → IsOptimisedIf optimises m k → declarations_of k ≡ declarations_of m
 left_declares true m k left = optimised_declares m k left
@@ -114,6 +111,7 @@ optimised_enters m k name e f (more _ next _ first rest) entry =
     let there = rewriting_enters m first.function first.point next name e f first.rewrites entry in
     optimised_enters next k name e there.0 rest there.1
 
+-- the module that is left has an entry function with the same number and name
 pub left_enters : (optimises : Bool) (m k : Module) (name : Name) (e : FuncId) (f : Function) → IsOptimisedIf optimises m k → IsEntry m name e f
     → (g : Function) × IsEntry k name e g
 left_enters true m k name e f left entry = optimised_enters m k name e f left entry

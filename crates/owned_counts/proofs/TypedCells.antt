@@ -62,10 +62,10 @@ strong_cells = by_parts AreStrong shape_strong
 
 -- ---- cells of trivial shapes are trivial
 
-abbrev IsTrivial : Shape → Type 0
+abbrev pub IsTrivial : Shape → Type 0
 IsTrivial s = is_trivial s ≡ true
 
-abbrev AreTrivial : Shape → Type 0
+abbrev pub AreTrivial : Shape → Type 0
 AreTrivial s = is_trivial s ≡ true → Each IsTrivial (cell_shapes s)
 
 each_trivial : (ss : Shapes) → AllByRecursion AreTrivial (listed ss) → list_all itself (each_by_layers trivial_layer ss) ≡ true → Each IsTrivial (each_cell_shapes ss)
@@ -85,7 +85,7 @@ shape_trivial (Enum name cases) hs t = (t, tt)
 shape_trivial (Stored s inner) hs t = (t, tt)
 shape_trivial Unknown hs t = (t, tt)
 
-trivial_cells : (s : Shape) → AreTrivial s
+pub trivial_cells : (s : Shape) → AreTrivial s
 trivial_cells = by_parts AreTrivial shape_trivial
 
 -- ---- empty cells keep nothing

@@ -27,11 +27,9 @@ use Rattle.stored_runs.specs.lowered_run.holder_model.HolderStates.{HolderNext, 
 use Rattle.stored_runs.specs.lowered_run.holder_model.ModuleFacts.{ModuleFacts, facts_of}
 use Rattle.stored_runs.specs.lowered_run.holder_model.ModuleShapes.{shapes_of}
 use Rattle.stored_runs.specs.lowered_run.holder_model.Outcomes.{Numbers, begins, left_objects, object_number, outcome_at, returned_holders, run}
-use Rattle.stored_runs.specs.lowered_run.holder_model.States.{Ending, Ends, Faulted, Goes, Returned, Runs, Task, step_on}
+use Rattle.stored_runs.specs.lowered_run.holder_model.States.{Ends, Faulted, Goes, Returned, Runs, Task, step_on}
 use Rattle.stored_runs.specs.lowered_run.holder_model.Steps as holder_run
-use Rattle.stored_runs.specs.lowered_run.LowOutcomes.{low_begins}
-use Rattle.stored_runs.specs.lowered_run.LowStepParts.{LowNext, LowState}
-use Rattle.stored_runs.specs.lowered_run.LowSteps as lowered_run
+use Rattle.stored_runs.specs.lowered_run.LowStepParts.{LowState}
 use Rattle.stored_runs.specs.lowered_run.Stored.{no_numbers, numbers_of}
 use Rattle.stored_runs.specs.lowering_laws.lowering_model.LoweredModules.{lowered, lowered_body}
 use Rattle.stored_runs.specs.holder_laws.inner.Steps.Ways.{Acts, DropsOne, Enters, FinishesOne, GoesBehind, Leaves, Performs, Reaches, StepsBy, TakesEdge}
@@ -40,108 +38,28 @@ use Rattle.stored_runs.specs.stored_counts.inner.Numbers.{AreCounts}
 use Rattle.stored_runs.specs.owned_counts.inner.CountedReturns.{ReturnsFrom}
 use Rattle.stored_runs.proofs.owned_counts.CountedReturns.{left_counted}
 use Rattle.stored_runs.specs.tracked_frames.inner.Typed.TypedStates.{IsTypedState}
-use Rattle.stored_runs.proofs.tracked_frames.Typed.TypedSteps.{steps_typed}
-use Rattle.stored_runs.specs.inner.PlaceRows.{LowGoes}
-use Rattle.stored_runs.specs.inner.States.{IsStateFor}
 use Rattle.stored_runs.specs.inner.TypedSteps.{IsTypedFor}
-use Rattle.stored_runs.proofs.Awaited.{steps_awaited}
 use Rattle.same_runs.specs.inner.BetweenTurns.{AreTotalsHeld, AreTotalsTold, all_holders}
-use Rattle.same_runs.specs.inner.Followed.{Follows, GoesToo}
-use Rattle.same_runs.specs.inner.Owed.{IsComeTo}
-use Rattle.same_runs.proofs.Begun.{begin_typed_for}
-use Rattle.same_runs.proofs.Come.{comes_right}
-use Rattle.same_runs.proofs.StepsFollowed.{steps_followed}
+use Rattle.same_runs.specs.inner.InRightStates.{IsComeTo}
+use Rattle.same_runs.proofs.Come.{comes_on, comes_right}
+use Rattle.same_runs.proofs.NumbersCounted.{come_along}
 
--- ---- the lowered run comes along
+-- ---- the totals where the lowered run comes along
 
 module _ (m : Module) (bound : ℕ) where
   abbrev step : HolderState → HolderNext
   step s = holder_run.step m (facts_of m) bound s
 
-  abbrev low_step : LowState → LowNext
-  low_step l = lowered_run.low_step (lowered m) (shapes_of (lowered m)) bound l
-
-  pub record ComesAlong (l : LowState) (t : HolderState) : Type 0 where
-    pub count : ℕ
-    pub low : LowState
-    pub comes : run low_step count l ≡ Goes low
-    pub typed : IsTypedFor m t low
-
-  earlier : (l behind : LowState) (t : HolderState) → low_step l ≡ Goes behind → ComesAlong behind t → ComesAlong l t
-  earlier l behind t is d = record { count = suc d.count; low = d.low; comes = ap (step_on (run low_step d.count)) is ∙ d.comes; typed = d.typed }
-
-  from_before : (later l : LowState) (t : HolderState) → LowGoes m bound later l → ComesAlong later t → ComesAlong l t
-  from_before later _ t LowGoes.there d = d
-  from_before later _ t (LowGoes.more l behind is steps) d = earlier l behind t is (from_before later behind t steps d)
-
-  same_state : (s t : HolderState) (n : HolderNext) → Goes s ≡ n → n ≡ Goes t → s ≡ t
-  same_state s t n e g = cc
-
-  one : (n : HolderNext) → step_on (run step 0) n ≡ n
-  one (Goes x) = refl
-  one (Ends e x) = refl
-
-  ends_nowhere : (e : Ending HolderFault) (s t : HolderState) (n : HolderNext) → Ends e s ≡ n → n ≡ Goes t → ⊥
-  ends_nowhere e s t n is other = cc
-
-  run_on : (k : ℕ) (s t : HolderState) → run step k s ≡ Goes t → run step (suc k) s ≡ step t
-  run_on zero s t is = one (step s) ∙ ap step (same_state s t (Goes s) refl is)
-  run_on (suc k) s t is = at (step s) refl (λ x. run_on k x t)
-    where
-      at : (n : HolderNext) → step s ≡ n → ((x : HolderState) → run step k x ≡ Goes t → run step (suc k) x ≡ step t) → run step (suc (suc k)) s ≡ step t
-      at (Goes x) e more = ap (step_on (run step (suc k))) e ∙ more x (sym (ap (step_on (run step k)) e) ∙ is)
-      at (Ends e x) g more = absurd (ends_nowhere e x t (step_on (run step k) (step s)) (sym (ap (step_on (run step k)) g)) is)
-
-  comes_on : (s t : HolderState) → IsComeTo m bound s → step s ≡ Goes t → IsComeTo m bound t
-  comes_on s t c is = record { e = c.e; f = c.f; there = c.there; may = c.may; steps = suc c.steps; comes = run_on c.steps (begins c.e c.f) s c.comes ∙ is }
-
-  typed_on : (s t : HolderState) (l low : LowState) → IsTypedFor m s l → step s ≡ Goes t → IsStateFor m t low → IsTypedFor m t low
-  typed_on s t l low h is related = record {
-    verified = h.verified;
-    related = related;
-    typed = steps_typed m bound s t h.verified h.typed is;
-    awaited = steps_awaited m bound s t h.awaited is;
-  }
-
   module _ (verified : IsVerified m) where
-    abbrev AlongIn : ℕ → Type 0
-    AlongIn k = (s t : HolderState) (l : LowState) → IsComeTo m bound s → IsTypedFor m s l → run step k s ≡ Goes t → ComesAlong l t
-
-    along : (k : ℕ) → AlongIn k
-    along zero s t l c h ran = record { count = 0; low = l; comes = refl; typed = subst (λ x. IsTypedFor m x l) (same_state s t (Goes s) refl ran) h }
-    along (suc k) s t l c h ran = at (step s) refl (λ x. along k x t)
-      where
-        on : (x : HolderState) → step s ≡ Goes x → ((low : LowState) → IsComeTo m bound x → IsTypedFor m x low → ComesAlong low t) → GoesToo m bound s l x → ComesAlong l t
-        on x e later (GoesToo.moves behind low_next first steps related) =
-            earlier l behind t first (from_before low_next behind t steps (later low_next (comes_on s x c e) (typed_on s x l low_next h e related)))
-        on x e later (GoesToo.stays less related) = later l (comes_on s x c e) (typed_on s x l l h e related)
-
-        at : (n : HolderNext) → step s ≡ n → ((x : HolderState) (low : LowState) → IsComeTo m bound x → IsTypedFor m x low → run step k x ≡ Goes t → ComesAlong low t) → ComesAlong l t
-        at (Goes x) e later =
-            on x e (λ low cx hx. later x low cx hx (sym (ap (step_on (run step k)) e) ∙ ran))
-            (subst (Follows m bound s l) e (steps_followed m bound s verified c l h))
-        at (Ends e x) g later = absurd (ends_nowhere e x t (step_on (run step k) (step s)) (sym (ap (step_on (run step k)) g)) ran)
-
-    first_come : (s : HolderState) (c : IsComeTo m bound s) → IsComeTo m bound (begins c.e c.f)
-    first_come s c = record { e = c.e; f = c.f; there = c.there; may = c.may; steps = 0; comes = refl }
-
-    abbrev first_low : (s : HolderState) → IsComeTo m bound s → LowState
-    first_low s c = low_begins c.e (lowered_body (declarations_of m) c.f)
-
-    pub come_along : (s : HolderState) (c : IsComeTo m bound s) → ComesAlong (first_low s c) s
-    come_along s c = along c.steps (begins c.e c.f) s (first_low s c) (first_come s c) (begin_typed_for m c.e c.f verified c.there c.may) c.comes
-
-    -- ---- the totals there
-
-    low_totals : (s : HolderState) (c : IsComeTo m bound s) → AreTotalsOf (come_along s c).low
+    low_totals : (s : HolderState) (c : IsComeTo m bound s) → AreTotalsOf (come_along m bound verified s c).low
     low_totals s c =
-        subst (λ n. AreTotalsOf (come_to n)) (come_along s c).comes
-        (totals_stored (lowered m) (shapes_of (lowered m)) bound c.e (lowered_body (declarations_of m) c.f) (come_along s c).count)
+        subst (λ n. AreTotalsOf (come_to n)) (come_along m bound verified s c).ran.is
+        (totals_stored (lowered m) (shapes_of (lowered m)) bound c.e (lowered_body (declarations_of m) c.f) (come_along m bound verified s c).ran.count)
 
-    pub even_there : (s : HolderState) (c : IsComeTo m bound s) → length s.memory.objects + s.retains ≡ strong_sum (come_along s c).low.numbers + s.releases
+    pub even_there : (s : HolderState) (c : IsComeTo m bound s) → length s.memory.objects + s.retains ≡ strong_sum (come_along m bound verified s c).low.numbers + s.releases
     even_there s c =
         let t = low_totals s c in
-        let r = (come_along s c).typed.related in
+        let r = (come_along m bound verified s c).typed.related in
         omega (arith, t.even, t.size, r.counts.size, r.retains, r.releases)
 
 -- ---- the holders of all objects

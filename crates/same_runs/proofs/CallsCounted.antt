@@ -66,7 +66,7 @@ use Rattle.stored_runs.specs.tracked_frames.inner.Typed.TypedStates.{EntriesAre,
 use Rattle.stored_runs.specs.tracked_frames.typed_memory.inner.Worlds.{World}
 use Rattle.stored_runs.proofs.tracked_frames.Typed.Entries.{fit_data, operands_fit}
 use Rattle.stored_runs.proofs.tracked_frames.Typed.GoesOn.{accepted_body}
-use Rattle.same_runs.specs.inner.Owed.{AreCallsCounted, AtInst, effect_there}
+use Rattle.same_runs.specs.inner.InRightStates.{AreCallsCounted, AtInst, effect_there}
 use Rattle.same_runs.proofs.CallsCountedArguments.{NamesNothing, args_fit, arguments_hold, bare_ended, given, named_function, numbers_bare}
 use Rattle.same_runs.proofs.CallsCountedPlaces.{HoldsTheSame, handed_same, lent_typed, may_be_handed}
 use Rattle.same_runs.proofs.CountedEnds.{CountedNext}

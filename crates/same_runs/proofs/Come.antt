@@ -1,4 +1,4 @@
--- What a run begins with and each step keeps holds of each state that the run comes to.
+-- The run by holders comes on by a step, and what it begins with and each step keeps holds of each state that it comes to.
 use Rattle.std.proofs.Common.{◌≡◌, ℕ, zero, suc, refl, sym, ap, ◌∙◌, subst}
 use Rattle.sil_ast.specs.declared.module.Module.{Module}
 use Rattle.stored_runs.specs.accepted_values.accepted_modules.inner.Checked.{IsVerified}
@@ -8,28 +8,50 @@ use Rattle.stored_runs.specs.lowered_run.holder_model.Faults.{HolderFault}
 use Rattle.stored_runs.specs.lowered_run.holder_model.HolderStates.{HolderNext, HolderState}
 use Rattle.stored_runs.specs.lowered_run.holder_model.ModuleFacts.{facts_of}
 use Rattle.stored_runs.specs.lowered_run.holder_model.Outcomes.{begins, run}
-use Rattle.stored_runs.specs.lowered_run.holder_model.States.{Ends, Faulted, Goes, step_on}
+use Rattle.stored_runs.specs.lowered_run.holder_model.States.{Ending, Ends, Faulted, Goes, step_on}
 use Rattle.stored_runs.specs.lowered_run.holder_model.Steps as holder_run
 use Rattle.stored_runs.specs.tracked_frames.inner.Typed.TypedStates.{IsTypedState}
 use Rattle.stored_runs.proofs.tracked_frames.Typed.TypedSteps.{begin_typed, steps_typed}
-use Rattle.same_runs.specs.inner.Owed.{IsComeTo}
+use Rattle.same_runs.specs.inner.InRightStates.{IsComeTo}
 use Rattle.same_runs.proofs.DeinitsCalled.{AreCalled, begin_called, steps_called}
 
 module _ (m : Module) (bound : ℕ) where
   abbrev step : HolderState → HolderNext
   step s = holder_run.step m (facts_of m) bound s
 
-  module _ (P : HolderState → Type 0) (keeps : (s t : HolderState) → P s → step s ≡ Goes t → P t) where
-    same_state : (s t : HolderState) (n : HolderNext) → Goes s ≡ n → n ≡ Goes t → P s → P t
-    same_state s t n e g is = let same : s ≡ t = cc in subst P same is
+  same_state : (s t : HolderState) (n : HolderNext) → Goes s ≡ n → n ≡ Goes t → s ≡ t
+  same_state s t n e g = cc
 
+  ends_nowhere : (e : Ending HolderFault) (s t : HolderState) (n : HolderNext) → Ends e s ≡ n → n ≡ Goes t → ⊥
+  ends_nowhere e s t n is other = cc
+
+  one : (n : HolderNext) → step_on (run step 0) n ≡ n
+  one (Goes x) = refl
+  one (Ends e x) = refl
+
+  -- ---- by a step more
+
+  run_on : (k : ℕ) (s t : HolderState) → run step k s ≡ Goes t → run step (suc k) s ≡ step t
+  run_on zero s t is = one (step s) ∙ ap step (same_state s t (Goes s) refl is)
+  run_on (suc k) s t is = at (step s) refl (λ x. run_on k x t)
+    where
+      at : (n : HolderNext) → step s ≡ n → ((x : HolderState) → run step k x ≡ Goes t → run step (suc k) x ≡ step t) → run step (suc (suc k)) s ≡ step t
+      at (Goes x) e more = ap (step_on (run step (suc k))) e ∙ more x (sym (ap (step_on (run step k)) e) ∙ is)
+      at (Ends e x) g more = absurd (ends_nowhere e x t (step_on (run step k) (step s)) (sym (ap (step_on (run step k)) g)) is)
+
+  pub comes_on : (s t : HolderState) → IsComeTo m bound s → step s ≡ Goes t → IsComeTo m bound t
+  comes_on s t c is = record { e = c.e; f = c.f; there = c.there; may = c.may; steps = suc c.steps; comes = run_on c.steps (begins c.e c.f) s c.comes ∙ is }
+
+  -- ---- what each step keeps
+
+  module _ (P : HolderState → Type 0) (keeps : (s t : HolderState) → P s → step s ≡ Goes t → P t) where
     kept_on : (k : ℕ) (s t : HolderState) → P s → run step k s ≡ Goes t → P t
-    kept_on zero s t is ran = same_state s t (Goes s) refl ran is
+    kept_on zero s t is ran = subst P (same_state s t (Goes s) refl ran) is
     kept_on (suc k) s t is ran = at (step s) refl (λ x. kept_on k x t)
       where
         at : (n : HolderNext) → step s ≡ n → ((x : HolderState) → P x → run step k x ≡ Goes t → P t) → P t
         at (Goes x) e later = later x (keeps s x is e) (sym (ap (step_on (run step k)) e) ∙ ran)
-        at (Ends x y) e later = let other : Ends x y ≡ Goes t = sym (ap (step_on (run step k)) e) ∙ ran in absurd (cc)
+        at (Ends e x) g later = absurd (ends_nowhere e x t (step_on (run step k) (step s)) (sym (ap (step_on (run step k)) g)) ran)
 
   pub comes_called : (s : HolderState) → IsVerified m → IsComeTo m bound s → AreCalled m s.tasks
   comes_called s verified c =
@@ -41,21 +63,6 @@ module _ (m : Module) (bound : ℕ) where
   pub comes_right : (s : HolderState) → IsVerified m → IsComeTo m bound s → IsRightState m s
   comes_right s verified c = states_are_right m c.e c.f bound verified c.there c.may c.steps s c.comes
 
-  ran_on : (k : ℕ) (s t : HolderState) (n : HolderNext) → run step k s ≡ Goes t → step t ≡ n → run step (suc k) s ≡ n
-  ran_on zero s t n ran is = one (step s) ∙ ap step (same s t (Goes s) refl ran) ∙ is
-    where
-      one : (n : HolderNext) → step_on (run step 0) n ≡ n
-      one (Goes x) = refl
-      one (Ends e x) = refl
-
-      same : (s t : HolderState) (n : HolderNext) → Goes s ≡ n → n ≡ Goes t → s ≡ t
-      same s t n e g = cc
-  ran_on (suc k) s t n ran is = at (step s) refl (λ x. ran_on k x t n)
-    where
-      at : (y : HolderNext) → step s ≡ y → ((x : HolderState) → run step k x ≡ Goes t → step t ≡ n → run step (suc k) x ≡ n) → run step (suc (suc k)) s ≡ n
-      at (Goes x) e later = ap (step_on (run step (suc k))) e ∙ later x (sym (ap (step_on (run step k)) e) ∙ ran) is
-      at (Ends x y) e later = let other : Ends x y ≡ Goes t = sym (ap (step_on (run step k)) e) ∙ ran in absurd (cc)
-
   pub come_faults : (s : HolderState) → IsVerified m → IsComeTo m bound s → (last : HolderState) (x : HolderFault) → step s ≡ Ends (Faulted x) last → ⊥
   come_faults s verified c last x is =
-      no_run_faults m c.e c.f bound verified c.there c.may (suc c.steps) last x (ran_on c.steps (begins c.e c.f) s (Ends (Faulted x) last) c.comes is)
+      no_run_faults m c.e c.f bound verified c.there c.may (suc c.steps) last x (run_on c.steps (begins c.e c.f) s c.comes ∙ is)

@@ -61,8 +61,8 @@ use Rattle.stored_runs.specs.tracked_frames.inner.Typed.TypedStates.{FrameIs, Ta
 use Rattle.stored_runs.proofs.tracked_frames.Typed.GoesOn.{accepted_body}
 use Rattle.stored_runs.specs.inner.CallsAlong.{lent_in}
 use Rattle.stored_runs.specs.inner.Entering.{IsAddressFor, IsFullPart}
-use Rattle.same_runs.specs.inner.Owed.{ArePartsHandedFull, AtInst, effect_there}
-use Rattle.same_runs.proofs.Outlive.{given_source}
+use Rattle.same_runs.specs.inner.InRightStates.{ArePartsHandedFull, AtInst, effect_there}
+use Rattle.same_runs.proofs.GivenParts.{given_source}
 
 -- ---- places that are lent
 

@@ -1,157 +1,14 @@
--- An object that dies has no part that a frame was given: what a frame was given by its address is on the stack.
-use Rattle.std.proofs.Common.{◌≡◌, List, [], ◌∷◌, Bool, true, false, ◌||◌, Contains, Option, Some, None, inl, inr, ℕ, not, ◌&&◌, take, drop, refl, sym, ap, ◌∙◌, subst}
-use Rattle.std.specs.Prelude.{is_some, slice_get}
-use Rattle.std.proofs.lemmas.Option.{same_Some}
-use Rattle.argument_conventions.specs.Arguments.{Told, arguments_of}
-use Rattle.argument_conventions.specs.Rows.{address_row}
-use Rattle.argument_conventions.specs.declared.row.AddressRow.{AddressRow}
-use Rattle.item_operands.specs.Items.{item_defined}
-use Rattle.numbered_form.specs.Lists.{Each}
-use Rattle.stored_runs.proofs.accepted_runs.tracked_frames.accepted_places.Fields.{has_among}
-use Rattle.stored_runs.proofs.accepted_runs.tracked_frames.accepted_places.Naming.{MakesAddress, address_made}
-use Rattle.stored_runs.proofs.accepted_runs.tracked_frames.accepted_values.Counted.{stands}
-use Rattle.stored_runs.proofs.accepted_runs.tracked_frames.placed_values.ArgumentsTold.{entry_source}
-use Rattle.stored_runs.specs.accepted_runs.tracked_frames.accepted_memory.memory_accesses.Sources.{argument_source_or, handed_source, source_at, sources_of}
-use Rattle.stored_runs.specs.accepted_runs.tracked_frames.accepted_memory.memory_accesses.declared.source.Source.{Source}
-use Rattle.stored_runs.specs.accepted_runs.tracked_frames.accepted_memory.memory_accesses.declared.source.Source.TheVariants as source
-use Rattle.stored_runs.specs.accepted_runs.tracked_frames.accepted_places.inner.Located.{IsRoot}
-use Rattle.stored_runs.specs.accepted_runs.tracked_frames.inner.Placed.FramePlaces.{HoldsPlaces}
-use Rattle.stored_runs.specs.accepted_runs.tracked_frames.inner.Placed.PlaceStates.{BelowPlaced, TasksPlaced}
-use Rattle.stored_runs.specs.accepted_runs.tracked_frames.inner.Placed.Roots.{argument}
-use Rattle.point_checks.proofs.Among.{contained_among}
+-- An object that dies has no part that a frame was given: the stack is as it was.
+use Rattle.std.proofs.Common.{◌≡◌, take, drop, refl, sym, ap, ◌∙◌, subst}
+use Rattle.std.specs.Prelude.{is_some}
+use Rattle.stored_runs.specs.accepted_runs.tracked_frames.inner.Placed.PlaceStates.{TasksPlaced}
 use Rattle.run_values.specs.Cells.{cell_count, in_cells}
 use Rattle.run_values.specs.Memory.{Memory, object_at, with_object}
 use Rattle.run_values.specs.Places.{OnStack, Place, home_cells, value_at}
-use Rattle.sil_ast.specs.declared.function.Function.{Function}
-use Rattle.sil_ast.specs.declared.module.Module.{Module}
-use Rattle.sil_ast.specs.declared.place.FuncId.{FuncId}
-use Rattle.sil_ast.specs.declared.place.ObjectId.{ObjectId}
-use Rattle.sil_ast.specs.declared.place.ValueId.{ValueId}
-use Rattle.sil_cfg.specs.declared.item.Item.{Item}
-use Rattle.sil_cfg.specs.declared.item.Item.TheVariants as item
-use Rattle.type_definitions.specs.Declarations.{Declarations, declarations_of}
-use Rattle.stored_runs.specs.accepted_trails.inner.Defined.{makes}
-use Rattle.stored_runs.specs.accepted_trails.run_trails.inner.RunTrails.{ComesFirst, GoesOn, IsRunTrail}
-use Rattle.stored_runs.specs.accepted_trails.run_trails.inner.Since.{is_none_since}
-use Rattle.stored_runs.specs.accepted_values.accepted_modules.inner.Checked.{IsVerified}
-use Rattle.stored_runs.specs.accepted_values.inner.Known.{IsAcceptedBody}
-use Rattle.stored_runs.specs.lowered_run.holder_model.Calling.{as_argument}
-use Rattle.stored_runs.specs.lowered_run.holder_model.Data.{AddressOf, Datum, as_place}
 use Rattle.stored_runs.specs.lowered_run.holder_model.Dropping.{ended}
-use Rattle.stored_runs.specs.lowered_run.holder_model.Frames.{Frame}
-use Rattle.stored_runs.specs.lowered_run.holder_model.States.{Drops, Finishes, Runs, Task}
-use Rattle.stored_runs.specs.lowered_run.LowFrames as low_frames
-use Rattle.stored_runs.specs.lowered_run.LowFrames.{LowFrame}
-use Rattle.stored_runs.specs.tracked_frames.inner.Typed.TypedStates.{DeinitsTyped, DroppedTyped, FinishedTyped, FrameIs, GoesTyped, TasksAre, WaitsTyped}
-use Rattle.stored_runs.specs.tracked_frames.holder_laws.inner.Steps.Stacks.{Below}
-use Rattle.stored_runs.specs.tracked_frames.typed_memory.inner.Worlds.{World}
-use Rattle.stored_runs.proofs.tracked_frames.Typed.GoesOn.{accepted_body}
-use Rattle.stored_runs.specs.inner.Frames.{AreTasksFor, AreValuesFor, HasFullParts, IsDatumFor, IsFrameFor, IsGivenPlace, IsTaskFor}
-use Rattle.stored_runs.specs.inner.Lowering.{IsOwnName}
-use Rattle.stored_runs.specs.inner.Names.{IsCurrent, lowered_number}
-use Rattle.stored_runs.proofs.LoweredSo.{are_lowered_so}
-use Rattle.stored_runs.proofs.StayingSteps.{low_frame}
-use Rattle.same_runs.specs.inner.Owed.{PartsOutlive}
-
--- ---- an argument of the entry is as it was given
-
--- each trail begins at the entry
-since_entry : (f : Function) (p : Item → Bool) → p item.Entry ≡ true → (i : Item) (t : List Item) → IsRunTrail f (i ∷ t) → is_none_since p p (i ∷ t) ≡ true
-since_entry f p e i [] h = first i h.0
-  where
-    first : (i : Item) → ComesFirst f i → is_none_since p p (i ∷ []) ≡ true
-    first item.Entry h = ap (λ b. b || (not b && false)) e
-    first (item.Inst q) h = absurd h
-    first (item.Edge q) h = absurd h
-    first (item.Exit q) h = absurd h
-since_entry f p e i (j ∷ t) h = at (p i) (is_none_since p p (j ∷ t)) (since_entry f p e j t h.1)
-  where
-    at : (a b : Bool) → b ≡ true → (a || (not a && b)) ≡ true
-    at true b k = refl
-    at false b k = k
-
-since_given : (f : Function) (p : Item → Bool) → p item.Entry ≡ true → (t : List Item) → IsRunTrail f t → GoesOn t → is_none_since p p t ≡ true
-since_given f p e [] h goes = absurd goes
-since_given f p e (i ∷ t) h goes = since_entry f p e i t h
-
--- ---- an argument that is an address is one by the signature
-
-data IsToldSource : Source → Type 0 where
-  told : (row : AddressRow) (trivial : Bool) → IsToldSource (source.Argument row trivial)
-  nothing : IsToldSource source.Other
-
-handed_told : (trivial : Bool) (o : Option AddressRow) → IsToldSource (handed_source trivial o)
-handed_told trivial None = IsToldSource.nothing
-handed_told trivial (Some row) = IsToldSource.told row trivial
-
-signature_told : (d : Declarations) (o : Option Told) → IsToldSource (argument_source_or d o)
-signature_told d None = IsToldSource.nothing
-signature_told d (Some a) = handed_told _ (address_row a.convention)
-
-no_root : (s : Source) → IsRoot s → s ≡ source.Other → ⊥
-no_root _ IsRoot.slot e = cc
-no_root _ IsRoot.argument e = cc
-no_root _ IsRoot.field e = cc
-
-pub record IsArgumentSource (s : Source) : Type 0 where
-  pub row : AddressRow
-  pub trivial : Bool
-  pub is : s ≡ source.Argument row trivial
-
-module _ (m : Module) (n : ℕ) (f : Function) (a : IsAcceptedBody m n f) (v : ValueId) (given : IsGivenPlace (declarations_of m) f v) where
-  abbrev sources : List Source
-  sources = sources_of (declarations_of m) f
-
-  defined : Contains (item_defined f item.Entry) v
-  defined = contained_among v (item_defined f item.Entry) (has_among (item_defined f item.Entry) v given.made)
-
-  told_source : IsToldSource (source_at sources v)
-  told_source =
-      let k = stands (item_defined f item.Entry) v defined in
-      subst IsToldSource (sym (entry_source m n f a k.0 v k.1)) (signature_told (declarations_of m) (slice_get (arguments_of f.signature) k.0))
-
-  never : source_at sources v ≡ source.Other → MakesAddress (declarations_of m) f item.Entry v → ⊥
-  never e (MakesAddress.makes_root root) = no_root _ root e
-  never e (MakesAddress.makes_member of k is taken at) = let two : source.Part of k ≡ source.Other = sym is ∙ e in cc
-
-  pub given_source : IsArgumentSource (source_at sources v)
-  given_source = at (source_at sources v) refl told_source
-    where
-      at : (s : Source) → source_at sources v ≡ s → IsToldSource s → IsArgumentSource s
-      at _ e (IsToldSource.told row trivial) = record { row = row; trivial = trivial; is = refl }
-      at _ e IsToldSource.nothing =
-          absurd (never e (address_made m n f a item.Entry v defined (record { shape = given.shape; is = given.is })))
-
--- ---- its place is on the stack
-
-same_place : (p q : Place) (o : Datum) → as_argument (AddressOf p) ≡ AddressOf q → p.home ≡ q.home
-same_place p q o e = ap (λ (x : Place). x.home) (same_Some (record p { is_part = false }) q (ap as_place e))
-
-module _ (m : Module) (verified : IsVerified m) (w : World) (memory : Memory) (frame : Frame) (rest : List (Task Frame)) (f : Function)
-    (is : FrameIs m w f frame) (holds : HoldsPlaces m memory f frame rest)
-    (values : List (Option Datum)) (shown : AreValuesFor (declarations_of m) f frame.trail frame.entries values) where
-  accepted : IsAcceptedBody m frame.function.0 f
-  accepted = accepted_body m verified frame.function f is.is is.bodied
-
-  pub current : (v : ValueId) → makes f v item.Entry ≡ true → IsOwnName f v → IsCurrent f frame.trail v
-  current v made own =
-      subst (λ (u : ValueId). is_none_since (makes f u) (makes f v) frame.trail ≡ true) (sym own.1) (since_given f (makes f v) made frame.trail is.trail is.goes)
-
-  -- the address that stands under its number in the lowered run names the same cells
-  on_stack : (v : ValueId) (p : Place) → IsGivenPlace (declarations_of m) f v
-      → low_frames.value_at values (lowered_number (declarations_of m) f v) ≡ Some (AddressOf p) → p.home ≡ OnStack
-  on_stack v p given at =
-      let src = given_source m frame.function.0 f accepted v given in
-      let y = holds.named v (argument src.row src.trivial src.is) in
-      let own = (are_lowered_so m frame.function f accepted).given v given.made in
-      let low = shown v (AddressOf y.place) y.names (own.0, current v given.made own) in
-      by y.place low.0 (same_Some low.0 (AddressOf p) (sym low.1 ∙ at)) low.2 ∙ y.home
-    where
-      by : (q : Place) (y : Datum) → y ≡ AddressOf p → IsDatumFor (declarations_of m) f v (AddressOf q) y → p.home ≡ q.home
-      by q y e (inl same) = ap (λ (x : Place). x.home) (same_Some p q (ap as_place (sym e ∙ same)))
-      by q y e (inr (given, whole)) = same_place p q y (ap as_argument (sym e) ∙ whole)
-
--- ---- so it is of each frame
+use Rattle.stored_runs.specs.tracked_frames.inner.Typed.TypedStates.{TasksAre}
+use Rattle.same_runs.specs.inner.InRightStates.{PartsOutlive}
+use Rattle.same_runs.proofs.GivenParts.{StaysFull, of_each, parts_stay}
 
 -- another memory with the same stack
 value_still : (low low' : Memory) → low'.stack ≡ low.stack → (p : Place) → p.home ≡ OnStack → value_at low' p ≡ value_at low p
@@ -159,53 +16,10 @@ value_still low low' same p home =
     ap (λ cells. (in_cells p.shape).value (take (cell_count p.shape) (drop p.first cells)))
     (ap (home_cells low') home ∙ same ∙ sym (ap (home_cells low) home))
 
-module _ (m : Module) (verified : IsVerified m) (w : World) (memory low low' : Memory) (same : low'.stack ≡ low.stack) where
-  abbrev TypedBelow : Frame → List (Task Frame) → Type 0
-  TypedBelow callee tasks = Below (GoesTyped m w) (WaitsTyped m w) (DeinitsTyped m w) (DroppedTyped m w) (FinishedTyped m w) callee tasks
-
-  frame_still : (frame : Frame) (rest : List (Task Frame)) (f g : Function) → FrameIs m w f frame → slice_get m.functions frame.function.0 ≡ Some g
-      → HoldsPlaces m memory g frame rest → (u : Task LowFrame) → IsTaskFor m (Runs frame) u → HasFullParts m low u → HasFullParts m low' u
-  frame_still frame rest f g is there holds u for full =
-      let lw = low_frame m frame u for in
-      subst (HasFullParts m low') (sym lw.1) (one lw.0 lw.2 (subst (HasFullParts m low) lw.1 full))
-    where
-      one : (lw : LowFrame) → IsFrameFor m frame lw → HasFullParts m low (Runs lw) → HasFullParts m low' (Runs lw)
-      one lw of full h is_h v p given at part =
-          let there_h : slice_get m.functions frame.function.0 ≡ Some h = ap (λ (k : FuncId). slice_get m.functions k.0) (sym of.frames.function) ∙ is_h in
-          let f_is : f ≡ h = same_Some f h (sym is.is ∙ there_h) in
-          let g_is : g ≡ h = same_Some g h (sym there ∙ there_h) in
-          let of_is : of.f ≡ h = same_Some of.f h (sym of.there ∙ there_h) in
-          let home = on_stack m verified w memory frame rest h (subst (λ x. FrameIs m w x frame) f_is is) (subst (λ x. HoldsPlaces m memory x frame rest) g_is holds)
-          lw.values (subst (λ x. AreValuesFor (declarations_of m) x frame.trail frame.entries lw.values) of_is of.frames.values) v p given at in
-          ap is_some (value_still low low' same p home) ∙ full h is_h v p given at part
-
-  drops_still : (references : List ObjectId) (u : Task LowFrame) → IsTaskFor m (Drops references) u → HasFullParts m low' u
-  drops_still _ _ (IsTaskFor.drops references) = tt
-
-  finish_still : (deinits : List FuncId) (o : ObjectId) (u : Task LowFrame) → IsTaskFor m (Finishes deinits o) u → HasFullParts m low' u
-  finish_still _ _ _ (IsTaskFor.finishes deinits o) = tt
-
-  mutual
-    tasks_still : (tasks : List (Task Frame)) (lows : List (Task LowFrame)) → TasksAre m w tasks → TasksPlaced m memory tasks → AreTasksFor m tasks lows
-        → Each (HasFullParts m low) lows → Each (HasFullParts m low') lows
-    tasks_still [] lows t p h k = absurd p
-    tasks_still (x ∷ tasks) [] t p h k = tt
-    tasks_still (Runs frame ∷ tasks) (u ∷ lows) t p h k =
-        (frame_still frame tasks t.0.0 p.0.f t.0.1 p.0.is p.0.holds u h.0 k.0, below_still frame tasks lows t.1 p.1 h.1 k.1)
-    tasks_still (Drops references ∷ tasks) (u ∷ lows) t p h k = (drops_still references u h.0, tasks_still tasks lows t.1 p.1 h.1 k.1)
-    tasks_still (Finishes deinits o ∷ tasks) (u ∷ lows) t p h k = (finish_still deinits o u h.0, tasks_still tasks lows t.1 p.1 h.1 k.1)
-
-    below_still : (callee : Frame) (tasks : List (Task Frame)) (lows : List (Task LowFrame)) → TypedBelow callee tasks → BelowPlaced m memory callee tasks
-        → AreTasksFor m tasks lows → Each (HasFullParts m low) lows → Each (HasFullParts m low') lows
-    below_still callee [] [] t p h k = tt
-    below_still callee [] (u ∷ lows) t p h k = absurd h
-    below_still callee (x ∷ tasks) [] t p h k = tt
-    below_still callee (Runs frame ∷ tasks) (u ∷ lows) t p h k =
-        (frame_still frame tasks t.0.f p.0.f t.0.of p.0.is p.0.holds u h.0 k.0, below_still frame tasks lows t.1 p.1 h.1 k.1)
-    below_still callee (Drops references ∷ tasks) (u ∷ lows) t p h k = absurd p
-    below_still callee (Finishes deinits o ∷ tasks) (u ∷ lows) t p h k = (finish_still deinits o u h.0, tasks_still tasks lows t.2 p.2 h.1 k.1)
-
 pub parts_outlive : PartsOutlive
 parts_outlive m bound s verified right l o rest lrest h is none for full =
-    tasks_still m verified right.typed.world s.memory l.memory (with_object l.memory o (ended (object_at l.memory o))) refl rest lrest
-    (subst (TasksAre m right.typed.world) is right.typed.tasks).1 (subst (TasksPlaced m s.memory) is right.placed).1 for full
+    let low' : Memory = with_object l.memory o (ended (object_at l.memory o)) in
+    parts_stay m verified right.typed.world s.memory l.memory low' rest lrest
+    (subst (TasksAre m right.typed.world) is right.typed.tasks).1 (subst (TasksPlaced m s.memory) is right.placed).1
+    (of_each (StaysFull m l.memory low')
+    (λ frame f there a v given entry p names on_stack home apart full. ap is_some (value_still l.memory low' refl p home) ∙ full) rest) for full

@@ -39,7 +39,7 @@ use Rattle.stored_runs.specs.lowered_run.holder_model.Standing.{stands_at}
 use Rattle.stored_runs.specs.lowered_run.holder_model.States.{Runs}
 use Rattle.stored_runs.specs.tracked_frames.inner.Typed.TypedStates.{FrameIs, TasksAre}
 use Rattle.stored_runs.proofs.tracked_frames.Typed.GoesOn.{accepted_body}
-use Rattle.same_runs.specs.inner.Owed.{AreRetainedAlive, AtInst, effect_there}
+use Rattle.same_runs.specs.inner.InRightStates.{AreRetainedAlive, AtInst, effect_there}
 
 -- what is live isn't dead
 live_alive : (m : Memory) (os : List ObjectId) → all_live m os ≡ true → any_dead m os ≡ false

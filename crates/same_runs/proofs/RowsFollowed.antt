@@ -24,7 +24,7 @@ use Rattle.stored_runs.specs.inner.PlaceRows.{GoesAlong, LowGoes}
 use Rattle.stored_runs.specs.inner.Points.{insts_of}
 use Rattle.stored_runs.specs.inner.States.{IsStateFor}
 use Rattle.same_runs.specs.inner.Followed.{GoesToo, left_from, left_in, left_of, low_next_of}
-use Rattle.same_runs.specs.inner.Owed.{AtInst, behind_it}
+use Rattle.same_runs.specs.inner.InRightStates.{AtInst, behind_it}
 
 -- behind an instruction less is left
 less_from : (f : Function) (p : PointId) (i : Inst) → inst_at f p ≡ Some i → left_from f (point_behind p) < left_from f p

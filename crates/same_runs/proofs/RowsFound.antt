@@ -31,7 +31,7 @@ use Rattle.stored_runs.proofs.SparesApart.{accepted_spares_apart}
 use Rattle.stored_runs.proofs.StayingSteps.{LowTop}
 use Rattle.stored_runs.proofs.TrapsAlong.{are_traps_along}
 use Rattle.same_runs.specs.inner.Followed.{EndsToo, low_next_of}
-use Rattle.same_runs.specs.inner.Owed.{AtInst, RowsAreRight, RowsGoAlong, RowsTrapAlong, TrapsAreRight}
+use Rattle.same_runs.specs.inner.InRightStates.{AtInst, RowsAreRight, RowsGoAlong, RowsTrapAlong, TrapsAreRight}
 
 module _ (m : Module) (bound : ℕ) (s : HolderState) (l : LowState) (x : AtInst m s) (h : IsTypedFor m s l) where
   tasks : TasksAre m h.typed.world (Runs x.frame ∷ x.rest)

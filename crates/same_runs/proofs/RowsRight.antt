@@ -13,10 +13,12 @@ use Rattle.stored_runs.specs.lowered_run.LowStepParts.{LowState}
 use Rattle.stored_runs.specs.inner.RowsRight.{RowRight, is_place_row}
 use Rattle.stored_runs.specs.inner.TypedPlainRows.{is_plain_row}
 use Rattle.stored_runs.specs.inner.TypedSteps.{IsTypedFor}
-use Rattle.stored_runs.proofs.PlacesLeft.{are_places_told}
+use Rattle.stored_runs.proofs.PlacesTold.{are_places_told}
 use Rattle.stored_runs.proofs.TypedPlainRows.{are_typed_plain_rows}
 use Rattle.stored_runs.proofs.TypedRows.{are_typed_place_rows}
-use Rattle.same_runs.specs.inner.Owed.{ArePlacesLeft, AreRetainedAlive, AtInst, IsNoCall, LeavesSo, RowsAreRight}
+use Rattle.same_runs.specs.inner.InRightStates.{AtInst, IsNoCall, LeavesSo, RowsAreRight}
+use Rattle.same_runs.proofs.RetainedAlive.{retained_alive}
+use Rattle.same_runs.proofs.SparedParts.{parts_spared}
 use Rattle.same_runs.proofs.RowsFound.{accepted, frame_is, stands}
 use Rattle.same_runs.proofs.TakenApartRows.{apart_right}
 
@@ -52,7 +54,7 @@ row_so row.AddressesMember = RowSo.plain refl
 row_so row.AddressesField = RowSo.plain refl
 row_so row.CallsFunction = RowSo.calls refl
 
-module _ (places : ArePlacesLeft) (m : Module) (bound : ℕ) (s : HolderState) (verified : IsVerified m) (right : IsRightState m s) (l : LowState) (x : AtInst m s)
+module _ (m : Module) (bound : ℕ) (s : HolderState) (verified : IsVerified m) (right : IsRightState m s) (l : LowState) (x : AtInst m s)
     (h : IsTypedFor m s l) (other : IsNoCall m bound s x) (c : Change) (slots : List Place) (entries : List Entry) (leaves : LeavesSo m bound s x c slots entries) where
   row_right : RowRight m s l x.frame x.f x.i x.ops c
   row_right = by (row_so (effect_of x.i.op))
@@ -62,7 +64,7 @@ module _ (places : ArePlacesLeft) (m : Module) (bound : ℕ) (s : HolderState) (
           are_typed_place_rows m s l h.typed.world x.frame x.rest x.f x.i x.ops c (accepted m bound s l x h) h.typed.of h.typed.memory (frame_is m bound s l x h)
           (stands m bound s l x h)
           (are_places_told m s l h.typed.world x.frame x.rest x.f x.i x.ops (accepted m bound s l x h) (frame_is m bound s l x h) (stands m bound s l x h)
-          (places m bound s verified right l x h other c slots entries leaves)) e leaves.makes
+          (parts_spared m bound s verified right l x h other c slots entries leaves)) e leaves.makes
       by (RowSo.plain e) =
           are_typed_plain_rows m s l h.typed.world x.frame x.rest x.f x.i x.ops c (accepted m bound s l x h) h.typed.of h.typed.memory (frame_is m bound s l x h)
           (stands m bound s l x h) e leaves.makes
@@ -70,6 +72,6 @@ module _ (places : ArePlacesLeft) (m : Module) (bound : ℕ) (s : HolderState) (
           apart_right m s l h.typed.world x.frame x.rest x.f x.i x.ops c (accepted m bound s l x h) (frame_is m bound s l x h) (stands m bound s l x h) e leaves.makes
       by (RowSo.calls e) = absurd (other e)
 
-pub rows_right : ArePlacesLeft → AreRetainedAlive → RowsAreRight
-rows_right places alive m bound s verified right l x h other c slots entries leaves =
-    (row_right places m bound s verified right l x h other c slots entries leaves, alive m bound s verified right x other c slots entries leaves)
+pub rows_right : RowsAreRight
+rows_right m bound s verified right l x h other c slots entries leaves =
+    (row_right m bound s verified right l x h other c slots entries leaves, retained_alive m bound s verified right x other c slots entries leaves)

@@ -28,8 +28,9 @@ use Rattle.stored_runs.specs.inner.TypedSteps.{IsTypedFor}
 use Rattle.stored_runs.proofs.Awaited.{steps_awaited}
 use Rattle.stored_runs.proofs.StayingSteps.{function_there}
 use Rattle.same_runs.specs.inner.Followed.{EndsToo, Follows, GoesToo, left_of}
-use Rattle.same_runs.specs.inner.Owed.{IsComeTo}
+use Rattle.same_runs.specs.inner.InRightStates.{IsComeTo}
 use Rattle.same_runs.proofs.Begun.{begin_typed_for, lowers}
+use Rattle.same_runs.proofs.Come.{comes_on}
 use Rattle.same_runs.proofs.StepsFollowed.{steps_followed}
 
 module _ (m : Module) (bound : ℕ) where
@@ -81,27 +82,6 @@ module _ (m : Module) (bound : ℕ) where
 
   -- ---- states of the run by holders
 
-  one : (n : HolderNext) → step_on (run step 0) n ≡ n
-  one (Goes x) = refl
-  one (Ends e x) = refl
-
-  same_state : (s t : HolderState) (n : HolderNext) → Goes s ≡ n → n ≡ Goes t → s ≡ t
-  same_state s t n e g = cc
-
-  ends_nowhere : (e : Ending HolderFault) (s t : HolderState) (n : HolderNext) → Ends e s ≡ n → n ≡ Goes t → ⊥
-  ends_nowhere e s t n is other = cc
-
-  run_on : (k : ℕ) (s t : HolderState) → run step k s ≡ Goes t → run step (suc k) s ≡ step t
-  run_on zero s t is = one (step s) ∙ ap step (same_state s t (Goes s) refl is)
-  run_on (suc k) s t is = at (step s) refl (λ x. run_on k x t)
-    where
-      at : (n : HolderNext) → step s ≡ n → ((x : HolderState) → run step k x ≡ Goes t → run step (suc k) x ≡ step t) → run step (suc (suc k)) s ≡ step t
-      at (Goes x) e more = ap (step_on (run step (suc k))) e ∙ more x (sym (ap (step_on (run step k)) e) ∙ is)
-      at (Ends e x) g more = absurd (ends_nowhere e x t (step_on (run step k) (step s)) (sym (ap (step_on (run step k)) g)) is)
-
-  pub comes_on : (s t : HolderState) → IsComeTo m bound s → step s ≡ Goes t → IsComeTo m bound t
-  comes_on s t c is = record { e = c.e; f = c.f; there = c.there; may = c.may; steps = suc c.steps; comes = run_on c.steps (begins c.e c.f) s c.comes ∙ is }
-
   pub next_typed : (s t : HolderState) (l : LowState) (last : LowState) → IsTypedFor m s l → step s ≡ Goes t → IsStateFor m t last → IsTypedFor m t last
   next_typed s t l last h is related = record {
     verified = h.verified;
@@ -137,7 +117,7 @@ module _ (m : Module) (bound : ℕ) where
       where
         on : (t : HolderState) → step s ≡ Goes t → ForthIn k → GoesToo m bound s l t → LowEnds l (outcome_at e last)
         on t is later (GoesToo.moves behind low_next first steps related) =
-            let more = later t low_next (comes_on s t comes is) (next_typed s t l low_next h is related) e last (sym (ap (step_on (run step k)) is) ∙ ran) in
+            let more = later t low_next (comes_on m bound s t comes is) (next_typed s t l low_next h is related) e last (sym (ap (step_on (run step k)) is) ∙ ran) in
             record {
               ending = more.ending;
               last = more.last;
@@ -145,7 +125,7 @@ module _ (m : Module) (bound : ℕ) where
               for = more.for;
             }
         on t is later (GoesToo.stays less related) =
-            later t l (comes_on s t comes is) (next_typed s t l l h is related) e last (sym (ap (step_on (run step k)) is) ∙ ran)
+            later t l (comes_on m bound s t comes is) (next_typed s t l l h is related) e last (sym (ap (step_on (run step k)) is) ∙ ran)
 
         end : (x : Ending HolderFault) (y : HolderState) → Ends x y ≡ Ends e last → EndsToo m bound l (outcome_at x y) → LowEnds l (outcome_at e last)
         end x y same d = record {
@@ -203,11 +183,11 @@ module _ (m : Module) (bound : ℕ) where
         moved t is behind low_next first steps related (suc j) few ran =
             let left = left_steps low_next behind steps e last j (sym (ap (step_on (run low_step j)) first) ∙ ran) in
             let fewer_left = left.few in
-            one_more s t is (fewer left.count t low_next (omega (arith, few, fewer_left)) (comes_on s t comes is) (next_typed s t l low_next h is related) left.is)
+            one_more s t is (fewer left.count t low_next (omega (arith, few, fewer_left)) (comes_on m bound s t comes is) (next_typed s t l low_next h is related) left.is)
 
         on : (j : ℕ) → j ≤ suc n → run low_step j l ≡ Ends e last → (t : HolderState) → step s ≡ Goes t → GoesToo m bound s l t → HolderEnds s
         on j few ran t is (GoesToo.moves behind low_next first steps related) = moved t is behind low_next first steps related j few ran
-        on j few ran t is (GoesToo.stays less related) = one_more s t is (shorter t less (comes_on s t comes is) (next_typed s t l l h is related))
+        on j few ran t is (GoesToo.stays less related) = one_more s t is (shorter t less (comes_on m bound s t comes is) (next_typed s t l l h is related))
 
         from_here : (j : ℕ) → j ≤ suc n → run low_step j l ≡ Ends e last → HolderEnds s
         from_here j few ran = at (step s) refl

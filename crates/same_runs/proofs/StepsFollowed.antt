@@ -14,7 +14,7 @@ use Rattle.run_values.specs.Memory.{is_dead}
 use Rattle.run_values.specs.Values as value
 use Rattle.stored_runs.specs.lowered_run.holder_model.Data.{ValueOf}
 use Rattle.stored_runs.specs.lowered_run.holder_model.Effects as effects
-use Rattle.stored_runs.specs.lowered_run.holder_model.Effects.{Change, effect_of}
+use Rattle.stored_runs.specs.lowered_run.holder_model.Effects.{effect_of}
 use Rattle.stored_runs.specs.lowered_run.holder_model.Faults.{HolderFault, PlaceNotAsAsked, WrongShape}
 use Rattle.stored_runs.specs.lowered_run.holder_model.Frames.{Frame, has_any}
 use Rattle.stored_runs.specs.lowered_run.holder_model.HolderStates.{HolderNext, HolderState, strong_holders}
@@ -43,7 +43,7 @@ use Rattle.stored_runs.proofs.CallsAlone.{calls_alone, calls_or, op_of}
 use Rattle.stored_runs.proofs.TypedSteps.{typed_calls_step, typed_deinits_step, typed_ends_step}
 use Rattle.same_runs.specs.inner.Followed.{Follows, GoesToo, StepsToo, low_next_of}
 use Rattle.same_runs.specs.inner.Laws.{AreStepsFollowed}
-use Rattle.same_runs.specs.inner.Owed.{AtInst, IsComeTo, LeavesSo, RowsAreRight, effect_there}
+use Rattle.same_runs.specs.inner.InRightStates.{AtInst, IsComeTo, LeavesSo, effect_there}
 use Rattle.stored_runs.specs.accepted_runs.inner.RightStates.{IsRightState}
 use Rattle.stored_runs.proofs.owned_counts.CountedInsts.{insts_counted}
 use Rattle.stored_runs.proofs.owned_counts.CountedReturns.{left_counted}
@@ -57,15 +57,10 @@ use Rattle.same_runs.proofs.Finishing.{dropped_followed, dropping_followed, fini
 use Rattle.same_runs.proofs.HandedFull.{parts_handed_full}
 use Rattle.same_runs.proofs.Outlive.{parts_outlive}
 use Rattle.same_runs.proofs.CallsCounted.{calls_counted}
-use Rattle.same_runs.proofs.PlacesLeft.{places_left}
-use Rattle.same_runs.proofs.RetainedAlive.{retained_alive}
 use Rattle.same_runs.proofs.RowsFollowed.{row_followed}
 use Rattle.same_runs.proofs.RowsRight.{rows_right}
 use Rattle.same_runs.proofs.TrapsRight.{traps_are_right}
 use Rattle.same_runs.proofs.RowsFound.{rows_go_along, rows_trap_along}
-
-pub rows_are_right : RowsAreRight
-rows_are_right = rows_right places_left retained_alive
 
 module _ (m : Module) (bound : ℕ) (s : HolderState) (verified : IsVerified m) (comes : IsComeTo m bound s) (l : LowState) (h : IsTypedFor m s l) where
   abbrev told : ModuleFacts
@@ -129,7 +124,7 @@ module _ (m : Module) (bound : ℕ) (s : HolderState) (verified : IsVerified m) 
               → GoesBehind m told bound s x.rest (left_with m told bound x.frame x.ops) x.f (item.Inst (stands_at x.f x.frame.trail)) c n → Follows m bound s l n
           behind _ same (GoesBehind.goes slots entries slots_left put) =
               let leaves : LeavesSo m bound s x c slots entries = record { makes = is; slots_left = slots_left; put = put } in
-              row_followed m bound s l x h.related c slots entries (rows_go_along rows_are_right m bound s verified right l x h other c slots entries leaves)
+              row_followed m bound s l x h.related c slots entries (rows_go_along rows_right m bound s verified right l x h other c slots entries leaves)
               (insts_counted m bound s x.rest x.frame x.f x.i x.ops c slots entries l.numbers (record {
                 verified = verified;
                 typed = h.typed;

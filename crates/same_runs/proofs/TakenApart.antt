@@ -1,7 +1,7 @@
 -- What typing says of a struct or tuple that is taken apart: no member has the shape of the whole, and a struct's fields are found at their places by
 -- their names.
-use Rattle.std.proofs.Common.{◌≡◌, ℕ, suc, ◌+◌, ◌<◌, List, [], ◌∷◌, length, map, append-nil, refl, sym, ap, ap₂, ◌∙◌, subst, arith, Bool, true, false, Some, None}
-use Rattle.std.specs.Prelude.{Contains, codes, option_and_then, option_map, pos, slice_get, unwrap_or}
+use Rattle.std.proofs.Common.{◌≡◌, ℕ, suc, ◌+◌, ◌<◌, List, [], ◌∷◌, length, map, append-nil, refl, sym, ap, ap₂, ◌∙◌, subst, arith, Some, None}
+use Rattle.std.specs.Prelude.{option_and_then, option_map, pos, slice_get, unwrap_or}
 use Rattle.std.specs.List.{flat_map}
 use Rattle.std.specs.Option.{option_to_list}
 use Rattle.std.proofs.lemmas.List.{length-map}
@@ -9,9 +9,7 @@ use Rattle.std.proofs.lemmas.Option.{slice_get-map}
 use Rattle.instruction_table.specs.declared.op.Op.{Op}
 use Rattle.instruction_table.specs.declared.op.Op.TheVariants as op
 use Rattle.item_operands.specs.Parts.{inst_at}
-use Rattle.numbered_form.specs.Lists.{Each}
-use Rattle.numbered_form.specs.Names.{AreMembersOnce, Name, field_name}
-use Rattle.sil_ast.specs.declared.decl.Decl.{Decl}
+use Rattle.numbered_form.specs.Names.{Name, field_name}
 use Rattle.sil_ast.specs.declared.decl.Decl.TheVariants as decl
 use Rattle.sil_ast.specs.declared.decl.Field.{Field}
 use Rattle.sil_ast.specs.declared.function.Function.{Function}
@@ -22,7 +20,7 @@ use Rattle.sil_ast.specs.declared.operands.Operand.{Operand}
 use Rattle.sil_ast.specs.declared.place.PointId.{PointId}
 use Rattle.sil_ast.specs.declared.type_name.TypeName.{TypeName}
 use Rattle.sil_ast.specs.declared.type_name.TypeName.TheVariants as type
-use Rattle.type_definitions.specs.Declarations.{Declarations, decl_of, declarations_of, place_of, superclass_found, swift_structs}
+use Rattle.type_definitions.specs.Declarations.{Declarations, decl_of, declarations_of, place_of, superclass_found}
 use Rattle.type_definitions.specs.Lookups.{FoundField, chain_fields, decl_fields, field_at_place, inherited_fields, own_fields}
 use Rattle.run_values.specs.Shapes as shape
 use Rattle.run_values.specs.Shapes.{Shape, Shapes, shape_of}
@@ -34,9 +32,9 @@ use Rattle.stored_runs.specs.accepted_values.accepted_modules.sil_types.Typing.R
 use Rattle.stored_runs.specs.accepted_values.accepted_modules.sil_types.Typing.Shapes.{element_at, elements, field_type, fields_of_struct, name_in, target, target_in}
 use Rattle.stored_runs.specs.lowered_run.holder_model.memory_accesses.Sources.{member_place}
 use Rattle.stored_runs.specs.lowering_laws.lowering_model.Extracts.{member_of, members_named, members_of_struct}
+use Rattle.stored_runs.proofs.lowered_typing_laws.Fields.{members_once}
 use Rattle.stored_runs.proofs.accepted_values.Accepted.{well_typed}
 use Rattle.stored_runs.proofs.accepted_values.run_typing_laws.ClassChains.{no_ancestors}
-use Rattle.stored_runs.proofs.accepted_values.run_typing_laws.Declared.{each_append, holds_of_found}
 use Rattle.stored_runs.proofs.accepted_values.run_typing_laws.Found.{place_once}
 use Rattle.stored_runs.proofs.accepted_values.run_typing_laws.MemberFacts.{struct_group, struct_named}
 use Rattle.stored_runs.proofs.accepted_values.run_typing_laws.Rows.Addresses.{element_target, struct_forms}
@@ -75,13 +73,6 @@ members_smaller _ _ (IsGroup.tuple us) = let less : sizes_of (shape.members_of u
 
 -- ---- the fields of a struct, by their names
 
-none_there : (name : Name) → Contains [] name → ⊥
-none_there name c = let lt : c.0 < 0 = c.1 in omega arith
-
-swift_once : (swift : Bool) → Each AreMembersOnce (swift_structs swift)
-swift_once true = ((none_there (codes "_value"), tt), ((none_there (codes "_value"), tt), tt))
-swift_once false = tt
-
 abbrev place_found : FoundField → ℕ
 place_found g = g.place
 
@@ -102,17 +93,12 @@ module _ (m : Module) (n : ℕ) (f : Function) (a : IsAcceptedBody m n f) where
   r : IsWellTyped m
   r = well_typed m a.verified
 
-  once : (name : Name) (x : Decl) → decl_of d name ≡ Some x → AreMembersOnce x
-  once =
-      holds_of_found d AreMembersOnce
-      (each_append AreMembersOnce (swift_structs m.imports.swift) m.decls (swift_once m.imports.swift) a.verified.numbered.once.members)
-
   field_placed : (name own_name : Name) (fields : List Field) → decl_of d name ≡ Some (decl.Struct own_name fields) → (k : ℕ) (y : Field) → slice_get fields k ≡ Some y
       → member_place d (Some (member_of name y)) ≡ Some k
   field_placed name own_name fields declared k y there =
       let none_above : inherited_fields d name ≡ [] = ap (chain_fields d) (no_ancestors d (chains_end m r) name (ap superclass_found declared)) in
       let own : own_fields d name ≡ fields = ap decl_fields declared in
-      let place : place_of (map field_name fields) y.name ≡ Some k = place_once field_name fields k y (once name (decl.Struct own_name fields) declared) there in
+      let place : place_of (map field_name fields) y.name ≡ Some k = place_once field_name fields k y (members_once m a.verified.numbered name (decl.Struct own_name fields) declared) there in
       let number : 0 + k ≡ k = omega arith in
       ap₂ (λ above fs. option_map place_found (field_at_place (length above) fs (place_of (map field_name fs) y.name))) none_above own
       ∙ ap (λ o. option_map place_found (field_at_place 0 fields o)) place

@@ -1,5 +1,5 @@
 -- A row that traps in a right state finds what the lowered run needs.
-use Rattle.same_runs.specs.inner.Owed.{TrapsAreRight}
+use Rattle.same_runs.specs.inner.InRightStates.{TrapsAreRight}
 use Rattle.stored_runs.proofs.TypedTraps.{are_typed_traps}
 use Rattle.same_runs.proofs.RowsFound.{accepted, frame_is, stands}
 

@@ -1,4 +1,4 @@
 pub mod Followed
-pub mod Owed
+pub mod InRightStates
 pub mod Laws
 pub mod BetweenTurns

@@ -3,7 +3,7 @@
 ghost use Rattle.stored_runs.specs.inner.Runs.{LoweredRunsAreSame};
 ghost use Rattle.same_runs.specs.inner.BetweenTurns.{AreTotalsHeld, AreTotalsTold};
 ghost use Rattle.same_runs.specs.inner.Laws.{AreNumbersCounts, AreStepsFollowed, BeginTypedFor};
-ghost use Rattle.same_runs.specs.inner.Owed.{AreCallsCounted, RowsAreRight, TrapsAreRight};
+ghost use Rattle.same_runs.specs.inner.InRightStates.{AreCallsCounted, RowsAreRight, TrapsAreRight};
 
 /// Each step of the run by holders is followed by the lowered run.
 pub fn steps_are_followed()

@@ -9,6 +9,5 @@ pub mod RunLemmas
 pub mod StatusLemmas
 pub mod Unread
 pub mod FewCopies
-pub mod LeftEntries
 pub mod GeneratedLemmas
 pub mod GeneratedRuns

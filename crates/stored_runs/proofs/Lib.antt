@@ -56,7 +56,7 @@ pub mod TypedPlainRows
 pub mod TypedTraps
 pub mod WrittenPlaces
 pub mod OwnSlots
-pub mod PlacesLeft
+pub mod PlacesTold
 pub use Rattle.owned_counts.proofs.accepted_values as accepted_values
 pub use Rattle.owned_counts.proofs.tracked_frames as tracked_frames
 pub use Rattle.owned_counts.proofs.accepted_runs as accepted_runs
@@ -66,4 +66,4 @@ pub use Rattle.owned_counts.proofs.accepted_trails as accepted_trails
 pub use Rattle.owned_counts.proofs.typed_memory as typed_memory
 pub use Rattle.owned_counts.proofs as owned_counts
 pub use Rattle.lowered_steps.proofs as lowered_steps
-pub use Rattle.owned_counts.proofs.holder_laws as holder_laws
+pub use Rattle.lowered_typing_laws.proofs as lowered_typing_laws

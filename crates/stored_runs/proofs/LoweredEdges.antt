@@ -35,6 +35,7 @@ use Rattle.lowered_numbering_laws.specs.lowering_laws.lowering_model.LoweredModu
 use Rattle.lowered_numbering_laws.specs.lowering_laws.lowering_model.Names.{renamed_from}
 use Rattle.lowered_numbering_laws.specs.lowering_laws.lowering_model.Numbers.{renumbered_arg, renumbered_edge}
 use Rattle.lowered_numbering_laws.proofs.lowering_laws.Ends.{stands_itself}
+use Rattle.lowered_numbering_laws.proofs.lowering_laws.Lists.{each_both}
 use Rattle.lowered_typing_laws.proofs.Args.{args_go, args_stay, lowered_args}
 use Rattle.lowered_typing_laws.proofs.Sound.{SoundFunction}
 use Rattle.lowered_typing_laws.proofs.Switches.{SwitchFrom, entry_kept, lone, switch_from}
@@ -45,10 +46,6 @@ use Rattle.stored_runs.specs.inner.Names.{AreNamed, IsOld, lowered_number}
 use Rattle.stored_runs.proofs.LoweredCode.{low_edge}
 use Rattle.stored_runs.proofs.LoweredNames.{same_end}
 use Rattle.stored_runs.proofs.RenamingRows.{IsNamedBy, args_named}
-
-pub both_each : {A : Type 0} (P Q R : A → Type 0) → ((x : A) → P x → Q x → R x) → (xs : List A) → Each P xs → Each Q xs → Each R xs
-both_each P Q R go [] h k = tt
-both_each P Q R go (x ∷ xs) h k = (go x h.0 k.0, both_each P Q R go xs h.1 k.1)
 
 -- ---- terminators that choose
 
@@ -102,7 +99,7 @@ module _ (m : Module) (n : ℕ) (f : Function) (a : IsAcceptedBody m n f) (sound
 
     own_args : Each (IsOld f) (map arg_value (args_of f b)) → Each (IsOwnName f) (map arg_value (args_of f b))
     own_args old_args =
-        both_each (IsOld f) (IsNamedBy f (counted m n f a) (default_operand (switch_to f b))) (IsOwnName f)
+        each_both (IsOld f) (IsNamedBy f (counted m n f a) (default_operand (switch_to f b))) (IsOwnName f)
         (λ v old is. (old, stands_itself (renamings_of f) v (is ∙ ap (λ vs. slice_get vs 0) none))) (map arg_value (args_of f b))
         old_args (args_named f (counted m n f a) b)
 
@@ -147,7 +144,7 @@ module _ (m : Module) (n : ℕ) (f : Function) (a : IsAcceptedBody m n f) (sound
 
         others : Each (IsOtherName d f s.operand) (map arg_value (args_of f y.block.0))
         others =
-            both_each (IsOld f) (IsNamedBy f (counted m n f a) (default_operand (switch_to f y.block.0))) (IsOtherName d f s.operand) other
+            each_both (IsOld f) (IsNamedBy f (counted m n f a) (default_operand (switch_to f y.block.0))) (IsOtherName d f s.operand) other
             (map arg_value (args_of f y.block.0)) old_args (args_named f (counted m n f a) y.block.0)
 
         at : (o : Option Block) → slice_get f.blocks e.block.0 ≡ o → edge_in (terminator_in o) e.index ≡ Some y → IsEdgeLowered d f e y

@@ -26,7 +26,7 @@ use Rattle.lowered_numbering_laws.specs.lowering_laws.lowering_model.LoweredModu
 use Rattle.lowered_numbering_laws.specs.lowering_laws.lowering_model.Names.{renamed_from}
 use Rattle.lowered_numbering_laws.proofs.lowering_laws.Ends.{stands_itself}
 use Rattle.lowered_numbering_laws.proofs.lowering_laws.Known.{names_in}
-use Rattle.lowered_numbering_laws.proofs.lowering_laws.Lists.{each_weaker}
+use Rattle.lowered_numbering_laws.proofs.lowering_laws.Lists.{each_both, each_weaker}
 use Rattle.lowered_numbering_laws.proofs.lowering_laws.Lowerable.{functions_are_lowerable}
 use Rattle.lowered_numbering_laws.proofs.lowering_laws.Rings.{kinds_have_no_rings}
 use Rattle.lowered_numbering_laws.proofs.Types.{declares_the_same}
@@ -45,7 +45,7 @@ use Rattle.stored_runs.specs.inner.Lowering.{IsOtherName, IsOwnName, IsTakenOld,
 use Rattle.stored_runs.specs.inner.LoweredSo.{AreLoweredSo}
 use Rattle.stored_runs.specs.inner.Names.{AreNamed, IsOld, lowered_number}
 use Rattle.stored_runs.proofs.LoweredCode.{mapped_at}
-use Rattle.stored_runs.proofs.LoweredEdges.{both_each, edge_lowered, entry_defined, entry_own, one_chosen}
+use Rattle.stored_runs.proofs.LoweredEdges.{edge_lowered, entry_defined, entry_own, one_chosen}
 use Rattle.stored_runs.proofs.LoweredNames.{are_named, own_name, same_end}
 use Rattle.stored_runs.proofs.AllCurrent.{all_current}
 use Rattle.stored_runs.proofs.Reading.{defines_there}
@@ -90,13 +90,13 @@ module _ (m : Module) (g : FuncId) (f : Function) (a : IsAcceptedBody m g.0 f) w
 
     own_results : renames i.op ≡ false → Each (IsOwnName f) i.results
     own_results keeps =
-        both_each (IsOld f) (IsNamedBy f (counted m g.0 f a) (names_in i)) (IsOwnName f)
+        each_both (IsOld f) (IsNamedBy f (counted m g.0 f a) (names_in i)) (IsOwnName f)
         (λ v old is. (old, stands_itself (renamings_of f) v (is ∙ ap (λ b. slice_get (cond b (map value_of i.operands) []) 0) keeps))) i.results
         (results_old p i e) named_by
 
     other_results : (o : Operand) → renames i.op ≡ true → i.operands ≡ o ∷ [] → Each (IsOtherName d f o.value) i.results
     other_results o names one =
-        both_each (IsOld f) (IsNamedBy f (counted m g.0 f a) (names_in i)) (IsOtherName d f o.value) other i.results (results_old p i e) named_by
+        each_both (IsOld f) (IsNamedBy f (counted m g.0 f a) (names_in i)) (IsOtherName d f o.value) other i.results (results_old p i e) named_by
       where
         other : (v : ValueId) → IsOld f v → renamed_from (renamings_of f) v ≡ slice_get (names_in i) 0 → IsOtherName d f o.value v
         other v old is =

@@ -17,6 +17,7 @@ use Rattle.sil_cfg.specs.inner.Splice.{Precedes, Stop, is_at, item, same_item}
 use Rattle.sil_cfg.proofs.Places.{same_item-true}
 use Rattle.type_definitions.specs.Declarations.{Declarations}
 use Rattle.ownership_chains.specs.declared.definition.Definition.{Definition}
+use Rattle.lowered_numbering_laws.proofs.lowering_laws.Lists.{each_both}
 use Rattle.lowered_numbering_laws.specs.lowering_laws.ownership_origins.Renamings.{renamings_of}
 use Rattle.lowered_numbering_laws.specs.lowering_laws.lowering_model.Names.{renamed_from, stands_within, unless_renamed}
 use Rattle.owned_counts.specs.accepted_trails.run_trails.inner.RunTrails.{IsTurnedTrail}
@@ -137,14 +138,9 @@ module _ (d : Declarations) (f : Function) (accepted : IsAcceptedIn d f) (takes 
         at None e = since_itself (makes f v) t made
         at (Some w) e = spliced n w e
 
--- with what is known of each of two kinds
-both_known : {A : Type 0} (P Q R : A → Type 0) → ((x : A) → P x → Q x → R x) → (xs : List A) → Each P xs → Each Q xs → Each R xs
-both_known P Q R go [] h k = tt
-both_known P Q R go (x ∷ xs) h k = (go x h.0 k.0, both_known P Q R go xs h.1 k.1)
-
 pub accepted_current : AreAcceptedCurrent
 accepted_current d f accepted takes stops t i h =
     let Among : Taken → Type 0 = λ x. list_any (is_of x.value) (item_taken f i) ≡ true in
-    both_known (IsTakenFrom f t) Among (IsTakenCurrent f t)
+    each_both (IsTakenFrom f t) Among (IsTakenCurrent f t)
     (λ x made among. current d f accepted takes stops t i h x.value made among (length (renamings_of f))) (item_taken f i)
     (operands_defined d f accepted t i h) (each_among (λ (x : Taken). x.value) Among (item_taken f i) (λ x among. among))

@@ -53,28 +53,20 @@ use Rattle.stored_runs.proofs.LoweredCode.{IsLoweredTo, lowered_inst}
 use Rattle.stored_runs.proofs.Reading.{Like, behind_current, defines_there, like_itself, taken_renumbered}
 use Rattle.stored_runs.proofs.RowSteps as rows
 use Rattle.stored_runs.proofs.PutValues.{put_other}
+use Rattle.stored_runs.proofs.SameRows.{none_in_both}
 use Rattle.stored_runs.proofs.StandsThere.{facts, given_parts, left, left_frames, number}
 use Rattle.stored_runs.proofs.ValuesFor.{ArePut, like_same, results_shown}
 
 -- ---- an access to a place that is there, full where it has to be, and in no dead object
 
 module _ (d : Declarations) (told : ModuleShapes) (values : List Shape) (low : Memory) (j : Inst) where
-  none_in_both : (os ps : List ObjectId) → find (is_dead low) os ≡ None → find (is_dead low) ps ≡ None → find (is_dead low) (os ++ ps) ≡ None
-  none_in_both [] ps e g = g
-  none_in_both (o ∷ os) ps e g = at (is_dead low o) e (none_in_both os ps)
-    where
-      at : (b : Bool) → cond b (Some o) (find (is_dead low) os) ≡ None → (find (is_dead low) os ≡ None → find (is_dead low) ps ≡ None → find (is_dead low) (os ++ ps) ≡ None)
-          → cond b (Some o) (find (is_dead low) (os ++ ps)) ≡ None
-      at true q more = absurd (cc)
-      at false q more = more q g
-
   pub accessed_so : (q : Place) (os : List ObjectId) (full : Bool) (e : Effect LowFault) → is_there_at low q ≡ true → find (is_dead low) os ≡ None
       → find (is_dead low) (home_references q.home) ≡ None → (not full || is_some (value_at low q)) ≡ true → low_effects.accessed d told values low j q os full e ≡ e
   accessed_so q os full e there alive home ok =
       ap (λ b. cond b (low_effects.unless_dead d told values low j (os ++ home_references q.home)
       (cond (not full || is_some (value_at low q)) e (effects.Faults fault.Empty))) (effects.Faults fault.Slot)) there
       ∙ ap (low_effects.dead_or d told values low j (cond (not full || is_some (value_at low q)) e (effects.Faults fault.Empty)))
-      (none_in_both os (home_references q.home) alive home)
+      (none_in_both low os (home_references q.home) alive home)
       ∙ ap (λ b. cond b e (effects.Faults fault.Empty)) ok
 
 -- ---- the steps

@@ -54,6 +54,16 @@ none_dead m low h (o ∷ os) e = at (is_dead m o) refl e (none_dead m low h os)
     at true d q more = absurd (true≢false q)
     at false d q more = ap (λ b. cond b (Some o) (find (is_dead low) os)) (dead_for m low h o ∙ d) ∙ more q
 
+-- and none is dead of two lists together
+pub none_in_both : (low : Memory) (os ps : List ObjectId) → find (is_dead low) os ≡ None → find (is_dead low) ps ≡ None → find (is_dead low) (os ++ ps) ≡ None
+none_in_both low [] ps e g = g
+none_in_both low (o ∷ os) ps e g = at (is_dead low o) e (none_in_both low os ps)
+  where
+    at : (b : Bool) → cond b (Some o) (find (is_dead low) os) ≡ None → (find (is_dead low) os ≡ None → find (is_dead low) ps ≡ None → find (is_dead low) (os ++ ps) ≡ None)
+        → cond b (Some o) (find (is_dead low) (os ++ ps)) ≡ None
+    at true q more = absurd (none-some o (sym q))
+    at false q more = more q g
+
 pub either_for : (b : Bool) (x y : Effect HolderFault) (x' y' : Effect LowFault) → IsEffectFor x x' → IsEffectFor y y' → IsEffectFor (cond b x y) (cond b x' y')
 either_for true x y x' y' h k = h
 either_for false x y x' y' h k = k
@@ -224,14 +234,5 @@ module _ (d : Declarations) (shapes low_shapes : ModuleShapes) (values low_value
       ap (λ b. cond b (low_effects.unless_dead d low_shapes low_values low (renumbered_inst number i) (os ++ home_references p.home)
       (cond (not full || is_some (value_at low p)) e (effects.Faults fault.Empty))) (effects.Faults fault.Slot)) (place_there m low h p there)
       ∙ ap (low_effects.dead_or d low_shapes low_values low (renumbered_inst number i) (cond (not full || is_some (value_at low p)) e (effects.Faults fault.Empty)))
-      (none_in_both os (home_references p.home) alive (none_dead m low h (home_references p.home) home))
+      (none_in_both low os (home_references p.home) alive (none_dead m low h (home_references p.home) home))
       ∙ ap (λ b. cond b e (effects.Faults fault.Empty)) ok
-    where
-      none_in_both : (os ps : List ObjectId) → find (is_dead low) os ≡ None → find (is_dead low) ps ≡ None → find (is_dead low) (os ++ ps) ≡ None
-      none_in_both [] ps e g = g
-      none_in_both (o ∷ os) ps e g = at (is_dead low o) e (none_in_both os ps)
-        where
-          at : (b : Bool) → cond b (Some o) (find (is_dead low) os) ≡ None → (find (is_dead low) os ≡ None → find (is_dead low) ps ≡ None → find (is_dead low) (os ++ ps) ≡ None)
-              → cond b (Some o) (find (is_dead low) (os ++ ps)) ≡ None
-          at true q more = absurd (none-some o (sym q))
-          at false q more = more q g

@@ -1,8 +1,8 @@
 -- The step of an instruction that is lowered to itself.
-use Rattle.std.proofs.Common.{◌≡◌, ℕ, suc, ◌+◌, ◌<◌, List, [], ◌∷◌, ◌++◌, map, length, arith, refl, sym, ap, ◌∙◌, subst, Bool, true, false, cond, Option, Some, None, Ok, Err}
+use Rattle.std.proofs.Common.{◌≡◌, ℕ, suc, ◌+◌, ◌<◌, List, [], ◌∷◌, map, length, arith, refl, sym, ap, ◌∙◌, subst, Bool, true, false, cond, Option, Some, None, Ok, Err}
 use Rattle.std.specs.Prelude.{find, slice_get}
 use Rattle.std.specs.List.{AllZip, flat_map, list_any}
-use Rattle.std.proofs.lemmas.Option.{none-some, same_Some}
+use Rattle.std.proofs.lemmas.Option.{same_Some}
 use Rattle.numbered_form.specs.Lists.{Each}
 use Rattle.sil_ast.specs.declared.function.Form.TheVariants as form
 use Rattle.sil_ast.specs.declared.function.Function.{Function}
@@ -43,6 +43,7 @@ use Rattle.lowered_steps.specs.lowered_run.LowFrames.{LowFrame, put_all, read_al
 use Rattle.lowered_steps.specs.lowered_run.LowStepParts.{LowState, numbers_for, slots_behind, taken_value, values_taken}
 use Rattle.lowered_steps.specs.lowered_run.LowSteps as steps
 use Rattle.lowered_steps.specs.lowered_run.Stored.{changed, each_changed, one_more}
+use Rattle.lowered_numbering_laws.proofs.lowering_laws.Lists.{each_weaker}
 use Rattle.lowered_numbering_laws.specs.lowering_laws.lowering_model.LoweredInsts.{lowering_of}
 use Rattle.lowered_numbering_laws.specs.lowering_laws.lowering_model.LoweredModules.{lowered, lowered_body, lowered_by, lowered_function}
 use Rattle.lowered_numbering_laws.specs.lowering_laws.lowering_model.Numbers.{renumbered_inst}
@@ -60,7 +61,7 @@ use Rattle.stored_runs.proofs.LoweredCode.{mapped_at}
 use Rattle.stored_runs.proofs.StandsStaying as standing
 use Rattle.stored_runs.proofs.StandsStaying.{behind_at, takes_same}
 use Rattle.stored_runs.proofs.Reading.{Like, behind_current, defines_there, like_itself}
-use Rattle.stored_runs.proofs.SameRows.{none_dead, row_for}
+use Rattle.stored_runs.proofs.SameRows.{none_dead, none_in_both, row_for}
 use Rattle.stored_runs.proofs.ValuesFor.{AreLike, ArePut, AreTakenSo, IsGivenAlive, err-ok, like_same, ok-ok, operands_given, results_shown}
 
 -- ---- parts of steps
@@ -92,16 +93,7 @@ operated_alive m low h facts entries [] [] given = refl
 operated_alive m low h facts entries [] (x ∷ xs) given = absurd given
 operated_alive m low h facts entries (t ∷ ts) [] given = absurd given
 operated_alive m low h facts entries (t ∷ ts) (x ∷ xs) given =
-    both (references_in x) (flat_map references_in xs) (none_dead m low h (references_in x) given.0.1) (operated_alive m low h facts entries ts xs given.1)
-  where
-    both : (os ps : List ObjectId) → find (is_dead low) os ≡ None → find (is_dead low) ps ≡ None → find (is_dead low) (os ++ ps) ≡ None
-    both [] ps e g = g
-    both (o ∷ os) ps e g = at (is_dead low o) e (both os ps)
-      where
-        at : (b : Bool) → cond b (Some o) (find (is_dead low) os) ≡ None → (find (is_dead low) os ≡ None → find (is_dead low) ps ≡ None → find (is_dead low) (os ++ ps) ≡ None)
-            → cond b (Some o) (find (is_dead low) (os ++ ps)) ≡ None
-        at true q more = absurd (none-some o (sym q))
-        at false q more = more q g
+    none_in_both low (references_in x) (flat_map references_in xs) (none_dead m low h (references_in x) given.0.1) (operated_alive m low h facts entries ts xs given.1)
 
 -- the frame on top of both
 pub record LowTop (m : Module) (frame : Frame) (rest : List (Task Frame)) (l : LowState) : Type 0 where
@@ -149,10 +141,6 @@ module _ (d : Declarations) (told : ModuleShapes) (values : List Shape) (low : M
   operated_none row.AddressesMember e = refl
   operated_none row.AddressesField e = e
   operated_none row.CallsFunction e = refl
-
-each_weaker : {A : Type 0} (P Q : A → Type 0) → ((x : A) → P x → Q x) → (xs : List A) → Each P xs → Each Q xs
-each_weaker P Q h [] e = tt
-each_weaker P Q h (x ∷ xs) e = (h x e.0, each_weaker P Q h xs e.1)
 
 pub dropping_for : (m : Module) (os : List ObjectId) (ts : List (Task Frame)) (us : List (Task LowFrame)) → AreTasksFor m ts us → AreTasksFor m (dropping os ts) (dropping os us)
 dropping_for m [] ts us h = h

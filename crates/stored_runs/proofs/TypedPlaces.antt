@@ -14,7 +14,7 @@ use Rattle.run_values.specs.Cells.{Cell, cell_count, in_cells}
 use Rattle.run_values.specs.Memory.{Memory}
 use Rattle.run_values.specs.Places.{Place, cells_at, is_there, is_there_at, value_at}
 use Rattle.run_values.specs.Shapes.{Shape, Shapes, NoMember, Member, Integer, Reference, Struct, Tuple, Enum, Stored, Unknown, each_by_layers, listed, storage_in}
-use Rattle.run_values.specs.Trivial.{is_trivial, itself, trivial_layer}
+use Rattle.run_values.specs.Trivial.{is_trivial, itself}
 use Rattle.run_values.specs.Values.{Value}
 use Rattle.value_parts.specs.inner.Storages.{no_storage_layer}
 use Rattle.value_parts.proofs.Inductions.{InParts, by_parts}
@@ -27,6 +27,7 @@ use Rattle.owned_counts.proofs.typed_memory.CellShapes.{shape_count}
 use Rattle.owned_counts.proofs.typed_memory.CellsTyped.{cells_typed, nothing_is_none}
 use Rattle.owned_counts.proofs.typed_memory.Homes.{PlaceCells, place_cells}
 use Rattle.owned_counts.proofs.typed_memory.Trivials.{no_references}
+use Rattle.owned_counts.proofs.TypedCells.{IsTrivial, trivial_cells}
 use Rattle.stored_runs.specs.inner.Memories.{MayBeTaken}
 use Rattle.stored_runs.specs.inner.TypedPlaces.{ArePlainPlaces, AreStoragePlaces, AreTrivialPlaces, IsPlainPlace}
 use Rattle.stored_runs.proofs.FullKept.{IsKept, cells_kept}
@@ -66,34 +67,6 @@ bare_whole (Tuple ss) t = refl
 bare_whole (Enum name cases) t = refl
 bare_whole (Stored how inner) t = absurd (false≢true t)
 bare_whole Unknown t = refl
-
--- ---- trivial shapes
-
-abbrev IsTrivial : Shape → Type 0
-IsTrivial u = is_trivial u ≡ true
-
-abbrev AreTrivial : Shape → Type 0
-AreTrivial s = is_trivial s ≡ true → Each IsTrivial (cell_shapes s)
-
-each_trivial : (ss : Shapes) → AllByRecursion AreTrivial (listed ss) → list_all itself (each_by_layers trivial_layer ss) ≡ true → Each IsTrivial (each_cell_shapes ss)
-each_trivial NoMember hs t = tt
-each_trivial (Member s ss) hs t =
-    let parts = and_parts (is_trivial s) (list_all itself (each_by_layers trivial_layer ss)) t in
-    each_both IsTrivial (cell_shapes s) (each_cell_shapes ss) (hs.0 parts.0) (each_trivial ss hs.1 parts.1)
-
-shape_trivial : (s : Shape) → InParts AreTrivial s → AreTrivial s
-shape_trivial (Integer width) hs t = (t, tt)
-shape_trivial (Reference class) hs t = (t, tt)
-shape_trivial (Struct name NoMember) hs t = (t, tt)
-shape_trivial (Struct name (Member s ss)) hs t = each_trivial (Member s ss) hs t
-shape_trivial (Tuple NoMember) hs t = (t, tt)
-shape_trivial (Tuple (Member s ss)) hs t = each_trivial (Member s ss) hs t
-shape_trivial (Enum name cases) hs t = (t, tt)
-shape_trivial (Stored how inner) hs t = (t, tt)
-shape_trivial Unknown hs t = (t, tt)
-
-trivial_cells : (s : Shape) → AreTrivial s
-trivial_cells = by_parts AreTrivial shape_trivial
 
 kept_there : (cells : List Cell) → Each IsKept cells → list_all is_there cells ≡ true
 kept_there [] h = refl

@@ -28,4 +28,4 @@ pub mod TypedPlainRows
 pub mod TypedTraps
 pub mod WrittenPlaces
 pub mod OwnSlots
-pub mod PlacesLeft
+pub mod SparedParts

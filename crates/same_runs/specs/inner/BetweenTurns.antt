@@ -12,7 +12,7 @@ use Rattle.stored_runs.specs.lowered_run.holder_model.ModuleFacts.{facts_of}
 use Rattle.stored_runs.specs.lowered_run.holder_model.Outcomes.{begins, may_start, object_number, outcome_at, run}
 use Rattle.stored_runs.specs.lowered_run.holder_model.States.{Ends, Returned}
 use Rattle.stored_runs.specs.lowered_run.holder_model.Steps as holder_run
-use Rattle.same_runs.specs.inner.Owed.{IsComeTo}
+use Rattle.same_runs.specs.inner.InRightStates.{IsComeTo}
 
 -- the strong holders of all objects
 abbrev pub all_holders : HolderState → ℕ

@@ -18,7 +18,7 @@ use Rattle.stored_runs.specs.lowering_laws.lowering_model.LoweredModules.{lowere
 use Rattle.stored_runs.specs.stored_counts.inner.Numbers.{AreCounts}
 use Rattle.stored_runs.specs.inner.TypedSteps.{IsTypedFor}
 use Rattle.same_runs.specs.inner.Followed.{Follows}
-use Rattle.same_runs.specs.inner.Owed.{IsComeTo}
+use Rattle.same_runs.specs.inner.InRightStates.{IsComeTo}
 
 -- each step of a run that starts at an entry is followed
 abbrev pub AreStepsFollowed : Type 0

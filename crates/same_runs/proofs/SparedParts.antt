@@ -1,4 +1,4 @@
--- What is left of places: storage that is emptied and a slot that goes have no cell of a part that a frame was given, and a part isn't written first.
+-- Rows of right states spare parts: storage that is emptied and a slot that goes have no cell of a part that a frame was given, and a part isn't written first.
 use Rattle.std.proofs.Common.{◌≡◌, ◌==◌, ⊎_elim, ℕ, List, [], ◌∷◌, Bool, true, false, cond, Contains, Some, replicate, refl, sym, ap, ◌∙◌, subst, eqb-true}
 use Rattle.std.specs.Prelude.{is_some}
 use Rattle.std.proofs.lemmas.Bool.{and_right, false_from_ne_true, false≢true, true≢false}
@@ -67,11 +67,11 @@ use Rattle.stored_runs.specs.tracked_frames.inner.Typed.TypedStates.{FrameIs, Ta
 use Rattle.stored_runs.specs.inner.Frames.{HasFullParts}
 use Rattle.stored_runs.specs.inner.TypedSteps.{IsTypedFor}
 use Rattle.stored_runs.proofs.TypedInsts.{given_typed, operand_forms}
-use Rattle.same_runs.specs.inner.Owed.{ArePlacesLeft, AtInst}
+use Rattle.same_runs.specs.inner.InRightStates.{ArePartsSpared, AtInst}
 use Rattle.same_runs.proofs.HandedFull.{root_whole}
-use Rattle.same_runs.proofs.PlacesLeftBelow.{WasNotGiven, none_below, tasks_apart}
-use Rattle.same_runs.proofs.PlacesLeftTasks.{AreApartFrom, tasks_still}
-use Rattle.same_runs.proofs.PlacesLeftTyped.{operand_typed, storage_apart, stored_shape}
+use Rattle.same_runs.proofs.SparedPartsBelow.{WasNotGiven, none_below, tasks_apart}
+use Rattle.same_runs.proofs.SparedPartsTasks.{AreApartFrom, tasks_still}
+use Rattle.same_runs.proofs.SparedPartsTyped.{operand_typed, storage_apart, stored_shape}
 use Rattle.same_runs.proofs.RowsFound.{stands}
 
 -- ---- which rows write for the first time
@@ -275,8 +275,8 @@ module _ (m : Module) (bound : ℕ) (s : HolderState) (verified : IsVerified m) 
     whole_written : y.is_part ≡ false
     whole_written = ⊎_elim on_stack in_object written.root
 
-pub places_left : ArePlacesLeft
-places_left m bound s verified right l x h other c slots entries leaves = record {
+pub parts_spared : ArePartsSpared
+parts_spared m bound s verified right l x h other c slots entries leaves = record {
   emptied = storage_emptied m bound s verified right l x h;
   removed = slot_removed m bound s verified right l x h;
   whole = whole_written m bound s verified right l x h;

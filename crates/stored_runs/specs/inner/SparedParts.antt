@@ -1,5 +1,5 @@
--- What is left of `PlacesTold` where written types have told the rest: that parts that frames were given keep their cells, and that a part isn't
--- written for the first time.
+-- A row spares the parts of places: those that frames were given keep their cells, and none is written for the first time. Written types tell the rest
+-- of `PlacesTold`.
 use Rattle.std.specs.Prelude.{◌≡◌, List, [], ◌∷◌, Some, false, is_some, true}
 use Rattle.sil_ast.specs.declared.function.Function.{Function}
 use Rattle.sil_ast.specs.declared.inst.Inst.{Inst}
@@ -22,7 +22,7 @@ use Rattle.stored_runs.specs.inner.PlaceRows.{StandsAt}
 use Rattle.stored_runs.specs.inner.RowsRight.{ArePartsFull, operation_done}
 use Rattle.stored_runs.specs.inner.TypedRows.{PlacesTold}
 
-pub record PlacesLeft (m : Module) (s : HolderState) (l : LowState) (frame : Frame) (f : Function) (i : Inst) (ops : Operands) : Type 0 where
+pub record SparesParts (m : Module) (s : HolderState) (l : LowState) (frame : Frame) (f : Function) (i : Inst) (ops : Operands) : Type 0 where
   -- storage that is emptied, and a slot that goes, have no cell of a part that a frame was given
   pub emptied : (y : Place) → ops.given ≡ AddressOf y ∷ [] → is_some (storage_in y.shape) ≡ true → ArePartsFull m s l frame f i ops (emptied l.memory y)
   pub removed : (y : Place) → ops.given ≡ AddressOf y ∷ [] → effect_of i.op ≡ row.RemovesSlot → ArePartsFull m s l frame f i ops (removed l.memory y)
@@ -32,5 +32,5 @@ pub record PlacesLeft (m : Module) (s : HolderState) (l : LowState) (frame : Fra
 
 abbrev pub ArePlacesTold : Type 0
 ArePlacesTold = (m : Module) (s : HolderState) (l : LowState) (w : World) (frame : Frame) (rest : List (Task Frame)) (f : Function) (i : Inst) (ops : Operands)
-    → IsAcceptedBody m frame.function.0 f → FrameIs m w f frame → StandsAt m s l frame rest f i ops → PlacesLeft m s l frame f i ops
+    → IsAcceptedBody m frame.function.0 f → FrameIs m w f frame → StandsAt m s l frame rest f i ops → SparesParts m s l frame f i ops
     → PlacesTold m s l frame f i ops

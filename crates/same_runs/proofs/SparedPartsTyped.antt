@@ -17,9 +17,9 @@ use Rattle.stored_runs.specs.tracked_frames.holder_laws.inner.Steps.Stacks.{Belo
 use Rattle.stored_runs.specs.tracked_frames.inner.Typed.TypedStates.{DeinitsTyped, DroppedTyped, FinishedTyped, FrameIs, GoesTyped, TasksAre, WaitsTyped}
 use Rattle.stored_runs.specs.tracked_frames.typed_memory.inner.Worlds.{DatumIs, PlaceIs, World}
 use Rattle.stored_runs.proofs.tracked_frames.Typed.Data.{DataAre}
-use Rattle.same_runs.proofs.PlacesLeftBare.{bare_argument}
-use Rattle.same_runs.proofs.PlacesLeftCells.{apart_by_types}
-use Rattle.same_runs.proofs.PlacesLeftTasks.{AreApartFrom, IsApartFrom}
+use Rattle.same_runs.proofs.SparedPartsBare.{bare_argument}
+use Rattle.same_runs.proofs.SparedPartsCells.{apart_by_types}
+use Rattle.same_runs.proofs.SparedPartsTasks.{AreApartFrom, IsApartFrom}
 
 -- ---- storage
 

@@ -41,7 +41,7 @@ use Rattle.stored_runs.specs.accepted_runs.tracked_frames.placed_values.inner.Ar
 use Rattle.stored_runs.proofs.accepted_runs.tracked_frames.accepted_places.Made.{argument_there}
 use Rattle.stored_runs.proofs.accepted_runs.tracked_frames.placed_values.ArgumentsTold.{arguments_told}
 use Rattle.stored_runs.specs.inner.Frames.{IsGivenPlace}
-use Rattle.same_runs.proofs.Outlive.{IsArgumentSource, given_source}
+use Rattle.same_runs.proofs.GivenParts.{IsArgumentSource, given_source}
 
 -- what is handed over by its address is an object by its type
 address_type : (d : Declarations) (c : ArgumentConvention) (row : AddressRow) (t : TypeName) → address_row c ≡ Some row → fits_by d c t ≡ true

@@ -1,4 +1,4 @@
--- What is owed so that the lowered run follows the run by holders: what holds of each state of the run, what rows do, and what is counted.
+-- What holds in each right state of a run of an accepted module, so that the lowered run follows it: what rows find, and that calls are counted.
 use Rattle.std.specs.Prelude.{◌≡◌, ℕ, List, [], ◌∷◌, true, false, Some, Ok, slice_get}
 use Rattle.std.specs.List.{list_any}
 use Rattle.numbered_form.specs.Lists.{Each}
@@ -35,7 +35,7 @@ use Rattle.stored_runs.specs.stored_counts.inner.Numbers.{AreCounts}
 use Rattle.stored_runs.specs.inner.CallsAlong.{HandsFullParts}
 use Rattle.stored_runs.specs.inner.Frames.{AreTasksFor, HasFullParts}
 use Rattle.stored_runs.specs.inner.PlaceRows.{GoesAlong, stored_for}
-use Rattle.stored_runs.specs.inner.PlacesLeft.{PlacesLeft}
+use Rattle.stored_runs.specs.inner.SparedParts.{SparesParts}
 use Rattle.stored_runs.specs.inner.RowsRight.{RowRight, TrapRight}
 use Rattle.stored_runs.specs.inner.TypedSteps.{IsTypedFor}
 use Rattle.same_runs.specs.inner.Followed.{EndsToo}
@@ -83,11 +83,11 @@ pub record IsComeTo (m : Module) (bound : ℕ) (s : HolderState) : Type 0 where
   pub steps : ℕ
   pub comes : run (holder_run.step m (facts_of m) bound) steps (begins e f) ≡ Goes s
 
--- so it is of each right state of a run of an accepted module
+-- it is so in each right state of a run of an accepted module
 abbrev pub OnRightStates : (Module → ℕ → HolderState → Type 0) → Type 0
 OnRightStates P = (m : Module) (bound : ℕ) (s : HolderState) → IsVerified m → IsRightState m s → P m bound s
 
--- ---- what rows owe
+-- ---- what rows find
 
 -- where an instruction that is no call goes on, the lowered run goes along
 abbrev pub RowsGoAlong : Type 0
@@ -100,22 +100,23 @@ abbrev pub RowsTrapAlong : Type 0
 RowsTrapAlong = OnRightStates (λ m bound s. (l : LowState) (x : AtInst m s) → IsTypedFor m s l → IsNoCall m bound s x
     → (t : Trap) → effect_there m bound s x ≡ effects.Traps t → EndsToo m bound l (outcome_at (Trapped t) s))
 
--- which is so where a row finds what it needs
+-- where a row makes a change, it finds what it needs for that
 abbrev pub RowsAreRight : Type 0
 RowsAreRight = OnRightStates (λ m bound s. (l : LowState) (x : AtInst m s) → IsTypedFor m s l → IsNoCall m bound s x
     → (c : Change) (slots : List Place) (entries : List Entry) → LeavesSo m bound s x c slots entries
     → RowRight m s l x.frame x.f x.i x.ops c × (list_any (is_dead s.memory) c.retained ≡ false))
 
--- what it is that stays open of places, where written types have told the rest
-abbrev pub ArePlacesLeft : Type 0
-ArePlacesLeft = OnRightStates (λ m bound s. (l : LowState) (x : AtInst m s) → IsTypedFor m s l → IsNoCall m bound s x
-    → (c : Change) (slots : List Place) (entries : List Entry) → LeavesSo m bound s x c slots entries → PlacesLeft m s l x.frame x.f x.i x.ops)
+-- it spares the parts that frames were given
+abbrev pub ArePartsSpared : Type 0
+ArePartsSpared = OnRightStates (λ m bound s. (l : LowState) (x : AtInst m s) → IsTypedFor m s l → IsNoCall m bound s x
+    → (c : Change) (slots : List Place) (entries : List Entry) → LeavesSo m bound s x c slots entries → SparesParts m s l x.frame x.f x.i x.ops)
 
 -- no dead object is retained
 abbrev pub AreRetainedAlive : Type 0
 AreRetainedAlive = OnRightStates (λ m bound s. (x : AtInst m s) → IsNoCall m bound s x
     → (c : Change) (slots : List Place) (entries : List Entry) → LeavesSo m bound s x c slots entries → list_any (is_dead s.memory) c.retained ≡ false)
 
+-- where a row traps, it finds what it needs for that
 abbrev pub TrapsAreRight : Type 0
 TrapsAreRight = OnRightStates (λ m bound s. (l : LowState) (x : AtInst m s) → IsTypedFor m s l → IsNoCall m bound s x
     → (t : Trap) → effect_there m bound s x ≡ effects.Traps t → TrapRight m s x.frame x.i x.ops t)
@@ -130,9 +131,9 @@ PartsOutlive = OnRightStates (λ m bound s. (l : LowState) (o : ObjectId) (rest 
     → s.tasks ≡ Finishes [] o ∷ rest → strong_holders (record s { tasks = rest }) o ≡ 0 → AreTasksFor m rest lrest → Each (HasFullParts m l.memory) lrest
     → Each (HasFullParts m (with_object l.memory o (ended (object_at l.memory o)))) lrest)
 
--- ---- what counts owe
+-- ---- what is counted
 
--- behind a call
+-- behind a call the stored numbers are the counts of holders
 abbrev pub AreCallsCounted : Type 0
 AreCallsCounted = OnRightStates (λ m bound s. (next : HolderState) (stored : List Numbers) (x : AtInst m s) → effect_of x.i.op ≡ row.CallsFunction
     → holder_run.step m (facts_of m) bound s ≡ Goes next → AreCounts s stored → AreCounts next stored)

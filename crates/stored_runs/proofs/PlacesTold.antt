@@ -1,18 +1,18 @@
--- Written types, and what a function's own slots are, tell of places what rows ask, but for what is left.
+-- Written types, and what a function's own slots are, tell of places what rows ask, where the row spares parts.
 use Rattle.lowered_steps.specs.lowered_run.holder_model.Standing.{stands_at}
-use Rattle.stored_runs.specs.inner.PlacesLeft.{ArePlacesTold}
+use Rattle.stored_runs.specs.inner.SparedParts.{ArePlacesTold}
 use Rattle.stored_runs.specs.inner.WrittenPlaces.{PlacesWritten}
 use Rattle.stored_runs.proofs.OwnSlots.{are_slots_own}
 use Rattle.stored_runs.proofs.WrittenPlaces.{are_places_written}
 
 pub are_places_told : ArePlacesTold
-are_places_told m s l w frame rest f i ops a frame_is x left =
+are_places_told m s l w frame rest f i ops a frame_is x spares =
     let told : PlacesWritten i ops = are_places_written m s l w frame rest f i ops a frame_is x in
     record {
-      emptied = left.emptied;
-      removed = left.removed;
+      emptied = spares.emptied;
+      removed = spares.removed;
       own_slot = are_slots_own m frame.function.0 f a (stands_at f frame.trail) i x.here;
-      whole = left.whole;
+      whole = spares.whole;
       words = told.words;
       store_bare = told.store_bare;
       bare_store = told.bare_store;

@@ -35,8 +35,8 @@ use Rattle.stored_runs.specs.tracked_frames.holder_laws.inner.Steps.Stacks.{Belo
 use Rattle.stored_runs.specs.tracked_frames.inner.Typed.TypedStates.{DeinitsTyped, DroppedTyped, FinishedTyped, FrameIs, GoesTyped, TasksAre, WaitsTyped}
 use Rattle.stored_runs.specs.tracked_frames.typed_memory.inner.Worlds.{World}
 use Rattle.stored_runs.proofs.tracked_frames.Typed.GoesOn.{accepted_body}
-use Rattle.same_runs.proofs.Outlive.{given_source}
-use Rattle.same_runs.proofs.PlacesLeftTasks.{AreApartFrom, IsApartFrom}
+use Rattle.same_runs.proofs.GivenParts.{given_source}
+use Rattle.same_runs.proofs.SparedPartsTasks.{AreApartFrom, IsApartFrom}
 
 module _ (m : Module) (n : ℕ) where
   -- no argument of the frame has the cell
