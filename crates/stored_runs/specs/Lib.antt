@@ -9,4 +9,3 @@ pub use Rattle.lowered_steps.specs.lowered_run as lowered_run
 pub use Rattle.owned_counts.specs.accepted_trails as accepted_trails
 pub use Rattle.owned_counts.specs as owned_counts
 pub use Rattle.lowered_steps.specs as lowered_steps
-pub use Rattle.owned_counts.specs.holder_laws as holder_laws
