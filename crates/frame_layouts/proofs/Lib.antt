@@ -1,3 +1,4 @@
+mod Added
 pub mod Carrying
 pub mod Counts
 pub mod FieldsFit

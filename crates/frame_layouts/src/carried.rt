@@ -69,7 +69,7 @@ pub fn values_carried(
     ensures { (d : Declarations) (f g : Function) → from.now ≡ layout_of d f → to.now ≡ layout_of d g
         → IfOk result (λ values. values ≡ spec.values_carried d f g (map value_in operands.now) (map arg_value args.now)) }
 {
-    let mut values = List::new(alloc);
+    let mut values = List::with_capacity(alloc, operands.len())?;
     for (k, operand) in operands.iter().enumerate() {
         if let Some(carry) = value_carried(from, to, operand, arg_at(args, k)) {
             values.push(carry)?;

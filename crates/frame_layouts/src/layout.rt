@@ -1,6 +1,6 @@
 //! Where the values of a function stand in a frame, by their numbers.
 
-ghost use Rattle.std.specs.Prelude.{◌≡◌, ◌<◌, ◌+◌, ◌^◌, [], IfOk, OnOk};
+ghost use Rattle.std.specs.Prelude.{◌≡◌, ◌<◌, ◌+◌, ◌^◌, IfOk, OnOk};
 ghost use Rattle.frame_layouts.specs.inner.Layouts as spec;
 
 use ready_code::{Local, LocalAddress};
@@ -60,15 +60,15 @@ fn addresses_in(kept: Kept) -> u32
 }
 
 impl Layout {
-    /// That of no values.
-    pub(crate) fn new(alloc: Global) -> Layout
-        ensures { result ≡ spec.no_layout }
+    /// That of no values, with memory for `count`.
+    pub(crate) fn with_capacity(alloc: Global, count: usize) -> Result<Layout, Exhausted>
+        ensures { IfOk result (λ layout. layout ≡ spec.no_layout) }
     {
-        Layout {
-            spots: List::new(alloc),
+        Ok(Layout {
+            spots: List::with_capacity(alloc, count)?,
             leaves: 0,
             addresses: 0,
-        }
+        })
     }
 
     /// One more value.

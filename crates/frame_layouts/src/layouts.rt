@@ -14,12 +14,12 @@ ghost use Rattle.frame_layouts.specs.inner.Sized.{HaveSizes};
 
 use crate::kept::kept_of;
 use crate::layout::Layout;
+use crate::types::find_types;
 use sil_ast::{Exhausted, FuncId, Function, List, Module};
 use sil_types::TypeTable;
 use std::alloc::Global;
 use typing_rows::TypeView;
 use typing_signatures::find_value_functions;
-use typing_values::{GivenTypes, find_value_types};
 
 /// Lays out values, by their types and the functions that they stand for.
 fn lay_out(
@@ -32,7 +32,7 @@ fn lay_out(
     requires few { length functions.now ≤ VALUES }
     ensures { IfOk result (λ l. l ≡ layout_to table.now (types_told types.now) functions.now (length functions.now)) }
 {
-    let mut layout = Layout::new(alloc);
+    let mut layout = Layout::with_capacity(alloc, functions.len())?;
     for (number, function) in functions.iter().enumerate() {
         layout.push(kept_of(table, types, number, *function))?;
     }
@@ -42,7 +42,7 @@ fn lay_out(
 /// What is known of the values of one function.
 #[derive(Drop)]
 struct ValueFacts<'a> {
-    given: GivenTypes<'a>,
+    types: Vec<Option<TypeView<'a>>>,
     functions: Vec<Option<FuncId>>,
 }
 
@@ -57,12 +57,12 @@ fn layout_of<'a>(
     requires few { value_count f.now ≤ VALUES }
     ensures { IfOk result (λ l. l ≡ spec.layout_of table.now f.now) }
 {
-    find_value_types(&mut facts.given, table, f)?;
+    find_types(&mut facts.types, table, f)?;
     find_value_functions(&mut facts.functions, f)?;
     lay_out(
         alloc,
         table,
-        facts.given.types.as_slice(),
+        facts.types.as_slice(),
         facts.functions.as_slice(),
     )
 }
@@ -74,10 +74,10 @@ pub fn layouts_of(alloc: Global, m: &Module, table: &TypeTable) -> Result<List<L
     ensures { IfOk result (λ ls. ls ≡ map (spec.layout_of (declarations_of m.now)) m.now.functions) }
 {
     let mut facts = ValueFacts {
-        given: GivenTypes::new(alloc),
+        types: Vec::new(alloc),
         functions: Vec::new(alloc),
     };
-    let mut layouts = List::new(alloc);
+    let mut layouts = List::with_capacity(alloc, m.functions.len())?;
     for f in m.functions.as_slice() {
         layouts.push(layout_of(alloc, table, f, &mut facts)?)?;
     }

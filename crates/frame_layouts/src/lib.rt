@@ -7,6 +7,7 @@ mod kept;
 mod layout;
 mod layouts;
 mod sizes;
+mod types;
 
 pub use carried::{addresses_carried, values_carried};
 pub use layout::{Kept, Layout, Spot};

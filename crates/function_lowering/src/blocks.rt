@@ -52,10 +52,17 @@ fn written_insts(
 {
     let mut insts = List::with_capacity(alloc, drafts.len())?;
     for draft in drafts {
-        let inst = written_inst(alloc, numbers, draft)?;
-        insts.push(Boxed::new(alloc, inst)?)?;
+        insts.push(written_inst(alloc, numbers, draft)?)?;
     }
     Ok(insts)
+}
+
+/// A terminator, which stands in its block and in no box.
+fn written_terminator(alloc: Global, numbers: &NewNumbers, inst: &Inst) -> Result<Inst, Exhausted>
+    ensures { IfOk result (λ copy. copy ≡ renumbered.renumbered_inst (number_in numbers.now) inst.now) }
+{
+    let copy = renumbered_inst(alloc, numbers, inst, inst.op, inst.qualifier)?;
+    Ok(copy.into_inner())
 }
 
 fn written_block(
@@ -71,7 +78,7 @@ fn written_block(
     Ok(Block {
         args,
         insts,
-        terminator: renumbered_inst(alloc, numbers, draft.terminator)?,
+        terminator: written_terminator(alloc, numbers, draft.terminator)?,
     })
 }
 

@@ -59,22 +59,6 @@ fn new_inst_giving(
     Ok(inst)
 }
 
-/// An instruction of the module, under this name and with this word.
-fn written_kept(
-    alloc: Global,
-    numbers: &NewNumbers,
-    inst: &Inst,
-    op: Op,
-    qualifier: Qualifier,
-) -> Result<Inst, Exhausted>
-    ensures { IfOk result (λ copy. copy ≡ renumbered.renumbered_inst (number_in numbers.now) (record inst.now { op = op; qualifier = qualifier })) }
-{
-    let mut copy = renumbered_inst(alloc, numbers, inst)?;
-    copy.op = op;
-    copy.qualifier = qualifier;
-    Ok(copy)
-}
-
 fn copied_type(alloc: Global, ty: Option<&TypeName>) -> Result<Option<TypeName>, Exhausted>
     ensures { IfOk result (λ copy. copy ≡ option_copied ty.entry) }
 {
@@ -90,14 +74,14 @@ fn written_counted(
     op: Op,
     value: ValueId,
     ty: Option<&TypeName>,
-) -> Result<Inst, Exhausted>
+) -> Result<Boxed<Inst>, Exhausted>
     ensures { IfOk result (λ inst. inst ≡ insts.with_operands op [] (insts.typed_operand (option_copied ty.entry) (number_in numbers.now value) ∷ [])) }
 {
     let operand = Operand {
         value: numbers.number(value),
         ty: copied_type(alloc, ty)?,
     };
-    new_inst(alloc, op, operand)
+    Boxed::new(alloc, new_inst(alloc, op, operand)?)
 }
 
 /// The field of a struct.
@@ -116,7 +100,7 @@ fn written_field(
     whole: &Operand,
     member: Member,
     value: ValueId,
-) -> Result<Inst, Exhausted>
+) -> Result<Boxed<Inst>, Exhausted>
     ensures { IfOk result (λ inst.
         inst ≡ insts.struct_extract (renumbered.renumbered_operand (number_in numbers.now) whole.now) member (number_in numbers.now value)) }
 {
@@ -124,7 +108,7 @@ fn written_field(
     let operand = renumbered_operand(alloc, numbers, whole)?;
     let mut inst = new_inst_giving(alloc, Op::StructExtract, numbers.number(value), operand)?;
     inst.member = Some(member);
-    Ok(inst)
+    Boxed::new(alloc, inst)
 }
 
 fn written_element(
@@ -133,13 +117,13 @@ fn written_element(
     whole: &Operand,
     number: i64,
     value: ValueId,
-) -> Result<Inst, Exhausted>
+) -> Result<Boxed<Inst>, Exhausted>
     ensures { IfOk result (λ inst. inst ≡ element (renumbered.renumbered_operand (number_in numbers.now) whole.now) number (number_in numbers.now value)) }
 {
     let operand = renumbered_operand(alloc, numbers, whole)?;
     let mut inst = new_inst_giving(alloc, Op::TupleExtract, numbers.number(value), operand)?;
     inst.number = Some(number);
-    Ok(inst)
+    Boxed::new(alloc, inst)
 }
 
 fn written_load(
@@ -147,11 +131,12 @@ fn written_load(
     numbers: &NewNumbers,
     place: &Operand,
     value: ValueId,
-) -> Result<Inst, Exhausted>
+) -> Result<Boxed<Inst>, Exhausted>
     ensures { IfOk result (λ inst. inst ≡ insts.load (renumbered.renumbered_operand (number_in numbers.now) place.now) (number_in numbers.now value)) }
 {
     let operand = renumbered_operand(alloc, numbers, place)?;
-    new_inst_giving(alloc, Op::Load, numbers.number(value), operand)
+    let inst = new_inst_giving(alloc, Op::Load, numbers.number(value), operand)?;
+    Boxed::new(alloc, inst)
 }
 
 /// The instruction that a draft stands for, with new numbers. Fails where memory runs out.
@@ -159,7 +144,7 @@ pub(crate) fn written_inst(
     alloc: Global,
     numbers: &NewNumbers,
     draft: &Draft<'_>,
-) -> Result<Inst, Exhausted>
+) -> Result<Boxed<Inst>, Exhausted>
     ensures { IfOk result (λ inst. inst ≡ renumbered.renumbered_inst (number_in numbers.now) (told draft.now)) }
 {
     match *draft {
@@ -167,7 +152,7 @@ pub(crate) fn written_inst(
             inst,
             op,
             qualifier,
-        } => written_kept(alloc, numbers, inst, op, qualifier),
+        } => renumbered_inst(alloc, numbers, inst, op, qualifier),
         Draft::Counted { op, value, ty } => written_counted(alloc, numbers, op, value, ty),
         Draft::Loaded { place, result } => written_load(alloc, numbers, place, result),
         Draft::Field {

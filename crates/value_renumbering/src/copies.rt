@@ -5,9 +5,10 @@ ghost use Rattle.lowering_model.specs.Numbers as renumbered;
 ghost use Rattle.value_renumbering.specs.inner.NewNumbers.{number_in};
 
 use crate::new_numbers::NewNumbers;
+use instruction_table::Op;
 use sil_ast::{
-    Boxed, Debug, Edge, Exhausted, Inst, List, Member, Operand, Operands, ShortList, Signature,
-    Text, TryClone, TypeName, ValueId,
+    Boxed, Debug, Edge, Exhausted, Inst, List, Member, Operand, Operands, Qualifier, ShortList,
+    Signature, Text, TryClone, TypeName, ValueId,
 };
 use std::alloc::Global;
 
@@ -119,28 +120,37 @@ fn kept_parts(alloc: Global, inst: &Inst) -> Result<Kept, Exhausted>
     })
 }
 
-/// A copy of an instruction.
-pub fn renumbered_inst(alloc: Global, numbers: &NewNumbers, inst: &Inst) -> Result<Inst, Exhausted>
-    ensures { IfOk result (λ copy. copy ≡ renumbered.renumbered_inst (number_in numbers.now) inst.now) }
+/// A copy of an instruction, under this name and with this word. It is made in its box: an instruction is large, and is moved no further.
+pub fn renumbered_inst(
+    alloc: Global,
+    numbers: &NewNumbers,
+    inst: &Inst,
+    op: Op,
+    qualifier: Qualifier,
+) -> Result<Boxed<Inst>, Exhausted>
+    ensures { IfOk result (λ copy. copy ≡ renumbered.renumbered_inst (number_in numbers.now) (record inst.now { op = op; qualifier = qualifier })) }
 {
     let results = renumbered_values(alloc, numbers, inst.results.as_slice())?;
     let operands = renumbered_operands(alloc, numbers, inst.operands.as_slice())?;
     let edges = renumbered_edges(alloc, numbers, inst.edges.as_slice())?;
     let kept = kept_parts(alloc, inst)?;
-    Ok(Inst {
-        op: inst.op,
-        qualifier: inst.qualifier,
-        lexical: inst.lexical,
-        var_decl: inst.var_decl,
-        function: inst.function,
-        results,
-        operands,
-        ty: kept.ty,
-        signature: kept.signature,
-        member: kept.member,
-        number: inst.number,
-        text: kept.text,
-        debug: kept.debug,
-        edges,
-    })
+    Boxed::new(
+        alloc,
+        Inst {
+            op,
+            qualifier,
+            lexical: inst.lexical,
+            var_decl: inst.var_decl,
+            function: inst.function,
+            results,
+            operands,
+            ty: kept.ty,
+            signature: kept.signature,
+            member: kept.member,
+            number: inst.number,
+            text: kept.text,
+            debug: kept.debug,
+            edges,
+        },
+    )
 }

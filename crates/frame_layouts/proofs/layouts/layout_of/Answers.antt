@@ -5,4 +5,4 @@ use Rattle.frame_layouts.proofs.layouts.layout_of.Goals as goal
 
 pub lay_out-requires-clause-sizes : goal.lay_out-requires-clause-sizes
 lay_out-requires-clause-sizes c =
-    subst (HaveSizes c.args.table.now) (sym (ap types_told c.as_slice.ensures.value ∙ c.in_ok-find_value_types.ensures.types)) c.requires.sizes
+    subst (HaveSizes c.args.table.now) (sym (ap types_told c.as_slice.ensures.value ∙ c.in_ok-find_types.ensures)) c.requires.sizes
