@@ -8,10 +8,11 @@ use Rattle.module_runner.specs.inner.RunReports.{TellsOfRun, outcome_of}
 use Rattle.sil_ast.specs.declared.module.Module.{Module}
 use Rattle.sil_command.specs.declared.run_words.TheConstants.{DEFAULT_TURNS}
 use Rattle.sil_command.specs.declared.status.Status.TheVariants.{Done}
-use Rattle.sil_command.specs.declared.summary.Totals.{Totals}
+use Rattle.answer_lines.specs.declared.sums.Totals.{Totals}
 use Rattle.sil_command.specs.Generated.{AnswersGenerated, Ran, RunsSo, both_ran, totals_of}
 use Rattle.sil_command.specs.Statuses.{code_of}
-use Rattle.sil_command.specs.Summaries.{copies_of, summary_text}
+use Rattle.answer_lines.specs.Summaries.{summary_text}
+use Rattle.sil_command.specs.Copies.{copies_of}
 
 pub ran_so : (m : Module) (r : RunReport) → TellsOfRun m (codes "main") DEFAULT_TURNS false r → RunsSo m (outcome_of r)
 ran_so m r tells = record {

@@ -6,7 +6,7 @@ use Rattle.sil_ast.specs.declared.module.Module.{Module}
 use Rattle.accepted_modules.specs.Findings.{Finding, item, limit, typing, value, IsLimit}
 use Rattle.sil_verifier.specs.inner.Reports.{Reported}
 use Rattle.sil_verifier.specs.declared.refusal.Refusal.{Refusal}
-use Rattle.sil_command.specs.RefusalTexts.{refusal_text}
+use Rattle.answer_lines.specs.RefusalTexts.{refusal_text}
 use Rattle.sil_command.specs.inner.ReportTexts.{report_text}
 
 -- a limit has no report

@@ -21,7 +21,7 @@ use Rattle.sil_command.specs.Answers.{limit_passed, refused, wrong, accepted, wr
 use Rattle.sil_command.specs.Generated.{AnswersGenerated, both_ran, no_main}
 use Rattle.sil_command.specs.GivenTexts.{text_for}
 use Rattle.sil_command.specs.Laws.{AreRefusedForTheFirst, AreReportedRightly, ChecksRules}
-use Rattle.sil_command.specs.RefusalTexts.{refusal_text}
+use Rattle.answer_lines.specs.RefusalTexts.{refusal_text}
 use Rattle.accepted_modules.specs.Findings.{Accepted, Finding, Refusal, limit as found_limit}
 use Rattle.sil_command.proofs.StatusLemmas.{mode_answers}
 use Rattle.sil_command.proofs.Unread.{unread_none}

@@ -12,7 +12,7 @@ use Rattle.sil_command.specs.declared.status.Status.TheVariants.{Done, NotAModul
 use Rattle.sil_command.specs.Statuses.{code_of}
 use Rattle.sil_command.specs.declared.words.Mode.{Mode}
 use Rattle.sil_command.specs.declared.words.Mode.TheVariants.{Check, Lower, Optimize, Print}
-use Rattle.sil_command.specs.Texts.{accepted_text}
+use Rattle.answer_lines.specs.Texts.{accepted_text}
 use Rattle.sil_command.specs.Words.{AsksFor}
 use Rattle.sil_command.specs.GivenTexts.{text_for}
 use Rattle.sil_command.specs.Answers.{Answers, usage, in_mode, AnswersText, too_long, unread, spelled, AnswersModule, AnswersChecked, AnswersWrong}

@@ -31,8 +31,8 @@ use Rattle.sil_command.specs.Words.{AsksFor, IsCommandLine}
 use Rattle.sil_command.specs.GivenTexts.{text_for}
 use Rattle.sil_command.specs.Generated.{AnswersGenerated}
 use Rattle.sil_command.specs.Reading.{AnswersRefusal}
-use Rattle.sil_command.specs.Texts.{usage_text, limit_text, type_limit_text, accepted_text, no_entry_text}
-use Rattle.sil_command.specs.RefusalTexts.{refusal_text}
+use Rattle.answer_lines.specs.Texts.{usage_text, limit_text, type_limit_text, accepted_text, no_entry_text}
+use Rattle.answer_lines.specs.RefusalTexts.{refusal_text}
 
 -- what is answered to a module that isn't accepted: the first that is wrong with it, with a walk that shows it for a rule on walks
 pub data AnswersWrong (m : Module) : List ℕ → ℕ → Type 0 where

@@ -9,10 +9,11 @@ use Rattle.sil_ast.specs.declared.module.Module.{Module}
 use Rattle.sil_ast.specs.declared.place.FuncId.{FuncId}
 use Rattle.sil_command.specs.declared.run_words.TheConstants.{DEFAULT_TURNS}
 use Rattle.sil_command.specs.declared.status.Status.TheVariants.{Done, NoEntry}
-use Rattle.sil_command.specs.declared.summary.Totals.{Totals}
+use Rattle.answer_lines.specs.declared.sums.Totals.{Totals}
 use Rattle.sil_command.specs.Statuses.{code_of}
-use Rattle.sil_command.specs.Summaries.{copies_of, summary_text}
-use Rattle.sil_command.specs.Texts.{no_entry_text}
+use Rattle.answer_lines.specs.Summaries.{summary_text}
+use Rattle.sil_command.specs.Copies.{copies_of}
+use Rattle.answer_lines.specs.Texts.{no_entry_text}
 
 -- a run by holders that ends with this outcome
 abbrev pub Ran : Type 0

@@ -20,7 +20,7 @@ use Rattle.sil_command.specs.declared.words.Mode.TheVariants.{Check, Generate, L
 use Rattle.sil_command.specs.Words.{AsksFor}
 use Rattle.sil_command.specs.GivenTexts.{text_for}
 use Rattle.sil_command.specs.Answers.{Answers, HasStatus}
-use Rattle.sil_command.specs.RefusalTexts.{refusal_text}
+use Rattle.answer_lines.specs.RefusalTexts.{refusal_text}
 
 -- among texts within the limit, the mode answers with the status just those that spell a module that is such: texts of a source, or the
 -- generated one

@@ -1,13 +1,10 @@
 pub mod Statuses
 pub mod Words
-pub mod Texts
 pub mod Reading
-pub mod Summaries
+pub mod Copies
 pub mod GivenTexts
 pub mod Generated
 pub mod Answers
 pub mod Ends
-pub mod ValueTexts
-pub mod RefusalTexts
 pub mod Laws
 pub mod inner

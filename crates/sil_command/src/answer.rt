@@ -14,7 +14,6 @@ use crate::generate::answer_generated;
 use crate::reading::answer_refusal;
 use crate::run_answer::answer_run;
 use crate::status::Status;
-use crate::texts;
 use crate::verified::answer_end;
 use crate::words::Mode;
 use module_runner::{lower, optimised_if};
@@ -76,7 +75,7 @@ fn check_module(alloc: Global, module: Module) -> Result<Answer, Exhausted>
         Ok(checked) => {
             forget(checked);
             Ok(Answer {
-                text: Vec::from_slice(alloc, texts::accepted())?,
+                text: Vec::from_slice(alloc, answer_lines::accepted())?,
                 status: Status::Done,
             })
         }

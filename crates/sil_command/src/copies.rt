@@ -1,19 +1,19 @@
 //! How many copies a module has.
 
 ghost use Rattle.std.specs.Prelude.{◌≡◌, ◌<◌, ◌^◌};
-ghost use Rattle.sil_command.specs.Summaries as summaries;
+ghost use Rattle.sil_command.specs.Copies as counts;
 
 use instruction_table::Op;
 use sil_ast::{Block, Function, Inst, Module};
 
 fn is_copy(inst: &Inst) -> bool
-    ensures { result ≡ summaries.copies inst.now }
+    ensures { result ≡ counts.copies inst.now }
 {
     inst.op as usize == Op::CopyValue as usize
 }
 
 fn copies_in_block(block: &Block) -> u64
-    ensures { result ≡ summaries.copies_of_block block.now }
+    ensures { result ≡ counts.copies_of_block block.now }
 {
     let insts = block.insts.as_slice();
     let mut count = 0;
@@ -26,8 +26,8 @@ fn copies_in_block(block: &Block) -> u64
 }
 
 fn copies_in_function(function: &Function) -> u64
-    requires { summaries.copies_of_function function.now < 2 ^ 64 }
-    ensures { result ≡ summaries.copies_of_function function.now }
+    requires { counts.copies_of_function function.now < 2 ^ 64 }
+    ensures { result ≡ counts.copies_of_function function.now }
 {
     let blocks = function.blocks.as_slice();
     let mut count = 0;
@@ -39,8 +39,8 @@ fn copies_in_function(function: &Function) -> u64
 
 /// How many `copy_value` the module has. One in numbered form has few.
 pub(crate) fn copies_in(module: &Module) -> u64
-    requires { summaries.copies_of «module».now < 2 ^ 64 }
-    ensures { result ≡ summaries.copies_of «module».now }
+    requires { counts.copies_of «module».now < 2 ^ 64 }
+    ensures { result ≡ counts.copies_of «module».now }
 {
     let functions = module.functions.as_slice();
     let mut count = 0;

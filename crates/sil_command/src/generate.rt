@@ -8,17 +8,17 @@ ghost use Rattle.sil_command.specs.Answers.{AnswersChecked};
 ghost use Rattle.sil_command.specs.Generated as generated;
 ghost use Rattle.sil_command.specs.Generated.{AnswersGenerated, Ran, RunsSo};
 ghost use Rattle.sil_command.specs.Statuses.{code_of};
-ghost use Rattle.sil_command.specs.Summaries as summaries;
-ghost use Rattle.sil_command.specs.Texts.{no_entry_text};
+ghost use Rattle.sil_command.specs.Copies as counts;
+ghost use Rattle.answer_lines.specs.Summaries.{summary_text};
+ghost use Rattle.answer_lines.specs.Texts.{no_entry_text};
 ghost use Rattle.sil_command.specs.declared.status.Status.TheVariants as status;
 
 use crate::answer::Answer;
 use crate::copies::copies_in;
 use crate::run_words::DEFAULT_TURNS;
 use crate::status::Status;
-use crate::summary::{Totals, summary};
-use crate::texts;
 use crate::verified::answer_end;
+use answer_lines::{Totals, summary};
 use module_runner::{RunEnd, RunReport, optimised_if, run_checked};
 use sil_ast::{Exhausted, Module};
 use sil_verifier::{Checked, verify};
@@ -57,7 +57,7 @@ fn no_main(alloc: Global) -> Result<Answer, Exhausted>
     ensures status { IfOk result (λ a. a.status ≡ status.NoEntry) }
 {
     Ok(Answer {
-        text: texts::no_entry(alloc, b"main")?,
+        text: answer_lines::no_entry(alloc, b"main")?,
         status: Status::NoEntry,
     })
 }
@@ -87,7 +87,7 @@ fn write_both(
 ) -> Result<Answer, Exhausted>
     requires { HasEntry left.now (codes "main") }
     ensures { IfOk result (λ a. (y : Ran) × RunsSo left.now y
-        × (a.text.items ≡ summaries.summary_text functions before after plain.now (generated.totals_of y)) × (a.status ≡ status.Done)) }
+        × (a.text.items ≡ summary_text functions before after plain.now (generated.totals_of y)) × (a.status ≡ status.Done)) }
 {
     match totals_of_run(alloc, left) {
         Ok(Some(optimised)) => write_lines(alloc, functions, before, after, plain, &optimised),
@@ -104,7 +104,7 @@ fn write_lines(
     plain: &Totals,
     optimised: &Totals,
 ) -> Result<Answer, Exhausted>
-    ensures text { IfOk result (λ a. a.text.items ≡ summaries.summary_text functions before after plain.now optimised.now) }
+    ensures text { IfOk result (λ a. a.text.items ≡ summary_text functions before after plain.now optimised.now) }
     ensures status { IfOk result (λ a. a.status ≡ status.Done) }
 {
     Ok(Answer {
@@ -120,7 +120,7 @@ fn functions_of(checked: &Checked) -> u64
 }
 
 fn copies_of(checked: &Checked) -> u64
-    ensures { result ≡ summaries.copies_of checked.now }
+    ensures { result ≡ counts.copies_of checked.now }
 {
     copies_in(checked.module())
 }

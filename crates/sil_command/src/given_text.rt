@@ -6,13 +6,12 @@ ghost use Rattle.sil_command.specs.declared.words.Mode.TheVariants.{Generate};
 ghost use Rattle.sil_command.specs.Answers.{AnswersText};
 ghost use Rattle.sil_command.specs.GivenTexts.{TakesSource};
 ghost use Rattle.sil_command.specs.Statuses.{code_of};
-ghost use Rattle.sil_command.specs.Texts.{limit_text};
+ghost use Rattle.answer_lines.specs.Texts.{limit_text};
 ghost use Rattle.sil_command.specs.Words.{IsAskedFor};
 ghost use Rattle.sil_command.specs.declared.status.Status.TheVariants as status;
 
 use crate::answer::{Answer, answer_to};
 use crate::status::Status;
-use crate::texts;
 use crate::words::Mode;
 use module_generator::generated_text;
 use sil_ast::Exhausted;
@@ -55,7 +54,7 @@ fn past_limit(alloc: Global) -> Result<Answer, Exhausted>
     ensures status { IfOk result (λ a. a.status ≡ status.Limit) }
 {
     Ok(Answer {
-        text: Vec::from_slice(alloc, texts::limit())?,
+        text: Vec::from_slice(alloc, answer_lines::limit())?,
         status: Status::Limit,
     })
 }

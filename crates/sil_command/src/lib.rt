@@ -13,10 +13,7 @@ mod run_answer;
 mod run_words;
 mod size_words;
 mod status;
-mod summary;
-mod texts;
 mod top_call;
-mod value_lines;
 mod verified;
 mod words;
 

@@ -6,11 +6,10 @@ ghost use Rattle.sil_grammar.specs.declared.refusal.ReadRefusal.TheVariants.{Lex
 ghost use Rattle.sil_command.specs.declared.status.Status.TheVariants.{NotAModule, Limit};
 ghost use Rattle.sil_command.specs.Statuses.{code_of};
 ghost use Rattle.sil_command.specs.Reading.{AnswersRefusal};
-ghost use Rattle.sil_command.specs.Texts.{not_a_module_text, passed_limit_text};
+ghost use Rattle.answer_lines.specs.Texts.{not_a_module_text, passed_limit_text};
 
 use crate::answer::Answer;
 use crate::status::Status;
-use crate::texts;
 use sil_ast::{Exhausted, Place};
 use sil_grammar::ReadRefusal;
 use sil_lexer::LexRefusal;
@@ -48,7 +47,7 @@ fn not_a_module(alloc: Global, what: &[u8], place: Place) -> Result<Answer, Exha
     ensures status { IfOk result (λ a. a.status ≡ NotAModule) }
 {
     Ok(Answer {
-        text: texts::not_a_module(alloc, what, place)?,
+        text: answer_lines::not_a_module(alloc, what, place)?,
         status: Status::NotAModule,
     })
 }
@@ -58,7 +57,7 @@ fn passed_limit(alloc: Global, what: LimitWord, place: Place) -> Result<Answer, 
     ensures status { IfOk result (λ a. a.status ≡ Limit) }
 {
     Ok(Answer {
-        text: texts::passed_limit(alloc, what, place)?,
+        text: answer_lines::passed_limit(alloc, what, place)?,
         status: Status::Limit,
     })
 }

@@ -8,7 +8,6 @@ ghost use Rattle.sil_command.specs.Answers.{AnswersRun, HasStatus};
 
 use crate::answer::Answer;
 use crate::status::Status;
-use crate::texts;
 use module_runner::{Ending, RunEnd, RunReport, report_text, run_checked};
 use sil_ast::Exhausted;
 use sil_verifier::Checked;
@@ -34,7 +33,7 @@ pub(crate) fn answer_run(
             answer
         }
         Err(RunEnd::NoEntry) => Ok(Answer {
-            text: texts::no_entry(alloc, entry)?,
+            text: answer_lines::no_entry(alloc, entry)?,
             status: Status::NoEntry,
         }),
         Err(RunEnd::Memory) => Err(Exhausted),

@@ -7,11 +7,11 @@ ghost use Rattle.sil_command.specs.Statuses.{code_of};
 ghost use Rattle.sil_verifier.specs.inner.Ends.{IsVerifyEnd};
 ghost use Rattle.sil_command.specs.Answers.{AnswersWrong};
 ghost use Rattle.sil_command.specs.inner.ReportTexts.{report_text};
-ghost use Rattle.sil_command.specs.Texts.{type_limit_text};
+ghost use Rattle.answer_lines.specs.Texts.{type_limit_text};
 
 use crate::answer::Answer;
+use crate::refusal_lines;
 use crate::status::Status;
-use crate::{refusal_lines, texts};
 use sil_ast::{Exhausted, Module};
 use sil_rules::LimitWord;
 use sil_verifier::{Refusal, VerifyEnd};
@@ -55,7 +55,7 @@ fn limit_passed(alloc: Global, what: LimitWord) -> Result<Answer, Exhausted>
     ensures status { IfOk result (λ a. a.status ≡ status.Limit) }
 {
     Ok(Answer {
-        text: texts::type_limit(alloc, what)?,
+        text: answer_lines::type_limit(alloc, what)?,
         status: Status::Limit,
     })
 }

@@ -5,8 +5,8 @@ use Rattle.sil_ast.specs.declared.module.Module.{Module}
 use Rattle.sil_ast.specs.declared.place.FuncId.{FuncId}
 use Rattle.sil_ast.specs.declared.place.ValueId.{ValueId}
 use Rattle.sil_verifier.specs.declared.refusal.Refusal.{Refusal}
-use Rattle.sil_command.specs.Texts.{line, rule_words, site_words}
-use Rattle.sil_command.specs.ValueTexts.{shown_lines}
+use Rattle.answer_lines.specs.Texts.{refused_text}
+use Rattle.answer_lines.specs.ValueTexts.{shown_lines}
 
 abbrev pub function_in : Module → Option FuncId → Option Function
 function_in m None = None
@@ -18,4 +18,4 @@ lines_behind m r (Some v) = shown_lines v r.other r.rule (function_in m r.functi
 
 -- where there is a value, what is shown of it stands behind the first line
 abbrev pub report_text : Module → Refusal → List ℕ
-report_text m r = line (rule_words r.rule ++ site_words m r.function r.item r.point) ++ lines_behind m r r.subject
+report_text m r = refused_text m r.rule r.function r.item r.point ++ lines_behind m r r.subject

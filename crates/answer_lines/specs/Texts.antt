@@ -71,6 +71,10 @@ abbrev pub site_words : Module → Option FuncId → Option ℕ → Option Point
 site_words m None item point = item_words item
 site_words m (Some n) item point = codes " @" ++ name_at m n.0 ++ typed_point_words point
 
+-- the rule, and the function with the point, or the item
+abbrev pub refused_text : Module → Rule → Option FuncId → Option ℕ → Option PointId → List ℕ
+refused_text m r function item point = line (rule_words r ++ site_words m function item point)
+
 -- the rule, and the item
 abbrev pub refused_item_text : Rule → ℕ → List ℕ
 refused_item_text r item = line (rule_words r ++ item_words (Some item))

@@ -6,7 +6,7 @@ ghost use Rattle.sil_cfg.specs.Flow.{edge_to};
 ghost use Rattle.sil_cfg.specs.Items.{flow_of};
 ghost use Rattle.accepted_modules.specs.memory_rules.Statics as statics;
 ghost use Rattle.accepted_modules.specs.Shown as shown;
-ghost use Rattle.sil_command.specs.ValueTexts.{other_lines, shown_lines, subject_line, walk_line, walk_lines, walk_words};
+ghost use Rattle.answer_lines.specs.ValueTexts.{other_lines, shown_lines, subject_line, walk_line, walk_lines, walk_words};
 
 use crate::texts::push_number;
 use sil_ast::{EdgeId, Exhausted, Function, ValueId};
@@ -98,8 +98,9 @@ fn push_other(out: &mut Vec<u8>, other: Option<ValueId>) -> Result<(), Exhausted
     Ok(())
 }
 
-/// The lines on a value of which the rule is broken in the function.
-pub(crate) fn push_shown(
+/// Adds the lines on a value of which the rule is broken in the function: the value, the other one that takes part, and the walk, for a
+/// rule that has one. Fails only where memory runs out.
+pub fn push_shown(
     out: &mut Vec<u8>,
     subject: ValueId,
     other: Option<ValueId>,

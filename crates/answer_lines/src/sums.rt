@@ -1,18 +1,21 @@
 //! The five lines that sum up a module and the runs of it and of its optimised module.
 
 ghost use Rattle.std.specs.Prelude.{◌≡◌, ◌++◌, IfOk, OnOk, codes, decimal};
-ghost use Rattle.sil_command.specs.Summaries.{summary_text, totals_line};
-ghost use Rattle.sil_command.specs.Texts.{line};
+ghost use Rattle.answer_lines.specs.Summaries.{summary_text, totals_line};
+ghost use Rattle.answer_lines.specs.Texts.{line};
 
 use sil_ast::Exhausted;
 use std::alloc::Global;
 
 /// What a run shows that is summed up.
 #[derive(Clone, Copy)]
-pub(crate) struct Totals {
-    pub(crate) events: u64,
-    pub(crate) retains: u64,
-    pub(crate) releases: u64,
+pub struct Totals {
+    /// How many events it shows.
+    pub events: u64,
+    /// How often references were retained.
+    pub retains: u64,
+    /// How often references were released.
+    pub releases: u64,
 }
 
 fn push_count(out: &mut Vec<u8>, count: u64) -> Result<(), Exhausted>
@@ -57,8 +60,9 @@ fn push_totals(out: &mut Vec<u8>, word: &[u8], totals: &Totals) -> Result<(), Ex
     Ok(())
 }
 
-/// The lines. The last one is true of every accepted module: its optimised module runs as it does.
-pub(crate) fn summary(
+/// The lines of `generate`: how many functions and copies the module has, how many copies the optimised one, and what both runs show.
+/// The last line is true of every accepted module: its optimised module runs as it does. Fails only where memory runs out.
+pub fn summary(
     alloc: Global,
     functions: u64,
     before: u64,

@@ -1,8 +1,8 @@
-//! The lines of answers, made from typed values. Nothing is decided here.
+//! The lines that are told by one word or by a place in the text.
 
 ghost use Rattle.std.specs.Prelude.{◌≡◌, ◌++◌, IfOk, OnOk, decimal};
-ghost use Rattle.sil_command.specs.Texts.{usage_text, limit_text, read_fault_text, accepted_text, no_entry_text, place_words};
-ghost use Rattle.sil_command.specs.Texts.{not_a_module_text, passed_limit_text, rule_words, type_limit_text};
+ghost use Rattle.answer_lines.specs.Texts.{usage_text, limit_text, read_fault_text, accepted_text, no_entry_text, place_words};
+ghost use Rattle.answer_lines.specs.Texts.{not_a_module_text, passed_limit_text, rule_words, type_limit_text};
 
 use sil_ast::{Exhausted, Place};
 use sil_rules::{LimitWord, Rule};

@@ -2,8 +2,8 @@
 use Rattle.std.specs.Prelude.{List, ℕ}
 use Rattle.sil_ast.specs.declared.module.Module.{Module}
 use Rattle.accepted_modules.specs.Findings.{Finding, item, limit, typing, value}
-use Rattle.sil_command.specs.Texts.{refused_item_text, type_limit_text, typing_text}
-use Rattle.sil_command.specs.ValueTexts.{value_text}
+use Rattle.answer_lines.specs.Texts.{refused_item_text, type_limit_text, typing_text}
+use Rattle.answer_lines.specs.ValueTexts.{value_text}
 
 -- the lines of what is found
 abbrev pub refusal_text : Module → Finding → List ℕ

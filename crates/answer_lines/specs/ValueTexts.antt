@@ -10,7 +10,7 @@ use Rattle.sil_rules.specs.declared.rule.Rule.{Rule}
 use Rattle.rule_faults.specs.declared.fault.RuleFault.{RuleFault}
 use Rattle.accepted_modules.specs.type_check.Refusals.{function_id}
 use Rattle.accepted_modules.specs.Shown.{has_walk}
-use Rattle.sil_command.specs.Texts.{line, rule_words, site_words}
+use Rattle.answer_lines.specs.Texts.{line, rule_words, site_words}
 
 -- the rule, the function and the point
 abbrev pub first_line : Module → ℕ → RuleFault → List ℕ

@@ -1,0 +1,4 @@
+pub mod Texts
+pub mod ValueTexts
+pub mod RefusalTexts
+pub mod Summaries
