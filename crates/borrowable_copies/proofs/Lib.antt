@@ -6,5 +6,6 @@ pub mod FreeAt
 pub mod EndedItems
 pub mod BorrowedCopies
 pub mod CopyFacts
+pub mod CopiesTold
 pub mod Answering
 pub mod FoundTogether

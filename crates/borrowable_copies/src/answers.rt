@@ -1,6 +1,6 @@
 //! Which copies of a function can be borrows, asked of all of them once.
 
-ghost use Rattle.std.specs.Prelude.{◌≡◌, ◌↔◌, ◌∷◌, [], ℕ, false, slice_index_or, IfOk, IfSome, IsFalse, IsSomeAnd, IsTrue, Option, Some};
+ghost use Rattle.std.specs.Prelude.{◌≡◌, ◌↔◌, ◌∷◌, [], ℕ, length, Bool, false, slice_index_or, IfOk, IfSome, IsFalse, IsSomeAnd, IsTrue, Option, Some};
 ghost use Rattle.sil_ast.specs.declared.function.Function.{Function};
 ghost use Rattle.sil_ast.specs.declared.place.ValueId.{ValueId};
 ghost use Rattle.sil_cfg.specs.inner.Build.{IsGraphOf};
@@ -11,7 +11,8 @@ ghost use Rattle.ownership_marks.specs.declared.mark.MarkSort.TheVariants.{End};
 ghost use Rattle.copy_removal.specs.Removable.{IsBorrowable};
 ghost use Rattle.borrowable_copies.specs.inner.Asked.{AreFreeAt};
 ghost use Rattle.borrowable_copies.specs.inner.Together.{AreFound};
-ghost use Rattle.borrowable_copies.specs.inner.Answers.{AreAnswers, AreSpared, IsDoubtful, IsNoted, IsToldOf, answer_in};
+ghost use Rattle.borrowable_copies.specs.inner.Answers.{AreAnswered, AreAnswers, AreKept, AreSpared, AreToldBefore};
+ghost use Rattle.borrowable_copies.specs.inner.Answers.{IsDoubtful, IsToldOf, answer_in, noted, noted_of};
 
 use crate::consumers::is_only_destroyed;
 use crate::copies::Copied;
@@ -30,7 +31,7 @@ pub struct Answer {
 
 /// Notes whether the copy can be a borrow.
 fn note(answers: &mut [Option<Answer>], copied: Copied, borrowable: bool)
-    ensures { IsNoted copied.value copied.operand borrowable answers.old answers.new }
+    ensures { answers.new ≡ noted copied.value copied.operand borrowable answers.old }
 {
     let place = copied.value.0 as usize;
     if place < answers.len() {
@@ -64,7 +65,8 @@ fn answer_one(
     answers: &mut [Option<Answer>],
 )
     requires { IsGraphOf g.now f.now }
-    ensures { (count : ℕ) (facts : ValueId → Option Facts) → AreKindsBy count facts f.now g.now k.now → AreAnswers facts f.now answers.old
+    ensures told { (b : Bool) × (answers.new ≡ noted_of value copied b answers.old) }
+    ensures answers { (count : ℕ) (facts : ValueId → Option Facts) → AreKindsBy count facts f.now g.now k.now → AreAnswers facts f.now answers.old
         → ((w : ValueId) → copied ≡ Some w → IsFalse held ↔ AreFreeAt facts f.now End (known_or facts w).bases (value ∷ []))
         → AreAnswers facts f.now answers.new }
 {
@@ -92,8 +94,10 @@ fn answer_each(
     held: &[bool],
     answers: &mut [Option<Answer>],
 )
-    requires { IsGraphOf g.now f.now }
-    ensures { (count : ℕ) (facts : ValueId → Option Facts) → AreKindsBy count facts f.now g.now k.now → AreAnswers facts f.now answers.old
+    requires graph { IsGraphOf g.now f.now }
+    requires size { length copied.now ≡ length answers.old }
+    ensures told { AreToldBefore 1024 copied.now answers.new }
+    ensures answers { (count : ℕ) (facts : ValueId → Option Facts) → AreKindsBy count facts f.now g.now k.now → AreAnswers facts f.now answers.old
         → AreFound facts f.now copied.now held.now → AreAnswers facts f.now answers.new }
 {
     for c in 0..asked_of(copied.len()) {
@@ -105,6 +109,7 @@ fn answer_each(
 }
 
 /// By value, of each copy of the function, whether it can be a borrow. The walks are searched once for all of them.
+/// Of a copy whose value isn't among the first 1,024 nothing is told.
 pub fn all_answers(
     alloc: Global,
     f: &Function,
@@ -112,7 +117,9 @@ pub fn all_answers(
     k: &Kinds,
 ) -> Result<Vec<Option<Answer>>, Exhausted>
     requires { IsGraphOf g.now f.now }
-    ensures { IfOk result (λ v. (count : ℕ) (facts : ValueId → Option Facts) → AreKindsBy count facts f.now g.now k.now → AreAnswers facts f.now v.items) }
+    ensures answers { IfOk result (λ v. (count : ℕ) (facts : ValueId → Option Facts) → AreKindsBy count facts f.now g.now k.now
+        → AreAnswers facts f.now v.items) }
+    ensures all { IfOk result (λ v. AreAnswered f.now (length k.now.table) v.items) }
 {
     let copied = copied_values(alloc, f, g, k)?;
     let held = held_at_ends(alloc, f, g, k, copied.as_slice())?;
@@ -138,10 +145,11 @@ fn known_of(answers: &[Option<Answer>], value: ValueId) -> Option<Answer>
     }
 }
 
-/// What is known of the copy.
+/// What is known of the copy. There is no answer only where none is known of what it copies.
 pub fn answer_to(answers: &[Option<Answer>], copied: Copied) -> Option<bool>
-    ensures { IfSome result (λ b. (facts : ValueId → Option Facts) (f : Function) → AreAnswers facts f answers.now
+    ensures told { IfSome result (λ b. (facts : ValueId → Option Facts) (f : Function) → AreAnswers facts f answers.now
         → IsToldOf facts f copied.value copied.operand b) }
+    ensures known { (b : Bool) → answer_in answers.now copied.value.0 ≡ Some (record { operand = copied.operand; borrowable = b }) → result ≡ Some b }
 {
     let answer = known_of(answers, copied.value)?;
     if answer.operand.0 == copied.operand.0 {
@@ -162,9 +170,10 @@ fn is_doubtful(answer: Option<Answer>, copy: usize, value: ValueId) -> bool
     }
 }
 
-/// Forgets that the value and its copies can be borrows.
+/// Forgets that the value and its copies can be borrows, and nothing else.
 pub fn forget(answers: &mut [Option<Answer>], value: ValueId)
-    ensures { AreSpared value answers.old answers.new }
+    ensures spared { AreSpared value answers.old answers.new }
+    ensures kept { AreKept value answers.old answers.new }
 {
     for copy in 0..answers.len() {
         if is_doubtful(answers[copy], copy, value) {

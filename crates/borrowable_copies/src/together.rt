@@ -1,16 +1,19 @@
 //! All copies of a function searched together: whether, on some walk, one is held where a base of what it copies ends.
 
-ghost use Rattle.std.specs.Prelude.{◌≡◌, ◌<◌, ◌≤◌, ◌^◌, ◌++◌, ℕ, length, map, IfOk, OnOk, Option, Some, None, IsFalse, slice_index_or};
+ghost use Rattle.std.specs.Prelude.{◌≡◌, ◌<◌, ◌≤◌, ◌^◌, ◌++◌, ℕ, length, map, IfNone, IfOk, IfSome, IsSome, OnOk, Option, Some, None, IsFalse, slice_index_or};
 ghost use Rattle.std.specs.List.{flat_map};
+ghost use Rattle.sil_ast.specs.declared.place.PointId.{PointId};
 ghost use Rattle.sil_ast.specs.declared.place.ValueId.{ValueId};
+ghost use Rattle.sil_cfg.specs.declared.item.Item.TheVariants.{Inst};
 ghost use Rattle.sil_cfg.specs.inner.Build.{IsGraphOf};
 ghost use Rattle.path_checks.specs.inner.Shared.{entry_if, shared_from};
 ghost use Rattle.ownership_chains.specs.declared.facts.Facts.{Facts};
 ghost use Rattle.ownership_marks.specs.Known.{AreKindsBy, marks_at};
+ghost use Rattle.copy_removal.specs.Copies.{IsCopy};
 ghost use Rattle.borrowable_copies.specs.inner.Together as together;
-ghost use Rattle.borrowable_copies.specs.inner.Together.{AreFound, entries_of, off_if, off_of, operand_in, turn_of};
+ghost use Rattle.borrowable_copies.specs.inner.Together.{AreCopies, AreFound, entries_of, off_if, off_of, operand_in, turn_of, with_copied};
 
-use crate::copies::copy_at;
+use crate::copies::{Copied, copy_at};
 use crate::watched::{add_turn, is_among, is_sort};
 use kept_subjects::mark_broken;
 use ownership_marks::{Kinds, Mark, MarkSort};
@@ -159,12 +162,23 @@ impl ItemTable for Together<'_> {
     }
 }
 
+/// The copy that the item is, if it is one.
+fn copy_of(f: &Function, item: Item) -> Option<Copied>
+    ensures some { IfSome result (λ x. (p : PointId) × IsCopy f.now p x.value x.operand) }
+    ensures none { IfNone result ((p : PointId) (c w : ValueId) → item ≡ Inst p → ¬ IsCopy f.now p c w) }
+    ensures own { IfSome result (λ x. (p : PointId) (c w : ValueId) → item ≡ Inst p → IsCopy f.now p c w → x.value ≡ c) }
+{
+    match item {
+        Item::Inst(p) => copy_at(f, p),
+        _ => None,
+    }
+}
+
 /// Notes what the item copies, if it is a copy.
-fn note_copied(f: &Function, item: Item, copied: &mut [Option<ValueId>]) {
-    let Item::Inst(p) = item else {
-        return;
-    };
-    let Some(copy) = copy_at(f, p) else {
+fn note_copied(copied: &mut [Option<ValueId>], copy: Option<Copied>)
+    ensures { copied.new ≡ with_copied copy copied.old }
+{
+    let Some(copy) = copy else {
         return;
     };
     let place = copy.value.0 as usize;
@@ -180,11 +194,14 @@ pub(crate) fn copied_values(
     g: &Graph,
     k: &Kinds,
 ) -> Result<Vec<Option<ValueId>>, Exhausted>
-    ensures { IfOk result (λ v. length v.items ≡ length k.now.table) }
+    requires graph { IsGraphOf g.now f.now }
+    ensures size { IfOk result (λ v. length v.items ≡ length k.now.table) }
+    ensures copies { IfOk result (λ v. AreCopies f.now v.items) }
+    ensures told { IfOk result (λ v. (p : PointId) (c w : ValueId) → IsCopy f.now p c w → c.0 < length k.now.table → IsSome (operand_in v.items c.0)) }
 {
     let mut copied = vec![in alloc; None; k.values()]?;
     for i in 0..g.items() {
-        note_copied(f, g.item(i), copied.as_mut_slice());
+        note_copied(copied.as_mut_slice(), copy_of(f, g.item(i)));
     }
     Ok(copied)
 }

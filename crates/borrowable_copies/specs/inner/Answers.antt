@@ -1,5 +1,5 @@
 -- What is known of copies: whether they can be borrows.
-use Rattle.std.specs.Prelude.{◌≡◌, ◌↔◌, ◌⊎◌, ℕ, List, Bool, true, IsTrue, Option, Some, None, slice_index_or}
+use Rattle.std.specs.Prelude.{◌≡◌, ◌↔◌, ◌⊎◌, ℕ, ◌<◌, List, Bool, true, IsSomeAnd, IsTrue, Option, Some, None, slice_index_or, slice_set}
 use Rattle.sil_ast.specs.declared.function.Function.{Function}
 use Rattle.sil_ast.specs.declared.place.PointId.{PointId}
 use Rattle.sil_ast.specs.declared.place.ValueId.{ValueId}
@@ -7,6 +7,7 @@ use Rattle.ownership_chains.specs.declared.facts.Facts.{Facts}
 use Rattle.copy_removal.specs.Copies.{IsCopy}
 use Rattle.copy_removal.specs.Removable.{IsBorrowable}
 use Rattle.borrowable_copies.specs.declared.answers.Answer.{Answer}
+use Rattle.borrowable_copies.specs.inner.Together.{operand_in}
 
 -- what is known of the value with a number
 abbrev pub answer_in : List (Option Answer) → ℕ → Option Answer
@@ -21,10 +22,23 @@ module _ (facts : ValueId → Option Facts) (f : Function) where
   abbrev pub AreAnswers : List (Option Answer) → Type 0
   AreAnswers answers = (c : ValueId) (x : Answer) → answer_in answers c.0 ≡ Some x → IsToldOf c x.operand x.borrowable
 
--- one answer may be another one, and no other is new
-abbrev pub IsNoted : ValueId → ValueId → Bool → List (Option Answer) → List (Option Answer) → Type 0
-IsNoted c v borrowable old new = (d : ValueId) (x : Answer) → answer_in new d.0 ≡ Some x
-    → (answer_in old d.0 ≡ Some x) ⊎ ((d ≡ c) × (x.operand ≡ v) × (x.borrowable ≡ borrowable))
+-- each copy has an answer, about what a copy of the same value copies, if the value is one of the first 1,024 and of those that are counted
+abbrev pub AreAnswered : Function → ℕ → List (Option Answer) → Type 0
+AreAnswered f count answers = (q : PointId) (c v : ValueId) → IsCopy f q c v → c.0 < 1024 → c.0 < count
+    → (x : Answer) × (answer_in answers c.0 ≡ Some x) × (p : PointId) × IsCopy f p c x.operand
+
+-- of each value before a number the answer tells what is copied, if a copy makes the value
+abbrev pub AreToldBefore : ℕ → List (Option ValueId) → List (Option Answer) → Type 0
+AreToldBefore n copied answers = (c w : ValueId) → c.0 < n → operand_in copied c.0 ≡ Some w → IsSomeAnd (answer_in answers c.0) (λ x. x.operand ≡ w)
+
+-- with the answer to the copy c of v
+abbrev pub noted : ValueId → ValueId → Bool → List (Option Answer) → List (Option Answer)
+noted c v borrowable answers = slice_set answers c.0 (Some (record { operand = v; borrowable = borrowable }))
+
+-- the same if c is a copy
+abbrev pub noted_of : ValueId → Option ValueId → Bool → List (Option Answer) → List (Option Answer)
+noted_of c None borrowable answers = answers
+noted_of c (Some v) borrowable answers = noted c v borrowable answers
 
 -- the answer is that the value, or a copy of it, can be a borrow
 abbrev pub IsDoubtful : ValueId → ℕ → Answer → Type 0
@@ -33,3 +47,7 @@ IsDoubtful v c x = (x.borrowable ≡ true) × ((c ≡ v.0) ⊎ (x.operand.0 ≡ 
 -- no answer is new, and none is doubtful
 abbrev pub AreSpared : ValueId → List (Option Answer) → List (Option Answer) → Type 0
 AreSpared v old new = (c : ValueId) (x : Answer) → answer_in new c.0 ≡ Some x → (answer_in old c.0 ≡ Some x) × ¬ IsDoubtful v c.0 x
+
+-- and those that aren't doubtful are there
+abbrev pub AreKept : ValueId → List (Option Answer) → List (Option Answer) → Type 0
+AreKept v old new = (c : ValueId) (x : Answer) → answer_in old c.0 ≡ Some x → ¬ IsDoubtful v c.0 x → answer_in new c.0 ≡ Some x

@@ -1,6 +1,7 @@
 -- The table of all copies of a function: where each begins and ends, and where a base of what it copies ends.
-use Rattle.std.specs.Prelude.{◌≡◌, ◌↔◌, ℕ, ◌<◌, List, [], ◌∷◌, ◌++◌, Bool, false, cond, map, is_some, slice_index_or, Option, Some, None}
+use Rattle.std.specs.Prelude.{◌≡◌, ◌↔◌, ℕ, ◌<◌, List, [], ◌∷◌, ◌++◌, Bool, false, cond, map, is_some, slice_index_or, slice_set, Option, Some, None}
 use Rattle.sil_ast.specs.declared.function.Function.{Function}
+use Rattle.sil_ast.specs.declared.place.PointId.{PointId}
 use Rattle.sil_ast.specs.declared.place.ValueId.{ValueId}
 use Rattle.sil_rules.specs.declared.rule.Rule.TheVariants.{ConsumedWhileBorrowed}
 use Rattle.path_checks.specs.declared.entry.Entry.{Entry}
@@ -12,13 +13,24 @@ use Rattle.ownership_chains.specs.declared.facts.Facts.{Facts}
 use Rattle.ownership_marks.specs.Known.{Known, facts_of}
 use Rattle.ownership_marks.specs.declared.mark.Mark.{Mark}
 use Rattle.ownership_marks.specs.declared.mark.MarkSort.TheVariants.{End}
+use Rattle.copy_removal.specs.Copies.{IsCopy}
 use Rattle.copy_removal.specs.Removable.{is_sort}
+use Rattle.borrowable_copies.specs.declared.copies.Copied.{Copied}
 use Rattle.borrowable_copies.specs.inner.Asked.{AreFreeAt}
 use Rattle.borrowable_copies.specs.inner.Watched.{turned_by}
 
 -- what the copy that makes the value with this number copies, if one does
 abbrev pub operand_in : List (Option ValueId) → ℕ → Option ValueId
 operand_in copied c = slice_index_or copied c None
+
+-- what is told to be a copy is one
+abbrev pub AreCopies : Function → List (Option ValueId) → Type 0
+AreCopies f copied = (c w : ValueId) → operand_in copied c.0 ≡ Some w → (p : PointId) × IsCopy f p c w
+
+-- what is told with the copy of one item more
+abbrev pub with_copied : Option Copied → List (Option ValueId) → List (Option ValueId)
+with_copied None copied = copied
+with_copied (Some x) copied = slice_set copied x.value.0 (Some x.operand)
 
 -- where a value ends that is a base of the operand, a copy of it isn't held
 abbrev pub off_if : Known → ValueId → Option ValueId → Option pattern.Mark
