@@ -9,7 +9,6 @@ mod ends;
 mod lookups;
 mod rows;
 mod run;
-mod steps;
 
 pub use machine_state::{Machine, Stop};
 pub use run::run_to_end;

@@ -6,9 +6,10 @@ ghost use Rattle.machine_engine.specs.Led.{HasEnded, HasLed, is_dropping};
 ghost use Rattle.machine_engine.specs.inner.Work.{work};
 
 use crate::advancing::advance;
+use crate::deinits::deinit;
+use crate::drops::drop_next;
 use crate::ends::end_block;
 use crate::lookups::block_at;
-use crate::steps::step;
 use lowered_run::LowFault;
 use machine_state::{Machine, Stop, fault};
 use machine_steps::{Frame, Task};
@@ -34,13 +35,16 @@ fn run_task(machine: &mut Machine, ready: &ReadyModule, bound: u32) -> Result<()
     ensures led { HasLed ready.now bound machine.old result machine.new }
     ensures work { OnOk result (work ready.now bound machine.new < work ready.now bound machine.old) }
 {
-    if let Some(Task::Runs { frame }) = machine.top_task() {
-        return run_block(machine, ready, bound, frame);
+    match machine.top_task() {
+        Some(Task::Runs { frame }) => run_block(machine, ready, bound, frame),
+        Some(Task::Drops { from }) => drop_next(machine, bound, from),
+        Some(Task::Finishes { object, called }) => deinit(machine, ready, bound, object, called),
+        None => Err(fault(LowFault::Slot)),
     }
-    step(machine, ready, bound)
 }
 
-/// The instructions of the top frame's block, until something else goes on, or its terminator.
+/// The instructions of the top frame's block, until something else goes on, or its terminator. Nothing else performs either of them, so that
+/// a compiler takes the code of all instructions into this loop.
 fn run_block(
     machine: &mut Machine,
     ready: &ReadyModule,
@@ -74,8 +78,8 @@ fn drain(machine: &mut Machine, ready: &ReadyModule, bound: u32) -> Result<(), S
     ensures work { OnOk result (work ready.now bound machine.new ≤ work ready.now bound machine.old) }
     ensures done { OnOk result (is_dropping machine.new.tasks ≡ false) }
 {
-    while let Some(Task::Drops { .. }) = machine.top_task() {
-        if let Err(stop) = step(machine, ready, bound) {
+    while let Some(Task::Drops { from }) = machine.top_task() {
+        if let Err(stop) = drop_next(machine, bound, from) {
             return Err(stop);
         }
     }

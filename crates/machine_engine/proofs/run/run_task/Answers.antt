@@ -1,6 +1,41 @@
-use Rattle.std.proofs.Common.{arith}
-use Rattle.machine_engine.proofs.Stretched.{less-on}
+use Rattle.std.proofs.Common.{Some, ap, ◌∙◌, sym, arith}
+use Rattle.machine_steps.specs.Steps.{machine_step}
+use Rattle.machine_steps.specs.declared.frame.Task.TheVariants.{Drops, Finishes}
+use Rattle.machine_state.specs.Went.{HasGone}
+use Rattle.machine_engine.proofs.Followed.{leads-self}
+use Rattle.machine_engine.proofs.Stepped.{stepped}
+use Rattle.machine_engine.proofs.Stretched.{led-on, less-on}
 use Rattle.machine_engine.proofs.run.run_task.Goals as goal
+use Rattle.machine_engine.proofs.run.run_task.Goals.{After-deinit, After-drop_next}
 
-pub returns-clause-work : goal.returns-clause-work
-returns-clause-work c = less-on c.args.ready.now c.args.bound c.args.machine.now c.args.machine.now c.step.new.machine c.step.result (omega arith) c.requires c.step.ensures
+dropped : (c : After-drop_next) → HasGone (machine_step c.args.ready.now c.args.bound c.args.machine.now) c.drop_next.result c.drop_next.new.machine
+dropped c =
+    let arm = c.in-Some-Drops in
+    stepped c.drop_next.result c.drop_next.new.machine c.args.ready.now c.args.bound c.args.machine.now (Drops arm.from)
+    (sym (ap Some arm.field-0-is) ∙ arm.ensures) (λ rest top. c.drop_next.ensures c.args.ready.now rest top)
+
+finished : (c : After-deinit) → HasGone (machine_step c.args.ready.now c.args.bound c.args.machine.now) c.deinit.result c.deinit.new.machine
+finished c =
+    let arm = c.in-Some-Finishes in
+    stepped c.deinit.result c.deinit.new.machine c.args.ready.now c.args.bound c.args.machine.now (Finishes arm.object arm.called)
+    (sym (ap Some arm.field-0-is) ∙ arm.ensures) (λ rest top. c.deinit.ensures rest top)
+
+pub returns-in-Some-Drops-clause-led : goal.returns-in-Some-Drops-clause-led
+returns-in-Some-Drops-clause-led c =
+    led-on c.args.ready.now c.args.bound c.args.machine.now c.args.machine.now c.drop_next.new.machine c.drop_next.result
+    (leads-self c.args.ready.now c.args.bound c.args.machine.now) (dropped (goal.at.returns-in-Some-Drops-clause-led c).After-drop_next)
+
+pub returns-in-Some-Drops-clause-work : goal.returns-in-Some-Drops-clause-work
+returns-in-Some-Drops-clause-work c =
+    less-on c.args.ready.now c.args.bound c.args.machine.now c.args.machine.now c.drop_next.new.machine c.drop_next.result (omega arith) c.requires
+    (dropped (goal.at.returns-in-Some-Drops-clause-work c).After-drop_next)
+
+pub returns-in-Some-Finishes-clause-led : goal.returns-in-Some-Finishes-clause-led
+returns-in-Some-Finishes-clause-led c =
+    led-on c.args.ready.now c.args.bound c.args.machine.now c.args.machine.now c.deinit.new.machine c.deinit.result
+    (leads-self c.args.ready.now c.args.bound c.args.machine.now) (finished (goal.at.returns-in-Some-Finishes-clause-led c).After-deinit)
+
+pub returns-in-Some-Finishes-clause-work : goal.returns-in-Some-Finishes-clause-work
+returns-in-Some-Finishes-clause-work c =
+    less-on c.args.ready.now c.args.bound c.args.machine.now c.args.machine.now c.deinit.new.machine c.deinit.result (omega arith) c.requires
+    (finished (goal.at.returns-in-Some-Finishes-clause-work c).After-deinit)
