@@ -1,40 +1,5 @@
 -- The table of all copies has of each copy the marks that a table of that copy alone has; so their search tells of each copy what its own tells.
-use Rattle.std.proofs.Common.{
-  ◌≡◌,
-  ◌≢◌,
-  ◌⊎◌,
-  inl,
-  inr,
-  ℕ,
-  zero,
-  suc,
-  ◌+◌,
-  ◌<◌,
-  ◌≤◌,
-  get_or,
-  List,
-  [],
-  ◌∷◌,
-  ◌++◌,
-  length,
-  refl,
-  sym,
-  ap,
-  ap₂,
-  ◌∙◌,
-  subst,
-  Bool,
-  true,
-  false,
-  cond,
-  map,
-  take,
-  Option,
-  Some,
-  None,
-  arith,
-  eq-eqb,
-}
+use Rattle.std.proofs.Common.{◌≡◌, ◌≢◌, ◌⊎◌, inl, inr, ℕ, zero, suc, ◌+◌, ◌<◌, get_or, List, [], ◌∷◌, ◌++◌, length, refl, sym, ap, ap₂, ◌∙◌, subst, Bool, true, false, cond, map, take, Option, Some, None, arith, eq-eqb}
 use Rattle.std.specs.Prelude.{◌&&◌, ◌||◌, ◌==◌, ◌↔◌, filter_map, is_some, option_map, option_to_list, replicate, unwrap_or}
 use Rattle.std.specs.List.{cons_option, flat_map, slice_get}
 use Rattle.std.proofs.lemmas.Bool.{cases_eq, ne_eqb}
@@ -42,17 +7,14 @@ use Rattle.std.proofs.lemmas.List.{append_assoc, length-map, length-take-le, map
 use Rattle.std.proofs.lemmas.List.Elements.{filter_map-append}
 use Rattle.std.proofs.lemmas.Option.{slice_get-get_or, slice_get-map}
 use Rattle.sil_ast.specs.declared.function.Function.{Function}
-use Rattle.sil_ast.specs.declared.place.EdgeId.{EdgeId}
 use Rattle.sil_ast.specs.declared.place.ValueId.{ValueId}
 use Rattle.sil_cfg.specs.Flow.{numbered}
-use Rattle.sil_cfg.specs.Items.{flow_of}
 use Rattle.sil_cfg.specs.Layout.{IsSound, Layout, item_at, item_count}
 use Rattle.sil_cfg.specs.declared.item.Item.{Item}
 use Rattle.sil_cfg.specs.inner.Build.{IsGraphOf}
 use Rattle.sil_rules.specs.declared.rule.Rule.TheVariants.{ConsumedWhileBorrowed}
 use Rattle.path_lists.specs.inner.Lists.{list_at}
 use Rattle.reach_engine.specs.declared.scan.Step.TheVariants.{Go}
-use Rattle.reach_engine.specs.inner.Reach.{ReachesFirst}
 use Rattle.reach_engine.specs.inner.Search.{IsClean}
 use Rattle.reach_engine.proofs.ItemsInRange.{last_below}
 use Rattle.path_patterns.specs.Marks.{needs_off}
@@ -78,7 +40,7 @@ use Rattle.ownership_marks.specs.declared.mark.Mark.{Mark}
 use Rattle.ownership_marks.specs.declared.mark.MarkSort.TheVariants.{End}
 use Rattle.copy_removal.specs.Removable.{is_sort}
 use Rattle.borrowable_copies.specs.inner.Asked.{AreFreeAt}
-use Rattle.borrowable_copies.specs.inner.Together.{AreFound, entries_of, off_if, off_of, operand_in, turn_of}
+use Rattle.borrowable_copies.specs.inner.Together.{entries_of, off_if, off_of, operand_in, turn_of}
 use Rattle.borrowable_copies.specs.inner.Watched.{entries_by, off_entries, off_entry, turn_entries, turned_by, watched_of}
 use Rattle.borrowable_copies.proofs.BorrowedCopies.{one_free}
 use Rattle.borrowable_copies.proofs.FreeAt.{free_kept}

@@ -1,4 +1,4 @@
-use Rattle.std.proofs.Common.{◌≡◌, List, length, refl, sym, ap, ◌∙◌, subst, Bool, Option, Some, None}
+use Rattle.std.proofs.Common.{◌≡◌, List, length, refl, sym, ◌∙◌, subst, Bool, Option, Some, None}
 use Rattle.std.proofs.lemmas.List.{take_at}
 use Rattle.sil_ast.specs.declared.place.ValueId.{ValueId}
 use Rattle.borrowable_copies.specs.inner.Answers.{AreAnswered, AreAnswers, AreToldBefore}

@@ -1,4 +1,4 @@
-use Rattle.std.proofs.Common.{◌≡◌, sym, ap, ◌∙◌, Some, None}
+use Rattle.std.proofs.Common.{sym, ap, ◌∙◌, Some}
 use Rattle.borrowable_copies.proofs.Answering.{answer_known, answer_told}
 use Rattle.borrowable_copies.proofs.answers.answer_to.Goals as goal
 

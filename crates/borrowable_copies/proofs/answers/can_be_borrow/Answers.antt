@@ -1,4 +1,4 @@
-use Rattle.std.proofs.Common.{◌≡◌, [], ◌∷◌, true, false}
+use Rattle.std.proofs.Common.{◌≡◌, true, false}
 use Rattle.ownership_chains.specs.Facts.{known_or}
 use Rattle.ownership_marks.specs.declared.mark.MarkSort.TheVariants.{End}
 use Rattle.borrowable_copies.proofs.BorrowedCopies.{one_free}

@@ -1,5 +1,4 @@
 use Rattle.std.proofs.Common.{arith}
-use Rattle.borrowable_copies.proofs.Answering.{kept_more, spared_all, spared_forgotten, spared_kept}
 use Rattle.borrowable_copies.proofs.answers.forget.Goals as goal
 
 pub loop-copy-init : goal.loop-copy-init

@@ -1,4 +1,4 @@
-use Rattle.std.proofs.Common.{◌≡◌, ◌<◌, ◌∷◌, [], List, length, sym, ap, ◌∙◌, subst, Bool, false}
+use Rattle.std.proofs.Common.{◌≡◌, ◌∷◌, [], List, length, sym, ◌∙◌, subst, Bool, false}
 use Rattle.std.specs.Prelude.{◌↔◌, slice_index_or}
 use Rattle.std.proofs.lemmas.List.{take_at}
 use Rattle.ownership_chains.specs.Facts.{known_or}
