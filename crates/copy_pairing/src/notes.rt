@@ -1,9 +1,10 @@
 //! What is known of a function and its copies, and how much of it stays where copies are rewritten.
 
-ghost use Rattle.std.specs.Prelude.{◌≡◌, IfOk, IfSome, IsSomeAnd};
+ghost use Rattle.std.specs.Prelude.{◌≡◌, length, IfOk, IfSome, IsSomeAnd};
 ghost use Rattle.sil_ast.specs.declared.place.ValueId.{ValueId};
 ghost use Rattle.sil_cfg.specs.inner.Build.{HasGraph};
 ghost use Rattle.point_checks.specs.inner.Numbered.{IsOfNumberedModule};
+ghost use Rattle.borrowable_copies.specs.inner.Answers.{AreAnswered};
 ghost use Rattle.copy_pairing.specs.inner.Surveys as surveys;
 ghost use Rattle.copy_pairing.specs.inner.Surveys.{AreNotesOf, AreValuesOf, IsKeptFor, IsLeftByLending, IsLeftByMove, IsSurveyOf};
 
@@ -32,11 +33,12 @@ pub(crate) struct Notes {
     pub age: Age,
 }
 
-/// The notes of a function of which nothing is known.
+/// The notes of a function of which nothing is known: they answer for all its copies together, as many as can be asked at once.
 fn new_notes(alloc: Global, types: &TypeTable, f: &Function) -> Result<Notes, Exhausted>
     requires of_module { IsOfNumberedModule f.now }
     requires graph { HasGraph f.now }
-    ensures { IfOk result (AreNotesOf types.now f.now) }
+    ensures notes { IfOk result (AreNotesOf types.now f.now) }
+    ensures all { IfOk result (λ n. AreAnswered f.now (length n.survey.found.kinds.table) n.answers.items) }
 {
     let survey = new_survey(alloc, types, f)?;
     let answers = all_answers(alloc, f, &survey.graph, &survey.found.kinds)?;

@@ -6,6 +6,6 @@ use Rattle.copy_pairing.proofs.turns.borrowable_by.Goals as goal
 
 pub returns-in-Some-clause-borrowable : goal.returns-in-Some-clause-borrowable
 returns-in-Some-clause-borrowable c =
-    told_some c.as_slice.result.now c.args.copied.value c.args.copied.operand c.answer_to-known.result c.in-Some.borrowable c.in-Some.is c.answer_to-known.ensures
+    told_some c.as_slice.result.now c.args.copied.value c.args.copied.operand c.answer_to-known.result c.in-Some.borrowable c.in-Some.is c.answer_to-known.ensures.told
     (facts_in c.args.types.now c.args.f.now) c.args.f.now
     (subst (AreAnswers (facts_in c.args.types.now c.args.f.now) c.args.f.now) (sym c.as_slice.ensures.value) c.requires.notes.answers)
