@@ -1,5 +1,40 @@
 -- The table of all copies has of each copy the marks that a table of that copy alone has; so their search tells of each copy what its own tells.
 use Rattle.std.proofs.Common.{◌≡◌, ◌≢◌, ◌⊎◌, inl, inr, ℕ, zero, suc, ◌+◌, ◌<◌, get_or, List, [], ◌∷◌, ◌++◌, length, refl, sym, ap, ap₂, ◌∙◌, subst, Bool, true, false, cond, map, take, Option, Some, None, arith, eq-eqb}
+use Rattle.std.proofs.Common.{
+  ◌≡◌,
+  ◌≢◌,
+  ◌⊎◌,
+  inl,
+  inr,
+  ℕ,
+  zero,
+  suc,
+  ◌+◌,
+  ◌<◌,
+  get_or,
+  List,
+  [],
+  ◌∷◌,
+  ◌++◌,
+  length,
+  refl,
+  sym,
+  ap,
+  ap₂,
+  ◌∙◌,
+  subst,
+  Bool,
+  true,
+  false,
+  cond,
+  map,
+  take,
+  Option,
+  Some,
+  None,
+  arith,
+  eq-eqb,
+}
 use Rattle.std.specs.Prelude.{◌&&◌, ◌||◌, ◌==◌, ◌↔◌, filter_map, is_some, option_map, option_to_list, replicate, unwrap_or}
 use Rattle.std.specs.List.{cons_option, flat_map, slice_get}
 use Rattle.std.proofs.lemmas.Bool.{cases_eq, ne_eqb}
