@@ -3,7 +3,7 @@
 ghost use Rattle.std.specs.Prelude.{◌≡◌, ◌+◌, ◌≤◌, [], length, reverse, IfOk, OnOk};
 ghost use Rattle.grammar_tables.specs.Grammar.{body};
 ghost use Rattle.grammar_tables.specs.declared.grammar.Symbol.TheVariants.{Part};
-ghost use Rattle.sil_shape.specs.Shortest as said;
+ghost use Rattle.grammar_tables.specs.Shortest as said;
 ghost use Rattle.sil_shape.specs.inner.Values.{IsEnough};
 ghost use Rattle.written_modules.specs.inner.Lacking.{lacking, Fills};
 ghost use Rattle.written_modules.specs.inner.Replay.{replay};
