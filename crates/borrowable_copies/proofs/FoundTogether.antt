@@ -1,5 +1,4 @@
 -- The table of all copies has of each copy the marks that a table of that copy alone has; so their search tells of each copy what its own tells.
-use Rattle.std.proofs.Common.{◌≡◌, ◌≢◌, ◌⊎◌, inl, inr, ℕ, zero, suc, ◌+◌, ◌<◌, get_or, List, [], ◌∷◌, ◌++◌, length, refl, sym, ap, ap₂, ◌∙◌, subst, Bool, true, false, cond, map, take, Option, Some, None, arith, eq-eqb}
 use Rattle.std.proofs.Common.{
   ◌≡◌,
   ◌≢◌,
