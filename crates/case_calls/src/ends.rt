@@ -52,10 +52,10 @@ pub(crate) fn answer_on_faults(
     end: End,
     written: &mut Answer,
 ) -> Result<u8, Exhausted> {
-    let mut last = ended(alloc, words, text, end, 1)?;
+    let mut last = ending(alloc, words, text, end, 1)?;
     add_line(written, 1, &last);
     for fail in 2..=CALLS {
-        let next = ended(alloc, words, text, end, fail)?;
+        let next = ending(alloc, words, text, end, fail)?;
         if next.status != last.status || next.sink.bytes() != last.sink.bytes() {
             add_line(written, fail, &next);
         }
@@ -65,7 +65,7 @@ pub(crate) fn answer_on_faults(
 }
 
 /// How the call ends where this call of the end fails.
-fn ended(
+fn ending(
     alloc: Global,
     words: &[&str],
     text: &[u8],
