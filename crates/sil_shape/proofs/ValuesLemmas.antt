@@ -1,7 +1,6 @@
 -- A derivation has a value for each symbol: replayed from its last step to its first, it never lacks one.
 -- A replay that stands before step `i` has replayed `drop i steps`.
-use Rattle.std.proofs.Common.{◌≡◌, ℕ, zero, suc, ◌+◌, List, [], ◌∷◌, ◌++◌, length, take, drop, refl, ap, sym, ◌∙◌, arith, add-one, length-append}
-use Rattle.std.proofs.lemmas.List.{take-append-drop}
+use Rattle.std.proofs.Common.{◌≡◌, ℕ, zero, suc, ◌+◌, List, [], ◌∷◌, ◌++◌, length, take, drop, refl, arith, add-one, length-append}
 use Rattle.token_classes.specs.declared.classes.Class.{Class}
 use Rattle.grammar_tables.specs.declared.grammar.Symbol.{Symbol}
 use Rattle.sil_shape.specs.declared.steps.Step.{Step}

@@ -10,3 +10,6 @@ clone-none C none (Some x) e = absurd (none x e)
 
 pub invariant_of-result-clause-right : goal.invariant_of-result-clause-right
 invariant_of-result-clause-right c = empty_table _ (c.in_ok-known.ensures.items_if_clones_equal (clone-none _ (λ x h. h)))
+
+pub returns : goal.returns
+returns c = c.in_ok-known.ensures.items_if_clones_equal (clone-none _ (λ x h. h))
