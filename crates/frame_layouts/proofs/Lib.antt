@@ -1,4 +1,3 @@
-mod Added
 pub mod Carrying
 pub mod Counts
 pub mod FieldsFit

@@ -14,12 +14,12 @@ ghost use Rattle.frame_layouts.specs.inner.Sized.{HaveSizes};
 
 use crate::kept::kept_of;
 use crate::layout::Layout;
-use crate::types::find_types;
 use sil_ast::{Exhausted, FuncId, Function, List, Module};
 use sil_types::TypeTable;
 use std::alloc::Global;
 use typing_rows::TypeView;
 use typing_signatures::find_value_functions;
+use typing_values::find_types;
 
 /// Lays out values, by their types and the functions that they stand for.
 fn lay_out(

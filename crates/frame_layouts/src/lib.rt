@@ -7,7 +7,6 @@ mod kept;
 mod layout;
 mod layouts;
 mod sizes;
-mod types;
 
 pub use carried::{addresses_carried, values_carried};
 pub use layout::{Kept, Layout, Spot};

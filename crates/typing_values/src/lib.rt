@@ -9,4 +9,4 @@ mod views;
 
 pub use operands::has_wrong_operand_type;
 pub use results::has_wrong_result_count;
-pub use values::{GivenTypes, find_value_types};
+pub use values::{GivenTypes, find_types, find_value_types};

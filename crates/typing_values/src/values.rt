@@ -1,4 +1,5 @@
-//! The types of a function's values, by their numbers, and how many results the row of each instruction gives.
+//! The types of a function's values, by their numbers, and how many results the row of each instruction gives. For types a row is asked
+//! where its instruction has results.
 
 ghost use Rattle.std.specs.Prelude.{◌≡◌, ◌++◌, OnOk, [], ◌∷◌, length, map, option_map, slice_get, unwrap_or};
 ghost use Rattle.std.specs.List.{range_with_len};
@@ -59,6 +60,21 @@ fn add_made<'a>(
     Ok(())
 }
 
+/// Adds the types of an instruction's results.
+fn add_results<'a>(
+    types: &mut Vec<Option<TypeView<'a>>>,
+    table: &'a TypeTable,
+    inst: &'a Inst,
+) -> Result<(), Exhausted>
+    ensures { OnOk result (types_told types.new.items ≡ types_told types.old.items ++ result_types table.now inst.now) }
+{
+    let count = inst.results.len();
+    if count == 0 {
+        return Ok(());
+    }
+    add_made(types, &row_types(table, inst), count)
+}
+
 /// Adds the types of a block's arguments.
 fn add_args<'a>(
     types: &mut Vec<Option<TypeView<'a>>>,
@@ -103,7 +119,7 @@ impl<'a> ValueTable<'a> for ValueTypes<'a> {
         types: &mut Vec<Option<TypeView<'a>>>,
         inst: &'a Inst,
     ) -> Result<(), Exhausted> {
-        add_made(types, &row_types(self.table, inst), inst.results.len())
+        add_results(types, self.table, inst)
     }
 }
 
@@ -143,8 +159,8 @@ impl<'a> ValueTable<'a> for RowCounts<'a> {
     }
 }
 
-/// Makes of a list, in its memory, the types of a function's values, by their numbers.
-fn find_types<'a>(
+/// Makes of a list, in its memory, the types of a function's values, by their numbers. A result that its row doesn't give has none.
+pub fn find_types<'a>(
     types: &mut Vec<Option<TypeView<'a>>>,
     table: &'a TypeTable,
     f: &'a Function,
