@@ -40,14 +40,6 @@ impl Answer {
         }
     }
 
-    /// Adds a text in quotes, with its line feeds as `\n`.
-    pub(crate) fn add_quoted(&mut self, text: &str) {
-        match format!(in self.alloc; "{text:?}") {
-            Ok(part) => self.add(part.as_str()),
-            Err(_) => self.is_exhausted = true,
-        }
-    }
-
     /// Adds a line, and gives the status that goes with it.
     pub(crate) fn line(&mut self, text: &str, status: u8) -> u8 {
         self.add(text);

@@ -4,7 +4,6 @@ ghost use Rattle.numbered_form.specs.inner.NumberedForm.{IsNumbered};
 ghost use Rattle.type_definitions.specs.Rules.{AreDeclarationsOf};
 
 use crate::answer::Answer;
-use crate::ends::{End, answer_on_faults, answer_on_steady_ends};
 use crate::heap_calls::answer_on_heap;
 use crate::lowered_runs::answer_on_run;
 use crate::modules::{module_of, table_of};
@@ -28,16 +27,6 @@ pub(crate) fn answer(
         [_name, "tokens"] => answer_on_tokens(alloc, text, written),
         [_name, "search"] => answer_on_walks(alloc, text, false, written),
         [_name, "search", "together"] => answer_on_walks(alloc, text, true, written),
-        [_name, "read-faults", rest @ ..] => {
-            answer_on_faults(alloc, rest, text, End::Source, written)
-        }
-        [_name, "read-faults-of-no-text", rest @ ..] => {
-            answer_on_faults(alloc, rest, b"", End::Source, written)
-        }
-        [_name, "write-faults", rest @ ..] => {
-            answer_on_faults(alloc, rest, text, End::Sink, written)
-        }
-        [_name, "steady-ends", rest @ ..] => answer_on_steady_ends(alloc, rest, text, written),
         [_name, "lowered-run" | "lowered-end" | "heap", ..] => {
             answer_of_machine(alloc, words, text, written)
         }

@@ -4,7 +4,6 @@
 
 mod answer;
 mod calls;
-mod ends;
 mod heap_calls;
 mod lowered_runs;
 mod marked;
