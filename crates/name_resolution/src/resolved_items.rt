@@ -88,7 +88,7 @@ fn resolve_item(
     }
 }
 
-#[tactic(auto, using(crate::proofs::DefinedNames::twice_of_unreserved))]
+#[tactic(auto, using(name_scopes::proofs::DefinedNames::twice_of_unreserved))]
 fn members_fault(alloc: Global, decl: &WrittenDecl) -> Result<Option<Fault>, Exhausted>
     ensures { IfOk result (λ fault. fault ≡ members_fault decl.now) }
 {

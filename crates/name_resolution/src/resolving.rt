@@ -52,7 +52,7 @@ fn resolve_with(
 }
 
 // The first declaration, function or vtable whose name stood before; `functions` is the first such function.
-#[tactic(auto, using(crate::proofs::DefinedNames::twice_of_unnumbered))]
+#[tactic(auto, using(name_scopes::proofs::DefinedNames::twice_of_unnumbered))]
 fn twice_fault(
     alloc: Global,
     imports: Imports,
