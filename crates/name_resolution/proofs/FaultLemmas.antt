@@ -21,12 +21,12 @@ use Rattle.written_tree.proofs.FaultOrder.{earlier-assoc, earlier-none}
 use Rattle.name_resolution.specs.declared.first_faults.CodeFaults.{CodeFaults}
 use Rattle.name_resolution.specs.declared.first_faults.ItemFaults.{ItemFaults}
 use Rattle.name_resolution.specs.inner.FirstFaults.{Known, body_fault, known_in, with_body, with_code, with_edges, with_faults}
-use Rattle.name_resolution.specs.NameFaults.{function_fault, members_fault, name_fault, twice_after, unknown_among}
-use Rattle.name_resolution.specs.Names.{Name, code_of, decls_of, edge_label, edge_values, function_name, functions_of, functions_used, insts_of, label_of}
-use Rattle.name_resolution.specs.Names.{labels_used, used_by_item, values_defined, values_used, vtable_name, vtables_of}
+use Rattle.name_scopes.specs.NameFaults.{function_fault, members_fault, name_fault, twice_after, unknown_among}
+use Rattle.name_scopes.specs.Names.{Name, code_of, decls_of, edge_label, edge_values, function_name, functions_of, functions_used, insts_of, label_of}
+use Rattle.name_scopes.specs.Names.{labels_used, used_by_item, values_defined, values_used, vtable_name, vtables_of}
 use Rattle.sil_ast.specs.Imports.{reserved}
-use Rattle.name_resolution.specs.inner.Symbols.{Symbols, labels_in, names_in, numbered_by, unknown_of, values_in}
-use Rattle.name_resolution.proofs.DefinedNames.{fault_of_labels, fault_of_values, twice_of_numbered, unknown_of_numbered}
+use Rattle.name_scopes.specs.inner.Symbols.{Symbols, labels_in, names_in, numbered_by, unknown_of, values_in}
+use Rattle.name_scopes.proofs.DefinedNames.{fault_of_labels, fault_of_values, twice_of_numbered, unknown_of_numbered}
 use Rattle.name_resolution.proofs.FaultOrder.{earliest_append, unknown_more}
 
 uses_more : {X : Type 0} (names : List Name) (used : X → List WrittenToken) (first : Option Fault) (xs ys : List X)

@@ -5,9 +5,9 @@ use Rattle.written_tree.specs.declared.fault.Fault.{Fault}
 use Rattle.written_tree.specs.declared.written_declarations.WrittenToken.{WrittenToken}
 use Rattle.written_tree.specs.Faults.{earlier, earliest}
 use Rattle.written_tree.proofs.FaultOrder.{earlier-assoc}
-use Rattle.name_resolution.specs.NameFaults.{unknown_in}
-use Rattle.name_resolution.specs.Names.{Name}
-use Rattle.name_resolution.specs.inner.Symbols.{unknown_of}
+use Rattle.name_scopes.specs.NameFaults.{unknown_in}
+use Rattle.name_scopes.specs.Names.{Name}
+use Rattle.name_scopes.specs.inner.Symbols.{unknown_of}
 
 pub earliest_append : (xs ys : List (Option Fault)) → earliest (xs ++ ys) ≡ earlier (earliest xs) (earliest ys)
 unfolding earlier

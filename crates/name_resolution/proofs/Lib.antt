@@ -1,7 +1,5 @@
-pub mod DefinedNames
 pub mod FaultLemmas
 pub mod FaultOrder
 pub mod NumberLemmas
 pub mod ResolvedLemmas
 pub mod Steps
-pub mod SymbolLemmas

@@ -16,10 +16,10 @@ use Rattle.written_tree.specs.declared.written_declarations.WrittenToken.{Writte
 use Rattle.written_tree.specs.declared.written_functions.WrittenArg.{WrittenArg}
 use Rattle.written_tree.specs.declared.written_functions.WrittenBlock.{WrittenBlock}
 use Rattle.written_tree.specs.declared.written_instructions.WrittenInst.{WrittenInst}
-use Rattle.name_resolution.specs.Names.{Name, arg_name, name_of}
+use Rattle.name_scopes.specs.Names.{Name, arg_name, name_of}
 use Rattle.name_resolution.specs.Resolved.{defined_by, defined_by_arg, defined_by_inst, defined_in, has_name}
-use Rattle.name_resolution.specs.inner.Symbols.{Definition, numbered, unnamed, unnumbered, Symbols, definitions_by, definitions_in, definitions_of}
-use Rattle.name_resolution.specs.inner.Symbols.{number_among, numbered_by, reserved_only, values_in, with_definition, with_definitions, with_entry}
+use Rattle.name_scopes.specs.inner.Symbols.{Definition, numbered, unnamed, unnumbered, Symbols, definitions_by, definitions_in, definitions_of}
+use Rattle.name_scopes.specs.inner.Symbols.{number_among, numbered_by, reserved_only, values_in, with_definition, with_definitions, with_entry}
 use Rattle.name_resolution.specs.inner.Tables.{FindsNames, FindsValues}
 
 -- what a look-up finds once a name has a value

@@ -7,7 +7,7 @@ use Rattle.name_resolution.specs.inner.Items.{with_items}
 use Rattle.sil_ast.specs.declared.module.Module.{Module}
 use Rattle.written_tree.specs.declared.written_module.WrittenItem.{WrittenItem}
 use Rattle.sil_ast.specs.declared.place.ValueId.{ValueId}
-use Rattle.name_resolution.specs.Names.{Name, decls_of, functions_of, vtables_of}
+use Rattle.name_scopes.specs.Names.{Name, decls_of, functions_of, vtables_of}
 use Rattle.name_resolution.specs.Resolved.{counted, resolved_decl, resolved_function, resolved_vtable}
 
 -- the numbers behind those of an element and of what follows it

@@ -4,7 +4,6 @@ use Rattle.name_resolution.proofs.FaultLemmas.{blocks_more, code_done, decl_faul
 use Rattle.name_resolution.proofs.FaultLemmas.{item_faults_done, item_faults_more, vtable_faults}
 use Rattle.name_resolution.proofs.FaultOrder.{unknown_more}
 use Rattle.name_resolution.proofs.ResolvedLemmas.{items_done, items_more}
-use Rattle.name_resolution.proofs.SymbolLemmas.{among_names}
 use Rattle.written_tree.proofs.FaultOrder.{earlier-assoc, earlier-none}
 
 pub ruleset items = (common_steps, items_more, items_done, item_faults_more, item_faults_done)
@@ -22,5 +21,3 @@ pub ruleset operands = (common_steps, earlier-none, earlier-assoc)
 pub ruleset one_inst = (common_steps, unknown_more)
 
 pub ruleset one_use = (common_steps, earlier-none)
-
-pub ruleset names = (common_steps, earlier-none, among_names)

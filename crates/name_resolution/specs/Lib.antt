@@ -1,4 +1,2 @@
-pub mod NameFaults
-pub mod Names
 pub mod Resolved
 pub mod inner

@@ -38,7 +38,7 @@ use Rattle.written_tree.specs.declared.written_module.WrittenEntry.{WrittenEntry
 use Rattle.written_tree.specs.declared.written_module.WrittenModule.{WrittenModule}
 use Rattle.written_tree.specs.declared.written_module.WrittenVtable.{WrittenVtable}
 use Rattle.written_tree.specs.Places.{is_kept, is_ossa}
-use Rattle.name_resolution.specs.Names.{Name, decls_of, functions_of, function_name, label_of, name_of, vtables_of}
+use Rattle.name_scopes.specs.Names.{Name, decls_of, functions_of, function_name, label_of, name_of, vtables_of}
 
 -- the values that an instruction defines, each with its name: a single result may be left without one
 abbrev pub defined_by : Op → List WrittenToken → List (Option Name)

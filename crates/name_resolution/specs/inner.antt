@@ -1,5 +1,4 @@
 pub mod FirstFaults
 pub mod Items
 pub mod Refusals
-pub mod Symbols
 pub mod Tables

@@ -2,13 +2,11 @@
 //! and not defined. It knows of no text and of no rule.
 #![tactic(auto)]
 
-mod defining;
 mod first_faults;
 mod refusal;
 mod resolved_code;
 mod resolved_items;
 mod resolving;
-mod symbol_table;
 
 pub use refusal::NameRefusal;
 pub use resolving::resolve;

@@ -6,16 +6,16 @@ ghost use Rattle.std.specs.List.{flat_map};
 ghost use Rattle.std.specs.Option.{option_map, option_to_list};
 ghost use Rattle.written_tree.specs.Faults as said;
 ghost use Rattle.name_resolution.specs.inner.FirstFaults.{known_in, with_code, with_edges};
-ghost use Rattle.name_resolution.specs.NameFaults.{unknown_in};
-ghost use Rattle.name_resolution.specs.Names.{code_of, operand_name};
+ghost use Rattle.name_scopes.specs.NameFaults.{unknown_in};
+ghost use Rattle.name_scopes.specs.Names.{code_of, operand_name};
 ghost use Rattle.name_resolution.specs.Resolved.{Scope, counted, defined_by_inst, defined_in, function_of, resolved_args, resolved_block};
 ghost use Rattle.name_resolution.specs.Resolved.{resolved_blocks, resolved_edge, resolved_inst, resolved_insts, resolved_operand, with_numbers};
-ghost use Rattle.name_resolution.specs.inner.Symbols.{names_in, unknown_of};
+ghost use Rattle.name_scopes.specs.inner.Symbols.{names_in, unknown_of};
 ghost use Rattle.name_resolution.specs.inner.Tables.{FindsNames, FindsScope, FindsValues};
 
-use crate::defining::count_of_results;
 use crate::first_faults::CodeFaults;
-use crate::symbol_table::{SymbolTable, advanced};
+use instruction_table::has_one_result;
+use name_scopes::{SymbolTable, advanced};
 use sil_ast::{
     Block, BlockArg, BlockId, Boxed, Edge, Exhausted, FuncId, Inst, List, Operand, Operands,
     ShortList, ValueId,
@@ -384,5 +384,15 @@ fn resolve_operand(
     Operand {
         value,
         ty: operand.ty,
+    }
+}
+
+// How many values an instruction defines.
+fn count_of_results(inst: &WrittenInst) -> usize
+    ensures { result ≡ length (defined_by_inst inst.now) }
+{
+    match inst.results.as_slice() {
+        [] => { if has_one_result(inst.op) { 1 } else { 0 } }
+        tokens => tokens.len(),
     }
 }

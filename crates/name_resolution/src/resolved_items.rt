@@ -8,17 +8,16 @@ ghost use Rattle.written_tree.specs.Faults as said;
 ghost use Rattle.written_tree.specs.Places.{is_kept, is_ossa};
 ghost use Rattle.name_resolution.specs.inner.FirstFaults.{with_body, with_faults};
 ghost use Rattle.name_resolution.specs.inner.Items.{with_items};
-ghost use Rattle.name_resolution.specs.NameFaults.{members_fault, unknown_in};
-ghost use Rattle.name_resolution.specs.Names.{Name, name_of, used_by_item};
+ghost use Rattle.name_scopes.specs.NameFaults.{members_fault, unknown_in};
+ghost use Rattle.name_scopes.specs.Names.{Name, name_of, used_by_item};
 ghost use Rattle.name_resolution.specs.Resolved.{form_of, resolved_blocks, resolved_case, resolved_decl, resolved_entry};
 ghost use Rattle.name_resolution.specs.Resolved.{resolved_field, resolved_function, resolved_vtable};
-ghost use Rattle.name_resolution.specs.inner.Symbols.{labels_in, names_in, unknown_of, values_in};
+ghost use Rattle.name_scopes.specs.inner.Symbols.{labels_in, names_in, unknown_of, values_in};
 ghost use Rattle.name_resolution.specs.inner.Tables.{FindsNames, scope_in};
 
-use crate::defining::{labels, members, values};
 use crate::first_faults::{CodeFaults, ItemFaults};
 use crate::resolved_code::{Tables, resolve_blocks};
-use crate::symbol_table::SymbolTable;
+use name_scopes::{SymbolTable, labels, members, values};
 use sil_ast::{
     Block, Case, Decl, DeinitEntry, Exhausted, Field, Form, FuncId, Function, List, Module, Text,
     Vtable,
@@ -89,7 +88,7 @@ fn resolve_item(
     }
 }
 
-#[tactic(auto, using(crate::proofs::DefinedNames::twice_of_unreserved))]
+#[tactic(auto, using(name_scopes::proofs::DefinedNames::twice_of_unreserved))]
 fn members_fault(alloc: Global, decl: &WrittenDecl) -> Result<Option<Fault>, Exhausted>
     ensures { IfOk result (λ fault. fault ≡ members_fault decl.now) }
 {

@@ -5,18 +5,17 @@ ghost use Rattle.std.specs.List.{flat_map};
 ghost use Rattle.written_tree.specs.Faults as said;
 ghost use Rattle.written_tree.specs.Places.{name_of_decl};
 ghost use Rattle.name_resolution.specs.inner.FirstFaults.{with_faults};
-ghost use Rattle.name_resolution.specs.NameFaults.{name_fault, twice_after};
-ghost use Rattle.name_resolution.specs.Names.{decls_of, function_name, functions_of, vtable_name, vtables_of};
+ghost use Rattle.name_scopes.specs.NameFaults.{name_fault, twice_after};
+ghost use Rattle.name_scopes.specs.Names.{decls_of, function_name, functions_of, vtable_name, vtables_of};
 ghost use Rattle.sil_ast.specs.Imports.{reserved};
 ghost use Rattle.name_resolution.specs.inner.Refusals.{IsRefusalOf};
 ghost use Rattle.name_resolution.specs.Resolved.{resolved};
-ghost use Rattle.name_resolution.specs.inner.Symbols.{names_in, numbered_by};
+ghost use Rattle.name_scopes.specs.inner.Symbols.{names_in, numbered_by};
 
-use crate::defining::{classes_of_vtables, declared, functions};
 use crate::first_faults::ItemFaults;
 use crate::refusal::NameRefusal;
 use crate::resolved_items::resolve_items;
-use crate::symbol_table::SymbolTable;
+use name_scopes::{SymbolTable, classes_of_vtables, declared, functions};
 use sil_ast::{Exhausted, Imports, List, Module};
 use std::alloc::Global;
 use written_tree::{Fault, WrittenItem, WrittenModule, earlier};
@@ -53,7 +52,7 @@ fn resolve_with(
 }
 
 // The first declaration, function or vtable whose name stood before; `functions` is the first such function.
-#[tactic(auto, using(crate::proofs::DefinedNames::twice_of_unnumbered))]
+#[tactic(auto, using(name_scopes::proofs::DefinedNames::twice_of_unnumbered))]
 fn twice_fault(
     alloc: Global,
     imports: Imports,

@@ -15,7 +15,7 @@ use Rattle.written_tree.specs.declared.written_functions.WrittenFunction.{Writte
 use Rattle.written_tree.specs.declared.written_module.WrittenEntry.{WrittenEntry}
 use Rattle.written_tree.specs.declared.written_module.WrittenModule.{WrittenModule}
 use Rattle.written_tree.specs.Places.{is_kept, is_ossa}
-use Rattle.name_resolution.specs.Names.{Name, decls_of, functions_of, name_of, vtables_of}
+use Rattle.name_scopes.specs.Names.{Name, decls_of, functions_of, name_of, vtables_of}
 use Rattle.name_resolution.specs.Resolved.{Scope, form_of, resolved, resolved_blocks, resolved_decl, resolved_entry, resolved_function, resolved_vtable, scope_of}
 use Rattle.numbered_form.specs.Lists.{Each}
 use Rattle.numbered_form.specs.inner.Fields.{AreStructFieldsStrong, HasStrongFields}

@@ -21,7 +21,7 @@ use Rattle.written_tree.specs.declared.written_module.WrittenItem.TheVariants as
 use Rattle.written_tree.specs.declared.written_module.WrittenModule.{WrittenModule}
 use Rattle.written_tree.specs.Places.{arg_place, attribute_places, decl_names, extra_places, extra_places_by, function_names, is_kept}
 use Rattle.written_tree.specs.Places.{mnemonic_place, mnemonics_of, result_places, token_place, value_places_of, values_of_block}
-use Rattle.name_resolution.specs.Names.{Name, decls_of, functions_of, name_of}
+use Rattle.name_scopes.specs.Names.{Name, decls_of, functions_of, name_of}
 use Rattle.name_resolution.specs.Resolved.{Scope, counted, defined_by, defined_by_inst, defined_in, resolved, resolved_block, resolved_blocks}
 use Rattle.name_resolution.specs.Resolved.{resolved_decl, resolved_function, resolved_inst, resolved_insts, scope_of}
 use Rattle.numbered_form.specs.Lists.{Each}

@@ -9,7 +9,7 @@ use Rattle.written_tree.specs.declared.written_module.WrittenItem.{WrittenItem}
 use Rattle.written_tree.specs.declared.written_module.WrittenItem.TheVariants as item
 use Rattle.written_tree.specs.declared.written_module.WrittenModule.{WrittenModule}
 use Rattle.written_values.specs.Opened.{module_value}
-use Rattle.name_resolution.specs.Names.{decls_of, functions_of, vtables_of}
+use Rattle.name_scopes.specs.Names.{decls_of, functions_of, vtables_of}
 use Rattle.name_resolution.specs.Resolved.{resolved_decl}
 use Rattle.numbered_form.specs.Lists.{Each}
 use Rattle.numbered_reading_laws.specs.inner.Laws.{IsWritten}

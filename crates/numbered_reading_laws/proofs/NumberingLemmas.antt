@@ -7,7 +7,7 @@ use Rattle.sil_ast.specs.declared.place.ValueId.{ValueId}
 use Rattle.written_tree.specs.declared.written_functions.WrittenArg.{WrittenArg}
 use Rattle.written_tree.specs.declared.written_functions.WrittenBlock.{WrittenBlock}
 use Rattle.written_tree.specs.declared.written_instructions.WrittenInst.{WrittenInst}
-use Rattle.name_resolution.specs.Names.{Name}
+use Rattle.name_scopes.specs.Names.{Name}
 use Rattle.name_resolution.specs.Resolved.{Scope, counted, defined_by_arg, defined_by_inst, defined_in, resolved_args, resolved_block, resolved_blocks, resolved_insts}
 use Rattle.numbered_form.specs.Lists.{Each}
 use Rattle.numbered_form.specs.Numbering.{AreCountedFrom, AreNumbered, IsEdgeInRange, IsFunctionNumbered, IsInstInRange, IsValueBelow, IsVtableInRange}

@@ -18,9 +18,9 @@ use Rattle.written_tree.specs.declared.written_module.WrittenVtable.{WrittenVtab
 use Rattle.written_tree.specs.Faults.{earliest, fault}
 use Rattle.written_tree.specs.Places.{name_of_decl}
 use Rattle.written_tree.proofs.FaultOrder.{no_first, no_second}
-use Rattle.name_resolution.specs.NameFaults.{is_among, members_fault, name_fault, twice_after}
-use Rattle.name_resolution.specs.Names.{Name, decls_of, functions_of, name_of, vtables_of}
-use Rattle.name_resolution.specs.Names as written
+use Rattle.name_scopes.specs.NameFaults.{is_among, members_fault, name_fault, twice_after}
+use Rattle.name_scopes.specs.Names.{Name, decls_of, functions_of, name_of, vtables_of}
+use Rattle.name_scopes.specs.Names as written
 use Rattle.name_resolution.specs.Resolved.{resolved, resolved_case, resolved_decl, resolved_field, resolved_function, resolved_vtable}
 use Rattle.numbered_form.specs.Lists.{Each}
 use Rattle.numbered_form.specs.Names.{AreMembersOnce, AreNamesOnce, AreOnce, case_name, class_name, decl_name, field_name, function_name, member_names}

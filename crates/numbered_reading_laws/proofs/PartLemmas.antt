@@ -33,7 +33,7 @@ use Rattle.written_values.specs.Values.{args_of, blocks_of, cases_of, edges_of, 
 use Rattle.written_values.specs.Values.{inst_of, items_of, linkage_of, member_of, operands_of, params_of, questions_of}
 use Rattle.written_values.specs.Values.{signature_of, stage_of, superclass_of, token_of, tokens_of, type_of, types_of}
 use Rattle.written_values.proofs.Unfolded.{value_parts}
-use Rattle.name_resolution.specs.Names.{name_of}
+use Rattle.name_scopes.specs.Names.{name_of}
 use Rattle.name_resolution.specs.Resolved.{Scope, resolved_case, resolved_decl, resolved_field, resolved_operand}
 use Rattle.numbered_form.specs.Lists.{Each}
 use Rattle.numbered_form.specs.inner.Fields.{IsStrong}

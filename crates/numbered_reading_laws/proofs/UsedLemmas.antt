@@ -21,10 +21,10 @@ use Rattle.written_tree.specs.declared.written_module.WrittenVtable.{WrittenVtab
 use Rattle.written_tree.specs.declared.written_module.WrittenModule.{WrittenModule}
 use Rattle.written_tree.specs.Faults.{earliest, fault}
 use Rattle.written_tree.proofs.FaultOrder.{no_first, no_second}
-use Rattle.name_resolution.specs.NameFaults.{function_fault, is_among, name_fault, unknown_among, unknown_in}
-use Rattle.name_resolution.specs.Names.{Name, code_of, edge_label, edge_values, entry_function, function_name, functions_of, vtables_of, functions_used}
-use Rattle.name_resolution.specs.Names.{label_of, labels_used, name_of, operand_name, results_of, used_by_item, values_defined, values_used}
-use Rattle.name_resolution.specs.Names as written
+use Rattle.name_scopes.specs.NameFaults.{function_fault, is_among, name_fault, unknown_among, unknown_in}
+use Rattle.name_scopes.specs.Names.{Name, code_of, edge_label, edge_values, entry_function, function_name, functions_of, vtables_of, functions_used}
+use Rattle.name_scopes.specs.Names.{label_of, labels_used, name_of, operand_name, results_of, used_by_item, values_defined, values_used}
+use Rattle.name_scopes.specs.Names as written
 use Rattle.name_resolution.specs.Resolved.{Scope, defined_by, defined_by_arg, defined_by_inst, defined_in, function_of, place_among, resolved, resolved_block, resolved_blocks}
 use Rattle.name_resolution.specs.Resolved.{resolved_edge, resolved_function, resolved_inst, resolved_operand, scope_of, value_of, values_of, resolved_entry, resolved_vtable}
 use Rattle.numbered_form.specs.Lists.{Each}

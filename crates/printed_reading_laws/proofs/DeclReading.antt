@@ -29,7 +29,7 @@ use Rattle.written_values.specs.inner.Meaning.{meaning}
 use Rattle.written_values.specs.Opened.{PartValue}
 use Rattle.written_values.specs.inner.PartFaults.{part_fault}
 use Rattle.written_values.specs.Values.{cases_of, field_before, field_of, fields_of, item_of, payload_of, superclass_of, token_of}
-use Rattle.name_resolution.specs.Names.{name_of}
+use Rattle.name_scopes.specs.Names.{name_of}
 use Rattle.name_resolution.specs.Resolved.{resolved_case, resolved_field}
 use Rattle.numbered_form.specs.inner.Fields.{HasStrongFields, IsStrong}
 use Rattle.numbered_form.specs.Lists.{Each}

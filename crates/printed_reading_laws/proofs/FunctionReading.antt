@@ -30,7 +30,7 @@ use Rattle.written_values.specs.inner.PartFaults.{body_fault, part_fault}
 use Rattle.written_tree.specs.Places.{attribute_places, is_kept, label_place, mnemonics_of, token_place, values_of_block}
 use Rattle.written_tree.proofs.FaultOrder.{neither}
 use Rattle.written_values.specs.Values.{blocks_of, item_of, linkage_of, token_of, tokens_of}
-use Rattle.name_resolution.specs.Names.{Name, name_of}
+use Rattle.name_scopes.specs.Names.{Name, name_of}
 use Rattle.numbered_form.specs.inner.Functions.{IsAttribute}
 use Rattle.numbered_form.specs.Lists.{Each}
 use Rattle.numbered_form.specs.inner.Limits.{IsFunctionInLimits}

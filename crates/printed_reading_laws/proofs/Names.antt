@@ -5,10 +5,10 @@ use Rattle.sil_ast.specs.declared.module.Imports.{Imports}
 use Rattle.sil_ast.specs.declared.module.Module.{Module}
 use Rattle.written_tree.specs.declared.written_declarations.WrittenDecl.{WrittenDecl}
 use Rattle.written_tree.specs.declared.written_module.WrittenModule.{WrittenModule}
-use Rattle.name_resolution.specs.NameFaults.{function_fault, members_fault, name_fault, twice_after}
+use Rattle.name_scopes.specs.NameFaults.{function_fault, members_fault, name_fault, twice_after}
 use Rattle.written_tree.specs.Places.{name_of_decl}
 use Rattle.written_tree.proofs.FaultOrder.{neither}
-use Rattle.name_resolution.specs.Names.{Name, function_name, member_names, name_of, used_by_item, vtable_name}
+use Rattle.name_scopes.specs.Names.{Name, function_name, member_names, name_of, used_by_item, vtable_name}
 use Rattle.name_resolution.specs.Resolved.{resolved, resolved_decl, resolved_function, resolved_vtable}
 use Rattle.numbered_form.specs.Lists.{Each}
 use Rattle.numbered_form.specs.Names.{AreMembersOnce, AreOnce}

@@ -12,8 +12,8 @@ use Rattle.sil_ast.specs.declared.function.Function.{Function}
 use Rattle.sil_ast.specs.declared.place.ValueId.{ValueId}
 use Rattle.sil_printer.specs.CanonicalInsts.{block_name}
 use Rattle.written_tree.specs.declared.written_declarations.WrittenToken.{WrittenToken}
-use Rattle.name_resolution.specs.NameFaults.{is_among}
-use Rattle.name_resolution.specs.Names.{Name}
+use Rattle.name_scopes.specs.NameFaults.{is_among}
+use Rattle.name_scopes.specs.Names.{Name}
 use Rattle.name_resolution.specs.Resolved.{has_name, place_among, value_of}
 use Rattle.numbered_form.specs.Names.{AreOnce, function_name}
 use Rattle.numbered_form.specs.Numbering.{AreCountedFrom}

@@ -8,8 +8,8 @@ use Rattle.written_tree.specs.declared.fault.FaultKind.TheVariants.{Twice, Unkno
 use Rattle.written_tree.specs.declared.written_declarations.WrittenToken.{WrittenToken}
 use Rattle.written_tree.specs.Faults.{earliest, fault}
 use Rattle.written_tree.proofs.FaultOrder.{neither}
-use Rattle.name_resolution.specs.NameFaults.{is_among, twice_after, unknown_among, unknown_in}
-use Rattle.name_resolution.specs.Names.{Name, name_of}
+use Rattle.name_scopes.specs.NameFaults.{is_among, twice_after, unknown_among, unknown_in}
+use Rattle.name_scopes.specs.Names.{Name, name_of}
 use Rattle.numbered_form.specs.Lists.{Each}
 use Rattle.numbered_form.specs.Names.{AreOnce}
 use Rattle.sil_grammar.proofs.numbered_reading_laws.ListsAndFaults.{Each-map}

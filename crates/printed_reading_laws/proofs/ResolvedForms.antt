@@ -10,7 +10,7 @@ use Rattle.sil_ast.specs.declared.function.Form.TheVariants.{External, Lowered, 
 use Rattle.written_tree.specs.declared.written_declarations.WrittenToken.{WrittenToken}
 use Rattle.written_tree.specs.declared.written_functions.WrittenBlock.{WrittenBlock}
 use Rattle.written_tree.specs.Places.{is_kept, is_ossa}
-use Rattle.name_resolution.specs.Names.{Name, name_of}
+use Rattle.name_scopes.specs.Names.{Name, name_of}
 use Rattle.name_resolution.specs.Resolved.{form_of}
 use Rattle.numbered_form.specs.Lists.{Each}
 use Rattle.numbered_form.specs.inner.Functions.{IsAttribute}

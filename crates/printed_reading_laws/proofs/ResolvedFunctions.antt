@@ -10,8 +10,8 @@ use Rattle.written_tree.specs.declared.written_declarations.WrittenToken.{Writte
 use Rattle.written_tree.specs.declared.written_functions.WrittenFunction.{WrittenFunction}
 use Rattle.written_tree.specs.Places.{is_kept}
 use Rattle.written_tree.proofs.FaultOrder.{neither}
-use Rattle.name_resolution.specs.NameFaults.{function_fault}
-use Rattle.name_resolution.specs.Names.{Name, functions_used, insts_of, label_of, labels_used, name_of, values_defined, values_used}
+use Rattle.name_scopes.specs.NameFaults.{function_fault}
+use Rattle.name_scopes.specs.Names.{Name, functions_used, insts_of, label_of, labels_used, name_of, values_defined, values_used}
 use Rattle.name_resolution.specs.Resolved.{Scope, form_of, resolved_blocks, resolved_function, scope_of, values_of}
 use Rattle.numbered_form.specs.Lists.{Each}
 use Rattle.numbered_form.specs.inner.Functions.{IsFormed}

@@ -12,7 +12,7 @@ use Rattle.written_tree.specs.declared.written_declarations.WrittenToken.{Writte
 use Rattle.written_tree.specs.declared.written_instructions.WrittenEdge.{WrittenEdge}
 use Rattle.written_tree.specs.declared.written_instructions.WrittenInst.{WrittenInst}
 use Rattle.written_tree.specs.declared.written_instructions.WrittenOperand.{WrittenOperand}
-use Rattle.name_resolution.specs.Names.{Name, name_of}
+use Rattle.name_scopes.specs.Names.{Name, name_of}
 use Rattle.name_resolution.specs.Resolved.{Scope, counted, defined_by_inst, function_of, resolved_edge, resolved_inst, resolved_operand}
 use Rattle.numbered_form.specs.Lists.{Each}
 use Rattle.numbered_form.specs.Numbering.{AreCountedFrom, IsEdgeInRange, IsValueBelow}

@@ -11,7 +11,7 @@ use Rattle.written_tree.specs.declared.written_module.WrittenEntry.{WrittenEntry
 use Rattle.written_tree.specs.declared.written_module.WrittenItem.{WrittenItem}
 use Rattle.written_tree.specs.declared.written_module.WrittenItem.TheVariants as item
 use Rattle.written_tree.specs.declared.written_module.WrittenModule.{WrittenModule}
-use Rattle.name_resolution.specs.Names.{Name, decls_of, entry_function, function_name, functions_of, name_of, used_by_item, vtables_of}
+use Rattle.name_scopes.specs.Names.{Name, decls_of, entry_function, function_name, functions_of, name_of, used_by_item, vtables_of}
 use Rattle.name_resolution.specs.Resolved.{resolved_decl, resolved_entry, resolved_vtable}
 use Rattle.numbered_form.specs.Lists.{Each}
 use Rattle.numbered_form.specs.inner.Functions.{IsFormed}

@@ -5,7 +5,7 @@ use Rattle.instruction_table.specs.Forms.{has_one_result}
 use Rattle.instruction_table.specs.declared.op.Op.{Op}
 use Rattle.sil_ast.specs.declared.place.ValueId.{ValueId}
 use Rattle.written_tree.specs.declared.written_declarations.WrittenToken.{WrittenToken}
-use Rattle.name_resolution.specs.Names.{Name, name_of}
+use Rattle.name_scopes.specs.Names.{Name, name_of}
 use Rattle.name_resolution.specs.Resolved.{defined_by}
 use Rattle.numbered_form.specs.inner.Parts.{has_results}
 use Rattle.printed_reading_laws.proofs.SideBySide.{zip_right}

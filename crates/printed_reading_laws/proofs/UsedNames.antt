@@ -14,7 +14,7 @@ use Rattle.written_tree.specs.declared.written_functions.WrittenBlock.{WrittenBl
 use Rattle.written_tree.specs.declared.written_instructions.WrittenEdge.{WrittenEdge}
 use Rattle.written_tree.specs.declared.written_instructions.WrittenInst.{WrittenInst}
 use Rattle.written_tree.specs.declared.written_instructions.WrittenOperand.{WrittenOperand}
-use Rattle.name_resolution.specs.Names.{Name, code_of, edge_label, edge_values, functions_used, labels_used, name_of, operand_name, values_used}
+use Rattle.name_scopes.specs.Names.{Name, code_of, edge_label, edge_values, functions_used, labels_used, name_of, operand_name, values_used}
 use Rattle.numbered_form.specs.Lists.{Each}
 use Rattle.numbered_form.specs.Insts.{insts_in}
 use Rattle.numbered_form.specs.Numbering.{IsEdgeInRange, IsValueBelow}

@@ -34,7 +34,7 @@ use Rattle.written_tree.specs.declared.written_module.WrittenEntry.{WrittenEntry
 use Rattle.written_tree.specs.declared.written_module.WrittenItem.TheVariants as item
 use Rattle.written_tree.specs.declared.written_module.WrittenModule.{WrittenModule}
 use Rattle.written_tree.specs.declared.written_module.WrittenVtable.{WrittenVtable}
-use Rattle.name_resolution.specs.Names.{Name, name_of}
+use Rattle.name_scopes.specs.Names.{Name, name_of}
 use Rattle.name_resolution.specs.Resolved.{resolved_decl}
 
 -- the type, counted as deep as it is

@@ -10,7 +10,7 @@ use Rattle.sil_ast.specs.declared.place.ValueId.{ValueId}
 use Rattle.written_tree.specs.declared.written_functions.WrittenArg.{WrittenArg}
 use Rattle.written_tree.specs.declared.written_functions.WrittenBlock.{WrittenBlock}
 use Rattle.written_tree.specs.declared.written_instructions.WrittenInst.{WrittenInst}
-use Rattle.name_resolution.specs.Names as written
+use Rattle.name_scopes.specs.Names as written
 use Rattle.name_resolution.specs.Resolved.{defined_by_arg, defined_by_inst, defined_in}
 use Rattle.numbered_form.specs.Lists.{Each}
 use Rattle.numbered_form.specs.Insts.{EachInBlock, insts_in, insts_of}

@@ -22,7 +22,7 @@ use Rattle.written_tree.specs.declared.written_instructions.WrittenEdge.{Written
 use Rattle.written_tree.specs.declared.written_instructions.WrittenInst.{WrittenInst}
 use Rattle.written_tree.specs.declared.written_instructions.WrittenOperand.{WrittenOperand}
 use Rattle.written_tree.specs.declared.written_instructions.WrittenQualifier.{WrittenQualifier}
-use Rattle.name_resolution.specs.Names.{name_of}
+use Rattle.name_scopes.specs.Names.{name_of}
 use Rattle.printed_reading_laws.proofs.RowForms.{bare}
 use Rattle.printed_reading_laws.proofs.Written.{IsEdgeWritten, IsInstWritten, IsOperandWritten, IsValueNamed, name_in}
 

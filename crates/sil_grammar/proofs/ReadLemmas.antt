@@ -15,7 +15,7 @@ use Rattle.sil_shape.proofs.DerivedOnce.{steps_once}
 use Rattle.written_tree.specs.declared.fault.Fault.{Fault}
 use Rattle.written_tree.specs.declared.written_module.WrittenModule.{WrittenModule}
 use Rattle.written_modules.specs.inner.Replay.{first_fault, Writes}
-use Rattle.name_resolution.specs.NameFaults.{name_fault}
+use Rattle.name_scopes.specs.NameFaults.{name_fault}
 use Rattle.name_resolution.specs.Resolved.{resolved}
 use Rattle.sil_grammar.specs.declared.first_bad.BadPlace.{BadPlace}
 use Rattle.sil_grammar.specs.declared.refusal.ReadRefusal.{ReadRefusal}

@@ -11,7 +11,7 @@ use Rattle.sil_shape.proofs.DerivedOnce.{front_begins, steps_once}
 use Rattle.written_tree.specs.declared.fault.Fault.{Fault}
 use Rattle.written_tree.specs.declared.written_module.WrittenModule.{WrittenModule}
 use Rattle.written_modules.specs.inner.Replay.{first_fault}
-use Rattle.name_resolution.specs.NameFaults.{name_fault}
+use Rattle.name_scopes.specs.NameFaults.{name_fault}
 use Rattle.sil_grammar.specs.declared.first_bad.BadPlace.{BadPlace}
 use Rattle.sil_grammar.specs.Classes.{token_class}
 use Rattle.sil_grammar.specs.Completion.{IsShortestFrom}

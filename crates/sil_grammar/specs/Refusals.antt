@@ -12,7 +12,7 @@ use Rattle.written_tree.specs.declared.fault.FaultKind.{FaultKind}
 use Rattle.written_tree.specs.declared.fault.FaultKind.TheVariants as kind
 use Rattle.written_tree.specs.declared.written_module.WrittenModule.{WrittenModule}
 use Rattle.spelled_parts_laws.specs.Reading.{IsFirstFault}
-use Rattle.name_resolution.specs.NameFaults.{name_fault}
+use Rattle.name_scopes.specs.NameFaults.{name_fault}
 use Rattle.sil_grammar.specs.declared.first_bad.BadKind.{BadKind}
 use Rattle.sil_grammar.specs.declared.first_bad.BadKind.TheVariants as bad
 use Rattle.sil_grammar.specs.declared.first_bad.BadPlace.{BadPlace}

@@ -6,7 +6,7 @@ use Rattle.sil_shape.specs.Derivation.{start}
 use Rattle.written_tree.specs.declared.written_module.WrittenModule.{WrittenModule}
 use Rattle.written_values.specs.Opened.{module_value}
 use Rattle.spelled_parts_laws.specs.Stands.{Stands}
-use Rattle.name_resolution.specs.NameFaults.{name_fault}
+use Rattle.name_scopes.specs.NameFaults.{name_fault}
 use Rattle.name_resolution.specs.Resolved.{resolved}
 use Rattle.sil_grammar.specs.Classes.{token_class}
 

@@ -10,10 +10,10 @@ use Rattle.written_tree.specs.declared.written_module.WrittenItem.{WrittenItem}
 use Rattle.written_tree.specs.Faults.{earlier, earliest}
 use Rattle.name_resolution.specs.declared.first_faults.CodeFaults.{CodeFaults}
 use Rattle.name_resolution.specs.declared.first_faults.ItemFaults.{ItemFaults}
-use Rattle.name_resolution.specs.NameFaults.{function_fault, members_fault, twice_or_unknown}
-use Rattle.name_resolution.specs.Names.{Name, code_of, decls_of, edge_label, edge_values, functions_of, functions_used, label_of}
-use Rattle.name_resolution.specs.Names.{labels_used, operand_name, used_by_item, values_defined, values_used}
-use Rattle.name_resolution.specs.inner.Symbols.{Symbols, names_in, unknown_of}
+use Rattle.name_scopes.specs.NameFaults.{function_fault, members_fault, twice_or_unknown}
+use Rattle.name_scopes.specs.Names.{Name, code_of, decls_of, edge_label, edge_values, functions_of, functions_used, label_of}
+use Rattle.name_scopes.specs.Names.{labels_used, operand_name, used_by_item, values_defined, values_used}
+use Rattle.name_scopes.specs.inner.Symbols.{Symbols, names_in, unknown_of}
 
 -- the names that are defined where a function is
 pub record Known : Type 0 where

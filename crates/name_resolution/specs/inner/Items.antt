@@ -3,7 +3,7 @@ use Rattle.std.specs.Prelude.{List, ◌++◌, map}
 use Rattle.std.specs.List.{flat_map}
 use Rattle.sil_ast.specs.declared.module.Module.{Module}
 use Rattle.written_tree.specs.declared.written_module.WrittenItem.{WrittenItem}
-use Rattle.name_resolution.specs.Names.{Name, decls_of, functions_of, vtables_of}
+use Rattle.name_scopes.specs.Names.{Name, decls_of, functions_of, vtables_of}
 use Rattle.name_resolution.specs.Resolved.{resolved_decl, resolved_function, resolved_vtable}
 
 -- with these items behind those that it has, each in the list of its kind

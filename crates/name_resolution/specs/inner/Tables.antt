@@ -4,9 +4,9 @@ use Rattle.std.specs.List.{flat_map}
 use Rattle.std.specs.Str.{bytes_eq}
 use Rattle.written_tree.specs.declared.written_functions.WrittenBlock.{WrittenBlock}
 use Rattle.written_tree.specs.declared.written_module.WrittenItem.{WrittenItem}
-use Rattle.name_resolution.specs.Names.{Name, function_name, functions_of, label_of, name_of}
+use Rattle.name_scopes.specs.Names.{Name, function_name, functions_of, label_of, name_of}
 use Rattle.name_resolution.specs.Resolved.{Scope, defined_in, has_name}
-use Rattle.name_resolution.specs.inner.Symbols.{Symbols, number_in}
+use Rattle.name_scopes.specs.inner.Symbols.{Symbols, number_in}
 
 -- a look-up finds the place of a name in this list
 abbrev pub FindsNames : Symbols → List Name → Type 0

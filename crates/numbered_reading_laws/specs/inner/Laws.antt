@@ -6,7 +6,7 @@ use Rattle.sil_shape.specs.declared.steps.Step.{Step}
 use Rattle.sil_shape.specs.Derivation.{Derives, start}
 use Rattle.written_tree.specs.declared.written_module.WrittenModule.{WrittenModule}
 use Rattle.written_modules.specs.inner.Replay.{first_fault, Writes}
-use Rattle.name_resolution.specs.NameFaults.{name_fault}
+use Rattle.name_scopes.specs.NameFaults.{name_fault}
 use Rattle.name_resolution.specs.Resolved.{resolved}
 use Rattle.numbered_form.specs.inner.NumberedForm.{IsNumbered}
 use Rattle.numbered_reading_laws.specs.inner.Leaves.{AreOfClasses}

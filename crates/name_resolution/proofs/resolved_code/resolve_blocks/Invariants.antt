@@ -2,7 +2,7 @@ use Rattle.std.proofs.Common.{◌≡◌, ◌++◌}
 use Rattle.std.specs.List.{flat_map}
 use Rattle.std.specs.Vec.Iter.{into_iter_items}
 use Rattle.name_resolution.specs.inner.FirstFaults.{known_in, with_code}
-use Rattle.name_resolution.specs.Names.{code_of}
+use Rattle.name_scopes.specs.Names.{code_of}
 use Rattle.name_resolution.specs.Resolved.{resolved_blocks}
 use Rattle.name_resolution.proofs.resolved_code.resolve_blocks.Given as goal
 

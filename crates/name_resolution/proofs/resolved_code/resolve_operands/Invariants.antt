@@ -1,9 +1,9 @@
 use Rattle.std.proofs.Common.{◌≡◌, ◌++◌, map}
 use Rattle.std.specs.Vec.Iter.{into_iter_items}
 use Rattle.written_tree.specs.Faults.{earlier}
-use Rattle.name_resolution.specs.Names.{operand_name}
+use Rattle.name_scopes.specs.Names.{operand_name}
 use Rattle.name_resolution.specs.Resolved.{resolved_operand}
-use Rattle.name_resolution.specs.inner.Symbols.{names_in, unknown_of}
+use Rattle.name_scopes.specs.inner.Symbols.{names_in, unknown_of}
 use Rattle.name_resolution.proofs.resolved_code.resolve_operands.Given as goal
 
 abbrev pub ghost-resolve_operand : goal.ghost-resolve_operand

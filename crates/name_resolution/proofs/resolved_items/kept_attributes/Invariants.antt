@@ -1,7 +1,7 @@
 use Rattle.std.proofs.Common.{◌≡◌, ◌++◌, filter, map}
 use Rattle.std.specs.Vec.Iter.{into_iter_items}
 use Rattle.written_tree.specs.Places.{is_kept}
-use Rattle.name_resolution.specs.Names.{name_of}
+use Rattle.name_scopes.specs.Names.{name_of}
 use Rattle.name_resolution.proofs.resolved_items.kept_attributes.Given as goal
 
 abbrev pub invariant-loop-word : goal.invariant-loop-word

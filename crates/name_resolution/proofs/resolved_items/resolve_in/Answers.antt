@@ -1,4 +1,4 @@
-use Rattle.name_resolution.specs.Names.{label_of}
+use Rattle.name_scopes.specs.Names.{label_of}
 use Rattle.name_resolution.proofs.FaultLemmas.{body_done}
 use Rattle.name_resolution.proofs.NumberLemmas.{finds_each, finds_values}
 use Rattle.name_resolution.proofs.resolved_items.resolve_in.Goals as goal

@@ -2,7 +2,7 @@ use Rattle.std.proofs.Common.{◌≡◌}
 use Rattle.std.specs.Vec.Iter.{into_iter_items}
 use Rattle.name_resolution.specs.inner.FirstFaults.{with_faults}
 use Rattle.name_resolution.specs.inner.Items.{with_items}
-use Rattle.name_resolution.specs.inner.Symbols.{names_in}
+use Rattle.name_scopes.specs.inner.Symbols.{names_in}
 use Rattle.name_resolution.proofs.resolved_items.resolve_items.Given as goal
 
 abbrev pub ghost-resolve_item : goal.ghost-resolve_item

@@ -1,5 +1,5 @@
 use Rattle.std.specs.List.{flat_map}
-use Rattle.name_resolution.specs.Names.{function_name, functions_of}
+use Rattle.name_scopes.specs.Names.{function_name, functions_of}
 use Rattle.name_resolution.proofs.NumberLemmas.{finds_each}
 use Rattle.name_resolution.proofs.resolving.resolve_module.Goals as goal
 

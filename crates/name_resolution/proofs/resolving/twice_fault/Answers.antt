@@ -1,9 +1,9 @@
 use Rattle.std.proofs.Common.{map, refl}
 use Rattle.std.specs.List.{flat_map}
 use Rattle.written_tree.specs.Places.{name_of_decl}
-use Rattle.name_resolution.specs.Names.{decls_of, vtable_name, vtables_of}
+use Rattle.name_scopes.specs.Names.{decls_of, vtable_name, vtables_of}
 use Rattle.sil_ast.specs.Imports.{reserved}
-use Rattle.name_resolution.proofs.DefinedNames.{twice_of_unnumbered, twice_of_unreserved}
+use Rattle.name_scopes.proofs.DefinedNames.{twice_of_unnumbered, twice_of_unreserved}
 use Rattle.name_resolution.proofs.resolving.twice_fault.Goals as goal
 
 pub returns : goal.returns

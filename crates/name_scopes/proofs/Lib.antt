@@ -1,0 +1,3 @@
+pub mod DefinedNames
+pub mod Steps
+pub mod SymbolLemmas
