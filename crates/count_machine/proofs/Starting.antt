@@ -1,15 +1,14 @@
 -- From the start of the machine to the end of the run.
-use Rattle.std.proofs.Common.{◌≡◌, ◌∙◌, ◌≤◌, ℕ, Some, sym, ap, subst}
+use Rattle.std.proofs.Common.{◌≡◌, ◌∙◌, ◌≤◌, ℕ, List, Bool, Some, sym, ap, subst}
 use Rattle.std.specs.Prelude.{slice_get}
 use Rattle.lowered_run.specs.LowOutcomes.{LowEndsSo}
-use Rattle.machine_laws.proofs.FrameReady.{code_there}
 use Rattle.machine_laws.specs.inner.MachineRuns.{MachineRunsSo, Started}
 use Rattle.machine_steps.specs.declared.run_end.RunEnd.{RunEnd}
 use Rattle.machine_steps.specs.Runs.{Leads, begins}
 use Rattle.machine_steps.specs.Views.{MachineView, Stops}
 use Rattle.machine_steps.specs.ready_code.declared.function.ReadyFunction.{ReadyFunction}
 use Rattle.machine_steps.specs.ready_code.declared.function.ReadyModule.{ReadyModule}
-use Rattle.machine_steps.specs.ready_code.ReadyModules.{IsReadyModule}
+use Rattle.machine_steps.specs.ready_code.ReadyModules.{IsReadyModule, Reaches}
 use Rattle.run_typing_laws.specs.run_typing.Forms.{given_shape}
 use Rattle.run_typing_laws.specs.run_typing.RunTyped.{RunTyped}
 use Rattle.sil_ast.specs.declared.module.Module.{Module}
@@ -23,18 +22,20 @@ use Rattle.count_machine.specs.inner.Stopped.{TellsOf}
 abbrev pub HasBegun : Declarations → ReadyModule → FuncId → MachineView → Type 0
 HasBegun d ready e st = (code : ReadyFunction) → slice_get ready.functions e.0 ≡ Some code → st ≡ begins d e code
 
-module _ (m : Module) (ready : ReadyModule) (e : FuncId) (bound : ℕ) (law : MachineRunsSo) (typed : RunTyped m) (made : IsReadyModule m ready)
-    (starts : MayStartAt m e) (some_turns : 1 ≤ bound) where
+module _ (m : Module) (ready : ReadyModule) (e : FuncId) (bound : ℕ) (law : MachineRunsSo) (typed : RunTyped m) (reached : List Bool) (made : IsReadyModule m reached ready)
+    (comes_to_entry : Reaches reached e) (starts : MayStartAt m e) (some_turns : 1 ≤ bound) where
   pub ends_told : (d : Declarations) → d ≡ declarations_of m → (first : MachineView) → HasBegun d ready e first
       → (end : RunEnd) (last : MachineView) → Leads ready bound first (Stops end last)
       → (run : LowRun) → TellsOf m (given_shape (declarations_of m) starts.entry) last end run → EndsAsTold m e bound run
   ends_told d same first begun end last leads run tells =
-      let code = code_there m ready made e starts.entry starts.there in
+      let code = made.functions e starts.entry comes_to_entry starts.there in
       let started : Started m ready e bound = record {
         typed = typed;
+        reached = reached;
         made = made;
         entry = starts.entry;
         there = starts.there;
+        comes_to_entry = comes_to_entry;
         starts = starts.may;
         code = code.0;
         ready_there = code.1;

@@ -37,7 +37,7 @@ pub fn run(
 {
     runnable_is_typed();
     machine_runs_so();
-    let ready = make_ready(alloc, m, table)?;
+    let ready = make_ready(alloc, m, table, entry)?;
     let mut machine = Machine::begin(alloc, table, &ready, entry)?;
     match run_to_end(&mut machine, &ready, turns) {
         Stop::Ends(stop) => {

@@ -14,13 +14,12 @@ use Rattle.machine_steps.specs.declared.run_end.RunEnd.{RunEnd}
 use Rattle.machine_steps.specs.ready_code.declared.function.ReadyModule.{ReadyModule}
 use Rattle.machine_steps.specs.ready_code.ReadyModules.{IsReadyModule}
 use Rattle.machine_steps.specs.run_typing.RunTyped.{RunTyped}
-use Rattle.run_values.specs.Shapes.{Shape}
 use Rattle.sil_ast.specs.declared.module.Module.{Module}
 use Rattle.machine_laws.specs.inner.Told.{IsEnding, outcome_told}
 use Rattle.machine_laws.proofs.Entries.{Ends}
 use Rattle.machine_laws.proofs.Memories.{MemoryAgrees}
 use Rattle.machine_laws.proofs.Slots.{Made}
-use Rattle.machine_laws.proofs.Tasks.{TasksAgree, to_go_on}
+use Rattle.machine_laws.proofs.Tasks.{Beginning, TasksAgree, to_go_on}
 
 -- the machine's stacks end where its first task says
 abbrev pub ends_of : MachineView → Ends
@@ -34,18 +33,18 @@ pub record PartsAgree (m : Module) (made : List Made) (s : LowState) (st : Machi
   pub retains : st.heap.retains ≡ s.retains
   pub releases : st.heap.releases ≡ s.releases
 
-pub record Agrees (m : Module) (entry : Shape) (made : List Made) (s : LowState) (st : MachineView) : Type 0 where
+pub record Agrees (m : Module) (entry : Beginning) (made : List Made) (s : LowState) (st : MachineView) : Type 0 where
   pub parts : PartsAgree m made s st
   pub tasks : TasksAgree m entry made s.memory st to_go_on (ends_of st) s.tasks st.tasks
 
 -- where the machine has gone, so has the run, in some steps
-pub data Follows (m : Module) (entry : Shape) (bound : ℕ) (s : LowState) : Went → Type 0 where
+pub data Follows (m : Module) (entry : Beginning) (bound : ℕ) (s : LowState) : Went → Type 0 where
   goes : (made : List Made) (j : ℕ) (s' : LowState) (st : MachineView) → run (low_step m (shapes_of m) bound) j s ≡ low.Goes s' → Agrees m entry made s' st
       → Follows m entry bound s (Goes st)
   stops : (j : ℕ) (s' : LowState) (st : MachineView) (end : RunEnd) (e : Ending LowFault) → run (low_step m (shapes_of m) bound) j s ≡ low.Ends e s'
-      → IsEnding m entry st end e → low_outcome_at e s' ≡ outcome_told st end e → Follows m entry bound s (Stops end st)
+      → IsEnding m entry.gives st end e → low_outcome_at e s' ≡ outcome_told st end e → Follows m entry bound s (Stops end st)
 
 -- whatever step the machine makes of a state that agrees, the run follows
 abbrev pub StepsFollow : Type 0
-StepsFollow = (m : Module) (ready : ReadyModule) (entry : Shape) (bound : ℕ) → RunTyped m → IsReadyModule m ready → (made : List Made) (s : LowState) (st : MachineView)
+StepsFollow = (m : Module) (ready : ReadyModule) (entry : Beginning) (bound : ℕ) → RunTyped m → IsReadyModule m entry.reached ready → (made : List Made) (s : LowState) (st : MachineView)
     → Agrees m entry made s st → Follows m entry bound s (machine_step ready bound st)

@@ -25,7 +25,6 @@ use Rattle.machine_steps.specs.ready_code.ReadyOps.{field_address, forgets_name,
 use Rattle.machine_steps.specs.ready_code.ReadyOps.{look, member, member_address, object, removes, retains, same, slot, stores, stores_name, traps}
 use Rattle.machine_steps.specs.run_typing.RunTyped.{FunctionIsTyped, RunTyped}
 use Rattle.run_values.specs.Memory.{is_dead_phase, object_at}
-use Rattle.run_values.specs.Shapes.{Shape}
 use Rattle.run_values.specs.declared.phase.Phase.TheVariants.{Deiniting}
 use Rattle.sil_ast.specs.declared.function.Function.{Function}
 use Rattle.sil_ast.specs.declared.inst.Inst.{Inst}
@@ -45,15 +44,16 @@ use Rattle.machine_laws.proofs.Ending.{Alike, alike_by, ends, goes, parts_with}
 use Rattle.machine_laws.proofs.Entries.{Ends, FrameAgrees}
 use Rattle.machine_laws.proofs.FinishSteps.{finish_alike}
 use Rattle.machine_laws.proofs.Finished.{deinits_agree}
+use Rattle.machine_laws.proofs.FinishedClass.{deinit_reached}
 use Rattle.machine_laws.proofs.FrameReady.{Standing, at_end, at_inst, ready_where, standing}
 use Rattle.machine_laws.proofs.FrameSteps.{Running, StandsAt, is_call}
 use Rattle.machine_laws.proofs.ReturningEnds.{end_alike}
 use Rattle.machine_laws.proofs.RowSteps.{row_follows}
 use Rattle.machine_laws.proofs.Slots.{Made}
-use Rattle.machine_laws.proofs.Tasks.{ReadyFor, TasksAgree, bottom, dropped, finishes, is_finishing, runs, to_go_on, waits}
+use Rattle.machine_laws.proofs.Tasks.{Beginning, ReadyFor, TasksAgree, bottom, dropped, finishes, is_finishing, runs, to_go_on, waits}
 use Rattle.machine_laws.proofs.Tasks as tasks
 
-module _ (m : Module) (ready : ReadyModule) (entry : Shape) (bound : ℕ) (typed : RunTyped m) (is_ready : IsReadyModule m ready) (made : List Made) where
+module _ (m : Module) (ready : ReadyModule) (entry : Beginning) (bound : ℕ) (typed : RunTyped m) (is_ready : IsReadyModule m entry.reached ready) (made : List Made) where
   -- a frame goes on
   module _ (s : LowState) (st : MachineView) (f : Function) (lf : LowFrame) (mf : Frame) (below : Ends) (rest : List (low.Task LowFrame)) (rest' : List Task)
       (running : Running m entry made s st f lf mf below rest rest') where
@@ -106,7 +106,7 @@ module _ (m : Module) (ready : ReadyModule) (entry : Shape) (bound : ℕ) (typed
     frame_alike : Alike m entry (run.runs m (shapes_of m) bound s rest lf) (machine.runs ready bound st mf rest')
     frame_alike =
         alike_by (ap (on_some s (λ f. run.acts m (shapes_of m) bound s rest lf f (inst_at f lf.at))) running.frame.there) refl
-        (by (standing function_typed (ready_where is_ready running.frame)))
+        (by (standing function_typed (ready_where is_ready running.reached running.frame)))
       where
         by : Standing m ready f lf mf → Alike m entry (run.acts m (shapes_of m) bound s rest lf f (inst_at f lf.at)) (machine.runs ready bound st mf rest')
         by (at_inst block i o there op stands) =
@@ -144,7 +144,8 @@ module _ (m : Module) (ready : ReadyModule) (entry : Shape) (bound : ℕ) (typed
           let first = first_dropped g gs waiting called left in
           alike_by refl
           (ap (λ ds. machine.deinit_step ready bound st o called rest' (slice_get ds called)) are ∙ ap (machine.deinit_step ready bound st o called rest') first.0)
-          (deinit_alike m ready entry bound typed is_ready made s st parts o was_made phase g gs called first.0 first.1 rest rest' once others)
+          (deinit_alike m ready entry bound typed is_ready made s st parts o was_made phase g gs called
+          (deinit_reached m ready st.heap o is_ready called g (ap (λ ds. slice_get ds called) are ∙ first.0)) first.0 first.1 rest rest' once others)
 
   -- the run makes one step, and has gone where the machine has
   follows_once : (s : LowState) (n : LowNext) (w : Went) → low_step m (shapes_of m) bound s ≡ n → Alike m entry n w → Follows m entry bound s w
@@ -165,12 +166,13 @@ module _ (m : Module) (ready : ReadyModule) (entry : Shape) (bound : ℕ) (typed
       → TasksAgree m entry made s.memory st r above ts ts' → r ≡ to_go_on → above ≡ ends_of st → st.tasks ≡ ts'
       → Follows m entry bound (record s { tasks = ts }) (machine.task_step ready bound st ts')
   tasks_follow s st parts _ _ _ _ bottom ready_to up_to tasks_are = absurd (cc)
-  tasks_follow s st parts _ _ _ _ (waits t f lf mf below above rest rest' frame awaits others) ready_to up_to tasks_are = absurd (cc)
-  tasks_follow s st parts _ _ _ _ (runs f lf mf below above rest rest' frame others) ready_to up_to tasks_are =
+  tasks_follow s st parts _ _ _ _ (waits t f lf mf below above rest rest' reaches frame awaits others) ready_to up_to tasks_are = absurd (cc)
+  tasks_follow s st parts _ _ _ _ (runs f lf mf below above rest rest' reaches frame others) ready_to up_to tasks_are =
       let now : LowState = record s { tasks = low.Runs lf ∷ rest } in
       follows_once now (run.runs m (shapes_of m) bound now rest lf) (machine.runs ready bound st mf rest') refl
       (frame_alike now st f lf mf below rest rest' (record {
         parts = parts_with parts (low.Runs lf ∷ rest) st.tasks;
+        reached = reaches;
         frame = subst (FrameAgrees m made s.memory st f lf mf below) up_to frame;
         others = others;
         tasks = tasks_are;

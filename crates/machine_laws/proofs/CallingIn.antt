@@ -12,25 +12,24 @@ use Rattle.machine_steps.specs.Calling.{enter}
 use Rattle.machine_steps.specs.Turning.{frames_in}
 use Rattle.machine_steps.specs.Views.{MachineView, Went}
 use Rattle.run_values.specs.Memory.{Memory}
-use Rattle.run_values.specs.Shapes.{Shape}
 use Rattle.sil_ast.specs.declared.module.Module.{Module}
 use Rattle.machine_laws.specs.inner.Told.{depth}
 use Rattle.machine_laws.proofs.Agreement.{PartsAgree}
 use Rattle.machine_laws.proofs.Ending.{Alike, both_choose, ends_alike, turn_alike}
 use Rattle.machine_laws.proofs.Entries.{Ends}
 use Rattle.machine_laws.proofs.Slots.{Made}
-use Rattle.machine_laws.proofs.Tasks.{ReadyFor, TasksAgree, bottom, dropped, drops, finishes, runs, waits}
+use Rattle.machine_laws.proofs.Tasks.{Beginning, ReadyFor, TasksAgree, bottom, dropped, drops, finishes, runs, waits}
 
-pub same_frames : {m : Module} {entry : Shape} {made : List Made} {mem : Memory} {st : MachineView} {r : ReadyFor} {ends : Ends} {ts : List (low.Task LowFrame)} {ts' : List Task}
+pub same_frames : {m : Module} {entry : Beginning} {made : List Made} {mem : Memory} {st : MachineView} {r : ReadyFor} {ends : Ends} {ts : List (low.Task LowFrame)} {ts' : List Task}
     → TasksAgree m entry made mem st r ends ts ts' → frames_in ts' ≡ low.frame_count ts
 same_frames bottom = refl
-same_frames (runs f lf mf below above rest rest' frame others) = ap (λ n. 1 + n) (same_frames others)
-same_frames (waits s f lf mf below above rest rest' frame awaits others) = ap (λ n. 1 + n) (same_frames others)
+same_frames (runs f lf mf below above rest rest' reaches frame others) = ap (λ n. 1 + n) (same_frames others)
+same_frames (waits s f lf mf below above rest rest' reaches frame awaits others) = ap (λ n. 1 + n) (same_frames others)
 same_frames (drops o os below above rest rest' ends waiting others) = let same = same_frames others in omega (arith, same)
 same_frames (dropped ends rest rest' others) = same_frames others
 same_frames (finishes r gs o called ends rest rest' was_made phase deinits once others) = let same = same_frames others in omega (arith, same)
 
-pub enter_alike : {m : Module} {entry : Shape} {made : List Made} {s : LowState} {st : MachineView} {r : ReadyFor} {ends : Ends} {ts : List (low.Task LowFrame)}
+pub enter_alike : {m : Module} {entry : Beginning} {made : List Made} {s : LowState} {st : MachineView} {r : ReadyFor} {ends : Ends} {ts : List (low.Task LowFrame)}
     → PartsAgree m made s st → TasksAgree m entry made s.memory st r ends ts st.tasks → (bound : ℕ) (go : LowState → LowNext) (go' : MachineView → Went)
     → (PartsAgree m made (record s { turns = s.turns + 1 }) (record st { turns = st.turns + 1 })
     → Alike m entry (go (record s { turns = s.turns + 1 })) (go' (record st { turns = st.turns + 1 })))

@@ -29,7 +29,7 @@ use Rattle.machine_steps.specs.ready_code.Layout.{local}
 use Rattle.machine_steps.specs.run_typing.CallForms.{IsOf}
 use Rattle.machine_steps.specs.run_typing.Forms.{OfValue, form_of, forms_of}
 use Rattle.machine_steps.specs.run_typing.RunTyped.{RunTyped}
-use Rattle.run_values.specs.Shapes.{Integer, NoMember, Shape, Tuple}
+use Rattle.run_values.specs.Shapes.{Integer, NoMember, Tuple}
 use Rattle.run_values.specs.Values as value
 use Rattle.run_values.specs.Values.{integer_of}
 use Rattle.sil_ast.specs.declared.function.Function.{Function}
@@ -53,6 +53,7 @@ use Rattle.machine_laws.proofs.Rows.Gives.{gives_value}
 use Rattle.machine_laws.proofs.Rows.Integers.{int_at, ints_read, numbers_listed}
 use Rattle.machine_laws.proofs.Rows.Steps.{defined_by}
 use Rattle.machine_laws.proofs.Slots.{Made}
+use Rattle.machine_laws.proofs.Tasks.{Beginning}
 
 map_twice : {A B C : Type 0} (f : B → C) (g : A → B) (xs : List A) → map f (map g xs) ≡ map (λ x. f (g x)) xs
 map_twice f g [] = refl
@@ -66,7 +67,7 @@ pub record CallsBodiless (m : Module) (f : Function) (i : Inst) (c r : ValueId) 
   pub taken : forms_of (declarations_of m) f args ≡ map (λ w. OfValue (Integer w)) widths
   pub given : form_of (declarations_of m) f r ≡ OfValue (Tuple NoMember)
 
-module _ (m : Module) (ready : ReadyModule) (entry : Shape) (bound : ℕ) (typed : RunTyped m) (made : List Made) (s : LowState) (st : MachineView)
+module _ (m : Module) (ready : ReadyModule) (entry : Beginning) (bound : ℕ) (typed : RunTyped m) (made : List Made) (s : LowState) (st : MachineView)
     (f : Function) (lf : LowFrame) (mf : Frame) (below : Ends) (rest : List (low.Task LowFrame)) (rest' : List Task) (running : Running m entry made s st f lf mf below rest rest')
     (i : Inst) (c r : ValueId) (args : List ValueId) (g : FuncId) (callee : Function) (call : CallsBodiless m f i c r args g callee) where
   abbrev locals : List Local
@@ -104,6 +105,7 @@ module _ (m : Module) (ready : ReadyModule) (entry : Shape) (bound : ℕ) (typed
       retains = turned.retains;
       releases = turned.releases;
     };
+    reached = running.reached;
     frame = frame_moves {st = st} {st' = told' next'} (were_made running.parts.memory.slots) refl refl refl refl refl running.frame;
     others = tasks_move {st = st} {st' = told' next'} (were_made running.parts.memory.slots) refl refl refl refl refl running.others;
     tasks = running.tasks;

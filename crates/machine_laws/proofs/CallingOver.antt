@@ -30,11 +30,10 @@ use Rattle.machine_steps.specs.ready_code.declared.local.Carry.{Carry}
 use Rattle.machine_steps.specs.ready_code.declared.local.CarryAddress.{CarryAddress}
 use Rattle.machine_steps.specs.ready_code.declared.op.ReadyOp.{ReadyOp}
 use Rattle.machine_steps.specs.ready_code.declared.op.ReadyOp.TheVariants as op
-use Rattle.machine_steps.specs.ready_code.ReadyModules.{IsReadyFunction, IsReadyModule}
+use Rattle.machine_steps.specs.ready_code.ReadyModules.{IsReadyFunction, IsReadyModule, Reaches}
 use Rattle.machine_steps.specs.run_typing.CallForms.{IsOf}
 use Rattle.machine_steps.specs.run_typing.Forms.{OfValue, entry_forms, form_of, forms_of, given_shape}
 use Rattle.machine_steps.specs.run_typing.RunTyped.{RunTyped}
-use Rattle.run_values.specs.Shapes.{Shape}
 use Rattle.sil_ast.specs.declared.function.Function.{Function}
 use Rattle.sil_ast.specs.declared.inst.Inst.{Inst}
 use Rattle.sil_ast.specs.declared.module.Module.{Module}
@@ -50,7 +49,6 @@ use Rattle.machine_laws.proofs.DropTasks.{tasks_move}
 use Rattle.machine_laws.proofs.Ending.{Alike, alike_by, goes, parts_with}
 use Rattle.machine_laws.proofs.Entries.{Ends, FrameAgrees}
 use Rattle.machine_laws.proofs.FrameGoes.{frame_moves}
-use Rattle.machine_laws.proofs.FrameReady.{code_there}
 use Rattle.machine_laws.proofs.FrameSteps.{Running, StandsAt}
 use Rattle.machine_laws.proofs.Grows.{WereMade, were_made}
 use Rattle.machine_laws.proofs.GrowsSame.{tasks_same}
@@ -59,7 +57,7 @@ use Rattle.machine_laws.proofs.Operands.{AllRead, more, read_function}
 use Rattle.machine_laws.proofs.Pushes.{entered_state, frame_pushed}
 use Rattle.machine_laws.proofs.Rows.Effects.{Runs, row_by}
 use Rattle.machine_laws.proofs.Slots.{Made}
-use Rattle.machine_laws.proofs.Tasks.{AwaitsAt, TasksAgree, runs, to_go_on, to_take, waits}
+use Rattle.machine_laws.proofs.Tasks.{AwaitsAt, Beginning, TasksAgree, runs, to_go_on, to_take, waits}
 
 -- the call of a function with a body
 pub record CallsBody (m : Module) (f : Function) (i : Inst) (c r : ValueId) (args : List ValueId) (g : FuncId) (callee : Function) : Type 0 where
@@ -69,7 +67,7 @@ pub record CallsBody (m : Module) (f : Function) (i : Inst) (c r : ValueId) (arg
   pub given : form_of (declarations_of m) f r ≡ OfValue (given_shape (declarations_of m) callee)
 
 -- the frame of the callee is entered
-module _ (m : Module) (ready : ReadyModule) (entry : Shape) (bound : ℕ) (typed : RunTyped m) (is_ready : IsReadyModule m ready) (made : List Made) (s : LowState) (st : MachineView)
+module _ (m : Module) (ready : ReadyModule) (entry : Beginning) (bound : ℕ) (typed : RunTyped m) (is_ready : IsReadyModule m entry.reached ready) (made : List Made) (s : LowState) (st : MachineView)
     (f : Function) (lf : LowFrame) (mf : Frame) (below : Ends) (rest : List (low.Task LowFrame)) (rest' : List Task) (running : Running m entry made s st f lf mf below rest rest')
     (i : Inst) (inst : inst_at f lf.at ≡ Some i) (c r : ValueId) (args : List ValueId) (g : FuncId) (callee : Function) (call : CallsBody m f i c r args g callee)
     (are_of : Each (IsOf f) args) (xs : List Datum) (read : AllRead m made s.memory st f mf args xs) where
@@ -85,7 +83,7 @@ module _ (m : Module) (ready : ReadyModule) (entry : Shape) (bound : ℕ) (typed
   pub waiting : TasksAgree m entry made s.memory st (to_take (given_shape (declarations_of m) callee)) (ends_of st) (low.Runs lf ∷ rest) st.tasks
   waiting =
       subst (TasksAgree m entry made s.memory st (to_take (given_shape (declarations_of m) callee)) (ends_of st) (low.Runs lf ∷ rest)) (sym running.tasks)
-      (waits (given_shape (declarations_of m) callee) f lf mf below (ends_of st) rest rest' running.frame awaits running.others)
+      (waits (given_shape (declarations_of m) callee) f lf mf below (ends_of st) rest rest' running.reached running.frame awaits running.others)
     where
       awaits : AwaitsAt m f lf (given_shape (declarations_of m) callee)
       awaits = record {
@@ -105,8 +103,11 @@ module _ (m : Module) (ready : ReadyModule) (entry : Shape) (bound : ℕ) (typed
         form = call.given;
       }
 
+  called : Reaches entry.reached g
+  called = is_ready.closed.calls lf.function f (subst (Reaches entry.reached) running.frame.same running.reached) running.frame.there c g call.of.names
+
   pub code : (code : ReadyFunction) × (slice_get ready.functions g.0 ≡ Some code) × IsReadyFunction m callee code
-  code = code_there m ready is_ready g callee call.of.there
+  code = is_ready.functions g callee called call.of.there
 
   abbrev entered : ReadyFunction → MachineView
   entered code = entered_state m next' mf f callee g code args ws
@@ -126,7 +127,7 @@ module _ (m : Module) (ready : ReadyModule) (entry : Shape) (bound : ℕ) (typed
       parts = parts_values (parts_values (parts_with turned (low.Runs (steps.new_frame g pushed.0) ∷ low.Runs lf ∷ rest) opened.tasks)
           (only_put (record next' { tasks = opened.tasks }) opened.there opened.leaves opened.addresses)) only;
       tasks = subst (TasksAgree m entry made s.memory (entered code.0) to_go_on (ends_of (entered code.0)) (low.Runs (steps.new_frame g pushed.0) ∷ low.Runs lf ∷ rest)) (sym only.tasks)
-          (runs callee (steps.new_frame g pushed.0) (new_frame next' g) (ends_of st) (ends_of (entered code.0)) (low.Runs lf ∷ rest) st.tasks pushed.2
+          (runs callee (steps.new_frame g pushed.0) (new_frame next' g) (ends_of st) (ends_of (entered code.0)) (low.Runs lf ∷ rest) st.tasks called pushed.2
           (tasks_same {st = next'} {st' = entered code.0} were only.slots pushed.3 (tasks_move {st = st} {st' = next'} were refl refl refl refl refl waiting)));
     };
   }
@@ -151,7 +152,7 @@ module _ (m : Module) (ready : ReadyModule) (entry : Shape) (bound : ℕ) (typed
           frame_pushed frame g callee code.0 call.of.there call.bodied code.2 args ws xs are_of ((typed.functions g.0 callee call.of.there).items item.Entry).defined call.taken
           (typed.functions g.0 callee call.of.there).entry (read_turned were (st.turns + 1) read)
 
-module _ (m : Module) (ready : ReadyModule) (entry : Shape) (bound : ℕ) (typed : RunTyped m) (is_ready : IsReadyModule m ready) (made : List Made) (s : LowState) (st : MachineView)
+module _ (m : Module) (ready : ReadyModule) (entry : Beginning) (bound : ℕ) (typed : RunTyped m) (is_ready : IsReadyModule m entry.reached ready) (made : List Made) (s : LowState) (st : MachineView)
     (f : Function) (lf : LowFrame) (mf : Frame) (below : Ends) (rest : List (low.Task LowFrame)) (rest' : List Task) (running : Running m entry made s st f lf mf below rest rest')
     (i : Inst) (c r : ValueId) (args : List ValueId) (g : FuncId) (callee : Function) (call : CallsBody m f i c r args g callee) where
   abbrev the_op : ReadyOp

@@ -25,13 +25,13 @@ use Rattle.numbered_form.specs.Names.{Name}
 use Rattle.machine_steps.specs.ready_code.declared.function.ReadyFunction.{ReadyFunction}
 use Rattle.machine_steps.specs.ready_code.declared.function.ReadyModule.{ReadyModule}
 use Rattle.machine_steps.specs.ready_code.Layout.{local}
-use Rattle.machine_steps.specs.ready_code.ReadyModules.{IsReadyFunction, IsReadyModule, first_local, where_value}
+use Rattle.machine_steps.specs.ready_code.ReadyModules.{IsReadyFunction, IsReadyModule, Reaches, first_local, where_value}
 use Rattle.machine_steps.specs.run_typing.CallForms.{IsOf}
 use Rattle.machine_steps.specs.run_typing.Classes.{is_a}
 use Rattle.machine_steps.specs.run_typing.Forms.{OfValue, form_of, forms_of, given_shape}
 use Rattle.machine_steps.specs.run_typing.RunTyped.{RunTyped}
 use Rattle.run_values.specs.Memory.{object_at}
-use Rattle.run_values.specs.Shapes.{Reference, Shape}
+use Rattle.run_values.specs.Shapes.{Reference}
 use Rattle.run_values.specs.Values as value
 use Rattle.run_values.specs.declared.leaf.Leaf.TheVariants as leaf
 use Rattle.run_values.specs.declared.phase.Phase.TheVariants.{Deiniting}
@@ -48,7 +48,6 @@ use Rattle.machine_laws.proofs.DeinitClasses.{DeinitFrom, deinit_from}
 use Rattle.machine_laws.proofs.DropTasks.{tasks_move}
 use Rattle.machine_laws.proofs.Ending.{Alike, alike_by, goes, memory_moves, parts_with}
 use Rattle.machine_laws.proofs.Entries.{FrameAgrees}
-use Rattle.machine_laws.proofs.FrameReady.{code_there}
 use Rattle.machine_laws.proofs.Grows.{were_made}
 use Rattle.machine_laws.proofs.GrowsBy.{grows_itself}
 use Rattle.machine_laws.proofs.GrowsTasks.{KeepsBelow, at_most_itself, keeps_then, tasks_keep}
@@ -56,7 +55,7 @@ use Rattle.machine_laws.proofs.Objects.{is_of_class}
 use Rattle.machine_laws.proofs.Pushes.{frame_made, with_frame_keeps}
 use Rattle.machine_laws.proofs.Puts.{put_agrees, put_ends, put_keeps}
 use Rattle.machine_laws.proofs.Slots.{Made}
-use Rattle.machine_laws.proofs.Tasks.{TasksAgree, finishes, is_finishing, runs, to_go_on, to_take}
+use Rattle.machine_laws.proofs.Tasks.{Beginning, TasksAgree, finishes, is_finishing, runs, to_go_on, to_take}
 
 -- one value has the one form
 pub one_of : {A B : Type 0} (f : A → B) (xs : List A) (y : B) → map f xs ≡ y ∷ [] → (x : A) × (xs ≡ x ∷ []) × (f x ≡ y)
@@ -71,7 +70,7 @@ record TakesObject (m : Module) (f : Function) (class : Name) : Type 0 where
   pub form : form_of (declarations_of m) f argument ≡ OfValue (Reference class)
 
 -- the frame of a function that takes an object
-module _ (m : Module) (entry : Shape) (made : List Made) (s : LowState) (st : MachineView) (parts : PartsAgree m made s st) (g : FuncId) (body : Function) (code : ReadyFunction)
+module _ (m : Module) (entry : Beginning) (made : List Made) (s : LowState) (st : MachineView) (parts : PartsAgree m made s st) (g : FuncId) (body : Function) (code : ReadyFunction)
     (there : slice_get m.functions g.0 ≡ Some body) (bodied : has_any body.blocks ≡ true) (ready : IsReadyFunction m body code) (class : Name) (takes : TakesObject m body class)
     (is_of : IsOf body takes.argument) (o : ObjectId) (fits : is_of_class m s.memory class o ≡ true) where
   abbrev values : List (Option Datum)
@@ -93,9 +92,9 @@ module _ (m : Module) (entry : Shape) (made : List Made) (s : LowState) (st : Ma
   keeps = keeps_then {st = st} {st' = with_frame st g code} {st'' = entered} (with_frame_keeps st g code)
       (put_keeps plain (at_most_itself (ends_of (with_frame st g code))) takes.argument is_of (Reference class) (value.Object o) (leaf.Object o ∷ []) takes.form fits refl)
 
-  entered_agrees : (ts : List (low.Task LowFrame)) → TasksAgree m entry made s.memory st (to_take (given_shape (declarations_of m) body)) (ends_of st) ts st.tasks
+  entered_agrees : (ts : List (low.Task LowFrame)) → Reaches entry.reached g → TasksAgree m entry made s.memory st (to_take (given_shape (declarations_of m) body)) (ends_of st) ts st.tasks
       → Agrees m entry made (record s { tasks = low.Runs (run.new_frame g values) ∷ ts }) entered
-  entered_agrees ts tasks = record {
+  entered_agrees ts reaches tasks = record {
     parts = record {
       memory = memory_moves parts.memory refl refl refl refl;
       events = parts.events;
@@ -103,17 +102,17 @@ module _ (m : Module) (entry : Shape) (made : List Made) (s : LowState) (st : Ma
       retains = parts.retains;
       releases = parts.releases;
     };
-    tasks = runs body (run.new_frame g values) (new_frame st g) (ends_of st) (ends_of entered) ts st.tasks frame_then
+    tasks = runs body (run.new_frame g values) (new_frame st g) (ends_of st) (ends_of entered) ts st.tasks reaches frame_then
         (tasks_keep {st = st} {st' = entered} (grows_itself (were_made parts.memory.slots) s.memory) keeps (λ p now. refl) tasks);
   }
 
-module _ (m : Module) (ready : ReadyModule) (entry : Shape) (bound : ℕ) (typed : RunTyped m) (is_ready : IsReadyModule m ready) (made : List Made) where
+module _ (m : Module) (ready : ReadyModule) (entry : Beginning) (bound : ℕ) (typed : RunTyped m) (is_ready : IsReadyModule m entry.reached ready) (made : List Made) where
   -- a function with a body that takes an object of a class
-  calls_alike : (s : LowState) (st : MachineView) (o : ObjectId) → PartsAgree m made s st → (g : FuncId) (class : Name) (body : Function) → slice_get m.functions g.0 ≡ Some body
+  calls_alike : (s : LowState) (st : MachineView) (o : ObjectId) → PartsAgree m made s st → (g : FuncId) (class : Name) (body : Function) → Reaches entry.reached g → slice_get m.functions g.0 ≡ Some body
       → has_any body.blocks ≡ true → TakesObject m body class → is_of_class m s.memory class o ≡ true
       → TasksAgree m entry made s.memory st (to_take (given_shape (declarations_of m) body)) (ends_of st) s.tasks st.tasks
       → Alike m entry (steps.deinit_called m (shapes_of m) bound s g o) (machine.calls_deinit ready bound st g o)
-  calls_alike s st o parts g class body there bodied takes fits tasks =
+  calls_alike s st o parts g class body reaches there bodied takes fits tasks =
       alike_by
       (ap (on_some s (λ f. steps.calls_in m (shapes_of m) bound s s.tasks g f (ValueOf (value.Object o) ∷ []))) there
       ∙ ap (λ vs. on_some s going (put_all vs (ValueOf (value.Object o) ∷ []) (no_values (value_count body)))) takes.defined)
@@ -121,7 +120,7 @@ module _ (m : Module) (ready : ReadyModule) (entry : Shape) (bound : ℕ) (typed
       (enter_alike parts tasks bound next (λ after. machine.deinit_entered ready bound g o after (slice_get ready.functions g.0)) (λ turned. entering turned))
     where
       code : (code : ReadyFunction) × (slice_get ready.functions g.0 ≡ Some code) × IsReadyFunction m body code
-      code = code_there m ready is_ready g body there
+      code = is_ready.functions g body reaches there
 
       argument : ValueId
       argument = takes.argument
@@ -153,7 +152,7 @@ module _ (m : Module) (ready : ReadyModule) (entry : Shape) (bound : ℕ) (typed
           ∙ ap (λ l. Goes (machine.with_object ready bound (with_frame turned' g code.0) (new_frame turned' g) l o)) first)
           (goes made (record s { turns = s.turns + 1; tasks = low.Runs (run.new_frame g (set (no_values (value_count body)) argument.0 (Some (ValueOf (value.Object o))))) ∷ s.tasks })
           (put (with_frame turned' g code.0) (new_frame turned' g) (local (declarations_of m) body argument) (leaf.Object o ∷ []))
-          (entered_agrees m entry made (record s { turns = s.turns + 1 }) turned' turned g body code.0 there bodied code.2 class takes is_of o fits s.tasks
+          (entered_agrees m entry made (record s { turns = s.turns + 1 }) turned' turned g body code.0 there bodied code.2 class takes is_of o fits s.tasks reaches
           (tasks_move {st = st} {st' = turned'} (were_made parts.memory.slots) refl refl refl refl refl tasks)))
 
   takes_object : (body : Function) (class : Name) → forms_of (declarations_of m) body (item_defined body item.Entry) ≡ OfValue (Reference class) ∷ [] → TakesObject m body class
@@ -163,14 +162,14 @@ module _ (m : Module) (ready : ReadyModule) (entry : Shape) (bound : ℕ) (typed
 
   -- the next deinitialiser of an object
   pub deinit_alike : (s : LowState) (st : MachineView) → PartsAgree m made s st → (o : ObjectId) → o.0 < length s.memory.objects → (object_at s.memory o).phase ≡ Deiniting
-      → (g : FuncId) (gs : List FuncId) (called : ℕ) → slice_get (deinits_of (declarations_of m) (object_at s.memory o).class) called ≡ Some g
+      → (g : FuncId) (gs : List FuncId) (called : ℕ) → Reaches entry.reached g → slice_get (deinits_of (declarations_of m) (object_at s.memory o).class) called ≡ Some g
       → gs ≡ drop (called + 1) (deinits_of (declarations_of m) (object_at s.memory o).class)
       → (rest : List (low.Task LowFrame)) (rest' : List Task) → is_finishing o rest' ≡ false → TasksAgree m entry made s.memory st to_go_on (ends_of st) rest rest'
       → Alike m entry (steps.deinit_called m (shapes_of m) bound (record s { tasks = low.Finishes gs o ∷ rest }) g o)
       (machine.calls_deinit ready bound (record st { tasks = task.Finishes o (called + 1) ∷ rest' }) g o)
-  deinit_alike s st parts o was_made phase g gs called there left rest rest' once others =
+  deinit_alike s st parts o was_made phase g gs called reaches there left rest rest' once others =
       calls_alike (record s { tasks = low.Finishes gs o ∷ rest }) st' o (parts_with parts (low.Finishes gs o ∷ rest) (task.Finishes o (called + 1) ∷ rest')) g from.of
-      from.is_deinit.body from.is_deinit.there from.is_deinit.bodied (takes_object from.is_deinit.body from.of from.is_deinit.takes)
+      from.is_deinit.body reaches from.is_deinit.there from.is_deinit.bodied (takes_object from.is_deinit.body from.of from.is_deinit.takes)
       (and_from (nat_lt o.0 (length s.memory.objects)) (is_a (declarations_of m) (object_at s.memory o).class from.of) (lt-ltb o.0 (length s.memory.objects) was_made) from.above)
       (finishes (to_take (given_shape (declarations_of m) from.is_deinit.body)) gs o (called + 1) (ends_of st) rest rest' was_made phase left once
       (tasks_move {st = st} {st' = st'} (were_made parts.memory.slots) refl refl refl refl refl others))

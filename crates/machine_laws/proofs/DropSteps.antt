@@ -21,7 +21,6 @@ use Rattle.machine_steps.specs.Steps as machine
 use Rattle.machine_steps.specs.Views.{Goes, MachineView}
 use Rattle.machine_steps.specs.ready_code.declared.function.ReadyModule.{ReadyModule}
 use Rattle.run_values.specs.Memory.{Object, is_dead, is_dead_phase, is_live, is_live_phase, object_at, phase_of}
-use Rattle.run_values.specs.Shapes.{Shape}
 use Rattle.run_values.specs.declared.phase.Phase.{Phase}
 use Rattle.run_values.specs.declared.phase.Phase.TheVariants.{Dead, Deiniting, Live}
 use Rattle.sil_ast.specs.declared.module.Module.{Module}
@@ -40,14 +39,14 @@ use Rattle.machine_laws.proofs.Numbers.{alive_was_made, dead_agrees, last_agrees
 use Rattle.machine_laws.proofs.Objects.{ObjectsAgree, is_of_class}
 use Rattle.machine_laws.proofs.Phases.{memory_started}
 use Rattle.machine_laws.proofs.Slots.{Made}
-use Rattle.machine_laws.proofs.Tasks.{TasksAgree, finishes, to_go_on}
+use Rattle.machine_laws.proofs.Tasks.{Beginning, TasksAgree, finishes, to_go_on}
 
 live_is_alive : (p : Phase) → is_live_phase p ≡ true → is_dead_phase p ≡ false
 live_is_alive Live e = refl
 live_is_alive Deiniting e = refl
 live_is_alive Dead e = absurd (false≢true e)
 
-module _ (m : Module) (ready : ReadyModule) (entry : Shape) (bound : ℕ) where
+module _ (m : Module) (ready : ReadyModule) (entry : Beginning) (bound : ℕ) where
   -- a live object starts to deinitialise
   deinitialises_alike : (made : List Made) (s : LowState) (st : MachineView) (o : ObjectId) → Agrees m entry made s st → is_live s.memory o ≡ true
       → Alike m entry (run.deinitialises (declarations_of m) bound s o) (machine.deinitialises ready bound st o)

@@ -14,7 +14,6 @@ use Rattle.machine_steps.specs.Turning.{dropping}
 use Rattle.machine_steps.specs.Views.{MachineView}
 use Rattle.machine_steps.specs.ready_code.declared.function.ReadyModule.{ReadyModule}
 use Rattle.run_values.specs.Memory.{Memory}
-use Rattle.run_values.specs.Shapes.{Shape}
 use Rattle.sil_ast.specs.declared.module.Module.{Module}
 use Rattle.sil_ast.specs.declared.place.ObjectId.{ObjectId}
 use Rattle.sil_cfg.proofs.Gets.{last_get}
@@ -26,7 +25,7 @@ use Rattle.machine_laws.proofs.GrowsBy.{grows_itself, grows_objects, objects_sta
 use Rattle.machine_laws.proofs.GrowsSame.{dropping_agrees}
 use Rattle.machine_laws.proofs.GrowsTasks.{keeps_slots, tasks_keep}
 use Rattle.machine_laws.proofs.Slots.{Made}
-use Rattle.machine_laws.proofs.Tasks.{ReadyFor, TasksAgree, dropped, drops, to_go_on}
+use Rattle.machine_laws.proofs.Tasks.{Beginning, ReadyFor, TasksAgree, dropped, drops, to_go_on}
 
 -- a list that has these behind a place, the first of them last
 pub record LastOf {A : Type 0} (w : List A) (n : ℕ) (x : A) (xs : List A) : Type 0 where
@@ -80,7 +79,7 @@ last_of {A = A} w n x xs long ends = record {
     left_is = ap (λ k. take k w) (at ∙ sym same) ∙ ap (take (length p + length r)) whole ∙ without_last p r x
 
 -- tasks agree with a view whose stacks are the same
-pub tasks_move : {m : Module} {entry : Shape} {made : List Made} {mem : Memory} {st st' : MachineView} {r : ReadyFor} {ends : Ends} {ts : List (low.Task LowFrame)} {ts' : List Task}
+pub tasks_move : {m : Module} {entry : Beginning} {made : List Made} {mem : Memory} {st st' : MachineView} {r : ReadyFor} {ends : Ends} {ts : List (low.Task LowFrame)} {ts' : List Task}
     → WereMade made st.slots → st'.there ≡ st.there → st'.leaves ≡ st.leaves → st'.addresses ≡ st.addresses → st'.slots ≡ st.slots → st'.waiting ≡ st.waiting
     → TasksAgree m entry made mem st r ends ts ts' → TasksAgree m entry made mem st' r ends ts ts'
 tasks_move {m = m} {mem = mem} {st = st} {st' = st'} {ends = ends} were there leaves addresses slots waiting tasks =
@@ -98,7 +97,7 @@ parts_dropping st parts (o ∷ os) = record {
 }
 
 -- references begin to wait in both
-pub both_dropping : {m : Module} {entry : Shape} {made : List Made} {s : LowState} {st : MachineView} → Agrees m entry made s st → (os : List ObjectId)
+pub both_dropping : {m : Module} {entry : Beginning} {made : List Made} {s : LowState} {st : MachineView} → Agrees m entry made s st → (os : List ObjectId)
     → Agrees m entry made (record s { tasks = low.dropping os s.tasks }) (dropping os st)
 both_dropping {m = m} {made = made} {s = s} {st = st} agrees os = record {
   parts = record {
@@ -124,7 +123,7 @@ module _ (ready : ReadyModule) (bound : ℕ) where
   left_up_to st below o os rest up_to last =
       ap {A = Ends} (λ e. record e { waiting = length (take (length st.waiting - 1) st.waiting) }) up_to ∙ ap {A = ℕ} (λ n. record below { waiting = n }) last.left
 
-  pub drops_left : {m : Module} {entry : Shape} {made : List Made} {mem : Memory} (st : MachineView) → WereMade made st.slots
+  pub drops_left : {m : Module} {entry : Beginning} {made : List Made} {mem : Memory} (st : MachineView) → WereMade made st.slots
       → (below : Ends) (o : ObjectId) (rest : List (low.Task LowFrame)) (rest' : List Task) → TasksAgree m entry made mem st to_go_on below rest rest'
       → (os : List ObjectId) → ends_of st ≡ record below { waiting = below.waiting + length (o ∷ os) } → LastOf st.waiting below.waiting o os
       → TasksAgree m entry made mem (one_left st below.waiting rest') to_go_on (ends_of (one_left st below.waiting rest')) (low.Drops os ∷ rest)

@@ -61,7 +61,7 @@ use Rattle.machine_laws.proofs.Operands.{AllRead}
 use Rattle.machine_laws.proofs.Pushes.{carried_agrees}
 use Rattle.machine_laws.proofs.Puts.{frame_stands}
 use Rattle.machine_laws.proofs.Slots.{Made}
-use Rattle.machine_laws.proofs.Tasks.{TasksAgree, to_take}
+use Rattle.machine_laws.proofs.Tasks.{Beginning, TasksAgree, to_take}
 
 -- an edge of the block where a frame stands
 pub record EdgeThere (m : Module) (f : Function) (lf : LowFrame) (i : Inst) (k : ℕ) (e : Edge) : Type 0 where
@@ -103,7 +103,7 @@ each_behind : {A : Type 0} (P : A → Type 0) (xs ys : List A) → Each P (xs ++
 each_behind P [] ys each = each
 each_behind P (x ∷ xs) ys each = each_behind P xs ys each.1
 
-module _ (m : Module) (ready : ReadyModule) (entry : Shape) (bound : ℕ) (typed : RunTyped m) (made : List Made) (s : LowState) (st : MachineView) (f : Function) (lf : LowFrame)
+module _ (m : Module) (ready : ReadyModule) (entry : Beginning) (bound : ℕ) (typed : RunTyped m) (made : List Made) (s : LowState) (st : MachineView) (f : Function) (lf : LowFrame)
     (mf : Frame) (below : Ends) (rest : List (low.Task LowFrame)) (rest' : List Task) (running : Running m entry made s st f lf mf below rest rest')
     (i : Inst) (k : ℕ) (e : Edge) (there : EdgeThere m f lf i k e) (forms : EdgeForms (declarations_of m) f e) where
   abbrev eid : EdgeId
@@ -143,7 +143,7 @@ module _ (m : Module) (ready : ReadyModule) (entry : Shape) (bound : ℕ) (typed
       refl
       (goes made (record next { tasks = low.Runs (record lf { at = first_point e.block.0; values = given.0 }) ∷ rest })
       (machine.with_top ready bound st mf rest' arrived (machine.in_block mf e.block.0))
-      (frame_goes_on (parts_values turned only) (subst (FrameAgrees m made s.memory arrived f (record lf { at = first_point e.block.0; values = given.0 }) (machine.in_block mf e.block.0) below)
+      (frame_goes_on (parts_values turned only) running.reached (subst (FrameAgrees m made s.memory arrived f (record lf { at = first_point e.block.0; values = given.0 }) (machine.in_block mf e.block.0) below)
       (sym given.4) stands) others))
     where
       stay : numbers_for s.memory s.numbers ≡ s.numbers

@@ -52,6 +52,7 @@ use Rattle.machine_laws.proofs.FrameSteps.{Running, reads_known}
 use Rattle.machine_laws.proofs.Objects.{is_of_class}
 use Rattle.machine_laws.proofs.Operands.{AllRead, more, none, read_value}
 use Rattle.machine_laws.proofs.Slots.{Made}
+use Rattle.machine_laws.proofs.Tasks.{Beginning}
 
 -- a frame that stands at a terminator
 pub record StandsAtEnd (m : Module) (f : Function) (lf : LowFrame) (i : Inst) : Type 0 where
@@ -78,7 +79,7 @@ branch_forms d f i set clear is set_is clear_is (cases s is' operands shape all)
 branch_forms d f i set clear is set_is clear_is (returns is' operands) = absurd (cc)
 branch_forms d f i set clear is set_is clear_is (unreachable is') = absurd (cc)
 
-module _ (m : Module) (ready : ReadyModule) (entry : Shape) (bound : ℕ) (typed : RunTyped m) (made : List Made) (s : LowState) (st : MachineView) (f : Function) (lf : LowFrame)
+module _ (m : Module) (ready : ReadyModule) (entry : Beginning) (bound : ℕ) (typed : RunTyped m) (made : List Made) (s : LowState) (st : MachineView) (f : Function) (lf : LowFrame)
     (mf : Frame) (below : Ends) (rest : List (low.Task LowFrame)) (rest' : List Task) (running : Running m entry made s st f lf mf below rest rest')
     (i : Inst) (stands : StandsAtEnd m f lf i) where
   abbrev edge_there : (k : ℕ) (e : Edge) → slice_get i.edges k ≡ Some e → EdgeThere m f lf i k e

@@ -67,7 +67,7 @@ use Rattle.machine_laws.proofs.Objects.{is_of_class}
 use Rattle.machine_laws.proofs.Puts.{frame_stands, put_agrees, put_ends, put_keeps}
 use Rattle.machine_laws.proofs.Rows.Shapes.{shape_in_form, shape_told}
 use Rattle.machine_laws.proofs.Slots.{Made}
-use Rattle.machine_laws.proofs.Tasks.{TasksAgree, to_take}
+use Rattle.machine_laws.proofs.Tasks.{Beginning, TasksAgree, to_take}
 
 switch_forms : (d : Declarations) (f : Function) (i : Inst) (v : ValueId) (s : Shape) → ending_of i.op ≡ ending.Cases → operands_of i ≡ v ∷ [] → form_of d f v ≡ OfValue s
     → EndForms d f i → IsEnum s × ((k : ℕ) (c : CaseLayer Shape) → slice_get (case_shapes s) k ≡ Some c → TakenCase d f i s k c)
@@ -81,7 +81,7 @@ switch_forms d f i v s is one form (returns is' operands) = absurd (cc)
 switch_forms d f i v s is one form (unreachable is') = absurd (cc)
 
 -- control arrives at a block that is given nothing, or one value
-module _ (m : Module) (ready : ReadyModule) (entry : Shape) (bound : ℕ) (made : List Made) (s : LowState) (st : MachineView) (f : Function) (lf : LowFrame)
+module _ (m : Module) (ready : ReadyModule) (entry : Beginning) (bound : ℕ) (made : List Made) (s : LowState) (st : MachineView) (f : Function) (lf : LowFrame)
     (mf : Frame) (below : Ends) (rest : List (low.Task LowFrame)) (rest' : List Task) (running : Running m entry made s st f lf mf below rest rest')
     (turned : PartsAgree m made (record s { turns = s.turns + 1 }) (record st { turns = st.turns + 1 })) (e : Edge) (are_of : Each (IsOf f) (arguments_at f e))
     (block : Block) (block_there : slice_get f.blocks e.block.0 ≡ Some block) where
@@ -107,7 +107,7 @@ module _ (m : Module) (ready : ReadyModule) (entry : Shape) (bound : ℕ) (made 
   arrives_bare bare = record {
     values = lf.values;
     put = ap (λ vs. put_all vs [] lf.values) bare;
-    agrees = frame_goes_on turned (frame_stands frame (first_point e.block.0) block block_there (omega arith)) others;
+    agrees = frame_goes_on turned running.reached (frame_stands frame (first_point e.block.0) block block_there (omega arith)) others;
   }
 
   arrives_with : (w : ValueId) (t : Shape) (y : Value) (ls : List Leaf) → arguments_at f e ≡ w ∷ [] → form_of (declarations_of m) f w ≡ OfValue t
@@ -115,7 +115,7 @@ module _ (m : Module) (ready : ReadyModule) (entry : Shape) (bound : ℕ) (made 
   arrives_with w t y ls one form fits leaves = record {
     values = set lf.values w.0 (Some (ValueOf y));
     put = ap (λ vs. put_all vs (ValueOf y ∷ []) lf.values) one;
-    agrees = frame_goes_on (parts_values turned (only_put next' after.there after.leaves after.addresses))
+    agrees = frame_goes_on (parts_values turned (only_put next' after.there after.leaves after.addresses)) running.reached
         (subst (FrameAgrees m made s.memory after f (record lf { at = first_point e.block.0; values = set lf.values w.0 (Some (ValueOf y)) }) (machine.in_block mf e.block.0) below)
         (sym (put_ends frame (at_most_itself (ends_of st)) w is_of t y ls form fits leaves))
         (frame_stands (put_agrees frame (at_most_itself (ends_of st)) w is_of t y ls form fits leaves) (first_point e.block.0) block block_there (omega arith)))
@@ -146,7 +146,7 @@ first_operand : (shapes : List Shape) (v : ValueId) (o : Option Operand) → opt
 first_operand shapes v None e = absurd (none-some v e)
 first_operand shapes v (Some o) e = ap (shape_at shapes) (same_Some o.value v e)
 
-module _ (m : Module) (ready : ReadyModule) (entry : Shape) (bound : ℕ) (typed : RunTyped m) (made : List Made) (s : LowState) (st : MachineView) (f : Function) (lf : LowFrame)
+module _ (m : Module) (ready : ReadyModule) (entry : Beginning) (bound : ℕ) (typed : RunTyped m) (made : List Made) (s : LowState) (st : MachineView) (f : Function) (lf : LowFrame)
     (mf : Frame) (below : Ends) (rest : List (low.Task LowFrame)) (rest' : List Task) (running : Running m entry made s st f lf mf below rest rest')
     (i : Inst) (stands : StandsAtEnd m f lf i) (is : ending_of i.op ≡ ending.Cases) (v : ValueId) (one : operands_of i ≡ v ∷ []) where
   switched : (shape : Shape) → form_of (declarations_of m) f v ≡ OfValue shape → switched_shape (shapes_in (shapes_of m) lf.function) i ≡ shape

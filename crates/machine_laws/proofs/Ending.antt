@@ -14,24 +14,24 @@ use Rattle.machine_steps.specs.Views.{Goes, MachineView, Stops, Went}
 use Rattle.machine_steps.specs.declared.run_end.RunEnd.{RunEnd}
 use Rattle.machine_steps.specs.declared.run_end.RunEnd.TheVariants as end
 use Rattle.run_values.specs.Memory.{Memory}
-use Rattle.run_values.specs.Shapes.{Shape}
 use Rattle.sil_ast.specs.declared.module.Module.{Module}
 use Rattle.machine_laws.specs.inner.Told.{IsEnding, fault, left_after, out_of_turns, outcome_told}
 use Rattle.machine_laws.proofs.Agreement.{Agrees, PartsAgree}
 use Rattle.machine_laws.proofs.Memories.{MemoryAgrees}
 use Rattle.machine_laws.proofs.Slots.{Made}
+use Rattle.machine_laws.proofs.Tasks.{Beginning}
 
-pub data Alike (m : Module) (entry : Shape) : LowNext → Went → Type 0 where
+pub data Alike (m : Module) (entry : Beginning) : LowNext → Went → Type 0 where
   goes : (made : List Made) (s : LowState) (st : MachineView) → Agrees m entry made s st → Alike m entry (low.Goes s) (Goes st)
-  ends : (s : LowState) (st : MachineView) (e : Ending LowFault) (end : RunEnd) → IsEnding m entry st end e
+  ends : (s : LowState) (st : MachineView) (e : Ending LowFault) (end : RunEnd) → IsEnding m entry.gives st end e
       → low_outcome_at e s ≡ outcome_told st end e → Alike m entry (low.Ends e s) (Stops end st)
 
 -- so are what equals the one and the other
-pub alike_by : {m : Module} {entry : Shape} {n n' : LowNext} {w w' : Went} → n ≡ n' → w ≡ w' → Alike m entry n' w' → Alike m entry n w
+pub alike_by : {m : Module} {entry : Beginning} {n n' : LowNext} {w w' : Went} → n ≡ n' → w ≡ w' → Alike m entry n' w' → Alike m entry n w
 alike_by {m = m} {entry = entry} {n = n} {w' = w'} en ew alike = subst (λ x. Alike m entry n x) (sym ew) (subst (λ x. Alike m entry x w') (sym en) alike)
 
 -- both choose by the same test
-pub both_choose : {m : Module} {entry : Shape} {n n' : LowNext} {w w' : Went} (b c : Bool) → c ≡ b → (b ≡ true → Alike m entry n w) → (b ≡ false → Alike m entry n' w')
+pub both_choose : {m : Module} {entry : Beginning} {n n' : LowNext} {w w' : Went} (b c : Bool) → c ≡ b → (b ≡ true → Alike m entry n w) → (b ≡ false → Alike m entry n' w')
     → Alike m entry (cond b n n') (cond c w w')
 both_choose {m = m} {entry = entry} {n = n} {n' = n'} {w = w} {w' = w'} b c same where_set where_clear = subst (λ x. Alike m entry (cond b n n') (cond x w w')) (sym same) (at b refl)
   where
@@ -39,8 +39,8 @@ both_choose {m = m} {entry = entry} {n = n} {n' = n'} {w = w} {w' = w'} b c same
     at true e = where_set e
     at false e = where_clear e
 
-module _ {m : Module} {entry : Shape} {made : List Made} {s : LowState} {st : MachineView} (parts : PartsAgree m made s st) where
-  pub ends_alike : (e : Ending LowFault) (end : RunEnd) → IsEnding m entry st end e → low_left_by s e ≡ left_after st end
+module _ {m : Module} {entry : Beginning} {made : List Made} {s : LowState} {st : MachineView} (parts : PartsAgree m made s st) where
+  pub ends_alike : (e : Ending LowFault) (end : RunEnd) → IsEnding m entry.gives st end e → low_left_by s e ≡ left_after st end
       → Alike m entry (low.Ends e s) (Stops end st)
   ends_alike e end is left = ends s st e end is (rw (parts.events, parts.retains, parts.releases, left))
 
@@ -82,7 +82,7 @@ module _ {m : Module} {made : List Made} {s : LowState} {st : MachineView} (part
     releases = parts.releases;
   }
 
-  pub turn_alike : {entry : Shape} (bound : ℕ) (go : LowState → LowNext) (go' : MachineView → Went)
+  pub turn_alike : {entry : Beginning} (bound : ℕ) (go : LowState → LowNext) (go' : MachineView → Went)
       → (PartsAgree m made (record s { turns = s.turns + 1 }) (record st { turns = st.turns + 1 })
       → Alike m entry (go (record s { turns = s.turns + 1 })) (go' (record st { turns = st.turns + 1 })))
       → Alike m entry (low.turn bound s go) (turn bound st go')

@@ -21,7 +21,6 @@ use Rattle.machine_steps.specs.ready_code.declared.function.ReadyModule.{ReadyMo
 use Rattle.machine_steps.specs.ready_code.ReadyModules.{IsReadyModule}
 use Rattle.machine_steps.specs.run_typing.RunTyped.{RunTyped}
 use Rattle.run_values.specs.Memory.{is_dead, is_dead_phase, object_at}
-use Rattle.run_values.specs.Shapes.{Shape}
 use Rattle.run_values.specs.declared.phase.Phase.TheVariants.{Deiniting}
 use Rattle.sil_ast.specs.declared.module.Module.{Module}
 use Rattle.sil_ast.specs.declared.place.ObjectId.{ObjectId}
@@ -36,9 +35,9 @@ use Rattle.machine_laws.proofs.NamedLists.{OnlyObjects}
 use Rattle.machine_laws.proofs.Numbers.{phase_agrees, strong_agrees}
 use Rattle.machine_laws.proofs.Objects.{is_of_class}
 use Rattle.machine_laws.proofs.Slots.{Made}
-use Rattle.machine_laws.proofs.Tasks.{TasksAgree, is_finishing, to_go_on}
+use Rattle.machine_laws.proofs.Tasks.{Beginning, TasksAgree, is_finishing, to_go_on}
 
-module _ (m : Module) (ready : ReadyModule) (entry : Shape) (bound : ℕ) (typed : RunTyped m) (is_ready : IsReadyModule m ready) (made : List Made) (s : LowState) (st : MachineView)
+module _ (m : Module) (ready : ReadyModule) (entry : Beginning) (bound : ℕ) (typed : RunTyped m) (is_ready : IsReadyModule m entry.reached ready) (made : List Made) (s : LowState) (st : MachineView)
     (parts : PartsAgree m made s st) (o : ObjectId) (phase : (object_at s.memory o).phase ≡ Deiniting) (rest : List (low.Task LowFrame)) (rest' : List Task)
     (once : is_finishing o rest' ≡ false) (others : TasksAgree m entry made s.memory st to_go_on (ends_of st) rest rest') where
   alive : is_dead s.memory o ≡ false

@@ -8,7 +8,6 @@ use Rattle.machine_steps.specs.lowered_run.LowFrames.{LowFrame}
 use Rattle.machine_steps.specs.declared.frame.Task.{Task}
 use Rattle.machine_steps.specs.Views.{MachineView}
 use Rattle.run_values.specs.Memory.{Memory, Object, is_live, is_live_phase, no_object, object_at, with_object}
-use Rattle.run_values.specs.Shapes.{Shape}
 use Rattle.run_values.specs.declared.phase.Phase.TheVariants.{Deiniting}
 use Rattle.sil_ast.specs.declared.module.Module.{Module}
 use Rattle.sil_ast.specs.declared.place.ObjectId.{ObjectId}
@@ -19,16 +18,16 @@ use Rattle.machine_laws.proofs.GrowsTasks.{PhasesStay, keeps_itself, tasks_keep}
 use Rattle.machine_laws.proofs.LayoutsLists.{get_set}
 use Rattle.machine_laws.proofs.NumbersPut.{get_put_other}
 use Rattle.machine_laws.proofs.Slots.{Made}
-use Rattle.machine_laws.proofs.Tasks.{ReadyFor, TasksAgree, bottom, dropped, drops, finishes, is_finishing, runs, waits}
+use Rattle.machine_laws.proofs.Tasks.{Beginning, ReadyFor, TasksAgree, bottom, dropped, drops, finishes, is_finishing, runs, waits}
 
 pub same_object : (o p : ObjectId) → o.0 ≡ p.0 → o ≡ p
 same_object o p e = ap object_number e
 
-pub finishing_phase : {m : Module} {entry : Shape} {made : List Made} {mem : Memory} {st : MachineView} {r : ReadyFor} {ends : Ends} {ts : List (low.Task LowFrame)} {ts' : List Task}
+pub finishing_phase : {m : Module} {entry : Beginning} {made : List Made} {mem : Memory} {st : MachineView} {r : ReadyFor} {ends : Ends} {ts : List (low.Task LowFrame)} {ts' : List Task}
     → TasksAgree m entry made mem st r ends ts ts' → (o : ObjectId) → is_finishing o ts' ≡ true → (object_at mem o).phase ≡ Deiniting
 finishing_phase bottom o now = absurd (false≢true now)
-finishing_phase (runs f lf mf below above rest rest' frame others) o now = finishing_phase others o now
-finishing_phase (waits s f lf mf below above rest rest' frame awaits others) o now = finishing_phase others o now
+finishing_phase (runs f lf mf below above rest rest' reaches frame others) o now = finishing_phase others o now
+finishing_phase (waits s f lf mf below above rest rest' reaches frame awaits others) o now = finishing_phase others o now
 finishing_phase (drops p os below above rest rest' ends waiting others) o now = finishing_phase others o now
 finishing_phase (dropped ends rest rest' others) o now = finishing_phase others o now
 finishing_phase {mem = mem} (finishes r gs p called ends rest rest' was_made phase deinits once others) o now =
@@ -39,7 +38,7 @@ finishing_phase {mem = mem} (finishes r gs p called ends rest rest' was_made pha
     at of_others (inr e) = of_others e
 
 -- a live object isn't being deinitialised
-pub live_not_finishing : {m : Module} {entry : Shape} {made : List Made} {mem : Memory} {st : MachineView} {r : ReadyFor} {ends : Ends} {ts : List (low.Task LowFrame)}
+pub live_not_finishing : {m : Module} {entry : Beginning} {made : List Made} {mem : Memory} {st : MachineView} {r : ReadyFor} {ends : Ends} {ts : List (low.Task LowFrame)}
     {ts' : List Task} → TasksAgree m entry made mem st r ends ts ts' → (o : ObjectId) → is_live mem o ≡ true → is_finishing o ts' ≡ false
 live_not_finishing {mem = mem} {ts' = ts'} tasks o live = at (is_finishing o ts') refl
   where
@@ -62,7 +61,7 @@ phases_put mem o x ts not_now p now = at (cases_eq o.0 p.0)
     at (inl e) = absurd (true≢false (sym now ∙ ap (λ q. is_finishing q ts) (sym (same_object o p e)) ∙ not_now))
     at (inr ne) = ap (λ y. y.phase) (other_object mem o p x ne)
 
-pub tasks_put : {m : Module} {entry : Shape} {made : List Made} {mem : Memory} {st : MachineView} {r : ReadyFor} {ends : Ends} {ts : List (low.Task LowFrame)} {ts' : List Task}
+pub tasks_put : {m : Module} {entry : Beginning} {made : List Made} {mem : Memory} {st : MachineView} {r : ReadyFor} {ends : Ends} {ts : List (low.Task LowFrame)} {ts' : List Task}
     → WereMade made st.slots → (o : ObjectId) (x : Object) → x.class ≡ (object_at mem o).class → is_finishing o ts' ≡ false
     → TasksAgree m entry made mem st r ends ts ts' → TasksAgree m entry made (with_object mem o x) st r ends ts ts'
 tasks_put {mem = mem} {st = st} {ends = ends} {ts' = ts'} were o x same not_now tasks =

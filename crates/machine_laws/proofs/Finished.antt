@@ -1,5 +1,5 @@
 -- An object that was deinitialised dies: what its weak and unowned fields name is named no longer, and its strong fields' references are dropped.
-use Rattle.std.proofs.Common.{◌≡◌, List, false, Option, Some, None, map, refl, sym, ap, ◌∙◌, subst}
+use Rattle.std.proofs.Common.{◌≡◌, List, Bool, false, Option, Some, None, map, refl, sym, ap, ◌∙◌, subst}
 use Rattle.std.specs.Prelude.{option_and_then, slice_get}
 use Rattle.std.proofs.lemmas.Bool.{false≢true}
 use Rattle.machine_steps.specs.heap_model.HeapCalls.{dead, finished, unless_freed}
@@ -55,7 +55,7 @@ module _ (m : Module) (test : ClassTest) where
   fields_told_hold _ _ _ alive (freed x n is_dead cells unowned weak) = absurd (false≢true (sym alive ∙ ap is_dead_phase is_dead))
   fields_told_hold _ _ _ alive (kept x n h k) = k.fields alive
 
-module _ (m : Module) (ready : ReadyModule) (typed : RunTyped m) (is_ready : IsReadyModule m ready) (made : List Made) (mem : Memory) (numbers : List Numbers) (st : MachineView) (o : ObjectId)
+module _ (m : Module) {reached : List Bool} (ready : ReadyModule) (typed : RunTyped m) (is_ready : IsReadyModule m reached ready) (made : List Made) (mem : Memory) (numbers : List Numbers) (st : MachineView) (o : ObjectId)
     (alive : is_dead mem o ≡ false) (a : MemoryAgrees m made mem numbers st) where
   abbrev test : ClassTest
   test = is_of_class m mem

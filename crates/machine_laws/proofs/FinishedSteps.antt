@@ -1,5 +1,5 @@
 -- The machine finishes a deinitialisation as the run does.
-use Rattle.std.proofs.Common.{◌≡◌, ◌==◌, ℕ, zero, suc, List, true, false, not, refl, sym, ap, ◌∙◌, arith}
+use Rattle.std.proofs.Common.{◌≡◌, ◌==◌, ℕ, zero, suc, List, Bool, true, false, not, refl, sym, ap, ◌∙◌, arith}
 use Rattle.std.proofs.lemmas.Bool.{cond-false, cond-true, eq-eqb, ne_eqb}
 use Rattle.machine_steps.specs.heap_model.HeapViews.{phase_in, strong_in}
 use Rattle.machine_steps.specs.holder_model.Dropping.{ended, field_references, finish_with}
@@ -27,7 +27,7 @@ use Rattle.machine_laws.proofs.Numbers.{phase_agrees, strong_agrees}
 use Rattle.machine_laws.proofs.Objects.{is_of_class}
 use Rattle.machine_laws.proofs.Slots.{Made}
 
-module _ (m : Module) (ready : ReadyModule) (typed : RunTyped m) (is_ready : IsReadyModule m ready) (made : List Made) (told : ModuleShapes) (bound : ℕ)
+module _ (m : Module) {reached : List Bool} (ready : ReadyModule) (typed : RunTyped m) (is_ready : IsReadyModule m reached ready) (made : List Made) (told : ModuleShapes) (bound : ℕ)
     (s : LowState) (st : MachineView) (o : ObjectId) (a : PartsAgree m made s st) (phase : (object_at s.memory o).phase ≡ Deiniting) where
   pub alive : is_dead s.memory o ≡ false
   alive = ap is_dead_phase phase

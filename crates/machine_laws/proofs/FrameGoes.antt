@@ -18,8 +18,8 @@ use Rattle.machine_steps.specs.declared.frame.Task.TheVariants as task
 use Rattle.machine_steps.specs.Operands.{put}
 use Rattle.machine_steps.specs.Views.{MachineView}
 use Rattle.machine_steps.specs.run_typing.Forms.{given_shape}
+use Rattle.machine_steps.specs.ready_code.ReadyModules.{Reaches}
 use Rattle.run_values.specs.Memory.{Memory}
-use Rattle.run_values.specs.Shapes.{Shape}
 use Rattle.sil_ast.specs.declared.function.Function.{Function}
 use Rattle.sil_ast.specs.declared.module.Module.{Module}
 use Rattle.sil_ast.specs.declared.place.ValueId.{ValueId}
@@ -33,7 +33,7 @@ use Rattle.machine_laws.proofs.Grows.{WereMade, were_made}
 use Rattle.machine_laws.proofs.GrowsBy.{grows_objects, objects_stay, serial_of}
 use Rattle.machine_laws.proofs.GrowsTasks.{frame_grows, keeps_slots}
 use Rattle.machine_laws.proofs.Slots.{Made}
-use Rattle.machine_laws.proofs.Tasks.{TasksAgree, runs, to_take}
+use Rattle.machine_laws.proofs.Tasks.{Beginning, TasksAgree, runs, to_take}
 
 -- a frame and what was read agree with a view whose stacks are the same
 
@@ -45,13 +45,13 @@ frame_moves {mem = mem} {st = st} {st' = st'} {above = above} were is_there leav
     (keeps_slots above st st' is_there leaves addresses waiting (ap (map serial_of) slots)) frame
 
 -- the frame goes on
-pub frame_goes_on : {m : Module} {entry : Shape} {made : List Made} {s : LowState} {st : MachineView} {f : Function} {lf : LowFrame} {mf : Frame} {below : Ends}
-    {rest : List (low.Task LowFrame)} {rest' : List Task} → PartsAgree m made s st → FrameAgrees m made s.memory st f lf mf below (ends_of st)
+pub frame_goes_on : {m : Module} {entry : Beginning} {made : List Made} {s : LowState} {st : MachineView} {f : Function} {lf : LowFrame} {mf : Frame} {below : Ends}
+    {rest : List (low.Task LowFrame)} {rest' : List Task} → PartsAgree m made s st → Reaches entry.reached mf.function → FrameAgrees m made s.memory st f lf mf below (ends_of st)
     → TasksAgree m entry made s.memory st (to_take (given_shape (declarations_of m) f)) below rest rest'
     → Agrees m entry made (record s { tasks = low.Runs lf ∷ rest }) (record st { tasks = task.Runs mf ∷ rest' })
-frame_goes_on {st = st} {f = f} {lf = lf} {mf = mf} {below = below} {rest = rest} {rest' = rest'} parts frame others = record {
+frame_goes_on {st = st} {f = f} {lf = lf} {mf = mf} {below = below} {rest = rest} {rest' = rest'} parts reaches frame others = record {
   parts = parts_with parts (low.Runs lf ∷ rest) (task.Runs mf ∷ rest');
-  tasks = runs f lf mf below (ends_of st) rest rest'
+  tasks = runs f lf mf below (ends_of st) rest rest' reaches
       (frame_moves {st = st} {st' = record st { tasks = task.Runs mf ∷ rest' }} (were_made parts.memory.slots) refl refl refl refl refl frame)
       (tasks_move {st = st} {st' = record st { tasks = task.Runs mf ∷ rest' }} (were_made parts.memory.slots) refl refl refl refl refl others);
 }

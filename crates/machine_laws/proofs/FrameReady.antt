@@ -1,5 +1,5 @@
 -- Ready code where a frame stands: its function, its block, and its instruction or terminator.
-use Rattle.std.proofs.Common.{◌≡◌, ◌∙◌, ℕ, zero, suc, List, ◌∷◌, Option, Some, None, refl, sym, ap, subst}
+use Rattle.std.proofs.Common.{◌≡◌, ◌∙◌, ℕ, zero, suc, List, ◌∷◌, Bool, Option, Some, None, refl, sym, ap, subst}
 use Rattle.std.specs.Prelude.{slice_get}
 use Rattle.std.proofs.lemmas.Option.{none-some, same_Some}
 use Rattle.item_operands.specs.Parts.{inst_at, inst_in, terminator_in, terminator_of}
@@ -8,12 +8,11 @@ use Rattle.machine_steps.specs.declared.frame.Frame.{Frame}
 use Rattle.machine_steps.specs.Ends.{block_at, block_in}
 use Rattle.machine_steps.specs.Views.{MachineView}
 use Rattle.machine_steps.specs.ready_code.declared.block.ReadyBlock.{ReadyBlock}
-use Rattle.machine_steps.specs.ready_code.declared.function.ReadyFunction.{ReadyFunction}
 use Rattle.machine_steps.specs.ready_code.declared.function.ReadyModule.{ReadyModule}
 use Rattle.machine_steps.specs.ready_code.declared.op.ReadyOp.{ReadyOp}
 use Rattle.machine_steps.specs.ready_code.Matched.{Matched, both, none}
 use Rattle.machine_steps.specs.ready_code.ReadyEnds.{IsReadyEnd}
-use Rattle.machine_steps.specs.ready_code.ReadyModules.{IsReadyBlock, IsReadyFunction, IsReadyModule}
+use Rattle.machine_steps.specs.ready_code.ReadyModules.{IsReadyBlock, IsReadyModule, Reaches}
 use Rattle.machine_steps.specs.ready_code.ReadyOps.{IsReadyOp}
 use Rattle.machine_steps.specs.run_typing.RunTyped.{FunctionIsTyped}
 use Rattle.run_values.specs.Memory.{Memory}
@@ -21,7 +20,6 @@ use Rattle.sil_ast.specs.declared.function.Block.{Block}
 use Rattle.sil_ast.specs.declared.function.Function.{Function}
 use Rattle.sil_ast.specs.declared.inst.Inst.{Inst}
 use Rattle.sil_ast.specs.declared.module.Module.{Module}
-use Rattle.sil_ast.specs.declared.place.FuncId.{FuncId}
 use Rattle.type_definitions.specs.Declarations.{declarations_of}
 use Rattle.machine_laws.proofs.Entries.{Ends, FrameAgrees}
 use Rattle.machine_laws.proofs.FrameSteps.{StandsAt}
@@ -47,11 +45,6 @@ matched_there none k x there = absurd (none-some x there)
 matched_there {match_ = match_} (both x y xs ys here rest) zero v there = (y, refl, subst (λ w. match_ w y) (same_Some x v there) here)
 matched_there (both x y xs ys here rest) (suc k) v there = matched_there rest k v there
 
--- a function's code
-pub code_there : (m : Module) (ready : ReadyModule) → IsReadyModule m ready → (g : FuncId) (f : Function) → slice_get m.functions g.0 ≡ Some f
-    → (code : ReadyFunction) × (slice_get ready.functions g.0 ≡ Some code) × IsReadyFunction m f code
-code_there m ready is g f there = matched_there is.functions g.0 f there
-
 -- the block where a frame stands, and its code
 pub record ReadyWhere (m : Module) (ready : ReadyModule) (f : Function) (lf : LowFrame) (mf : Frame) : Type 0 where
   pub block : Block
@@ -61,10 +54,10 @@ pub record ReadyWhere (m : Module) (ready : ReadyModule) (f : Function) (lf : Lo
   pub is_ready : IsReadyBlock m f block code
   pub index : mf.index ≡ lf.at.index
 
-pub ready_where : {m : Module} {ready : ReadyModule} {made : List Made} {mem : Memory} {st : MachineView} {f : Function} {lf : LowFrame} {mf : Frame} {below above : Ends}
-    → IsReadyModule m ready → FrameAgrees m made mem st f lf mf below above → ReadyWhere m ready f lf mf
-ready_where {m = m} {ready = ready} {f = f} {lf = lf} {mf = mf} is frame =
-    let function = code_there m ready is lf.function f frame.there in
+pub ready_where : {m : Module} {reached : List Bool} {ready : ReadyModule} {made : List Made} {mem : Memory} {st : MachineView} {f : Function} {lf : LowFrame} {mf : Frame} {below above : Ends}
+    → IsReadyModule m reached ready → Reaches reached mf.function → FrameAgrees m made mem st f lf mf below above → ReadyWhere m ready f lf mf
+ready_where {reached = reached} {ready = ready} {f = f} {lf = lf} {mf = mf} is reaches frame =
+    let function = is.functions lf.function f (subst (Reaches reached) frame.same reaches) frame.there in
     let block = matched_there function.2.blocks mf.block frame.block frame.block_there in
     record {
       block = frame.block;

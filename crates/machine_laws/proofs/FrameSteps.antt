@@ -17,6 +17,7 @@ use Rattle.machine_steps.specs.Operands.{unless_missing, with_all}
 use Rattle.machine_steps.specs.Rows as machine
 use Rattle.machine_steps.specs.Views.{MachineView, Went}
 use Rattle.numbered_form.specs.Lists.{Each}
+use Rattle.machine_steps.specs.ready_code.ReadyModules.{Reaches}
 use Rattle.machine_steps.specs.ready_code.declared.function.ReadyModule.{ReadyModule}
 use Rattle.machine_steps.specs.ready_code.declared.op.ReadyOp.{ReadyOp}
 use Rattle.machine_steps.specs.ready_code.declared.op.ReadyOp.TheVariants as op
@@ -24,7 +25,6 @@ use Rattle.machine_steps.specs.ready_code.ReadyOps.{IsReadyOp, operands_of}
 use Rattle.machine_steps.specs.run_typing.CallForms.{IsOf}
 use Rattle.machine_steps.specs.run_typing.Forms.{given_shape}
 use Rattle.machine_steps.specs.run_typing.RunTyped.{InstIsTyped, RunTyped}
-use Rattle.run_values.specs.Shapes.{Shape}
 use Rattle.sil_ast.specs.declared.function.Function.{Function}
 use Rattle.sil_ast.specs.declared.inst.Inst.{Inst}
 use Rattle.sil_ast.specs.declared.module.Module.{Module}
@@ -36,12 +36,13 @@ use Rattle.machine_laws.proofs.Ending.{Alike, alike_by, fault_alike}
 use Rattle.machine_laws.proofs.Entries.{Ends, FrameAgrees}
 use Rattle.machine_laws.proofs.Operands.{AllRead, OperandsRead, missing, operands_read, read}
 use Rattle.machine_laws.proofs.Slots.{Made}
-use Rattle.machine_laws.proofs.Tasks.{TasksAgree, to_take}
+use Rattle.machine_laws.proofs.Tasks.{Beginning, TasksAgree, to_take}
 
--- the first task is a frame of the function f, over others. Of the run's state its tasks don't matter: `does` is told the frame and the others
-pub record Running (m : Module) (entry : Shape) (made : List Made) (s : LowState) (st : MachineView) (f : Function) (lf : LowFrame) (mf : Frame) (below : Ends)
+-- the first task is a frame of the function f, which the run can come to, over others. Of the run's state its tasks don't matter: `does` is told the frame and the others
+pub record Running (m : Module) (entry : Beginning) (made : List Made) (s : LowState) (st : MachineView) (f : Function) (lf : LowFrame) (mf : Frame) (below : Ends)
     (rest : List (low.Task LowFrame)) (rest' : List Task) : Type 0 where
   pub parts : PartsAgree m made s st
+  pub reached : Reaches entry.reached mf.function
   pub frame : FrameAgrees m made s.memory st f lf mf below (ends_of st)
   pub others : TasksAgree m entry made s.memory st (to_take (given_shape (declarations_of m) f)) below rest rest'
   pub tasks : st.tasks ≡ task.Runs mf ∷ rest'
@@ -79,7 +80,7 @@ is_call (op.CallOut g operands args to) = true
 
 -- values are read by both alike
 
-pub reads_known : {m : Module} {entry : Shape} {made : List Made} {s : LowState} {st : MachineView} {f : Function} {lf : LowFrame} {mf : Frame} {below above : Ends}
+pub reads_known : {m : Module} {entry : Beginning} {made : List Made} {s : LowState} {st : MachineView} {f : Function} {lf : LowFrame} {mf : Frame} {below above : Ends}
     → PartsAgree m made s st → FrameAgrees m made s.memory st f lf mf below above → (vs : List ValueId) → Each (IsOf f) vs → (go : List Datum → LowNext) (w : Went)
     → ((xs : List Datum) → AllRead m made s.memory st f mf vs xs → read_all lf.values vs ≡ Ok xs → Alike m entry (go xs) w)
     → Alike m entry (on_ok s go (read_all lf.values vs)) (with_all st mf vs w)
@@ -90,13 +91,13 @@ reads_known {m = m} {entry = entry} {made = made} {s = s} {st = st} {f = f} {lf 
     at (missing v found err) = alike_by (ap (on_ok s go) err) (ap (λ x. unless_missing x st w) found) (fault_alike parts (fault.Missing v))
     at (read xs found ok all) = alike_by (ap (on_ok s go) ok) (ap (λ x. unless_missing x st w) found) (then xs all ok)
 
-pub reads_alike : {m : Module} {entry : Shape} {made : List Made} {s : LowState} {st : MachineView} {f : Function} {lf : LowFrame} {mf : Frame} {below above : Ends}
+pub reads_alike : {m : Module} {entry : Beginning} {made : List Made} {s : LowState} {st : MachineView} {f : Function} {lf : LowFrame} {mf : Frame} {below above : Ends}
     → PartsAgree m made s st → FrameAgrees m made s.memory st f lf mf below above → (vs : List ValueId) → Each (IsOf f) vs → (go : List Datum → LowNext) (w : Went)
     → ((xs : List Datum) → AllRead m made s.memory st f mf vs xs → Alike m entry (go xs) w) → Alike m entry (on_ok s go (read_all lf.values vs)) (with_all st mf vs w)
 reads_alike parts frame vs are_of go w then = reads_known parts frame vs are_of go w (λ xs all ok. then xs all)
 
 -- an instruction reads its operands, and then it does by them what the machine does
-module _ (m : Module) (ready : ReadyModule) (entry : Shape) (bound : ℕ) (typed : RunTyped m) (made : List Made) (s : LowState) (st : MachineView) (f : Function) (lf : LowFrame)
+module _ (m : Module) (ready : ReadyModule) (entry : Beginning) (bound : ℕ) (typed : RunTyped m) (made : List Made) (s : LowState) (st : MachineView) (f : Function) (lf : LowFrame)
     (mf : Frame) (below : Ends) (rest : List (low.Task LowFrame)) (rest' : List Task) (running : Running m entry made s st f lf mf below rest rest')
     (i : Inst) (o : ReadyOp) (stands : StandsAt m f lf i o) where
   -- with the operands that were read: the run by what the instruction does, and the machine

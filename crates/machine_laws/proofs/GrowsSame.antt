@@ -10,7 +10,6 @@ use Rattle.machine_steps.specs.declared.frame.Task.{Task}
 use Rattle.machine_steps.specs.Turning.{dropping}
 use Rattle.machine_steps.specs.Views.{MachineView}
 use Rattle.run_values.specs.Memory.{Memory}
-use Rattle.run_values.specs.Shapes.{Shape}
 use Rattle.sil_ast.specs.declared.function.Function.{Function}
 use Rattle.sil_ast.specs.declared.module.Module.{Module}
 use Rattle.sil_ast.specs.declared.place.ObjectId.{ObjectId}
@@ -21,7 +20,7 @@ use Rattle.machine_laws.proofs.GrowsBy.{grows_objects, objects_stay, serial_of}
 use Rattle.machine_laws.proofs.GrowsTasks.{KeepsBelow, frame_grows, keeps_itself, tasks_keep}
 use Rattle.machine_laws.proofs.Puts.{ends_are}
 use Rattle.machine_laws.proofs.Slots.{Made}
-use Rattle.machine_laws.proofs.Tasks.{ReadyFor, TasksAgree, drops, to_go_on}
+use Rattle.machine_laws.proofs.Tasks.{Beginning, ReadyFor, TasksAgree, drops, to_go_on}
 
 pub grows_same : {m : Module} {made : List Made} {mem : Memory} {slots slots' : List OpenSlot} → WereMade made slots → slots' ≡ slots → Grows m made mem slots made mem slots'
 grows_same {mem = mem} were same = grows_objects were (objects_stay mem mem refl) (ap (map serial_of) same)
@@ -31,7 +30,7 @@ module _ {m : Module} {made : List Made} {mem : Memory} {st st' : MachineView} (
       → FrameAgrees m made mem st' f lf mf below above
   frame_same keeps agrees = frame_grows (grows_same were same) keeps agrees
 
-  pub tasks_same : {entry : Shape} {r : ReadyFor} {ends : Ends} {ts : List (low.Task LowFrame)} {ts' : List Task} → KeepsBelow ends st st'
+  pub tasks_same : {entry : Beginning} {r : ReadyFor} {ends : Ends} {ts : List (low.Task LowFrame)} {ts' : List Task} → KeepsBelow ends st st'
       → TasksAgree m entry made mem st r ends ts ts' → TasksAgree m entry made mem st' r ends ts ts'
   tasks_same keeps agrees = tasks_keep (grows_same were same) keeps (λ o now. refl) agrees
 
@@ -46,7 +45,7 @@ dropping_keeps (o ∷ os) st = record {
   waiting = take-append-le (length st.waiting) st.waiting (reverse (o ∷ os)) (omega arith);
 }
 
-pub dropping_agrees : {m : Module} {entry : Shape} {made : List Made} {mem : Memory} {st : MachineView} {ts : List (low.Task LowFrame)} → WereMade made st.slots → (os : List ObjectId)
+pub dropping_agrees : {m : Module} {entry : Beginning} {made : List Made} {mem : Memory} {st : MachineView} {ts : List (low.Task LowFrame)} → WereMade made st.slots → (os : List ObjectId)
     → TasksAgree m entry made mem st to_go_on (ends_of st) ts st.tasks
     → TasksAgree m entry made mem (dropping os st) to_go_on (ends_of (dropping os st)) (low.dropping os ts) (dropping os st).tasks
 dropping_agrees were [] agrees = agrees

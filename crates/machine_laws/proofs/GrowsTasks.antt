@@ -32,7 +32,7 @@ use Rattle.machine_laws.proofs.Layouts.{address_within, local_within}
 use Rattle.machine_laws.proofs.LayoutsLists.{at_taken, get_take, part_taken, taken_less}
 use Rattle.machine_laws.proofs.Memories.{NamesPlace}
 use Rattle.machine_laws.proofs.Slots.{Made, slot_place}
-use Rattle.machine_laws.proofs.Tasks.{ReadyFor, TasksAgree, bottom, dropped, drops, finishes, is_finishing, runs, waits}
+use Rattle.machine_laws.proofs.Tasks.{Beginning, ReadyFor, TasksAgree, bottom, dropped, drops, finishes, is_finishing, runs, waits}
 
 pub record AtMost (low high : Ends) : Type 0 where
   pub values : low.values ≤ high.values
@@ -197,13 +197,13 @@ module _ {m : Module} {made made' : List Made} {mem mem' : Memory} {st st' : Mac
     own_slots = agrees.own_slots ∙ ap reverse (sym (same_places grows below.slots above.slots agrees.slots_end keeps.serials));
   }
 
-  pub tasks_keep : {entry : Shape} {r : ReadyFor} {ends : Ends} {ts : List (low.Task LowFrame)} {ts' : List Task} → KeepsBelow ends st st' → PhasesStay mem mem' ts'
+  pub tasks_keep : {entry : Beginning} {r : ReadyFor} {ends : Ends} {ts : List (low.Task LowFrame)} {ts' : List Task} → KeepsBelow ends st st' → PhasesStay mem mem' ts'
       → TasksAgree m entry made mem st r ends ts ts' → TasksAgree m entry made' mem' st' r ends ts ts'
   tasks_keep keeps phases bottom = bottom
-  tasks_keep keeps phases (runs f lf mf below above rest rest' frame others) =
-      runs f lf mf below above rest rest' (frame_grows keeps frame) (tasks_keep (keeps_less (frame_within frame) keeps) phases others)
-  tasks_keep keeps phases (waits s f lf mf below above rest rest' frame awaits others) =
-      waits s f lf mf below above rest rest' (frame_grows keeps frame) awaits (tasks_keep (keeps_less (frame_within frame) keeps) phases others)
+  tasks_keep keeps phases (runs f lf mf below above rest rest' reaches frame others) =
+      runs f lf mf below above rest rest' reaches (frame_grows keeps frame) (tasks_keep (keeps_less (frame_within frame) keeps) phases others)
+  tasks_keep keeps phases (waits s f lf mf below above rest rest' reaches frame awaits others) =
+      waits s f lf mf below above rest rest' reaches (frame_grows keeps frame) awaits (tasks_keep (keeps_less (frame_within frame) keeps) phases others)
   tasks_keep keeps phases (drops o os below above rest rest' ends waiting others) =
       let up_to : above.waiting ≡ below.waiting + length (o ∷ os) = ap (λ e. e.waiting) ends in
       let least : AtMost below above = subst (λ e. AtMost below e) (sym ends) (waits_more below (length (o ∷ os))) in

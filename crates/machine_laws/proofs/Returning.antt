@@ -28,7 +28,7 @@ use Rattle.machine_steps.specs.ready_code.declared.function.ReadyModule.{ReadyMo
 use Rattle.machine_steps.specs.ready_code.declared.local.Local.{Local}
 use Rattle.machine_steps.specs.ready_code.declared.op.ReadyOp.{ReadyOp}
 use Rattle.machine_steps.specs.ready_code.Layout.{local}
-use Rattle.machine_steps.specs.ready_code.ReadyModules.{IsReadyModule}
+use Rattle.machine_steps.specs.ready_code.ReadyModules.{IsReadyModule, Reaches}
 use Rattle.machine_steps.specs.ready_code.ReadyOps.{IsReadyOp, calls, calls_out, chooses_full, chooses_plain, computes, drops}
 use Rattle.machine_steps.specs.ready_code.ReadyOps.{field_address, forgets_name, function, groups, literal, loads, loads_name}
 use Rattle.machine_steps.specs.ready_code.ReadyOps.{look, member, member_address, object, removes, retains, same, slot, stores, stores_name, traps}
@@ -66,7 +66,7 @@ use Rattle.machine_laws.proofs.Objects.{ObjectsAgree, is_of_class}
 use Rattle.machine_laws.proofs.Pushes.{without_frame_ends, without_frame_keeps}
 use Rattle.machine_laws.proofs.Rows.Steps.{defined_by, goes_behind, value_put}
 use Rattle.machine_laws.proofs.Slots.{Made}
-use Rattle.machine_laws.proofs.Tasks.{AwaitsAt, ReadyFor, TasksAgree, bottom, dropped, finishes, runs, to_go_on, to_take, waits}
+use Rattle.machine_laws.proofs.Tasks.{AwaitsAt, Beginning, ReadyFor, TasksAgree, bottom, dropped, finishes, runs, to_go_on, to_take, waits}
 use Rattle.machine_laws.proofs.Tasks as tasks
 
 -- what a call awaits
@@ -115,7 +115,7 @@ find_alike p q alike [] = refl
 find_alike p q alike (x ∷ xs) = ap (λ b. cond b (Some x) (find p xs)) (alike x) ∙ ap (cond (q x) (Some x)) (find_alike p q alike xs)
 
 -- a frame of the function f gives a value, and goes
-module _ (m : Module) (ready : ReadyModule) (entry : Shape) (bound : ℕ) (typed : RunTyped m) (is_ready : IsReadyModule m ready) (made : List Made) (s : LowState) (st : MachineView)
+module _ (m : Module) (ready : ReadyModule) (entry : Beginning) (bound : ℕ) (typed : RunTyped m) (is_ready : IsReadyModule m entry.reached ready) (made : List Made) (s : LowState) (st : MachineView)
     (parts : PartsAgree m made s st) (f : Function) (lf : LowFrame) (mf : Frame) (below : Ends) (frame : FrameAgrees m made s.memory st f lf mf below (ends_of st))
     (rest' : List Task) (empty : length st.slots ≡ mf.slots) (shape : Shape) (x : Value) (fits : suits (is_of_class m s.memory) shape x ≡ true) (l : Local)
     (leaves : contents st mf l ≡ leaves_of shape x) where
@@ -132,7 +132,7 @@ module _ (m : Module) (ready : ReadyModule) (entry : Shape) (bound : ℕ) (typed
   gone_parts = parts_with (parts_values parts (only_put st gone.there gone.leaves gone.addresses)) s.tasks rest'
 
   -- the first frame returns
-  leaves_alike : entry ≡ shape → below ≡ tasks.no_ends
+  leaves_alike : entry.gives ≡ shape → below ≡ tasks.no_ends
       → Alike m entry (run.returns_to m (shapes_of m) bound s (ValueOf x) []) (machine.returns_to ready bound st mf rest' l [])
   leaves_alike gives bottom_ = at (find (is_dead s.memory) (references_of x)) refl
     where
@@ -151,9 +151,9 @@ module _ (m : Module) (ready : ReadyModule) (entry : Shape) (bound : ℕ) (typed
       zero_ : mf.leaves + l.at ≡ l.at
       zero_ = ap (λ n. n + l.at) (frame.leaves ∙ ap (λ e. e.leaves) bottom_) ∙ zero-add l.at
 
-      value : value_of entry (take l.size (drop l.at st.leaves)) ≡ Some x
+      value : value_of entry.gives (take l.size (drop l.at st.leaves)) ≡ Some x
       value =
-          ap (λ n. value_of entry (take l.size (drop n st.leaves))) (sym zero_) ∙ ap (value_of entry) leaves ∙ ap (λ t. value_of t (leaves_of shape x)) gives
+          ap (λ n. value_of entry.gives (take l.size (drop n st.leaves))) (sym zero_) ∙ ap (value_of entry.gives) leaves ∙ ap (λ t. value_of t (leaves_of shape x)) gives
           ∙ (come_back shape x (suits_fits (is_of_class m s.memory) shape x fits)).0
 
       at : (o : Option ObjectId) → find (is_dead s.memory) (references_of x) ≡ o
@@ -166,15 +166,15 @@ module _ (m : Module) (ready : ReadyModule) (entry : Shape) (bound : ℕ) (typed
 
   -- a caller is given the value
   gives_alike : (f' : Function) (lf' : LowFrame) (mf' : Frame) (below' : Ends) (rest : List (low.Task LowFrame)) (rest'' : List Task) → rest' ≡ task.Runs mf' ∷ rest''
-      → FrameAgrees m made s.memory st f' lf' mf' below' below → AwaitsAt m f' lf' shape
+      → Reaches entry.reached mf'.function → FrameAgrees m made s.memory st f' lf' mf' below' below → AwaitsAt m f' lf' shape
       → TasksAgree m entry made s.memory st (to_take (given_shape (declarations_of m) f')) below' rest rest''
       → Alike m entry (run.returns_to m (shapes_of m) bound s (ValueOf x) (low.Runs lf' ∷ rest)) (machine.returns_to ready bound st mf rest' l (task.Runs mf' ∷ rest''))
-  gives_alike f' lf' mf' below' rest rest'' tasks_are frame' awaits others =
+  gives_alike f' lf' mf' below' rest rest'' tasks_are reaches frame' awaits others =
       alike_by
       (ap (on_some s (λ f. run.goes_on m (shapes_of m) bound s rest lf' f (item.Inst lf'.at) (record (unchanged s.memory) { results = ValueOf x ∷ [] }))) frame'.there
       ∙ goes_on_plain m (shapes_of m) bound s rest lf' f' (item.Inst lf'.at) (ValueOf x ∷ []) (set lf'.values awaits.result.0 (Some (ValueOf x))) stay
       (ap (λ vs. put_all vs (ValueOf x ∷ []) lf'.values) (defined_by f' lf' awaits.call awaits.there ∙ awaits.results)))
-      (ap (machine.given_back ready bound st mf rest' (contents st mf l) mf' rest'') (awaited_there (standing function_typed (ready_where is_ready frame')) awaits))
+      (ap (machine.given_back ready bound st mf rest' (contents st mf l) mf' rest'') (awaited_there (standing function_typed (ready_where is_ready reaches frame')) awaits))
       (goes_behind (value_put caller awaits.result is_of shape awaits.form x fits (contents st mf l) leaves) awaits.call awaits.there)
     where
       stay : numbers_for s.memory s.numbers ≡ s.numbers
@@ -189,6 +189,7 @@ module _ (m : Module) (ready : ReadyModule) (entry : Shape) (bound : ℕ) (typed
       caller : Running m entry made s gone f' lf' mf' below' rest rest''
       caller = record {
         parts = gone_parts;
+        reached = reaches;
         frame = subst (FrameAgrees m made s.memory gone f' lf' mf' below') (sym gone_ends) (frame_same {st = st} {st' = gone} (were_made parts.memory.slots) refl gone_keeps frame');
         others = tasks_same {st = st} {st' = gone} (were_made parts.memory.slots) refl (keeps_less (frame_within frame') gone_keeps) others;
         tasks = tasks_are;
@@ -209,11 +210,11 @@ module _ (m : Module) (ready : ReadyModule) (entry : Shape) (bound : ℕ) (typed
   pub returns_to_alike : (r : ReadyFor) (ends : Ends) (rest : List (low.Task LowFrame)) (rest'' : List Task) → r ≡ to_take shape → ends ≡ below → rest' ≡ rest''
       → TasksAgree m entry made s.memory st r ends rest rest''
       → Alike m entry (run.returns_to m (shapes_of m) bound s (ValueOf x) rest) (machine.returns_to ready bound st mf rest' l rest'')
-  returns_to_alike _ _ _ _ takes same_ends same_tasks bottom = let gives : entry ≡ shape = cc in leaves_alike gives (sym same_ends)
-  returns_to_alike _ _ _ _ takes same_ends same_tasks (runs f' lf' mf' below' above rest rest'' frame' others) = absurd (cc)
-  returns_to_alike _ _ _ _ takes same_ends same_tasks (waits t f' lf' mf' below' above rest rest'' frame' awaits others) =
+  returns_to_alike _ _ _ _ takes same_ends same_tasks bottom = let gives : entry.gives ≡ shape = cc in leaves_alike gives (sym same_ends)
+  returns_to_alike _ _ _ _ takes same_ends same_tasks (runs f' lf' mf' below' above rest rest'' reaches frame' others) = absurd (cc)
+  returns_to_alike _ _ _ _ takes same_ends same_tasks (waits t f' lf' mf' below' above rest rest'' reaches frame' awaits others) =
       let given : t ≡ shape = cc in
-      gives_alike f' lf' mf' below' rest rest'' same_tasks (subst (FrameAgrees m made s.memory st f' lf' mf' below') same_ends frame') (subst (AwaitsAt m f' lf') given awaits) others
+      gives_alike f' lf' mf' below' rest rest'' same_tasks reaches (subst (FrameAgrees m made s.memory st f' lf' mf' below') same_ends frame') (subst (AwaitsAt m f' lf') given awaits) others
   returns_to_alike _ _ _ _ takes same_ends same_tasks (tasks.drops o os below' above rest rest'' up_to waiting others) = absurd (cc)
   returns_to_alike _ _ _ _ takes same_ends same_tasks (dropped above rest rest'' others) = absurd (cc)
   returns_to_alike _ _ _ _ takes same_ends same_tasks (finishes r gs o called above rest rest'' was_made phase deinits once others) =

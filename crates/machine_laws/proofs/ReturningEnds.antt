@@ -46,7 +46,7 @@ use Rattle.machine_laws.proofs.FrameSteps.{Running}
 use Rattle.machine_laws.proofs.PushesSlots.{NewestSlot, newest, newest_slot, none}
 use Rattle.machine_laws.proofs.Returning.{returns_to_alike}
 use Rattle.machine_laws.proofs.Slots.{Made}
-use Rattle.machine_laws.proofs.Tasks.{to_take}
+use Rattle.machine_laws.proofs.Tasks.{Beginning, to_take}
 
 return_forms : (d : Declarations) (f : Function) (i : Inst) → ending_of i.op ≡ ending.Return → EndForms d f i → operand_forms d f i ≡ OfValue (given_shape d f) ∷ []
 return_forms d f i is (branch e is' bare edge forms) = absurd (cc)
@@ -55,7 +55,7 @@ return_forms d f i is (cases s is' operands shape all) = absurd (cc)
 return_forms d f i is (returns is' operands) = operands
 return_forms d f i is (unreachable is') = absurd (cc)
 
-module _ (m : Module) (ready : ReadyModule) (entry : Shape) (bound : ℕ) (typed : RunTyped m) (is_ready : IsReadyModule m ready) (made : List Made) (s : LowState) (st : MachineView)
+module _ (m : Module) (ready : ReadyModule) (entry : Beginning) (bound : ℕ) (typed : RunTyped m) (is_ready : IsReadyModule m entry.reached ready) (made : List Made) (s : LowState) (st : MachineView)
     (f : Function) (lf : LowFrame) (mf : Frame) (below : Ends) (rest : List (low.Task LowFrame)) (rest' : List Task) (running : Running m entry made s st f lf mf below rest rest')
     (i : Inst) (stands : StandsAtEnd m f lf i) where
   return_alike : (v : ValueId) → ending_of i.op ≡ ending.Return → operands_of i ≡ v ∷ []

@@ -15,7 +15,6 @@ use Rattle.machine_steps.specs.ready_code.declared.op.ReadyOp.{ReadyOp}
 use Rattle.machine_steps.specs.ready_code.ReadyModules.{IsReadyModule}
 use Rattle.machine_steps.specs.ready_code.ReadyOps.{IsReadyOp}
 use Rattle.machine_steps.specs.run_typing.RunTyped.{RunTyped}
-use Rattle.run_values.specs.Shapes.{Shape}
 use Rattle.sil_ast.specs.declared.function.Function.{Function}
 use Rattle.sil_ast.specs.declared.inst.Inst.{Inst}
 use Rattle.sil_ast.specs.declared.module.Module.{Module}
@@ -36,9 +35,10 @@ use Rattle.machine_laws.proofs.Rows.References.{drop_alike, retain_alike}
 use Rattle.machine_laws.proofs.Rows.Storing.{forget_name_alike}
 use Rattle.machine_laws.proofs.Rows.Values.{function_alike, literal_alike, look_alike, same_alike, traps_alike}
 use Rattle.machine_laws.proofs.Slots.{Made}
+use Rattle.machine_laws.proofs.Tasks.{Beginning}
 
 -- what the run does at a row and what the machine performs for it are alike
-pub row_follows : (m : Module) (ready : ReadyModule) (entry : Shape) (bound : ℕ) → RunTyped m → IsReadyModule m ready
+pub row_follows : (m : Module) (ready : ReadyModule) (entry : Beginning) (bound : ℕ) → RunTyped m → IsReadyModule m entry.reached ready
     → (made : List Made) (s : LowState) (st : MachineView) (f : Function) (lf : LowFrame) (mf : Frame) (below : Ends)
     (rest : List (low.Task LowFrame)) (rest' : List Task) → Running m entry made s st f lf mf below rest rest'
     → (i : Inst) (o : ReadyOp) → StandsAt m f lf i o → is_call o ≡ false

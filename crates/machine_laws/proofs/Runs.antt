@@ -25,7 +25,6 @@ use Rattle.machine_steps.specs.ready_code.ReadyModules.{IsReadyFunction, IsReady
 use Rattle.machine_steps.specs.run_typing.Forms.{given_shape}
 use Rattle.machine_steps.specs.run_typing.RunTyped.{RunTyped}
 use Rattle.run_values.specs.Memory.{Memory}
-use Rattle.run_values.specs.Shapes.{Shape}
 use Rattle.sil_ast.specs.declared.module.Module.{Module}
 use Rattle.sil_ast.specs.declared.place.FuncId.{FuncId}
 use Rattle.type_definitions.specs.Declarations.{declarations_of}
@@ -33,11 +32,10 @@ use Rattle.machine_laws.specs.inner.MachineRuns.{MachineRunsSo, Started}
 use Rattle.machine_laws.specs.inner.Told.{IsEnding, outcome_told}
 use Rattle.machine_laws.proofs.Agreement.{Agrees, Follows, ends_of, goes, stops}
 use Rattle.machine_laws.proofs.Assembly.{steps_follow}
-use Rattle.machine_laws.proofs.FrameReady.{code_there}
 use Rattle.machine_laws.proofs.Memories.{MemoryAgrees}
 use Rattle.machine_laws.proofs.Pushes.{frame_made}
 use Rattle.machine_laws.proofs.Slots.{Made}
-use Rattle.machine_laws.proofs.Tasks.{bottom, no_ends, runs}
+use Rattle.machine_laws.proofs.Tasks.{Beginning, bottom, no_ends, runs}
 
 -- some steps, and then others
 steps_then : {X S : Type 0} (step : S → Next X S) (j : ℕ) (s s' : S) → run step j s ≡ low.Goes s' → (n : ℕ) (end : Next X S) → run step n s' ≡ end → (k : ℕ) × (run step k s ≡ end)
@@ -49,20 +47,24 @@ steps_then {X = X} {S = S} step (suc j) s s' first n end then = by (step s) refl
     by (low.Goes t) is goes_on later = let rest = later t goes_on in (suc rest.0, ap (low.step_on (run step rest.0)) is ∙ rest.1)
     by (low.Ends e t) is goes_on later = absurd (cc)
 
+-- where the run begins
+abbrev beginning : (m : Module) (ready : ReadyModule) (e : FuncId) (bound : ℕ) → Started m ready e bound → Beginning
+beginning m ready e bound started = record { gives = given_shape (declarations_of m) started.entry; reached = started.reached }
+
 -- the states at the start
 module _ (m : Module) (ready : ReadyModule) (e : FuncId) (bound : ℕ) (started : Started m ready e bound) where
   abbrev first : MachineView
   first = begins (declarations_of m) e started.code
 
-  abbrev entry : Shape
-  entry = given_shape (declarations_of m) started.entry
+  abbrev entry : Beginning
+  entry = beginning m ready e bound started
 
   abbrev nothing : Memory
   nothing = record { stack = []; objects = [] }
 
   code_is : IsReadyFunction m started.entry started.code
   code_is =
-      let code = code_there m ready started.made e started.entry started.there in
+      let code = started.made.functions e started.entry started.comes_to_entry started.there in
       subst (IsReadyFunction m started.entry) (same_Some code.0 started.code (sym code.1 ∙ started.ready_there)) code.2
 
   memory_begins : MemoryAgrees m [] nothing [] first
@@ -87,21 +89,21 @@ module _ (m : Module) (ready : ReadyModule) (e : FuncId) (bound : ℕ) (started 
   begins_agree : Agrees m entry [] (low_begins e started.entry) first
   begins_agree = record {
     parts = record { memory = memory_begins; events = refl; turns = refl; retains = refl; releases = refl };
-    tasks = runs started.entry (new_frame e (no_values (value_count started.entry))) (machine.new_frame (no_tasks (declarations_of m)) e) no_ends (ends_of first) [] []
+    tasks = runs started.entry (new_frame e (no_values (value_count started.entry))) (machine.new_frame (no_tasks (declarations_of m)) e) no_ends (ends_of first) [] [] started.comes_to_entry
         (frame_made m [] nothing (no_tasks (declarations_of m)) e started.entry started.code started.there
         (and_parts (has_any started.entry.blocks) (not (has_any (arguments_of started.entry.signature))) started.starts).0 code_is) bottom;
   }
 
 -- how the run has ended, where the machine has stopped
-pub record EndsAs (m : Module) (entry : Shape) (bound : ℕ) (s : LowState) (end : RunEnd) (st : MachineView) : Type 0 where
+pub record EndsAs (m : Module) (entry : Beginning) (bound : ℕ) (s : LowState) (end : RunEnd) (st : MachineView) : Type 0 where
   pub ending : Ending LowFault
-  pub is_ending : IsEnding m entry st end ending
+  pub is_ending : IsEnding m entry.gives st end ending
   pub count : ℕ
   pub last : LowState
   pub ends : run (low_step m (shapes_of m) bound) count s ≡ low.Ends ending last
   pub told : low_outcome_at ending last ≡ outcome_told st end ending
 
-module _ (m : Module) (ready : ReadyModule) (entry : Shape) (bound : ℕ) (typed : RunTyped m) (is_ready : IsReadyModule m ready) (end : RunEnd) (last : MachineView) where
+module _ (m : Module) (ready : ReadyModule) (entry : Beginning) (bound : ℕ) (typed : RunTyped m) (is_ready : IsReadyModule m entry.reached ready) (end : RunEnd) (last : MachineView) where
   follow : (k : ℕ) (made : List Made) (s : LowState) (st : MachineView) → Agrees m entry made s st → steps ready bound k st ≡ Stops end last → EndsAs m entry bound s end last
   follow zero made s st agrees leads = absurd (cc)
   follow (suc k) made s st agrees leads =
@@ -119,7 +121,7 @@ module _ (m : Module) (ready : ReadyModule) (entry : Shape) (bound : ℕ) (typed
           let same_view : st' ≡ last = cc in
           record {
             ending = ending;
-            is_ending = subst (λ x. IsEnding m entry last x ending) same_end (subst (λ v. IsEnding m entry v end' ending) same_view is_ending);
+            is_ending = subst (λ x. IsEnding m entry.gives last x ending) same_end (subst (λ v. IsEnding m entry.gives v end' ending) same_view is_ending);
             count = j;
             last = s';
             ends = ends_in;
@@ -128,7 +130,7 @@ module _ (m : Module) (ready : ReadyModule) (entry : Shape) (bound : ℕ) (typed
 
 pub machine_runs_so : MachineRunsSo
 machine_runs_so m ready e bound started end st leads =
-    let ended = follow m ready (given_shape (declarations_of m) started.entry) bound started.typed started.made end st leads.0 [] (low_begins e started.entry)
+    let ended = follow m ready (beginning m ready e bound started) bound started.typed started.made end st leads.0 [] (low_begins e started.entry)
     (begins (declarations_of m) e started.code) (begins_agree m ready e bound started) leads.1 in (
       ended.ending,
       ended.is_ending,

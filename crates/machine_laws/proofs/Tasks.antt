@@ -12,6 +12,7 @@ use Rattle.machine_steps.specs.declared.frame.Frame.{Frame}
 use Rattle.machine_steps.specs.declared.frame.Task.{Task}
 use Rattle.machine_steps.specs.declared.frame.Task.TheVariants as task
 use Rattle.machine_steps.specs.Views.{MachineView}
+use Rattle.machine_steps.specs.ready_code.ReadyModules.{Reaches}
 use Rattle.machine_steps.specs.ready_code.ReadyOps.{operands_of}
 use Rattle.machine_steps.specs.run_typing.Forms.{OfFunction, OfValue, form_of, given_shape}
 use Rattle.run_values.specs.Memory.{Memory, object_at}
@@ -59,14 +60,21 @@ is_finishing o (task.Finishes p called ∷ rest) = (o.0 == p.0) || is_finishing 
 abbrev pub no_ends : Ends
 no_ends = record { values = 0; leaves = 0; addresses = 0; slots = 0; waiting = 0 }
 
--- what the entry function gives has the shape `entry`
-pub data TasksAgree (m : Module) (entry : Shape) (made : List Made) (mem : Memory) (st : MachineView) : ReadyFor → Ends → List (low.Task LowFrame) → List Task → Type 0 where
-  bottom : TasksAgree m entry made mem st (to_take entry) no_ends [] []
+-- where a run begins: the shape of what its entry function gives, and the functions that the run can come to
+pub record Beginning : Type 0 where
+  pub gives : Shape
+  pub reached : List Bool
+
+-- each frame is of a function that the run can come to
+pub data TasksAgree (m : Module) (entry : Beginning) (made : List Made) (mem : Memory) (st : MachineView) : ReadyFor → Ends → List (low.Task LowFrame) → List Task → Type 0 where
+  bottom : TasksAgree m entry made mem st (to_take entry.gives) no_ends [] []
   runs : (f : Function) (lf : LowFrame) (mf : Frame) (below above : Ends) (rest : List (low.Task LowFrame)) (rest' : List Task)
-      → FrameAgrees m made mem st f lf mf below above → TasksAgree m entry made mem st (to_take (given_shape (declarations_of m) f)) below rest rest'
+      → Reaches entry.reached mf.function → FrameAgrees m made mem st f lf mf below above
+      → TasksAgree m entry made mem st (to_take (given_shape (declarations_of m) f)) below rest rest'
       → TasksAgree m entry made mem st to_go_on above (low.Runs lf ∷ rest) (task.Runs mf ∷ rest')
   waits : (s : Shape) (f : Function) (lf : LowFrame) (mf : Frame) (below above : Ends) (rest : List (low.Task LowFrame)) (rest' : List Task)
-      → FrameAgrees m made mem st f lf mf below above → AwaitsAt m f lf s → TasksAgree m entry made mem st (to_take (given_shape (declarations_of m) f)) below rest rest'
+      → Reaches entry.reached mf.function → FrameAgrees m made mem st f lf mf below above → AwaitsAt m f lf s
+      → TasksAgree m entry made mem st (to_take (given_shape (declarations_of m) f)) below rest rest'
       → TasksAgree m entry made mem st (to_take s) above (low.Runs lf ∷ rest) (task.Runs mf ∷ rest')
   drops : (o : ObjectId) (os : List ObjectId) (below above : Ends) (rest : List (low.Task LowFrame)) (rest' : List Task)
       → above ≡ record below { waiting = below.waiting + length (o ∷ os) } → take (length (o ∷ os)) (drop below.waiting st.waiting) ≡ reverse (o ∷ os)

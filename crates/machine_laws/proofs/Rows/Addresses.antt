@@ -36,8 +36,9 @@ use Rattle.machine_laws.proofs.Operands.{read_place, read_value}
 use Rattle.machine_laws.proofs.Rows.Effects.{RowAlike, Runs, d, does_at, forms_by, performed, results_of, row_by, values}
 use Rattle.machine_laws.proofs.Rows.Gives.{faults_alike, first_form, gives_place, one_of, one_read}
 use Rattle.machine_laws.proofs.Rows.Shapes.{same_place_form}
+use Rattle.machine_laws.proofs.Tasks.{Beginning}
 
-module _ {m : Module} {entry : Shape} (r : Runs m entry) where
+module _ {m : Module} {entry : Beginning} (r : Runs m entry) where
   pub member_address_alike : (v u : ValueId) (s : Shape) (k : ℕ) → effect_of r.i.op ≡ row.AddressesMember → operands_of r.i ≡ v ∷ [] → r.i.results ≡ u ∷ []
       → form_of (d r) r.f v ≡ OfPlace s → part_number (d r) r.i ≡ Some k
       → StandsAt m r.f r.lf r.i (op.MemberAddress (local_address (d r) r.f v) (leaf_offset (member_shapes s) k) (local_address (d r) r.f u))

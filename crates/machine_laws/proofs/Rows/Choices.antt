@@ -32,6 +32,7 @@ use Rattle.machine_laws.proofs.Rows.Effects.{RowAlike, Runs, d, forms_by, perfor
 use Rattle.machine_laws.proofs.Rows.Forms.{ChoiceForms}
 use Rattle.machine_laws.proofs.Rows.Gives.{first_form, gives_value, none_read, one_of, one_read}
 use Rattle.machine_laws.proofs.Rows.Shapes.{same_value_form, shape_in_form, shape_told}
+use Rattle.machine_laws.proofs.Tasks.{Beginning}
 
 -- a choice without a payload, and with one
 
@@ -49,7 +50,7 @@ plain_choice m i _ (ChoiceForms.plain s k c is at there no_payload) = (s, k, c, 
 full_choice : (m : Module) (i : Inst) (form : Form) (outs : List Form) → ChoiceForms m i (form ∷ []) outs → FullChoice m i form outs
 full_choice m i _ _ (ChoiceForms.full s t k c is at there has_payload) = (s, t, k, c, at, there, has_payload, refl, refl)
 
-module _ {m : Module} {entry : Shape} (r : Runs m entry) where
+module _ {m : Module} {entry : Beginning} (r : Runs m entry) where
   -- the run finds the shape in the form of the result
   case_found : (u : ValueId) (s : Shape) (k : ℕ) → r.i.results ≡ u ∷ [] → form_of (d r) r.f u ≡ OfValue s → case_place s r.i.member ≡ Some k
       → case_place (result_shape_of (d r) (shapes_of m) (values r) r.s.memory r.i r.i.results) r.i.member ≡ Some k

@@ -19,7 +19,6 @@ use Rattle.machine_steps.specs.ready_code.declared.op.ReadyOp.TheVariants as op
 use Rattle.machine_steps.specs.run_typing.Forms.{Form, OfValue, form_of, forms_of}
 use Rattle.machine_steps.specs.run_typing.RowForms.{computed_shape, operand_shapes, shape_by, shapes_by}
 use Rattle.run_values.specs.Leaves.{leaves_of}
-use Rattle.run_values.specs.Shapes.{Shape}
 use Rattle.run_values.specs.Values as value
 use Rattle.run_values.specs.Values.{integer_of}
 use Rattle.sil_ast.specs.declared.module.Module.{Module}
@@ -35,6 +34,7 @@ use Rattle.machine_laws.proofs.Rows.Forms.{FormsAt}
 use Rattle.machine_laws.proofs.Rows.Gives.{first_form, gives_value, one_of}
 use Rattle.machine_laws.proofs.Rows.Integers.{int_at, ints_read, numbers_listed, of_width}
 use Rattle.machine_laws.proofs.Rows.Residues.{bit_is_residue, signed_is_residue}
+use Rattle.machine_laws.proofs.Tasks.{Beginning}
 
 -- what is computed is of the shape that the operation gives
 
@@ -93,7 +93,7 @@ few_more g overflowing k v w (u ∷ t ∷ vs) e = absurd (cc)
 few_more g comparing k v w (u ∷ t ∷ vs) e = absurd (cc)
 few_more g combining k v w (u ∷ t ∷ vs) e = absurd (cc)
 
-module _ {m : Module} {entry : Shape} (r : Runs m entry) where
+module _ {m : Module} {entry : Beginning} (r : Runs m entry) where
   pub computes_alike : (b : Builtin) (v w u : ValueId) (others : List ValueId) → effect_of r.i.op ≡ row.Computes → option_and_then builtin_named r.i.text ≡ Some b
       → operands_of r.i ≡ v ∷ w ∷ others → r.i.results ≡ u ∷ []
       → StandsAt m r.f r.lf r.i (op.Compute b.operation b.width (local (d r) r.f v) (local (d r) r.f w) (first_of others) (local (d r) r.f u))

@@ -34,9 +34,10 @@ use Rattle.machine_laws.proofs.Operands.{AllRead}
 use Rattle.machine_laws.proofs.Rows.Forms.{FormsAt, forms_at}
 use Rattle.machine_laws.proofs.Rows.Steps.{defined_by}
 use Rattle.machine_laws.proofs.Slots.{Made}
+use Rattle.machine_laws.proofs.Tasks.{Beginning}
 
 -- a frame of a module that is made ready runs
-pub record Runs (m : Module) (entry : Shape) : Type 0 where
+pub record Runs (m : Module) (entry : Beginning) : Type 0 where
   pub ready : ReadyModule
   pub bound : ℕ
   pub typed : RunTyped m
@@ -52,7 +53,7 @@ pub record Runs (m : Module) (entry : Shape) : Type 0 where
   pub running : Running m entry made s st f lf mf below rest rest'
   pub i : Inst
 
-module _ {m : Module} {entry : Shape} (r : Runs m entry) where
+module _ {m : Module} {entry : Beginning} (r : Runs m entry) where
   abbrev pub d : Declarations
   d = declarations_of m
 

@@ -36,6 +36,7 @@ use Rattle.machine_laws.proofs.Operands.{AllRead, IsRead, more, none}
 use Rattle.machine_laws.proofs.Rows.Effects.{Runs, d, performed}
 use Rattle.machine_laws.proofs.Rows.Makes.{address_given, function_given, nothing_given, value_given}
 use Rattle.machine_laws.proofs.Slots.{Made}
+use Rattle.machine_laws.proofs.Tasks.{Beginning}
 
 -- lists with one form
 
@@ -87,7 +88,7 @@ module _ {m : Module} {made : List Made} {mem : Memory} {st : MachineView} {f : 
 
 -- what the instruction gives, in a memory that stays
 
-module _ {m : Module} {entry : Shape} (r : Runs m entry) where
+module _ {m : Module} {entry : Beginning} (r : Runs m entry) where
   pub same_numbers : numbers_for r.s.memory r.s.numbers ≡ r.s.numbers
   same_numbers = numbers_stay m (is_of_class m r.s.memory) r.s.memory r.s.numbers r.st.heap r.running.parts.memory.objects
 

@@ -39,6 +39,7 @@ use Rattle.machine_laws.proofs.Rows.Effects.{RowAlike, Runs, d, forms_by, perfor
 use Rattle.machine_laws.proofs.Rows.Gives.{first_form, gives_value, one_of, one_read, other_forms}
 use Rattle.machine_laws.proofs.Rows.Shapes.{same_value_form}
 use Rattle.machine_laws.proofs.Slots.{Made}
+use Rattle.machine_laws.proofs.Tasks.{Beginning}
 
 -- groups
 
@@ -82,7 +83,7 @@ module _ {m : Module} {made : List Made} {mem : Memory} {st : MachineView} (f : 
             ap (λ ls. ls ++ flat_map (contents st mf) (map (local (declarations_of m) f) vs)) first.3 ∙ ap (λ ls. leaves_of s first.0 ++ ls) others.leaves;
       }
 
-module _ {m : Module} {entry : Shape} (r : Runs m entry) where
+module _ {m : Module} {entry : Beginning} (r : Runs m entry) where
   pub group_alike : (u : ValueId) → effect_of r.i.op ≡ row.Groups → r.i.results ≡ u ∷ []
       → StandsAt m r.f r.lf r.i (op.Group (map (local (d r) r.f) (operands_of r.i)) (local (d r) r.f u))
       → RowAlike r (op.Group (map (local (d r) r.f) (operands_of r.i)) (local (d r) r.f u))

@@ -71,6 +71,7 @@ use Rattle.machine_laws.proofs.Rows.Shapes.{same_place_form}
 use Rattle.machine_laws.proofs.Rows.Steps.{counts_change, value_put}
 use Rattle.machine_laws.proofs.Rows.Storing.{emptied_so, forgotten_runs, held_one}
 use Rattle.machine_laws.proofs.Slots.{Made}
+use Rattle.machine_laws.proofs.Tasks.{Beginning}
 
 live_is_not_dead : (p : Phase) → is_live_phase p ≡ true → is_dead_phase p ≡ false
 live_is_not_dead Live e = refl
@@ -78,7 +79,7 @@ live_is_not_dead Deiniting e = refl
 live_is_not_dead Dead e = absurd (false≢true e)
 
 -- in a memory that may have changed: where the storage is taken, it is empty and names nothing
-module _ {m : Module} {entry : Shape} (r : Runs m entry) {made : List Made} {mem : Memory} {ns : List Numbers} {st : MachineView}
+module _ {m : Module} {entry : Beginning} (r : Runs m entry) {made : List Made} {mem : Memory} {ns : List Numbers} {st : MachineView}
     (running : Running m entry made (record r.s { memory = mem; numbers = ns }) st r.f r.lf r.mf r.below r.rest r.rest')
     (there : inst_at r.f r.lf.at ≡ Some r.i) (u : ValueId) (results : r.i.results ≡ u ∷ []) (is_of : IsOf r.f u) where
   abbrev s1 : LowState
@@ -139,7 +140,7 @@ module _ {m : Module} {entry : Shape} (r : Runs m entry) {made : List Made} {mem
       by_live o (named_again mem (value.Object o)) (effects.Traps trap.Unowned) (retained_and r.st r.mf r.rest' st (local (d r) r.f u) (leaf.Object o ∷ []) o) (Stops end.Unowned st)
       (λ live. retained_given o live (Reference class) form (value.Object o) (wider is) (leaf.Object o ∷ []) refl) trapped
 
-module _ {m : Module} {entry : Shape} (r : Runs m entry) where
+module _ {m : Module} {entry : Beginning} (r : Runs m entry) where
   module _ (there : inst_at r.f r.lf.at ≡ Some r.i) (u : ValueId) (results : r.i.results ≡ u ∷ []) (is_of : IsOf r.f u) (a : Address) (p : Place) (w : Storage) (s : Shape)
       (stored : p.shape ≡ Stored w s) (names : NamesPlace m r.made r.st.slots r.s.memory a p) (named : IsNamed w s) (form : form_of (d r) r.f u ≡ OfValue s) where
     -- the storage is taken, or read

@@ -41,8 +41,9 @@ use Rattle.machine_laws.proofs.Memories.{NamesPlace}
 use Rattle.machine_laws.proofs.Objects.{is_of_class}
 use Rattle.machine_laws.proofs.Rows.Steps.{address_put, defined_by, function_put, goes_behind, value_put}
 use Rattle.machine_laws.proofs.Slots.{Made}
+use Rattle.machine_laws.proofs.Tasks.{Beginning}
 
-module _ (m : Module) (entry : Shape) (bound : ℕ) (f : Function) (lf : LowFrame) (mf : Frame) (below : Ends) (rest : List (low.Task LowFrame)) (rest' : List Task)
+module _ (m : Module) (entry : Beginning) (bound : ℕ) (f : Function) (lf : LowFrame) (mf : Frame) (below : Ends) (rest : List (low.Task LowFrame)) (rest' : List Task)
     (i : Inst) (there : inst_at f lf.at ≡ Some i) where
   -- the run behind the instruction, by the change that it leaves
   module _ (s : LowState) (c : Change) where

@@ -46,8 +46,9 @@ use Rattle.machine_laws.proofs.Rows.Shapes.{same_place_form, shape_in_form, shap
 use Rattle.machine_laws.proofs.Rows.Steps.{address_put, frame_changes, memory_changes}
 use Rattle.machine_laws.proofs.SlotMade.{MakesSlot, slot_at_end, slot_made, slot_made_keeps, with_slot_at_end}
 use Rattle.machine_laws.proofs.SlotRemoved.{RemovesIs, slot_removed, slot_removed_keeps, without_slot}
+use Rattle.machine_laws.proofs.Tasks.{Beginning}
 
-module _ {m : Module} {entry : Shape} (r : Runs m entry) where
+module _ {m : Module} {entry : Beginning} (r : Runs m entry) where
   -- the run finds the shape in the form of the result
   pub result_told : (u : ValueId) → r.i.results ≡ u ∷ []
       → result_shape_of (d r) (shapes_of m) (values r) r.s.memory r.i r.i.results ≡ shape_in_form (form_of (d r) r.f u)

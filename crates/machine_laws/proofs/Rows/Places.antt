@@ -17,7 +17,6 @@ use Rattle.run_values.specs.Cells.{cell_count, in_cells}
 use Rattle.run_values.specs.Leaves.{leaves_of}
 use Rattle.run_values.specs.Memory.{is_dead}
 use Rattle.run_values.specs.Places.{Place, cells_at, is_there_at, value_at}
-use Rattle.run_values.specs.Shapes.{Shape}
 use Rattle.run_values.specs.Values.{Value}
 use Rattle.run_values.specs.declared.leaf.Leaf.{Leaf}
 use Rattle.sil_ast.specs.declared.module.Module.{Module}
@@ -28,6 +27,7 @@ use Rattle.machine_laws.proofs.Held.{HeldIs, IsReachable}
 use Rattle.machine_laws.proofs.Objects.{is_of_class}
 use Rattle.machine_laws.proofs.Rows.Effects.{Runs, d, performed, values}
 use Rattle.machine_laws.proofs.Rows.Gives.{faults_alike}
+use Rattle.machine_laws.proofs.Tasks.{Beginning}
 
 -- what is found among some is found among these and others; else it is found among the others
 
@@ -52,7 +52,7 @@ found_behind test (z ∷ xs) ys e = at (test z) (found_behind test xs ys) e
 found_one : {A : Type 0} (test : A → Bool) (x : A) → test x ≡ true → find test (x ∷ []) ≡ Some x
 found_one test x e = ap (λ b. cond b (Some x) None) e
 
-module _ {m : Module} {entry : Shape} (r : Runs m entry) (p : Place) (os : List ObjectId) (full : Bool) (e : Effect LowFault) where
+module _ {m : Module} {entry : Beginning} (r : Runs m entry) (p : Place) (os : List ObjectId) (full : Bool) (e : Effect LowFault) where
   abbrev pub access : Effect LowFault
   access = accessed (d r) (shapes_of m) (values r) r.s.memory r.i p os full e
 

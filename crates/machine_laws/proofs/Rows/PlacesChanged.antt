@@ -10,7 +10,6 @@ use Rattle.machine_steps.specs.declared.address.Address.{Address}
 use Rattle.machine_steps.specs.declared.address.OpenSlot.{OpenSlot}
 use Rattle.run_values.specs.Memory.{Memory}
 use Rattle.run_values.specs.Places.{Place}
-use Rattle.run_values.specs.Shapes.{Shape}
 use Rattle.sil_ast.specs.declared.module.Module.{Module}
 use Rattle.machine_laws.proofs.Changes.{HasChanged}
 use Rattle.machine_laws.proofs.Ending.{Alike}
@@ -22,13 +21,14 @@ use Rattle.machine_laws.proofs.Rows.Effects.{Runs, performed}
 use Rattle.machine_laws.proofs.Rows.Makes.{nothing_given}
 use Rattle.machine_laws.proofs.Rows.Steps.{memory_changes}
 use Rattle.machine_laws.proofs.Slots.{Made}
+use Rattle.machine_laws.proofs.Tasks.{Beginning}
 
 -- an address names a part where its place is one
 pub address_part : {m : Module} {made : List Made} {slots : List OpenSlot} {mem : Memory} {a : Address} {p : Place} → NamesPlace m made slots mem a p → a.is_part ≡ p.is_part
 address_part (NamesPlace.in_slot index serial at names) = names.parts
 address_part (NamesPlace.in_field o k at names) = names.parts
 
-module _ {m : Module} {entry : Shape} (r : Runs m entry) {mem' : Memory} {ns : List Numbers} {st' : MachineView} (has : HasChanged m r.made r.s.memory r.st mem' ns st') where
+module _ {m : Module} {entry : Beginning} (r : Runs m entry) {mem' : Memory} {ns : List Numbers} {st' : MachineView} (has : HasChanged m r.made r.s.memory r.st mem' ns st') where
   pub still_running : Running m entry has.changes.made' (record r.s { memory = mem'; numbers = ns }) st' r.f r.lf r.mf r.below r.rest r.rest'
   still_running = memory_changes r.running has.changes has.slots
 

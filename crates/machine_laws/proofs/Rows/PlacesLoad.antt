@@ -15,7 +15,6 @@ use Rattle.machine_steps.specs.ready_code.ReadyOps.{operands_of}
 use Rattle.machine_steps.specs.ready_code.declared.op.ReadyOp.TheVariants as op
 use Rattle.machine_steps.specs.run_typing.Forms.{OfPlace, OfValue, form_of}
 use Rattle.run_values.specs.Places.{Place, value_at}
-use Rattle.run_values.specs.Shapes.{Shape}
 use Rattle.run_values.specs.Values.{Value}
 use Rattle.sil_ast.specs.declared.module.Module.{Module}
 use Rattle.sil_ast.specs.declared.place.ValueId.{ValueId}
@@ -26,8 +25,9 @@ use Rattle.machine_laws.proofs.Operands.{read_place}
 use Rattle.machine_laws.proofs.Rows.Effects.{RowAlike, Runs, d, does_at, forms_by, performed, results_of, row_by, values}
 use Rattle.machine_laws.proofs.Rows.Gives.{faults_alike, first_form, gives_value, one_of, one_read}
 use Rattle.machine_laws.proofs.Rows.Places.{access_alike}
+use Rattle.machine_laws.proofs.Tasks.{Beginning}
 
-module _ {m : Module} {entry : Shape} (r : Runs m entry) where
+module _ {m : Module} {entry : Beginning} (r : Runs m entry) where
   -- what the run loads
   abbrev loaded : Option Value → Effect LowFault
   loaded x = with_some (λ y. Makes (record (unchanged r.s.memory) { results = ValueOf y ∷ [] })) x

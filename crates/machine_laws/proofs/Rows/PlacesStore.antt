@@ -45,9 +45,10 @@ use Rattle.machine_laws.proofs.Rows.Gives.{faults_alike, no_values, two_read}
 use Rattle.machine_laws.proofs.Rows.Places.{AccessAlike, access, access_alike}
 use Rattle.machine_laws.proofs.Rows.PlacesChanged.{address_part, changed_alike}
 use Rattle.machine_laws.proofs.Rows.PlacesForms.{plain_store}
+use Rattle.machine_laws.proofs.Tasks.{Beginning}
 use Rattle.machine_laws.proofs.Writing.{write_agrees}
 
-module _ {m : Module} {entry : Shape} (r : Runs m entry) where
+module _ {m : Module} {entry : Beginning} (r : Runs m entry) where
   abbrev pub written : Place → Value → Effect LowFault
   written p x = Makes (unchanged (filled r.s.memory p x))
 

@@ -55,9 +55,10 @@ use Rattle.machine_laws.proofs.Rows.PlacesChanged.{changed_alike}
 use Rattle.machine_laws.proofs.Rows.PlacesForms.{name_store}
 use Rattle.machine_laws.proofs.Rows.PlacesNames.{changed_behind, dead_found, leaf_renamed, leaf_renamed_only}
 use Rattle.machine_laws.proofs.Rows.PlacesStore.{does_store, written}
+use Rattle.machine_laws.proofs.Tasks.{Beginning}
 use Rattle.machine_laws.proofs.Writing.{write_agrees}
 
-module _ {m : Module} {entry : Shape} (r : Runs m entry) where
+module _ {m : Module} {entry : Beginning} (r : Runs m entry) where
   module _ (there : inst_at r.f r.lf.at ≡ Some r.i) (results : r.i.results ≡ []) (a : Address) (p : Place) (names : NamesPlace m r.made r.st.slots r.s.memory a p)
       (w : Storage) (s : Shape) (shape : p.shape ≡ Stored w s) (first : Bool) (x : Value) (fits : suits (is_of_class m r.s.memory) (Stored w s) x ≡ true) where
     abbrev leaf : Leaf

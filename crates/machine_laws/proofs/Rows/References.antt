@@ -14,7 +14,6 @@ use Rattle.machine_steps.specs.ready_code.Layout.{local}
 use Rattle.machine_steps.specs.ready_code.ReadyOps.{operands_of}
 use Rattle.machine_steps.specs.ready_code.declared.op.ReadyOp.TheVariants as op
 use Rattle.machine_steps.specs.run_typing.Forms.{OfValue, form_of}
-use Rattle.run_values.specs.Shapes.{Shape}
 use Rattle.run_values.specs.Values.{references_of}
 use Rattle.sil_ast.specs.declared.module.Module.{Module}
 use Rattle.sil_ast.specs.declared.place.ObjectId.{ObjectId}
@@ -31,8 +30,9 @@ use Rattle.machine_laws.proofs.Rows.Effects.{RowAlike, Runs, d, forms_by, perfor
 use Rattle.machine_laws.proofs.Rows.Gives.{first_form, no_values, one_read, same_numbers}
 use Rattle.machine_laws.proofs.Rows.Makes.{makes_alike, makes_with, none_put}
 use Rattle.machine_laws.proofs.Rows.Steps.{counts_change, goes_dropping}
+use Rattle.machine_laws.proofs.Tasks.{Beginning}
 
-module _ {m : Module} {entry : Shape} (r : Runs m entry) where
+module _ {m : Module} {entry : Beginning} (r : Runs m entry) where
   -- what it leaves has references that are made, or dropped
 
   abbrev retaining : List ObjectId → Change

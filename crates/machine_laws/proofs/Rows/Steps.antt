@@ -54,7 +54,7 @@ use Rattle.machine_laws.proofs.Objects.{is_of_class}
 use Rattle.machine_laws.proofs.Puts.{frame_stands, put_address_agrees, put_address_ends, put_address_keeps, put_agrees, put_ends, put_keeps, same_ends}
 use Rattle.machine_laws.proofs.Puts.{put_there_agrees, put_there_ends, put_there_keeps}
 use Rattle.machine_laws.proofs.Slots.{Made}
-use Rattle.machine_laws.proofs.Tasks.{TasksAgree, runs, to_go_on, to_take}
+use Rattle.machine_laws.proofs.Tasks.{Beginning, TasksAgree, runs, to_go_on, to_take}
 
 -- the block of an instruction, and its point
 
@@ -69,7 +69,7 @@ block_of f block k i e = at (slice_get f.blocks block) refl
 pub defined_by : (f : Function) (lf : LowFrame) (i : Inst) → inst_at f lf.at ≡ Some i → item_defined f (item.Inst lf.at) ≡ i.results
 defined_by f lf i e = ap (λ o. results_in o ++ []) e ∙ append-nil i.results
 
-module _ {m : Module} {entry : Shape} {made : List Made} {s : LowState} {st : MachineView} {f : Function} {lf : LowFrame} {mf : Frame} {below : Ends}
+module _ {m : Module} {entry : Beginning} {made : List Made} {s : LowState} {st : MachineView} {f : Function} {lf : LowFrame} {mf : Frame} {below : Ends}
     {rest : List (low.Task LowFrame)} {rest' : List Task} (running : Running m entry made s st f lf mf below rest rest') where
   -- memory changes, and the frame agrees with what it has become
   pub frame_changes : {mem' : Memory} {numbers' : List Numbers} {st' : MachineView} {lf' : LowFrame} (changes : Changes m made s.memory st mem' numbers' st')
@@ -83,6 +83,7 @@ module _ {m : Module} {entry : Shape} {made : List Made} {s : LowState} {st : Ma
       retains = changes.frames.retains ∙ running.parts.retains;
       releases = changes.frames.releases ∙ running.parts.releases;
     };
+    reached = running.reached;
     frame = frame;
     others = tasks_keep changes.grows keeps phases running.others;
     tasks = changes.frames.tasks ∙ running.tasks;
@@ -125,6 +126,7 @@ module _ {m : Module} {entry : Shape} {made : List Made} {s : LowState} {st : Ma
       → Running m entry made (record s { numbers = numbers; retains = n }) (record st { heap = h }) f lf mf below rest rest'
   counts_change numbers n h parts = record {
     parts = parts;
+    reached = running.reached;
     frame = frame_grows (grows_itself (were_made running.parts.memory.slots) s.memory) (keeps_slots (ends_of st) st (record st { heap = h }) refl refl refl refl refl) running.frame;
     others = others_keep (record st { heap = h }) refl (keeps_slots below st (record st { heap = h }) refl refl refl refl refl);
     tasks = running.tasks;
@@ -135,6 +137,7 @@ module _ {m : Module} {entry : Shape} {made : List Made} {s : LowState} {st : Ma
         → Running m entry made s (put st mf (local (declarations_of m) f r) ls) f (record lf { values = set lf.values r.0 (Some (ValueOf x)) }) mf below rest rest'
     value_put t form x fits ls is = record {
       parts = parts_move st' refl refl refl refl refl refl;
+      reached = running.reached;
       frame = subst (λ e. FrameAgrees m made s.memory st' f (record lf { values = set lf.values r.0 (Some (ValueOf x)) }) mf below e)
           (sym (put_ends running.frame reach r is_of t x ls form fits is)) (put_agrees running.frame reach r is_of t x ls form fits is);
       others = others_keep st' refl (put_keeps running.frame reach r is_of t x ls form fits is);
@@ -151,6 +154,7 @@ module _ {m : Module} {entry : Shape} {made : List Made} {s : LowState} {st : Ma
         → Running m entry made s (put_address st mf (local_address (declarations_of m) f r) a) f (record lf { values = set lf.values r.0 (Some (AddressOf p)) }) mf below rest rest'
     address_put p form a names = record {
       parts = parts_move st' refl refl refl refl refl refl;
+      reached = running.reached;
       frame = subst (λ e. FrameAgrees m made s.memory st' f (record lf { values = set lf.values r.0 (Some (AddressOf p)) }) mf below e)
           (sym (put_address_ends running.frame reach r is_of a)) (put_address_agrees running.frame reach r is_of p a form names);
       others = others_keep st' refl (put_address_keeps running.frame reach r is_of a);
@@ -167,6 +171,7 @@ module _ {m : Module} {entry : Shape} {made : List Made} {s : LowState} {st : Ma
         → Running m entry made s (put_there st mf r) f (record lf { values = set lf.values r.0 (Some (FunctionOf g)) }) mf below rest rest'
     function_put g form = record {
       parts = parts_move st' refl refl refl refl refl refl;
+      reached = running.reached;
       frame = subst (λ e. FrameAgrees m made s.memory st' f (record lf { values = set lf.values r.0 (Some (FunctionOf g)) }) mf below e)
           (sym (put_there_ends running.frame reach r is_of)) (put_there_agrees running.frame reach r is_of g form);
       others = others_keep st' refl (put_there_keeps running.frame reach r is_of);
@@ -195,7 +200,7 @@ module _ {m : Module} {entry : Shape} {made : List Made} {s : LowState} {st : Ma
   -- with a view whose tasks are others
   tasks_behind : (i : Inst) → inst_at f lf.at ≡ Some i
       → TasksAgree m entry made s.memory st to_go_on (ends_of st) (low.Runs (record lf { at = point_behind lf.at }) ∷ rest) (task.Runs (behind_op mf) ∷ rest')
-  tasks_behind i there = runs f (record lf { at = point_behind lf.at }) (behind_op mf) below (ends_of st) rest rest' (behind_frame i there) running.others
+  tasks_behind i there = runs f (record lf { at = point_behind lf.at }) (behind_op mf) below (ends_of st) rest rest' running.reached (behind_frame i there) running.others
 
   module _ (i : Inst) (there : inst_at f lf.at ≡ Some i) where
     abbrev low_behind : LowState

@@ -48,8 +48,9 @@ use Rattle.machine_laws.proofs.Rows.Gives.{faults_alike, no_values, one_read}
 use Rattle.machine_laws.proofs.Rows.Makes.{nothing_given}
 use Rattle.machine_laws.proofs.Rows.Places.{access_alike}
 use Rattle.machine_laws.proofs.Rows.Steps.{counts_change, memory_changes}
+use Rattle.machine_laws.proofs.Tasks.{Beginning}
 
-module _ {m : Module} {entry : Shape} (r : Runs m entry) where
+module _ {m : Module} {entry : Beginning} (r : Runs m entry) where
   -- the numbers of what is named change
   pub names_change : (numbers : List Numbers) (h : HeapView) → MemoryAgrees m r.made r.s.memory numbers (record r.st { heap = h }) → OnlyObjects r.st.heap h
       → Running m entry r.made (record r.s { numbers = numbers }) (record r.st { heap = h }) r.f r.lf r.mf r.below r.rest r.rest'

@@ -31,7 +31,7 @@ use Rattle.machine_steps.specs.ready_code.ReadyOps.{operands_of}
 use Rattle.machine_steps.specs.ready_code.declared.op.ReadyOp.TheVariants as op
 use Rattle.machine_steps.specs.run_typing.Forms.{OfFunction, OfValue, form_of}
 use Rattle.machine_steps.specs.run_typing.RowForms.{bit}
-use Rattle.run_values.specs.Shapes.{Integer, Reference, Shape}
+use Rattle.run_values.specs.Shapes.{Integer, Reference}
 use Rattle.run_values.specs.Values as value
 use Rattle.run_values.specs.Values.{integer_of}
 use Rattle.run_values.specs.declared.leaf.Leaf.TheVariants as leaf
@@ -45,6 +45,7 @@ use Rattle.machine_laws.proofs.Objects.{is_of_class}
 use Rattle.machine_laws.proofs.Operands.{read_value}
 use Rattle.machine_laws.proofs.Rows.Effects.{RowAlike, Runs, d, forms_by, performed, results_of, row_by, values}
 use Rattle.machine_laws.proofs.Rows.Gives.{first_form, gives_function, gives_nothing, gives_value, no_values, one_of, one_read}
+use Rattle.machine_laws.proofs.Tasks.{Beginning}
 
 -- an object of a class is one of each that the class inherits from
 upcast : {m : Module} → ClassesAreSound m → (mem : Memory) (class above : Name) → is_a (declarations_of m) class above ≡ true → (o : ObjectId) → is_of_class m mem class o ≡ true
@@ -53,7 +54,7 @@ upcast {m = m} sound mem class above is o of_class =
     let both = and_parts (nat_lt o.0 (length mem.objects)) (is_a (declarations_of m) (object_at mem o).class class) of_class in
     and_from (nat_lt o.0 (length mem.objects)) (is_a (declarations_of m) (object_at mem o).class above) both.0 (sound.passes (object_at mem o).class class above both.1 is)
 
-module _ {m : Module} {entry : Shape} (r : Runs m entry) where
+module _ {m : Module} {entry : Beginning} (r : Runs m entry) where
   -- a look at a value does nothing
   pub look_alike : (v : ValueId) → effect_of r.i.op ≡ row.NoEffect → operands_of r.i ≡ v ∷ [] → StandsAt m r.f r.lf r.i (op.Look v) → RowAlike r (op.Look v)
   look_alike v is operands stands =
@@ -108,7 +109,7 @@ module _ {m : Module} {entry : Shape} (r : Runs m entry) where
       → Alike m entry (performed r r.s (effects.Traps (trap.CondFail (unwrap_or r.i.text [])))) (Stops (end.CondFail r.mf.function (point r.ready r.bound r.st r.mf r.rest')) r.st)
   trapped text there is =
       ends r.s r.st (Trapped (trap.CondFail (unwrap_or r.i.text []))) (end.CondFail r.mf.function (point r.ready r.bound r.st r.mf r.rest'))
-      (subst (λ t. IsEnding m entry r.st (end.CondFail r.mf.function (point r.ready r.bound r.st r.mf r.rest')) (Trapped (trap.CondFail (unwrap_or t [])))) (sym is)
+      (subst (λ t. IsEnding m entry.gives r.st (end.CondFail r.mf.function (point r.ready r.bound r.st r.mf r.rest')) (Trapped (trap.CondFail (unwrap_or t [])))) (sym is)
       (cond_fail r.mf.function (point r.ready r.bound r.st r.mf r.rest') r.f r.i text (ap (λ g. slice_get m.functions g.0) r.running.frame.same ∙ r.running.frame.there)
       (ap (inst_at r.f) at_point ∙ there) is))
       (rw (r.running.parts.events, r.running.parts.retains, r.running.parts.releases))

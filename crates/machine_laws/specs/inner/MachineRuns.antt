@@ -1,5 +1,5 @@
 -- The law of the machine: however it stops, the run of lowered code ends so.
-use Rattle.std.specs.Prelude.{◌≡◌, ◌≤◌, ℕ, true, Some, slice_get}
+use Rattle.std.specs.Prelude.{◌≡◌, ◌≤◌, ℕ, List, Bool, true, Some, slice_get}
 use Rattle.machine_steps.specs.holder_model.Outcomes.{may_start}
 use Rattle.machine_steps.specs.holder_model.States.{Ending}
 use Rattle.machine_steps.specs.lowered_run.LowOutcomes.{LowEndsSo}
@@ -9,7 +9,7 @@ use Rattle.machine_steps.specs.Runs.{Leads, begins}
 use Rattle.machine_steps.specs.Views.{MachineView, Stops}
 use Rattle.machine_steps.specs.ready_code.declared.function.ReadyFunction.{ReadyFunction}
 use Rattle.machine_steps.specs.ready_code.declared.function.ReadyModule.{ReadyModule}
-use Rattle.machine_steps.specs.ready_code.ReadyModules.{IsReadyModule}
+use Rattle.machine_steps.specs.ready_code.ReadyModules.{IsReadyModule, Reaches}
 use Rattle.machine_steps.specs.run_typing.Forms.{given_shape}
 use Rattle.machine_steps.specs.run_typing.RunTyped.{RunTyped}
 use Rattle.sil_ast.specs.declared.function.Function.{Function}
@@ -21,9 +21,11 @@ use Rattle.machine_laws.specs.inner.Told.{IsEnding, outcome_told}
 -- a run of ready code from an entry function, for a bound of at least one turn
 pub record Started (m : Module) (ready : ReadyModule) (e : FuncId) (bound : ℕ) : Type 0 where
   pub typed : RunTyped m
-  pub made : IsReadyModule m ready
+  pub reached : List Bool
+  pub made : IsReadyModule m reached ready
   pub entry : Function
   pub there : slice_get m.functions e.0 ≡ Some entry
+  pub comes_to_entry : Reaches reached e
   pub starts : may_start entry ≡ true
   pub code : ReadyFunction
   pub ready_there : slice_get ready.functions e.0 ≡ Some code

@@ -1,6 +1,6 @@
 use Rattle.std.proofs.Common.{◌∙◌, List, Some, sym, ap}
 use Rattle.std.specs.Prelude.{slice_get}
-use Rattle.std.proofs.lemmas.Option.{get_or_from_slice_get}
+use Rattle.std.proofs.lemmas.Option.{get_or_from_slice_get, slice_get_within}
 use Rattle.std.proofs.lemmas.Result.{IfOk-weaker}
 use Rattle.holder_model.specs.Outcomes.{may_start}
 use Rattle.run_typing_laws.specs.run_typing.Forms.{given_shape}
@@ -10,6 +10,10 @@ use Rattle.count_machine.specs.LowRuns.{EndsAsTold, MayStartAt}
 use Rattle.count_machine.specs.inner.Stopped.{TellsOf}
 use Rattle.count_machine.proofs.Starting.{ends_told}
 use Rattle.count_machine.proofs.module_run.run.Goals as goal
+
+pub make_ready-requires-clause-there : goal.make_ready-requires-clause-there
+make_ready-requires-clause-there c =
+    let starts = c.requires.starts in slice_get_within c.args.m.now.functions c.args.entry.0 starts.entry starts.there
 
 pub returns-in-Ends-clause-outcome : goal.returns-in-Ends-clause-outcome
 returns-in-Ends-clause-outcome c =
@@ -27,6 +31,6 @@ returns-in-Ends-clause-outcome c =
     } in
     IfOk-weaker c.told.result (TellsOf m (given_shape (declarations_of m) entry) last c.in-Ends.stop) (EndsAsTold m e c.args.turns)
     (λ run tells. ends_told m c.in_ok-ready.ready e c.args.turns c.machine_runs_so.ensures (c.runnable_is_typed.ensures m c.requires.runnable)
-    c.in_ok-ready.ensures here c.requires.some_turns c.args.table.now c.requires.of_it c.in_ok-machine.machine c.in_ok-machine.ensures c.in-Ends.stop last
+    c.in_ok-ready.ensures.0 c.in_ok-ready.ensures.1 c.in_ok-ready.ensures.2 here c.requires.some_turns c.args.table.now c.requires.of_it c.in_ok-machine.machine c.in_ok-machine.ensures c.in-Ends.stop last
     c.in-Ends.ensures run tells)
     c.told.ensures.outcome
