@@ -1,5 +1,5 @@
 -- Blocks, functions, classes and modules, made ready to run.
-use Rattle.std.specs.Prelude.{◌≡◌, ℕ, List, [], ◌∷◌, Option, Some, None, map}
+use Rattle.std.specs.Prelude.{◌≡◌, ℕ, List, [], ◌∷◌, Bool, true, Option, Some, None, map, slice_get}
 use Rattle.run_typing.specs.Calling.{value_count}
 use Rattle.run_typing.specs.Dropping.{deinits_of}
 use Rattle.item_operands.specs.Items.{item_defined}
@@ -10,6 +10,7 @@ use Rattle.sil_ast.specs.declared.decl.Storage.{Storage}
 use Rattle.sil_ast.specs.declared.function.Block.{Block}
 use Rattle.sil_ast.specs.declared.function.Function.{Function}
 use Rattle.sil_ast.specs.declared.module.Module.{Module}
+use Rattle.sil_ast.specs.declared.place.FuncId.{FuncId}
 use Rattle.sil_ast.specs.declared.place.ValueId.{ValueId}
 use Rattle.sil_cfg.specs.declared.item.Item.TheVariants as item
 use Rattle.type_definitions.specs.Declarations.{Declarations, declarations_of}
@@ -54,6 +55,20 @@ ready_class d (Struct name fields) = record { deinits = []; fields = [] }
 ready_class d (Enum name cases) = record { deinits = []; fields = [] }
 ready_class d (Class name superclass fields) = record { deinits = deinits_of d name; fields = map storage_of (fields_of d name) }
 
-pub record IsReadyModule (m : Module) (ready : ReadyModule) : Type 0 where
-  pub functions : Matched (IsReadyFunction m) m.functions ready.functions
+-- the functions that a run can come to, by their numbers
+abbrev pub Reaches : List Bool → FuncId → Type 0
+Reaches reached g = slice_get reached g.0 ≡ Some true
+
+-- all functions that a reached one names are reached, and so are all deinitialisers of classes
+pub record IsClosed (m : Module) (reached : List Bool) : Type 0 where
+  pub calls : (g : FuncId) (f : Function) → Reaches reached g → slice_get m.functions g.0 ≡ Some f
+      → (v : ValueId) (h : FuncId) → form_of (declarations_of m) f v ≡ OfFunction h → Reaches reached h
+  pub deinits : (k : ℕ) (class : ReadyClass) → slice_get (map (ready_class (declarations_of m)) m.decls) k ≡ Some class
+      → (j : ℕ) (h : FuncId) → slice_get class.deinits j ≡ Some h → Reaches reached h
+
+-- each reached function has its code; what stands in the places of the others no run looks at
+pub record IsReadyModule (m : Module) (reached : List Bool) (ready : ReadyModule) : Type 0 where
+  pub closed : IsClosed m reached
+  pub functions : (g : FuncId) (f : Function) → Reaches reached g → slice_get m.functions g.0 ≡ Some f
+      → (code : ReadyFunction) × (slice_get ready.functions g.0 ≡ Some code) × IsReadyFunction m f code
   pub classes : ready.classes ≡ map (ready_class (declarations_of m)) m.decls
