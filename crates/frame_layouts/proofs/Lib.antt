@@ -4,6 +4,7 @@ pub mod FieldsFit
 pub mod Fitting
 pub mod Laying
 pub mod Lists
+pub mod Numbers
 pub mod RowsFit
 pub mod Spots
 pub mod StoredShapes

@@ -1,8 +1,8 @@
 -- Lists that a loop goes through: the element at its index, and what is made of one element more.
-use Rattle.std.proofs.Common.{◌≡◌, ℕ, zero, suc, ◌+◌, ◌<◌, List, [], ◌∷◌, ◌++◌, length, map, take, get_or, refl, sym, ap, ap₂, ◌∙◌, subst, arith, Some}
-use Rattle.std.specs.Prelude.{option_map, slice_get}
-use Rattle.std.proofs.lemmas.List.{map-append, take_more}
-use Rattle.std.proofs.lemmas.Option.{get_or_from_slice_get, slice_get-get_or, slice_get-map}
+use Rattle.std.proofs.Common.{◌≡◌, ℕ, zero, suc, ◌+◌, ◌<◌, List, [], ◌∷◌, ◌++◌, length, take, get_or, refl, sym, ap, ◌∙◌, subst, arith, Some}
+use Rattle.std.specs.Prelude.{slice_get}
+use Rattle.std.proofs.lemmas.List.{take_more}
+use Rattle.std.proofs.lemmas.Option.{slice_get-get_or}
 
 pub item_at : {A : Type 0} (xs ys : List A) (k : ℕ) (x : A) → ys ≡ xs → k < length ys → x ≡ get_or ys k x → slice_get xs k ≡ Some x
 item_at xs ys k x same lt is = subst (λ zs. slice_get zs k ≡ Some x) same (slice_get-get_or ys k x lt ∙ ap Some (sym is))
@@ -10,15 +10,6 @@ item_at xs ys k x same lt is = subst (λ zs. slice_get zs k ≡ Some x) same (sl
 -- the elements so far, and one more
 pub further : {A : Type 0} (xs ys : List A) (k : ℕ) (x : A) → ys ≡ xs → k < length ys → x ≡ get_or ys k x → take (k + 1) xs ≡ take k xs ++ x ∷ []
 further xs ys k x same lt is = subst (λ zs. take (k + 1) zs ≡ take k zs ++ x ∷ []) same (take_more ys k x lt ∙ ap (λ y. take k ys ++ y ∷ []) (sym is))
-
-pub mapped_further : {A B : Type 0} (f : A → B) (xs ys : List A) (k : ℕ) (x : A) (made more : List B) (y : B) → ys ≡ xs → k < length ys → x ≡ get_or ys k x
-    → made ≡ map f (take k xs) → more ≡ made ++ y ∷ [] → y ≡ f x → more ≡ map f (take (k + 1) xs)
-mapped_further f xs ys k x made more y same lt is so_far next here =
-    next ∙ ap₂ (λ a b. a ++ b ∷ []) so_far here ∙ sym (map-append f (take k xs) (x ∷ [])) ∙ ap (map f) (sym (further xs ys k x same lt is))
-
--- what is made of an element stands at its place
-pub mapped_at : {A B : Type 0} (f : A → B) (xs : List A) (ys : List B) (k : ℕ) (x : A) (d : B) → ys ≡ map f xs → slice_get xs k ≡ Some x → get_or ys k d ≡ f x
-mapped_at f xs ys k x d is there = get_or_from_slice_get ys k (f x) d (ap (λ zs. slice_get zs k) is ∙ slice_get-map f xs k ∙ ap (option_map f) there)
 
 -- what holds of each element by its index, and of one more
 module _ {A : Type 0} where

@@ -1,3 +1,4 @@
 pub mod Carried
+pub mod Laid
 pub mod Layouts
 pub mod Sized

@@ -60,6 +60,17 @@ fn addresses_in(kept: Kept) -> u32
 }
 
 impl Layout {
+    /// That of no values, which takes no memory.
+    pub(crate) fn new(alloc: Global) -> Layout
+        ensures { result ≡ spec.no_layout }
+    {
+        Layout {
+            spots: List::new(alloc),
+            leaves: 0,
+            addresses: 0,
+        }
+    }
+
     /// That of no values, with memory for `count`.
     pub(crate) fn with_capacity(alloc: Global, count: usize) -> Result<Layout, Exhausted>
         ensures { IfOk result (λ layout. layout ≡ spec.no_layout) }

@@ -1,6 +1,6 @@
-//! The layouts of all functions of a module.
+//! The layouts of the functions of a module that a run can come to.
 
-ghost use Rattle.std.specs.Prelude.{◌≡◌, ◌≤◌, IfOk, length, map};
+ghost use Rattle.std.specs.Prelude.{◌≡◌, ◌≤◌, IfOk, length, true};
 ghost use Rattle.sil_rules.specs.declared.limits.TheConstants.{VALUES};
 ghost use Rattle.ready_code.specs.run_typing.Runnable.{IsRunnable};
 ghost use Rattle.sil_ast.specs.declared.function.Function as function;
@@ -10,6 +10,7 @@ ghost use Rattle.ready_code.specs.holder_model.Calling.{value_count};
 ghost use Rattle.typing_values.specs.inner.Told.{types_told};
 ghost use Rattle.frame_layouts.specs.inner.Layouts as spec;
 ghost use Rattle.frame_layouts.specs.inner.Layouts.{layout_to};
+ghost use Rattle.frame_layouts.specs.inner.Laid.{AreLaid};
 ghost use Rattle.frame_layouts.specs.inner.Sized.{HaveSizes};
 
 use crate::kept::kept_of;
@@ -67,19 +68,44 @@ fn layout_of<'a>(
     )
 }
 
-/// The layouts of all functions of a module.
-pub fn layouts_of(alloc: Global, m: &Module, table: &TypeTable) -> Result<List<Layout>, Exhausted>
+/// Lays out a function that is reached; one that isn't takes no memory.
+fn layout_where<'a>(
+    alloc: Global,
+    table: &'a TypeTable,
+    reached: bool,
+    f: &'a Function,
+    facts: &mut ValueFacts<'a>,
+) -> Result<Layout, Exhausted>
+    requires sizes { HaveSizes table.now (value_types table.now f.now) }
+    requires few { value_count f.now ≤ VALUES }
+    ensures { IfOk result (λ l. reached ≡ true → l ≡ spec.layout_of table.now f.now) }
+{
+    if reached {
+        layout_of(alloc, table, f, facts)
+    } else {
+        Ok(Layout::new(alloc))
+    }
+}
+
+/// The layouts of the functions of a module that are marked as reached, each at its function's number.
+pub fn layouts_of(
+    alloc: Global,
+    m: &Module,
+    table: &TypeTable,
+    reached: &[bool],
+) -> Result<List<Layout>, Exhausted>
     requires runnable { IsRunnable m.now }
     requires of_it { table.now ≡ declarations_of m.now }
-    ensures { IfOk result (λ ls. ls ≡ map (spec.layout_of (declarations_of m.now)) m.now.functions) }
+    requires marks { length reached.now ≡ length m.now.functions }
+    ensures { IfOk result (AreLaid m.now reached.now) }
 {
     let mut facts = ValueFacts {
         types: Vec::new(alloc),
         functions: Vec::new(alloc),
     };
     let mut layouts = List::with_capacity(alloc, m.functions.len())?;
-    for f in m.functions.as_slice() {
-        layouts.push(layout_of(alloc, table, f, &mut facts)?)?;
+    for (number, f) in m.functions.as_slice().iter().enumerate() {
+        layouts.push(layout_where(alloc, table, reached[number], f, &mut facts)?)?;
     }
     Ok(layouts)
 }

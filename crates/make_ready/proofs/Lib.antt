@@ -1,4 +1,5 @@
 pub mod BlockRows
+pub mod Callees
 pub mod CaseRuns
 pub mod ClassLines
 pub mod ClassPlaces
@@ -13,5 +14,7 @@ pub mod Matching
 pub mod Noting
 pub mod Offsets
 pub mod OneByOne
+pub mod ReachedCode
+pub mod Reaching
 pub mod RowParts
 pub mod TypedRows

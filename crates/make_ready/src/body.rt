@@ -10,7 +10,7 @@ use ready_code::{Local, LocalAddress};
 use sil_ast::{Function, Module, ValueId};
 use sil_types::TypeTable;
 
-/// A function of a module, with its layout and those of all functions.
+/// A function of a module, with its layout and those of all functions that are reached.
 #[derive(Clone, Copy)]
 pub(crate) struct Body<'a> {
     pub table: &'a TypeTable,

@@ -1,15 +1,16 @@
 //! Blocks and functions, made ready to run.
 
-ghost use Rattle.std.specs.Prelude.{◌≡◌, IfOk, map};
+ghost use Rattle.std.specs.Prelude.{◌≡◌, IfOk, length, true};
 ghost use Rattle.item_operands.specs.Items.{item_defined};
 ghost use Rattle.numbered_form.specs.Lists.{Each};
 ghost use Rattle.ready_code.specs.run_typing.Runnable.{IsRunnable};
 ghost use Rattle.sil_cfg.specs.declared.item.Item.TheVariants as item;
 ghost use Rattle.type_definitions.specs.Declarations.{declarations_of};
 ghost use Rattle.ready_code.specs.Matched.{Matched};
-ghost use Rattle.ready_code.specs.ReadyModules.{IsReadyBlock, IsReadyFunction, first_local};
-ghost use Rattle.frame_layouts.specs.inner.Layouts.{layout_of};
+ghost use Rattle.ready_code.specs.ReadyModules.{IsClosed, IsReadyBlock, IsReadyFunction, first_local};
+ghost use Rattle.frame_layouts.specs.inner.Laid.{AreLaid};
 ghost use Rattle.make_ready.specs.inner.Bodies.{HasOwnRow, HasRows, IsBody, IsReadyOp, declared};
+ghost use Rattle.make_ready.specs.inner.Functions.{AreReady};
 
 use crate::body::Body;
 use crate::ends::ready_end;
@@ -88,17 +89,38 @@ fn ready_function(alloc: Global, body: &Body<'_>) -> Result<ReadyFunction, Exhau
     })
 }
 
-/// The functions of a module, made ready by the layouts of all.
+/// A function, made ready if it is reached; one that isn't takes no memory.
+fn function_where(alloc: Global, body: &Body<'_>, reached: bool) -> Result<ReadyFunction, Exhausted>
+    requires { reached ≡ true → IsBody body.now }
+    ensures { IfOk result (λ code. reached ≡ true → IsReadyFunction body.now.m.now body.now.function.now code) }
+{
+    if reached {
+        ready_function(alloc, body)
+    } else {
+        Ok(ReadyFunction {
+            values: 0,
+            leaves: 0,
+            addresses: 0,
+            first_argument: None,
+            blocks: List::new(alloc),
+        })
+    }
+}
+
+/// The functions of a module that are marked as reached, made ready by the layouts of these, each at its number.
 pub(crate) fn ready_functions(
     alloc: Global,
     m: &Module,
     table: &TypeTable,
     layouts: &[Layout],
+    reached: &[bool],
 ) -> Result<List<ReadyFunction>, Exhausted>
     requires runnable { IsRunnable m.now }
     requires of_it { table.now ≡ declarations_of m.now }
-    requires laid { layouts.now ≡ map (layout_of (declarations_of m.now)) m.now.functions }
-    ensures { IfOk result (λ functions. Matched (IsReadyFunction m.now) m.now.functions functions) }
+    requires closed { IsClosed m.now reached.now }
+    requires marks { length reached.now ≡ length m.now.functions }
+    requires laid { AreLaid m.now reached.now layouts.now }
+    ensures { IfOk result (AreReady m.now reached.now) }
 {
     let mut functions = List::with_capacity(alloc, m.functions.len())?;
     for (number, f) in m.functions.as_slice().iter().enumerate() {
@@ -109,7 +131,7 @@ pub(crate) fn ready_functions(
             function: f,
             layout: &layouts[number],
         };
-        functions.push(ready_function(alloc, &body)?)?;
+        functions.push(function_where(alloc, &body, reached[number])?)?;
     }
     Ok(functions)
 }

@@ -1,5 +1,5 @@
-//! Makes a lowered module ready to run: what each instruction reads and writes in its function's frame, and the deinitialisers and fields of
-//! each class. It knows of no state of a run.
+//! Makes a lowered module ready to run: of the functions that a run can come to, what each instruction reads and writes in its function's
+//! frame, and the deinitialisers and fields of each class. It knows of no state of a run.
 #![tactic(auto)]
 
 mod body;
@@ -13,5 +13,6 @@ mod members;
 mod module;
 mod ops;
 mod parts;
+mod reached;
 
 pub use module::make_ready;

@@ -1,28 +1,36 @@
 //! A module, made ready to run.
 
-ghost use Rattle.std.specs.Prelude.{◌≡◌, IfOk};
+ghost use Rattle.std.specs.Prelude.{◌≡◌, ◌<◌, IfOk, List, Bool, length};
 ghost use Rattle.ready_code.specs.run_typing.Runnable.{IsRunnable};
 ghost use Rattle.type_definitions.specs.Declarations.{declarations_of};
-ghost use Rattle.ready_code.specs.ReadyModules.{IsReadyModule};
+ghost use Rattle.ready_code.specs.ReadyModules.{IsReadyModule, Reaches};
 
 use crate::classes::ready_classes;
 use crate::functions::ready_functions;
+use crate::reached::reached_from;
 use frame_layouts::layouts_of;
 use ready_code::ReadyModule;
-use sil_ast::{Exhausted, Module};
+use sil_ast::{Exhausted, FuncId, Module};
 use sil_types::TypeTable;
 use std::alloc::Global;
 
-/// Makes a runnable module ready to run, by the table of its types.
-pub fn make_ready(alloc: Global, m: &Module, table: &TypeTable) -> Result<ReadyModule, Exhausted>
+/// Makes a runnable module ready to run from this function, by the table of its types. Functions to which no such run can come have
+/// no code, and keep their numbers.
+pub fn make_ready(
+    alloc: Global,
+    m: &Module,
+    table: &TypeTable,
+    entry: FuncId,
+) -> Result<ReadyModule, Exhausted>
     requires runnable { IsRunnable m.now }
     requires of_it { table.now ≡ declarations_of m.now }
-    ensures { IfOk result (λ ready. IsReadyModule m.now ready) }
+    requires there { entry.0 < length m.now.functions }
+    ensures { IfOk result (λ ready. (reached : List Bool) × IsReadyModule m.now reached ready × Reaches reached entry) }
 {
-    let layouts = layouts_of(alloc, m, table)?;
-    let functions = ready_functions(alloc, m, table, layouts.as_slice())?;
-    Ok(ReadyModule {
-        functions,
-        classes: ready_classes(alloc, table, m.decls.as_slice())?,
-    })
+    let classes = ready_classes(alloc, table, m.decls.as_slice())?;
+    let found = reached_from(alloc, m, classes.as_slice(), entry)?;
+    let reached = found.as_slice();
+    let layouts = layouts_of(alloc, m, table, reached)?;
+    let functions = ready_functions(alloc, m, table, layouts.as_slice(), reached)?;
+    Ok(ReadyModule { functions, classes })
 }

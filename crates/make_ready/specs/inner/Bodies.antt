@@ -1,5 +1,5 @@
 -- What is known of a function while it is made ready.
-use Rattle.std.specs.Prelude.{◌≡◌, ℕ, Some, map, slice_get}
+use Rattle.std.specs.Prelude.{◌≡◌, ℕ, List, Bool, true, Some, slice_get}
 use Rattle.sil_ast.specs.declared.function.Block.{Block}
 use Rattle.sil_ast.specs.declared.function.Function.{Function}
 use Rattle.sil_ast.specs.declared.inst.Inst.{Inst}
@@ -14,23 +14,28 @@ use Rattle.type_definitions.specs.Declarations.{Declarations, declarations_of}
 use Rattle.ready_code.specs.run_typing.Runnable.{IsRunnable}
 use Rattle.ready_code.specs.Layout as layout
 use Rattle.ready_code.specs.ReadyEnds as ends
+use Rattle.ready_code.specs.ReadyModules.{IsClosed}
 use Rattle.ready_code.specs.ReadyOps as ops
 use Rattle.ready_code.specs.declared.block.ReadyEnd.{ReadyEnd}
 use Rattle.ready_code.specs.declared.local.Local.{Local}
 use Rattle.ready_code.specs.declared.local.LocalAddress.{LocalAddress}
 use Rattle.ready_code.specs.declared.op.ReadyOp.{ReadyOp}
+use Rattle.frame_layouts.specs.inner.Laid.{AreLaid}
 use Rattle.frame_layouts.specs.inner.Layouts.{layout_of}
 use Rattle.make_ready.specs.declared.body.Body.{Body}
 use Rattle.make_ready.specs.inner.Ends as end_parts
 use Rattle.make_ready.specs.inner.Parts.{CallsThis}
 use Rattle.make_ready.specs.inner.Rows as rows
 
--- the module is runnable, the table is the module's, the function is one of it, and the layouts are its functions'
+-- the module is runnable, the table is the module's, the function is a reached one of it, and the layouts are those of the reached ones
 pub record IsBody (b : Body) : Type 0 where
   pub runnable : IsRunnable b.m.now
   pub table : b.table.now ≡ declarations_of b.m.now
-  pub layouts : b.layouts.now ≡ map (layout_of (declarations_of b.m.now)) b.m.now.functions
+  pub reached : List Bool
+  pub closed : IsClosed b.m.now reached
+  pub layouts : AreLaid b.m.now reached b.layouts.now
   pub number : ℕ
+  pub own : slice_get reached number ≡ Some true
   pub there : slice_get b.m.now.functions number ≡ Some b.function.now
   pub layout : b.layout.now ≡ layout_of (declarations_of b.m.now) b.function.now
 

@@ -1,30 +1,42 @@
-use Rattle.std.proofs.Common.{sym, ap, ◌∙◌, subst}
+use Rattle.std.proofs.Common.{sym, ap, ◌∙◌, subst, arith, true}
+use Rattle.std.proofs.lemmas.Option.{get_or_from_slice_get}
 use Rattle.sil_types.specs.Typing.Values.{value_types}
+use Rattle.frame_layouts.specs.inner.Laid.{IsLaid}
 use Rattle.frame_layouts.specs.inner.Layouts.{layout_of}
 use Rattle.frame_layouts.specs.inner.Sized.{HaveSizes}
 use Rattle.frame_layouts.proofs.Counts.{few_values}
-use Rattle.frame_layouts.proofs.Lists.{item_at, mapped_further}
+use Rattle.frame_layouts.proofs.Lists.{item_at}
+use Rattle.frame_layouts.proofs.Numbers.{laid_at, numbers_begun, numbers_done, numbers_more}
 use Rattle.frame_layouts.proofs.ValueSizes.{value_sizes}
-use Rattle.type_definitions.specs.Declarations.{declarations_of}
 use Rattle.frame_layouts.proofs.layouts.layouts_of.Goals as goal
 
-pub layout_of-requires-clause-sizes : goal.layout_of-requires-clause-sizes
-layout_of-requires-clause-sizes c =
+pub layout_where-requires-clause-sizes : goal.layout_where-requires-clause-sizes
+layout_where-requires-clause-sizes c =
     let f = c.f-item.result in
     subst (λ d. HaveSizes d (value_types d f)) (sym c.requires.of_it)
-    (value_sizes c.args.m.now c.requires.runnable c.loop-f.f-index f
-    (item_at c.args.m.now.functions c.as_slice-f-items.result.now c.loop-f.f-index f c.as_slice-f-items.ensures c.loop-f-test.true c.f-item.is))
+    (value_sizes c.args.m.now c.requires.runnable c.loop-number.number f
+    (item_at c.args.m.now.functions c.as_slice-f-items.result.now c.loop-number.number f c.as_slice-f-items.ensures c.loop-number-test.true c.f-item.is))
 
-pub layout_of-requires-clause-few : goal.layout_of-requires-clause-few
-layout_of-requires-clause-few c =
+pub layout_where-requires-clause-few : goal.layout_where-requires-clause-few
+layout_where-requires-clause-few c =
     let f = c.f-item.result in
-    few_values c.args.m.now c.requires.runnable c.loop-f.f-index f
-    (item_at c.args.m.now.functions c.as_slice-f-items.result.now c.loop-f.f-index f c.as_slice-f-items.ensures c.loop-f-test.true c.f-item.is)
+    few_values c.args.m.now c.requires.runnable c.loop-number.number f
+    (item_at c.args.m.now.functions c.as_slice-f-items.result.now c.loop-number.number f c.as_slice-f-items.ensures c.loop-number-test.true c.f-item.is)
 
-pub loop-f-preserved : goal.loop-f-preserved
-loop-f-preserved c =
+pub loop-number-init : goal.loop-number-init
+loop-number-init c = numbers_begun (IsLaid c.args.m.now c.args.reached.now) c.in_ok-layouts.layouts c.in_ok-layouts.ensures
+
+pub loop-number-preserved : goal.loop-number-preserved
+loop-number-preserved c =
+    let m = c.args.m.now in
+    let n = c.loop-number.number in
     let f = c.f-item.result in
-    mapped_further (layout_of (declarations_of c.args.m.now)) c.args.m.now.functions c.as_slice-f-items.result.now
-    c.loop-f.f-index f c.loop-f.layouts c.push.new.self c.in_ok-layout_of.field-0
-    c.as_slice-f-items.ensures c.loop-f-test.true c.f-item.is c.loop-f.invariant c.in_ok-push.ensures.ok
-    (c.in_ok-layout_of.ensures ∙ ap (λ d. layout_of d f) c.requires.of_it)
+    let at = item_at m.functions c.as_slice-f-items.result.now n f c.as_slice-f-items.ensures c.loop-number-test.true c.f-item.is in
+    numbers_more (IsLaid m c.args.reached.now) n c.loop-number.layouts c.push.new.self c.in_ok-layout_where.field-0 c.loop-number.invariant c.in_ok-push.ensures.ok
+    (laid_at m c.args.reached.now n f c.in_ok-layout_where.field-0 at
+    (λ own. c.in_ok-layout_where.ensures (get_or_from_slice_get c.args.reached.now n true _ own) ∙ ap (λ d. layout_of d f) c.requires.of_it))
+
+pub returns : goal.returns
+returns c =
+    numbers_done (IsLaid c.args.m.now c.args.reached.now) c.loop-number.number c.as_slice-f-items.result.now c.args.m.now.functions c.loop-number.layouts
+    (omega arith) c.as_slice-f-items.ensures c.loop-number.invariant

@@ -4,9 +4,12 @@ use Rattle.ready_code.specs.run_typing.EndForms.{value_in}
 use Rattle.ready_code.specs.Layout.{addresses_carried, values_carried}
 use Rattle.type_definitions.specs.Declarations.{Declarations, declarations_of}
 use Rattle.frame_layouts.specs.inner.Layouts.{layout_of}
-use Rattle.frame_layouts.proofs.Lists.{mapped_at}
+use Rattle.make_ready.proofs.Callees.{callee_inside, callee_layout}
 use Rattle.make_ready.proofs.MadeCalls.{call_made}
 use Rattle.make_ready.proofs.calls.call_within.Goals as goal
+
+pub bounds-body-function : goal.bounds-body-function
+bounds-body-function c = callee_inside c.args.body.now c.requires.body c.args.inst.now c.args.function c.args.callee.now c.requires.call
 
 pub returns : goal.returns
 returns c =
@@ -15,8 +18,7 @@ returns c =
     let g = c.args.callee.now in
     let d : Declarations = declarations_of m in
     let to : get_or c.args.body.now.layouts.now c.args.function.0 c.index-body-function.result ≡ layout_of d g =
-    mapped_at (layout_of d) m.functions c.args.body.now.layouts.now c.args.function.0 g c.index-body-function.result
-    c.requires.body.layouts c.requires.call.there in
+    callee_layout c.args.body.now c.requires.body c.args.inst.now c.args.function g c.index-body-function.result c.requires.call in
     call_made m f c.args.inst.now c.requires.does c.args.function g c.requires.call c.requires.bodied
     c.first_result.result c.in_ok-values_of.field-0 c.in_ok-values.values
     c.in_ok-addresses.addresses c.local.result
