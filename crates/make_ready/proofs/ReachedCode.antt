@@ -3,21 +3,19 @@ use Rattle.std.proofs.Common.{◌≡◌, ℕ, zero, suc, ◌<◌, List, [], ◌�
 use Rattle.std.specs.Prelude.{option_map, slice_get, unwrap_or}
 use Rattle.std.specs.List.{flat_map}
 use Rattle.std.specs.Option.{option_to_list}
-use Rattle.std.proofs.lemmas.Option.{slice_get-get_or, slice_get-map, slice_get_within}
+use Rattle.std.proofs.lemmas.Option.{slice_get-map, slice_get_within}
 use Rattle.holder_model.specs.Dropping.{deinits_of_class}
 use Rattle.numbered_form.specs.Names.{Name}
-use Rattle.ready_code.specs.ReadyModules.{IsClosed, IsReadyFunction, IsReadyModule, Reaches, ready_class}
+use Rattle.ready_code.specs.ReadyModules.{IsClosed, IsReadyFunction, Reaches, ready_class}
 use Rattle.ready_code.specs.declared.function.ReadyClass.{ReadyClass}
 use Rattle.ready_code.specs.declared.function.ReadyFunction.{ReadyFunction}
-use Rattle.ready_code.specs.run_typing.Forms.{OfFunction, form_by, form_of, form_with}
-use Rattle.ready_code.specs.run_typing.RunTyped.{RunTyped}
+use Rattle.ready_code.specs.run_typing.Forms.{OfFunction, form_by, form_with}
 use Rattle.ready_code.specs.run_typing.Runnable.{IsRunnable}
 use Rattle.sil_ast.specs.declared.decl.Decl.{Decl}
 use Rattle.sil_ast.specs.declared.decl.Decl.TheVariants.{Class, Enum, Struct}
 use Rattle.sil_ast.specs.declared.function.Function.{Function}
 use Rattle.sil_ast.specs.declared.module.Module.{Module}
 use Rattle.sil_ast.specs.declared.place.FuncId.{FuncId}
-use Rattle.sil_ast.specs.declared.place.ValueId.{ValueId}
 use Rattle.sil_ast.specs.declared.type_name.TypeName.{TypeName}
 use Rattle.sil_types.specs.Typing.Shapes.{target}
 use Rattle.sil_types.specs.Typing.Values.{function_at, type_at, value_functions, value_types}
@@ -80,7 +78,7 @@ module _ (m : Module) (r : IsRunnable m) where
   names_inside n f there k named at g is =
       (function_only m f (typed_function m (well_typed m r) n f there) k g (ap (λ o. unwrap_or o None) at ∙ is)).1
 
-  d : Declarations
+  abbrev d : Declarations
   d = declarations_of m
 
   deinit_inside : (classes : List Name) (j : ℕ) (h : FuncId) → slice_get (flat_map (deinits_of_class d) classes) j ≡ Some h → h.0 < length m.functions
