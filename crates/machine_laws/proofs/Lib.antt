@@ -45,7 +45,6 @@ pub mod PhasesSteps
 pub mod FinishedClass
 pub mod FinishedFields
 pub mod Finished
-pub mod FinishedSteps
 pub mod Left
 pub mod FrameSteps
 pub mod FrameReady
