@@ -83,15 +83,17 @@ module _ (m : Module) (r : IsRunnable m) where
 
   deinit_inside : (classes : List Name) (j : ℕ) (h : FuncId) → slice_get (flat_map (deinits_of_class d) classes) j ≡ Some h → h.0 < length m.functions
   deinit_inside [] j h at = absurd (cc)
-  deinit_inside (c ∷ classes) j h at = by (deinit_of d c) refl j at
+  deinit_inside (c ∷ classes) j h at = by (deinit_of d c) refl (λ k. deinit_inside classes k h) j at
     where
-      by : (o : Option FuncId) → deinit_of d c ≡ o → (j : ℕ) → slice_get (option_to_list o ++ flat_map (deinits_of_class d) classes) j ≡ Some h → h.0 < length m.functions
-      by None is j at = deinit_inside classes j h at
-      by (Some g) is zero at =
+      by : (o : Option FuncId) → deinit_of d c ≡ o
+          → ((k : ℕ) → slice_get (flat_map (deinits_of_class d) classes) k ≡ Some h → h.0 < length m.functions)
+          → (j : ℕ) → slice_get (option_to_list o ++ flat_map (deinits_of_class d) classes) j ≡ Some h → h.0 < length m.functions
+      by None is rest j at = rest j at
+      by (Some g) is rest zero at =
           let own : deinit_of d c ≡ Some h = is ∙ at in
           let deinit = (runnable_is_typed m r).deinits c h own in
           slice_get_within m.functions h.0 deinit.body deinit.there
-      by (Some g) is (suc j) at = deinit_inside classes j h at
+      by (Some g) is rest (suc j) at = rest j at
 
   class_inside : (x : Decl) (j : ℕ) (h : FuncId) → slice_get (ready_class d x).deinits j ≡ Some h → h.0 < length m.functions
   class_inside (Struct name fields) j h at = absurd (cc)
@@ -102,7 +104,7 @@ module _ (m : Module) (r : IsRunnable m) where
   deinits_inside classes is k class at = of_class (slice_get m.decls k) refl
     where
       of_class : (o : Option Decl) → slice_get m.decls k ≡ o → (j : ℕ) (h : FuncId) → slice_get class.deinits j ≡ Some h → h.0 < length m.functions
-      of_class None there = absurd (
+      of_class None there j h own = absurd (
           let none : slice_get classes k ≡ None = ap (λ cs. slice_get cs k) is ∙ slice_get-map (ready_class d) m.decls k ∙ ap (option_map (ready_class d)) there in cc)
       of_class (Some x) there j h own =
           let made : slice_get classes k ≡ Some (ready_class d x) =

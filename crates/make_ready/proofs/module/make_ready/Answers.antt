@@ -4,6 +4,10 @@ use Rattle.type_definitions.specs.Declarations.{declarations_of}
 use Rattle.make_ready.proofs.ReachedCode.{code_there, found_closed}
 use Rattle.make_ready.proofs.module.make_ready.Goals as goal
 
+pub reached_from-requires-clause-classes : goal.reached_from-requires-clause-classes
+reached_from-requires-clause-classes c =
+    c.as_slice-2.ensures ∙ c.in_ok-classes.ensures ∙ ap₂ (λ d ds. map (ready_class d) ds) c.requires.of_it c.as_slice.ensures
+
 pub ready_functions-requires-clause-closed : goal.ready_functions-requires-clause-closed
 ready_functions-requires-clause-closed c =
     let m = c.args.m.now in
