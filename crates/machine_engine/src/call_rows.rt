@@ -20,6 +20,7 @@ use ready_code::{Carry, CarryAddress, Local, ReadyFunction, ReadyModule};
 use sil_ast::{Exhausted, FuncId, List, ValueId};
 
 /// A frame of a function, with its arguments.
+#[inline(always)]
 fn add_callee(
     machine: &mut Machine,
     frame: &Frame,
@@ -39,6 +40,7 @@ fn add_callee(
 }
 
 /// A function is called.
+#[inline(always)]
 fn call_in(
     machine: &mut Machine,
     ready: &ReadyModule,
@@ -60,6 +62,7 @@ fn call_in(
     }
 }
 
+#[inline(always)]
 pub(crate) fn call(
     machine: &mut Machine,
     ready: &ReadyModule,
