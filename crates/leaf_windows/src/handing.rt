@@ -8,7 +8,7 @@ use machine_steps::Local;
 use run_values::Leaf;
 
 /// Leaves of a frame that begin at a base are laid over others of the same frame or of another one.
-#[inline(always)]
+#[inline]
 pub fn hand_over(leaves: &mut [Leaf], from: usize, operand: Local, base: usize, to: Local)
     ensures { leaves.new ≡ laid_over (base + to.at) (take operand.size (drop (from + operand.at) leaves.old)) leaves.old }
 {

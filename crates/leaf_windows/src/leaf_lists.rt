@@ -99,7 +99,7 @@ fn move_up(leaves: &mut [Leaf], from: usize, count: usize, to: usize)
 }
 
 /// One leaf of the list is laid over another.
-#[inline(always)]
+#[inline]
 #[tactic(auto, using(crate::proofs::Pieces::one_of, crate::proofs::LaidOver::nothing_laid))]
 fn move_one(leaves: &mut [Leaf], from: usize, to: usize)
     ensures { leaves.new ≡ laid_over to (take 1 (drop from leaves.old)) leaves.old }
@@ -111,7 +111,7 @@ fn move_one(leaves: &mut [Leaf], from: usize, to: usize)
 }
 
 /// Leaves of the list are laid over others of it, all at once.
-#[inline(always)]
+#[inline]
 #[tactic(auto, using(crate::proofs::LaidOver::nothing_laid))]
 pub fn move_over(leaves: &mut [Leaf], from: usize, size: usize, to: usize)
     ensures { leaves.new ≡ laid_over to (take size (drop from leaves.old)) leaves.old }
@@ -127,7 +127,6 @@ pub fn move_over(leaves: &mut [Leaf], from: usize, size: usize, to: usize)
 }
 
 /// The same, where there are several.
-#[inline(never)]
 fn move_several(leaves: &mut [Leaf], from: usize, size: usize, to: usize)
     ensures { leaves.new ≡ laid_over to (take size (drop from leaves.old)) leaves.old }
 {

@@ -104,7 +104,6 @@ fn leave_run(machine: &mut Machine, frame: &Frame, operand: Local) -> Result<(),
 }
 
 /// The top frame is gone, and what it returns becomes a value of its caller.
-#[inline(always)]
 fn give_back(
     machine: &mut Machine,
     frame: &Frame,
@@ -122,7 +121,6 @@ fn give_back(
 }
 
 /// The frame returns.
-#[inline(always)]
 fn return_from(
     machine: &mut Machine,
     ready: &ReadyModule,
@@ -148,7 +146,6 @@ fn return_from(
 }
 
 /// The terminator behind the instructions of a block.
-#[inline(always)]
 pub(crate) fn end_block(
     machine: &mut Machine,
     ready: &ReadyModule,

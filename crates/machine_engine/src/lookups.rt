@@ -9,7 +9,6 @@ use ready_code::{Local, ReadyBlock, ReadyModule, ReadyOp};
 use sil_ast::FuncId;
 
 /// The block of a function.
-#[inline(always)]
 pub(crate) fn block_at(ready: &ReadyModule, function: FuncId, block: u32) -> Option<&ReadyBlock>
     ensures { option_copied result ≡ block_at ready.now function block }
 {
@@ -18,7 +17,6 @@ pub(crate) fn block_at(ready: &ReadyModule, function: FuncId, block: u32) -> Opt
 }
 
 /// The instruction before which a frame stands.
-#[inline(always)]
 fn op_at<'a>(ready: &'a ReadyModule, frame: &Frame) -> Option<&'a ReadyOp>
     ensures { option_copied result ≡ op_at ready.now frame.now }
 {
@@ -27,7 +25,6 @@ fn op_at<'a>(ready: &'a ReadyModule, frame: &Frame) -> Option<&'a ReadyOp>
 }
 
 /// Where the call before which a frame stands puts what the callee returns.
-#[inline(always)]
 pub(crate) fn awaited(ready: &ReadyModule, frame: &Frame) -> Option<Local>
     ensures { result ≡ awaited ready.now frame.now }
 {

@@ -67,7 +67,6 @@ fn run_frames(
 
 /// The instructions of the top frame's block, until something else goes on, or its terminator. Nothing else performs either of them, so that
 /// a compiler takes the code of all instructions into this loop.
-#[inline(always)]
 fn run_block(
     machine: &mut Machine,
     ready: &ReadyModule,

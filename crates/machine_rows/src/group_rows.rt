@@ -47,9 +47,9 @@ fn give_group(
     machine.go_on()
 }
 
-/// The result has no members.
-#[inline(always)]
-fn give_nothing(machine: &mut Machine, frame: &Frame, to: Local) -> Result<(), Stop>
+/// The result has no leaves.
+#[inline]
+pub fn give_nothing(machine: &mut Machine, frame: &Frame, to: Local) -> Result<(), Stop>
     ensures { GoesOn machine.old frame.now (put machine.old frame.now to []) result machine.new }
 {
     machine.put_there(frame, to.value);
@@ -57,7 +57,7 @@ fn give_nothing(machine: &mut Machine, frame: &Frame, to: Local) -> Result<(), S
 }
 
 /// The result has other values as its members.
-#[inline(always)]
+#[inline]
 pub fn group(
     machine: &mut Machine,
     frame: &Frame,
@@ -74,7 +74,6 @@ pub fn group(
 }
 
 /// The same, of some members.
-#[inline(never)]
 fn group_of(
     machine: &mut Machine,
     frame: &Frame,

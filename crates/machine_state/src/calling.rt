@@ -1,8 +1,8 @@
 //! How frames come and go.
 
-ghost use Rattle.std.specs.Prelude.{◌≡◌, ◌++◌, drop, length, replicate, IfOk, OnOk};
+ghost use Rattle.std.specs.Prelude.{◌≡◌, drop, IfOk, OnOk};
 ghost use Rattle.machine_steps.specs.Calling.{addresses_carried, carried, new_frame, with_frame, without_frame};
-ghost use Rattle.machine_steps.specs.Operands.{contents, no_address, put};
+ghost use Rattle.machine_steps.specs.Operands.{contents, put};
 
 use crate::machine::Machine;
 use leaf_windows::{gather_carried, hand_over, lay_carried, mark_carried};
@@ -13,7 +13,6 @@ use sil_ast::{Exhausted, FuncId};
 
 impl Machine {
     /// The frame of a function that is called now.
-    #[inline(always)]
     fn new_frame(&self, function: FuncId) -> Frame
         ensures { result ≡ new_frame self.now function }
     {
@@ -29,7 +28,6 @@ impl Machine {
     }
 
     /// A new frame, with room for the values of the function, none of which is there yet.
-    #[inline(always)]
     pub fn add_frame(&mut self, function: FuncId, f: &ReadyFunction) -> Result<Frame, Exhausted>
         ensures frame { IfOk result (λ fr. fr ≡ new_frame self.old function) }
         ensures room { OnOk result (self.new ≡ with_frame self.old function f.now) }
@@ -39,18 +37,6 @@ impl Machine {
         self.there.resize(frame.values + f.values as usize, false)?;
         self.leaves
             .resize(frame.leaves + f.leaves as usize, Leaf::Blank)?;
-        if f.addresses != 0 {
-            self.add_addresses(frame.addresses, f.addresses)?;
-        }
-        Ok(frame)
-    }
-
-    /// Room for so many addresses behind those that are there.
-    #[inline(never)]
-    fn add_addresses(&mut self, from: usize, count: u32) -> Result<(), Exhausted>
-        requires { from ≡ length self.old.addresses }
-        ensures { OnOk result (self.new ≡ record self.old { addresses = self.old.addresses ++ replicate count no_address }) }
-    {
         let no_address = Address {
             home: Home::Slot {
                 index: 0,
@@ -59,12 +45,12 @@ impl Machine {
             from: 0,
             is_part: false,
         };
-        self.addresses.resize(from + count as usize, no_address)?;
-        Ok(())
+        self.addresses
+            .resize(frame.addresses + f.addresses as usize, no_address)?;
+        Ok(frame)
     }
 
     /// Values of a frame become values of another one, or of itself, all at once.
-    #[inline(always)]
     #[tactic(auto, using(crate::proofs::CarriedLists::carried_none))]
     pub fn carry(&mut self, from: &Frame, to: &Frame, values: &[Carry]) -> Result<(), Exhausted>
         ensures { OnOk result (self.new ≡ carried self.old from.now to.now values.now) }
@@ -79,7 +65,6 @@ impl Machine {
         self.carry_all(from, to, values)
     }
 
-    #[inline(never)]
     fn carry_all(&mut self, from: &Frame, to: &Frame, values: &[Carry]) -> Result<(), Exhausted>
         ensures { OnOk result (self.new ≡ carried self.old from.now to.now values.now) }
     {
@@ -95,7 +80,6 @@ impl Machine {
         Ok(())
     }
 
-    #[inline(always)]
     fn carry_one(&mut self, from: &Frame, to: &Frame, carry: Carry)
         ensures { self.new ≡ put self.old to.now carry.to (contents self.old from.now carry.from) }
     {
@@ -110,7 +94,6 @@ impl Machine {
     }
 
     /// Addresses of a frame are handed to another one.
-    #[inline]
     pub fn carry_addresses(&mut self, from: &Frame, to: &Frame, addresses: &[CarryAddress])
         ensures { self.new ≡ addresses_carried self.old from.now to.now addresses.now }
     {
@@ -121,7 +104,7 @@ impl Machine {
     }
 
     /// The top frame is gone, with its values.
-    #[inline(always)]
+    #[inline]
     pub fn remove_frame(&mut self, frame: &Frame)
         ensures { self.new ≡ without_frame self.old frame.now (drop 1 self.old.tasks) }
     {

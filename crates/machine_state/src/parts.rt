@@ -19,7 +19,7 @@ impl Machine {
     }
 
     /// What a frame returns becomes a value of its caller.
-    #[inline(always)]
+    #[inline]
     pub fn hand_back(&mut self, frame: &Frame, operand: Local, caller: &Frame, to: Local)
         ensures { self.new ≡ record self.old { leaves = laid_over (caller.now.leaves + to.at) (contents self.old frame.now operand) self.old.leaves } }
     {

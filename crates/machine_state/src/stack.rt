@@ -16,7 +16,7 @@ use sil_ast::Exhausted;
 
 impl Machine {
     /// A task goes on before the others.
-    #[inline(always)]
+    #[inline]
     pub fn push_task(&mut self, task: Task) -> Result<(), Exhausted>
         ensures { OnOk result (self.new ≡ record self.old { tasks = task ∷ self.old.tasks }) }
     {
