@@ -160,3 +160,6 @@ case_laid to tag payload blanks ys =
 -- nothing, laid over a list
 pub laid_over-nil : {A : Type 0} (from : ℕ) (ys : List A) → laid_over from [] ys ≡ ys
 laid_over-nil from ys = grind (arith, common_steps)
+
+pub nothing_laid : {A : Type 0} (from : ℕ) (ys : List A) → laid_over from [] ys ≡ ys
+nothing_laid from ys = laid_over-nil from ys

@@ -1,5 +1,5 @@
 -- Pieces of a list that are joined, and windows that begin past a list's end.
-use Rattle.std.proofs.Common.{◌≡◌, ℕ, ◌+◌, suc, ◌-◌, ◌<◌, ◌≤◌, min, List, ◌∷◌, ◌++◌, length, take, drop, get_or, sym, ap, ◌∙◌, arith, inl, inr}
+use Rattle.std.proofs.Common.{◌≡◌, ℕ, ◌+◌, suc, ◌-◌, ◌<◌, ◌≤◌, min, List, [], ◌∷◌, ◌++◌, length, take, drop, get_or, sym, ap, ◌∙◌, arith, inl, inr}
 use Rattle.std.specs.List.{flat_map}
 use Rattle.std.proofs.lemmas.List.{drop_all, drop-drop, drop-take, length-drop, length-take, take_all, take-append-drop, take-take}
 use Rattle.std.proofs.lemmas.Bool.{cases_lt}
@@ -67,3 +67,7 @@ part-laid base at from operand_size size to_at cap begin count to xs new b c t h
     e ∙ laid_over-capped (base + to_at) to cap (take count (drop begin xs)) xs t h
     ∙ ap (λ ys. laid_over (base + to_at) ys xs)
     (window-capped (base + at + from) begin cap count xs b h ∙ ap (λ n. take n (drop (base + at + from) xs)) c ∙ part-window size from operand_size (base + at) xs)
+
+-- a window of one
+pub one_of : {A : Type 0} (from : ℕ) (xs : List A) (d : A) → from < length xs → take 1 (drop from xs) ≡ get_or xs from d ∷ []
+one_of from xs d h = ap (take 1) (drop-cons xs from d h)

@@ -98,9 +98,36 @@ fn move_up(leaves: &mut [Leaf], from: usize, count: usize, to: usize)
     }
 }
 
+/// One leaf of the list is laid over another.
+#[inline]
+#[tactic(auto, using(crate::proofs::Pieces::one_of, crate::proofs::LaidOver::nothing_laid))]
+fn move_one(leaves: &mut [Leaf], from: usize, to: usize)
+    ensures { leaves.new ≡ laid_over to (take 1 (drop from leaves.old)) leaves.old }
+{
+    if from < leaves.len() {
+        let leaf = leaves[from];
+        lay_one(leaves, to, leaf);
+    }
+}
+
 /// Leaves of the list are laid over others of it, all at once.
 #[inline]
+#[tactic(auto, using(crate::proofs::LaidOver::nothing_laid))]
 pub fn move_over(leaves: &mut [Leaf], from: usize, size: usize, to: usize)
+    ensures { leaves.new ≡ laid_over to (take size (drop from leaves.old)) leaves.old }
+{
+    if size == 0 {
+        return;
+    }
+    if size == 1 {
+        move_one(leaves, from, to);
+        return;
+    }
+    move_several(leaves, from, size, to);
+}
+
+/// The same, where there are several.
+fn move_several(leaves: &mut [Leaf], from: usize, size: usize, to: usize)
     ensures { leaves.new ≡ laid_over to (take size (drop from leaves.old)) leaves.old }
 {
     if from >= leaves.len() || to >= leaves.len() {

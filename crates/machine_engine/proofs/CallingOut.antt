@@ -7,7 +7,7 @@ use Rattle.machine_steps.specs.declared.frame.Frame.{Frame}
 use Rattle.machine_steps.specs.declared.frame.Task.{Task}
 use Rattle.machine_steps.specs.declared.frame.Task.TheVariants.{Runs}
 use Rattle.machine_steps.specs.declared.run_end.RunEnd.TheVariants as end
-use Rattle.machine_steps.specs.Operands.{contents, gives, int_among, put, put_there}
+use Rattle.machine_steps.specs.Operands.{contents, gives, int_among, put}
 use Rattle.machine_steps.specs.Turning.{turn}
 use Rattle.machine_steps.specs.Views.{Goes, MachineView, Stops, Went}
 use Rattle.ready_code.specs.declared.local.Local.{Local}
@@ -16,10 +16,6 @@ use Rattle.sil_ast.specs.declared.place.FuncId.{FuncId}
 use Rattle.machine_state.specs.GoingOn.{GoesOn}
 use Rattle.machine_state.specs.Went.{HasGone}
 use Rattle.machine_state.specs.declared.stop.Stop.{Stop}
-use Rattle.leaf_windows.proofs.LaidOver.{laid_over-nil}
-
-pub put_nothing : (st : MachineView) (fr : Frame) (to : Local) → put_there st fr to.value ≡ put st fr to []
-put_nothing st fr to = ap (λ (leaves : List Leaf). put_there (record st { leaves = leaves }) fr to.value) (sym (laid_over-nil (fr.leaves + to.at) st.leaves))
 
 abbrev turned : MachineView → MachineView
 turned st = record st { turns = st.turns + 1 }

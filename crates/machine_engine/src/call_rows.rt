@@ -3,17 +3,16 @@
 ghost use Rattle.std.specs.Prelude.{◌≡◌, ◌++◌, ◌∷◌, [], map, OnOk};
 ghost use Rattle.holder_model.specs.declared.event.Event.TheVariants as event;
 ghost use Rattle.machine_steps.specs.Calling.{addresses_carried, carried, new_frame, with_frame};
-ghost use Rattle.machine_steps.specs.Operands.{contents, int_among, put};
+ghost use Rattle.machine_steps.specs.Operands.{contents, int_among};
 ghost use Rattle.machine_steps.specs.Rows.{calls_in};
 ghost use Rattle.ready_code.specs.declared.function.ReadyModule.{ReadyModule};
 ghost use Rattle.ready_code.specs.declared.op.ReadyOp.TheVariants as op;
 ghost use Rattle.machine_rows.specs.Performing.{PerformsIn};
-ghost use Rattle.machine_state.specs.GoingOn.{GoesOn};
 ghost use Rattle.machine_state.specs.Went.{HasGone};
 
 use holder_model::Event;
 use lowered_run::LowFault;
-use machine_rows::first_missing;
+use machine_rows::{first_missing, give_nothing};
 use machine_state::{Machine, Stop, fault, missing};
 use machine_steps::Frame;
 use ready_code::{Carry, CarryAddress, Local, ReadyFunction, ReadyModule};
@@ -60,6 +59,9 @@ fn call_in(
     }
 }
 
+/// A function with a body is called. A compiler that takes this into the loop over a block computes at each block's beginning what only a
+/// stack that grows needs.
+#[inline(never)]
 pub(crate) fn call(
     machine: &mut Machine,
     ready: &ReadyModule,
@@ -99,14 +101,6 @@ fn show_call(
 {
     let args = machine.ints(frame, args)?;
     machine.show(Event::Call { function, args })
-}
-
-/// The result has no leaves.
-fn give_nothing(machine: &mut Machine, frame: &Frame, to: Local) -> Result<(), Stop>
-    ensures { GoesOn machine.old frame.now (put machine.old frame.now to []) result machine.new }
-{
-    machine.put_there(frame, to.value);
-    machine.go_on()
 }
 
 pub(crate) fn call_out(

@@ -36,10 +36,32 @@ fn run_task(machine: &mut Machine, ready: &ReadyModule, bound: u32) -> Result<()
     ensures work { OnOk result (work ready.now bound machine.new < work ready.now bound machine.old) }
 {
     match machine.top_task() {
-        Some(Task::Runs { frame }) => run_block(machine, ready, bound, frame),
+        Some(Task::Runs { frame }) => run_frames(machine, ready, bound, frame),
         Some(Task::Drops { from }) => drop_next(machine, bound, from),
         Some(Task::Finishes { object, called }) => deinit(machine, ready, bound, object, called),
         None => Err(fault(LowFault::Slot)),
+    }
+}
+
+/// Frames, block by block, until another task goes on.
+fn run_frames(
+    machine: &mut Machine,
+    ready: &ReadyModule,
+    bound: u32,
+    mut frame: Frame,
+) -> Result<(), Stop>
+    requires { slice_get machine.old.tasks 0 ≡ Some (Runs frame) }
+    ensures led { HasLed ready.now bound machine.old result machine.new }
+    ensures work { OnOk result (work ready.now bound machine.new < work ready.now bound machine.old) }
+{
+    loop {
+        if let Err(stop) = run_block(machine, ready, bound, frame) {
+            return Err(stop);
+        }
+        match machine.top_frame() {
+            Some(next) => frame = next,
+            None => return Ok(()),
+        }
     }
 }
 

@@ -1,14 +1,15 @@
 -- A frame goes on in the state that a call left.
-use Rattle.std.proofs.Common.{◌≡◌, ℕ, List, [], ◌∷◌, true, Option, None, subst, sym}
+use Rattle.std.proofs.Common.{◌≡◌, ℕ, ◌+◌, List, [], ◌∷◌, true, Option, None, ap, subst, sym}
 use Rattle.std.specs.declared.result.Result.{Result}
 use Rattle.machine_steps.specs.declared.frame.Frame.{Frame}
-use Rattle.machine_steps.specs.Operands.{is_there_in, put, unless_missing, with_all}
+use Rattle.machine_steps.specs.Operands.{is_there_in, put, put_there, unless_missing, with_all}
 use Rattle.machine_steps.specs.Views.{MachineView, Went}
 use Rattle.ready_code.specs.declared.function.ReadyModule.{ReadyModule}
 use Rattle.ready_code.specs.declared.op.ReadyOp.{ReadyOp}
 use Rattle.ready_code.specs.declared.local.Local.{Local}
 use Rattle.run_values.specs.declared.leaf.Leaf.{Leaf}
 use Rattle.sil_ast.specs.declared.place.ValueId.{ValueId}
+use Rattle.leaf_windows.proofs.LaidOver.{laid_over-nil}
 use Rattle.machine_state.specs.GoingOn.{GoesOn}
 use Rattle.machine_rows.specs.Performing.{PerformsIn}
 use Rattle.machine_state.specs.Went.{HasGone}
@@ -33,3 +34,7 @@ gives_in fr to ls after given new result is goes = subst (λ (st : MachineView).
 pub performed : (ready : ReadyModule) (bound : ℕ) (old new : MachineView) (fr : Frame) (o p : ReadyOp) (result : Result (Unit {0}) Stop) → p ≡ o →
     PerformsIn ready bound old fr o result new → PerformsIn ready bound old fr p result new
 performed ready bound old new fr o p result is goes = subst (λ (x : ReadyOp). PerformsIn ready bound old fr x result new) (sym is) goes
+
+-- a value that has no leaves
+pub put_nothing : (st : MachineView) (fr : Frame) (to : Local) → put_there st fr to.value ≡ put st fr to []
+put_nothing st fr to = ap (λ (leaves : List Leaf). put_there (record st { leaves = leaves }) fr to.value) (sym (laid_over-nil (fr.leaves + to.at) st.leaves))

@@ -47,7 +47,17 @@ fn give_group(
     machine.go_on()
 }
 
+/// The result has no leaves.
+#[inline]
+pub fn give_nothing(machine: &mut Machine, frame: &Frame, to: Local) -> Result<(), Stop>
+    ensures { GoesOn machine.old frame.now (put machine.old frame.now to []) result machine.new }
+{
+    machine.put_there(frame, to.value);
+    machine.go_on()
+}
+
 /// The result has other values as its members.
+#[inline]
 pub fn group(
     machine: &mut Machine,
     frame: &Frame,
@@ -57,6 +67,21 @@ pub fn group(
     ensures { Performs machine.old frame.now (op.Group operands.now to) result machine.new }
 {
     let operands = operands.as_slice();
+    if operands.is_empty() {
+        return give_nothing(machine, frame, to);
+    }
+    group_of(machine, frame, operands, to)
+}
+
+/// The same, of some members.
+fn group_of(
+    machine: &mut Machine,
+    frame: &Frame,
+    operands: &[Local],
+    to: Local,
+) -> Result<(), Stop>
+    ensures { Performs machine.old frame.now (op.Group operands.now to) result machine.new }
+{
     if let Some(value) = missing_operand(machine, frame, operands) {
         return Err(missing(value));
     }

@@ -13,7 +13,7 @@ mod slot_rows;
 mod store_rows;
 mod value_rows;
 
-pub use group_rows::{choose, first_missing, group};
+pub use group_rows::{choose, first_missing, give_nothing, group};
 pub use load_rows::load;
 pub use name_loads::load_name;
 pub use name_stores::{forget_name, store_name};

@@ -26,3 +26,8 @@ pub addresses_carried-more : (st : MachineView) (from to : Frame) (cs : List Car
 addresses_carried-more st from to [] i d h = absurd (omega arith)
 addresses_carried-more st from to (c ∷ cs) zero d h = refl
 addresses_carried-more st from to (c ∷ cs) (suc i) d h = rw (suc-add i 1) (addresses_carried-more (put_address st to c.to (address_in st from c.from)) from to cs i d (omega arith))
+
+-- nothing is carried
+pub carried_none : (st : MachineView) (from to : Frame) (cs : List Carry) → length cs ≡ 0 → carried st from to cs ≡ st
+carried_none st from to [] h = refl
+carried_none st from to (c ∷ cs) h = cc

@@ -51,13 +51,23 @@ impl Machine {
     }
 
     /// Values of a frame become values of another one, or of itself, all at once.
+    #[tactic(auto, using(crate::proofs::CarriedLists::carried_none))]
     pub fn carry(&mut self, from: &Frame, to: &Frame, values: &[Carry]) -> Result<(), Exhausted>
         ensures { OnOk result (self.new ≡ carried self.old from.now to.now values.now) }
     {
+        if values.len() == 0 {
+            return Ok(());
+        }
         if values.len() == 1 {
             self.carry_one(from, to, values[0]);
             return Ok(());
         }
+        self.carry_all(from, to, values)
+    }
+
+    fn carry_all(&mut self, from: &Frame, to: &Frame, values: &[Carry]) -> Result<(), Exhausted>
+        ensures { OnOk result (self.new ≡ carried self.old from.now to.now values.now) }
+    {
         gather_carried(&mut self.moving, &self.leaves, from.leaves, values)?;
         lay_carried(
             &mut self.leaves,

@@ -1,9 +1,8 @@
 //! The stack of tasks.
 
-ghost use Rattle.std.specs.Prelude.{◌≡◌, ◌∷◌, List, drop, OnOk, reverse, slice_get, length, IfErr};
+ghost use Rattle.std.specs.Prelude.{◌≡◌, ◌∷◌, List, Some, drop, IfSome, OnOk, reverse, slice_get, length, IfErr};
 ghost use Rattle.machine_steps.specs.Ends.{in_block};
 ghost use Rattle.machine_steps.specs.Turning.{frames_in};
-ghost use Rattle.machine_steps.specs.declared.frame.Frame.{Frame};
 ghost use Rattle.machine_steps.specs.declared.frame.Task.{Task};
 ghost use Rattle.machine_steps.specs.declared.frame.Task.TheVariants.{Runs};
 ghost use Rattle.machine_state.specs.GoingOn.{GoesOn};
@@ -12,7 +11,7 @@ ghost use Rattle.machine_state.specs.inner.Raised.{moved, raised};
 
 use crate::machine::Machine;
 use crate::stop::Stop;
-use machine_steps::Task;
+use machine_steps::{Frame, Task};
 use sil_ast::Exhausted;
 
 impl Machine {
@@ -34,6 +33,25 @@ impl Machine {
         ensures { result ≡ slice_get self.now.tasks 0 }
     {
         self.tasks.last().copied()
+    }
+
+    /// The frame that goes on, where a frame does. It is read field by field: one that was just changed in part is there sooner so.
+    #[inline]
+    pub fn top_frame(&self) -> Option<Frame>
+        ensures { IfSome result (λ fr. slice_get self.now.tasks 0 ≡ Some (Runs fr)) }
+    {
+        match self.tasks.last() {
+            Some(Task::Runs { frame }) => Some(Frame {
+                function: frame.function,
+                block: frame.block,
+                index: frame.index,
+                values: frame.values,
+                leaves: frame.leaves,
+                addresses: frame.addresses,
+                slots: frame.slots,
+            }),
+            _ => None,
+        }
     }
 
     /// The task that goes on is gone.

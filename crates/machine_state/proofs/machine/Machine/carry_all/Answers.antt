@@ -1,7 +1,7 @@
 use Rattle.std.proofs.Common.{arith}
 use Rattle.std.proofs.lemmas.Grind.{common_steps}
 use Rattle.machine_state.proofs.CarriedLists.{carried-is}
-use Rattle.machine_state.proofs.machine.Machine.carry.Goals as goal
+use Rattle.machine_state.proofs.machine.Machine.carry_all.Goals as goal
 
 pub returns : goal.returns
 returns c =
