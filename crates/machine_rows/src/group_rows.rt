@@ -74,12 +74,7 @@ pub fn group(
 }
 
 /// The same, of some members.
-fn group_of(
-    machine: &mut Machine,
-    frame: &Frame,
-    operands: &[Local],
-    to: Local,
-) -> Result<(), Stop>
+fn group_of(machine: &mut Machine, frame: &Frame, operands: &[Local], to: Local) -> Result<(), Stop>
     ensures { Performs machine.old frame.now (op.Group operands.now to) result machine.new }
 {
     if let Some(value) = missing_operand(machine, frame, operands) {
