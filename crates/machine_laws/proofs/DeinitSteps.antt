@@ -108,8 +108,8 @@ module _ (m : Module) (entry : Beginning) (made : List Made) (s : LowState) (st 
 
 module _ (m : Module) (ready : ReadyModule) (entry : Beginning) (bound : ℕ) (typed : RunTyped m) (is_ready : IsReadyModule m entry.reached ready) (made : List Made) where
   -- a function with a body that takes an object of a class
-  calls_alike : (s : LowState) (st : MachineView) (o : ObjectId) → PartsAgree m made s st → (g : FuncId) (class : Name) (body : Function) → Reaches entry.reached g → slice_get m.functions g.0 ≡ Some body
-      → has_any body.blocks ≡ true → TakesObject m body class → is_of_class m s.memory class o ≡ true
+  calls_alike : (s : LowState) (st : MachineView) (o : ObjectId) → PartsAgree m made s st → (g : FuncId) (class : Name) (body : Function) → Reaches entry.reached g
+      → slice_get m.functions g.0 ≡ Some body → has_any body.blocks ≡ true → TakesObject m body class → is_of_class m s.memory class o ≡ true
       → TasksAgree m entry made s.memory st (to_take (given_shape (declarations_of m) body)) (ends_of st) s.tasks st.tasks
       → Alike m entry (steps.deinit_called m (shapes_of m) bound s g o) (machine.calls_deinit ready bound st g o)
   calls_alike s st o parts g class body reaches there bodied takes fits tasks =

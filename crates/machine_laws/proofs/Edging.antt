@@ -143,7 +143,8 @@ module _ (m : Module) (ready : ReadyModule) (entry : Beginning) (bound : ℕ) (t
       refl
       (goes made (record next { tasks = low.Runs (record lf { at = first_point e.block.0; values = given.0 }) ∷ rest })
       (machine.with_top ready bound st mf rest' arrived (machine.in_block mf e.block.0))
-      (frame_goes_on (parts_values turned only) running.reached (subst (FrameAgrees m made s.memory arrived f (record lf { at = first_point e.block.0; values = given.0 }) (machine.in_block mf e.block.0) below)
+      (frame_goes_on (parts_values turned only) running.reached
+      (subst (FrameAgrees m made s.memory arrived f (record lf { at = first_point e.block.0; values = given.0 }) (machine.in_block mf e.block.0) below)
       (sym given.4) stands) others))
     where
       stay : numbers_for s.memory s.numbers ≡ s.numbers

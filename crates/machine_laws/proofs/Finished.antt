@@ -55,8 +55,8 @@ module _ (m : Module) (test : ClassTest) where
   fields_told_hold _ _ _ alive (freed x n is_dead cells unowned weak) = absurd (false≢true (sym alive ∙ ap is_dead_phase is_dead))
   fields_told_hold _ _ _ alive (kept x n h k) = k.fields alive
 
-module _ (m : Module) {reached : List Bool} (ready : ReadyModule) (typed : RunTyped m) (is_ready : IsReadyModule m reached ready) (made : List Made) (mem : Memory) (numbers : List Numbers) (st : MachineView) (o : ObjectId)
-    (alive : is_dead mem o ≡ false) (a : MemoryAgrees m made mem numbers st) where
+module _ (m : Module) {reached : List Bool} (ready : ReadyModule) (typed : RunTyped m) (is_ready : IsReadyModule m reached ready) (made : List Made)
+    (mem : Memory) (numbers : List Numbers) (st : MachineView) (o : ObjectId) (alive : is_dead mem o ≡ false) (a : MemoryAgrees m made mem numbers st) where
   abbrev test : ClassTest
   test = is_of_class m mem
 

@@ -31,6 +31,7 @@ returns-in-Ends-clause-outcome c =
     } in
     IfOk-weaker c.told.result (TellsOf m (given_shape (declarations_of m) entry) last c.in-Ends.stop) (EndsAsTold m e c.args.turns)
     (λ run tells. ends_told m c.in_ok-ready.ready e c.args.turns c.machine_runs_so.ensures (c.runnable_is_typed.ensures m c.requires.runnable)
-    c.in_ok-ready.ensures.0 c.in_ok-ready.ensures.1 c.in_ok-ready.ensures.2 here c.requires.some_turns c.args.table.now c.requires.of_it c.in_ok-machine.machine c.in_ok-machine.ensures c.in-Ends.stop last
+    c.in_ok-ready.ensures.0 c.in_ok-ready.ensures.1 c.in_ok-ready.ensures.2
+    here c.requires.some_turns c.args.table.now c.requires.of_it c.in_ok-machine.machine c.in_ok-machine.ensures c.in-Ends.stop last
     c.in-Ends.ensures run tells)
     c.told.ensures.outcome
