@@ -26,7 +26,7 @@ use Rattle.frame_layouts.proofs.run_typing_laws.FunctionFacts.{typed_function}
 use Rattle.frame_layouts.proofs.run_typing_laws.RunnableTyped.{runnable_is_typed, well_typed}
 use Rattle.frame_layouts.proofs.Lists.{element_there}
 use Rattle.make_ready.specs.inner.Functions.{AreReady, IsReadyAt}
-use Rattle.make_ready.specs.inner.Reaching.{AreFound, AreNamedInside, HaveDeinitsInside, NamesAreInside}
+use Rattle.make_ready.specs.inner.Reaching.{AreFound, HaveDeinitsInside, NamesAreInside}
 
 -- the code of the function at a number, if it is reached
 pub ready_at : (m : Module) (reached : List Bool) (n : ℕ) (f : Function) (code : ReadyFunction) → slice_get m.functions n ≡ Some f
@@ -37,8 +37,8 @@ ready_at m reached n f code at own g marked there =
     subst (λ x. IsReadyFunction m x code) same (own marked)
 
 -- so each reached function has its code
-pub code_there : (m : Module) (reached : List Bool) (functions : List ReadyFunction) → AreReady m reached functions → (g : FuncId) (f : Function) → Reaches reached g
-    → slice_get m.functions g.0 ≡ Some f → (code : ReadyFunction) × (slice_get functions g.0 ≡ Some code) × IsReadyFunction m f code
+pub code_there : (m : Module) (reached : List Bool) (functions : List ReadyFunction) → AreReady m reached functions
+    → (g : FuncId) (f : Function) → Reaches reached g → slice_get m.functions g.0 ≡ Some f → (code : ReadyFunction) × (slice_get functions g.0 ≡ Some code) × IsReadyFunction m f code
 code_there m reached functions ready g f marked there =
     let within = slice_get_within m.functions g.0 f there in
     let all = ready.all in
@@ -105,7 +105,8 @@ module _ (m : Module) (r : IsRunnable m) where
     where
       of_class : (o : Option Decl) → slice_get m.decls k ≡ o → (j : ℕ) (h : FuncId) → slice_get class.deinits j ≡ Some h → h.0 < length m.functions
       of_class None there j h own = absurd (
-          let none : slice_get classes k ≡ None = ap (λ cs. slice_get cs k) is ∙ slice_get-map (ready_class d) m.decls k ∙ ap (option_map (ready_class d)) there in cc)
+          let none : slice_get classes k ≡ None =
+          ap (λ cs. slice_get cs k) is ∙ slice_get-map (ready_class d) m.decls k ∙ ap (option_map (ready_class d)) there in cc)
       of_class (Some x) there j h own =
           let made : slice_get classes k ≡ Some (ready_class d x) =
           ap (λ cs. slice_get cs k) is ∙ slice_get-map (ready_class d) m.decls k ∙ ap (option_map (ready_class d)) there in

@@ -1,5 +1,6 @@
 -- The functions that a run can come to are found: what is marked waits, or what it names is marked.
-use Rattle.std.proofs.Common.{◌≡◌, ℕ, zero, suc, ◌+◌, ◌<◌, ◌≤◌, List, [], ◌∷◌, ◌++◌, length, get_or, set, refl, sym, ap, ◌∙◌, subst, arith, Bool, true, false, not, cond, ◌⊎◌, inl, inr, Option, Some, replicate}
+use Rattle.std.proofs.Common.{◌≡◌, ℕ, zero, suc, ◌+◌, ◌<◌, ◌≤◌, List, [], ◌∷◌, ◌++◌, length, get_or, set, replicate, refl, sym, ap, ◌∙◌, subst, arith}
+use Rattle.std.proofs.Common.{Bool, true, false, not, cond, ◌⊎◌, inl, inr, Some}
 use Rattle.std.specs.Prelude.{Contains, count_by, slice_get}
 use Rattle.std.proofs.lemmas.Bool.{cases_lt}
 use Rattle.std.proofs.lemmas.List.{length-set, length_push}
@@ -157,7 +158,8 @@ module _ (m : Module) where
         by (inr c) = inl c
 
     -- the last that waited was followed
-    pub followed_more : (waiting : List FuncId) (top : FuncId) → waiting ≡ v ++ top ∷ [] → AreFollowedBut m r waiting → Follows m top r v s w → AreFollowedBut m s w
+    pub followed_more : (waiting : List FuncId) (top : FuncId) → waiting ≡ v ++ top ∷ [] → AreFollowedBut m r waiting
+        → Follows m top r v s w → AreFollowedBut m s w
     followed_more waiting top is but follows g f h at = by (follows.goes.new g h)
       where
         place : Contains v g ⊎ (top ≡ g) → Contains w g ⊎ IsFollowed s f
@@ -176,8 +178,8 @@ module _ (m : Module) where
     pub searches_begun : (waiting : List FuncId) → AreFollowedBut m first waiting → Searches m first first waiting
     searches_begun waiting but = record { size = refl; kept = λ g h. h; but = but }
 
-    pub searches_more : (r s : List Bool) (v w waiting : List FuncId) (top : FuncId) → waiting ≡ v ++ top ∷ [] → Searches m first r waiting → Follows m top r v s w
-        → Searches m first s w
+    pub searches_more : (r s : List Bool) (v w waiting : List FuncId) (top : FuncId) → waiting ≡ v ++ top ∷ [] → Searches m first r waiting
+        → Follows m top r v s w → Searches m first s w
     searches_more r s v w waiting top is so_far follows = record {
       size = follows.goes.size ∙ so_far.size;
       kept = λ g h. follows.goes.kept g (so_far.kept g h);

@@ -70,7 +70,8 @@ AreFollowed m reached = (g : FuncId) (f : Function) → Reaches reached g → sl
 
 -- but for those that wait
 abbrev pub AreFollowedBut : Module → List Bool → List FuncId → Type 0
-AreFollowedBut m reached waiting = (g : FuncId) (f : Function) → Reaches reached g → slice_get m.functions g.0 ≡ Some f → Contains waiting g ⊎ IsFollowed reached f
+AreFollowedBut m reached waiting = (g : FuncId) (f : Function) → Reaches reached g → slice_get m.functions g.0 ≡ Some f
+    → Contains waiting g ⊎ IsFollowed reached f
 
 -- the function was followed
 pub record Follows (m : Module) (function : FuncId) (reached : List Bool) (waiting : List FuncId) (reached' : List Bool) (waiting' : List FuncId) : Type 0 where

@@ -1,6 +1,5 @@
 use Rattle.std.proofs.Common.{sym, ap₂, ◌∙◌, map, subst}
 use Rattle.ready_code.specs.ReadyModules.{IsClosed, Reaches, ready_class}
-use Rattle.type_definitions.specs.Declarations.{declarations_of}
 use Rattle.make_ready.proofs.ReachedCode.{code_there, found_closed}
 use Rattle.make_ready.proofs.module.make_ready.Goals as goal
 
@@ -12,7 +11,8 @@ pub ready_functions-requires-clause-closed : goal.ready_functions-requires-claus
 ready_functions-requires-clause-closed c =
     let m = c.args.m.now in
     let classes = c.as_slice-2.ensures ∙ c.in_ok-classes.ensures ∙ ap₂ (λ d ds. map (ready_class d) ds) c.requires.of_it c.as_slice.ensures in
-    subst (IsClosed m) (sym c.as_slice-reached.ensures.value) (found_closed m c.as_slice-2.result.now c.args.entry c.in_ok-found.found.items classes c.in_ok-found.ensures)
+    subst (IsClosed m) (sym c.as_slice-reached.ensures.value)
+    (found_closed m c.as_slice-2.result.now c.args.entry c.in_ok-found.found.items classes c.in_ok-found.ensures)
 
 pub returns : goal.returns
 returns c =

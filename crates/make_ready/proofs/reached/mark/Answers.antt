@@ -1,4 +1,4 @@
-use Rattle.std.proofs.Common.{sym, ap, ◌∙◌, subst, set, true}
+use Rattle.std.proofs.Common.{sym, subst, set, true}
 use Rattle.make_ready.specs.inner.Reaching.{GoesOn}
 use Rattle.make_ready.proofs.Reaching.{marked_before, marked_new, marked_now}
 use Rattle.make_ready.proofs.reached.mark.Goals as goal

@@ -1,8 +1,7 @@
-use Rattle.std.proofs.Common.{ap, ◌∙◌, subst}
+use Rattle.std.proofs.Common.{refl, subst}
 use Rattle.ready_code.specs.ReadyModules.{Reaches}
 use Rattle.make_ready.specs.inner.Reaching.{AreMarked, HoldsOfDeinits}
 use Rattle.make_ready.proofs.Reaching.{deinits_stay, holds_all, marks_more}
-use Rattle.std.proofs.Common.{refl}
 use Rattle.std.proofs.lemmas.Option.{slice_get_read}
 use Rattle.make_ready.proofs.reached.mark_deinits.Goals as goal
 

@@ -1,9 +1,7 @@
 use Rattle.std.proofs.Common.{◌≡◌, ◌+◌, ap, sym, ◌∙◌, subst, arith, get_or, Some, None, List, Bool}
-use Rattle.std.specs.Prelude.{slice_get}
 use Rattle.std.proofs.lemmas.Option.{slice_get-get_or}
-use Rattle.sil_ast.specs.declared.place.FuncId.{FuncId}
 use Rattle.ready_code.specs.ReadyModules.{Reaches}
-use Rattle.make_ready.specs.inner.Reaching.{GoesOn, HoldsOfNamed, MarksTo}
+use Rattle.make_ready.specs.inner.Reaching.{HoldsOfNamed}
 use Rattle.make_ready.proofs.Reaching.{goes_nowhere, holds_all, marks_more, marks_same, named_stays}
 use Rattle.make_ready.proofs.reached.mark_named.Goals as goal
 use Rattle.make_ready.proofs.reached.mark_named.Goals.{in-Some+in_ok-mark, in_default}
