@@ -7,6 +7,7 @@ mod computing;
 mod gathering;
 mod handing;
 mod leaf_lists;
+mod lengthening;
 mod reading;
 
 pub use carrying::{gather_carried, lay_carried, mark_carried};
@@ -14,4 +15,5 @@ pub use computing::{Computed, compute_builtin};
 pub use gathering::{gather_group, gather_objects};
 pub use handing::{hand_over, lay_part};
 pub use leaf_lists::{lay_case, lay_one, lay_over, leaf_at, leaves_from, move_over, window};
+pub use lengthening::lengthen;
 pub use reading::{name_among, object_among, tag_in};

@@ -49,7 +49,7 @@ fn release_shared(machine: &mut Machine, frame: &Frame, object: ObjectId) -> Res
 }
 
 /// The instruction before which the frame stands is performed. Of a drop that takes no last reference the reference is gone too.
-#[inline]
+#[inline(always)]
 pub(crate) fn advance(
     machine: &mut Machine,
     ready: &ReadyModule,

@@ -59,9 +59,8 @@ fn call_in(
     }
 }
 
-/// A function with a body is called. A compiler that takes this into the loop over a block computes at each block's beginning what only a
-/// stack that grows needs.
-#[inline(never)]
+/// A function with a body is called.
+#[inline]
 pub(crate) fn call(
     machine: &mut Machine,
     ready: &ReadyModule,

@@ -33,6 +33,7 @@ fn missing_carry(machine: &Machine, frame: &Frame, values: &[Carry]) -> Option<V
 }
 
 /// An edge is taken.
+#[inline(always)]
 fn take_edge(machine: &mut Machine, bound: u32, frame: &Frame, edge: &ReadyEdge) -> Result<(), Stop>
     ensures { (ready : ReadyModule) → GoesOver machine.old frame.now (λ rest. takes_edge ready bound machine.old frame.now rest edge.now) result machine.new }
 {

@@ -13,6 +13,7 @@ use machine_steps::Frame;
 use ready_code::{ReadyModule, ReadyOp};
 
 /// The instruction before which the frame stands is performed.
+#[inline(always)]
 pub(crate) fn perform(
     machine: &mut Machine,
     ready: &ReadyModule,

@@ -65,8 +65,9 @@ fn run_frames(
     }
 }
 
-/// The instructions of the top frame's block, until something else goes on, or its terminator. Nothing else performs either of them, so that
-/// a compiler takes the code of all instructions into this loop.
+/// The instructions of the top frame's block, until something else goes on, or its terminator. Nothing else performs either of them: what
+/// performs them is marked to be taken into this loop, and the loop into the one over frames, so that no result goes through memory.
+#[inline(always)]
 fn run_block(
     machine: &mut Machine,
     ready: &ReadyModule,

@@ -5,7 +5,7 @@ ghost use Rattle.machine_steps.specs.Calling.{addresses_carried, carried, new_fr
 ghost use Rattle.machine_steps.specs.Operands.{contents, put};
 
 use crate::machine::Machine;
-use leaf_windows::{gather_carried, hand_over, lay_carried, mark_carried};
+use leaf_windows::{gather_carried, hand_over, lay_carried, lengthen, mark_carried};
 use machine_steps::{Address, Frame, Home, Task};
 use ready_code::{Carry, CarryAddress, ReadyFunction};
 use run_values::Leaf;
@@ -28,15 +28,15 @@ impl Machine {
     }
 
     /// A new frame, with room for the values of the function, none of which is there yet.
+    #[inline(always)]
     pub fn add_frame(&mut self, function: FuncId, f: &ReadyFunction) -> Result<Frame, Exhausted>
         ensures frame { IfOk result (λ fr. fr ≡ new_frame self.old function) }
         ensures room { OnOk result (self.new ≡ with_frame self.old function f.now) }
     {
         let frame = self.new_frame(function);
         self.push_task(Task::Runs { frame })?;
-        self.there.resize(frame.values + f.values as usize, false)?;
-        self.leaves
-            .resize(frame.leaves + f.leaves as usize, Leaf::Blank)?;
+        lengthen(&mut self.there, f.values, false)?;
+        lengthen(&mut self.leaves, f.leaves, Leaf::Blank)?;
         let no_address = Address {
             home: Home::Slot {
                 index: 0,
@@ -45,12 +45,12 @@ impl Machine {
             from: 0,
             is_part: false,
         };
-        self.addresses
-            .resize(frame.addresses + f.addresses as usize, no_address)?;
+        lengthen(&mut self.addresses, f.addresses, no_address)?;
         Ok(frame)
     }
 
     /// Values of a frame become values of another one, or of itself, all at once.
+    #[inline(always)]
     #[tactic(auto, using(crate::proofs::CarriedLists::carried_none))]
     pub fn carry(&mut self, from: &Frame, to: &Frame, values: &[Carry]) -> Result<(), Exhausted>
         ensures { OnOk result (self.new ≡ carried self.old from.now to.now values.now) }
@@ -65,6 +65,7 @@ impl Machine {
         self.carry_all(from, to, values)
     }
 
+    #[inline(never)]
     fn carry_all(&mut self, from: &Frame, to: &Frame, values: &[Carry]) -> Result<(), Exhausted>
         ensures { OnOk result (self.new ≡ carried self.old from.now to.now values.now) }
     {
@@ -80,6 +81,7 @@ impl Machine {
         Ok(())
     }
 
+    #[inline(always)]
     fn carry_one(&mut self, from: &Frame, to: &Frame, carry: Carry)
         ensures { self.new ≡ put self.old to.now carry.to (contents self.old from.now carry.from) }
     {
