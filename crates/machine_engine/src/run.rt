@@ -1,7 +1,8 @@
 //! Runs of the machine.
 
-ghost use Rattle.std.specs.Prelude.{◌≡◌, ◌<◌, ◌≤◌, OnOk, Some, false, slice_get};
+ghost use Rattle.std.specs.Prelude.{◌≡◌, ◌<◌, ◌≤◌, IsSome, OnOk, Some, false, slice_get};
 ghost use Rattle.machine_steps.specs.declared.frame.Task.TheVariants.{Runs};
+ghost use Rattle.machine_state.specs.GoingOn.{frame_of};
 ghost use Rattle.machine_engine.specs.Led.{HasEnded, HasLed, is_dropping};
 ghost use Rattle.machine_engine.specs.inner.Work.{work};
 
@@ -36,7 +37,7 @@ fn run_task(machine: &mut Machine, ready: &ReadyModule, bound: u32) -> Result<()
     ensures work { OnOk result (work ready.now bound machine.new < work ready.now bound machine.old) }
 {
     match machine.top_task() {
-        Some(Task::Runs { frame }) => run_frames(machine, ready, bound, frame),
+        Some(Task::Runs { .. }) => run_frames(machine, ready, bound),
         Some(Task::Drops { from }) => drop_next(machine, bound, from),
         Some(Task::Finishes { object, called }) => deinit(machine, ready, bound, object, called),
         None => Err(fault(LowFault::Slot)),
@@ -44,25 +45,17 @@ fn run_task(machine: &mut Machine, ready: &ReadyModule, bound: u32) -> Result<()
 }
 
 /// Frames, block by block, until another task goes on.
-fn run_frames(
-    machine: &mut Machine,
-    ready: &ReadyModule,
-    bound: u32,
-    mut frame: Frame,
-) -> Result<(), Stop>
-    requires { slice_get machine.old.tasks 0 ≡ Some (Runs frame) }
+fn run_frames(machine: &mut Machine, ready: &ReadyModule, bound: u32) -> Result<(), Stop>
+    requires { IsSome (frame_of (slice_get machine.old.tasks 0)) }
     ensures led { HasLed ready.now bound machine.old result machine.new }
     ensures work { OnOk result (work ready.now bound machine.new < work ready.now bound machine.old) }
 {
-    loop {
+    while let Some(frame) = machine.top_frame() {
         if let Err(stop) = run_block(machine, ready, bound, frame) {
             return Err(stop);
         }
-        match machine.top_frame() {
-            Some(next) => frame = next,
-            None => return Ok(()),
-        }
     }
+    Ok(())
 }
 
 /// The instructions of the top frame's block, until something else goes on, or its terminator. Nothing else performs either of them: what

@@ -5,8 +5,9 @@ ghost use Rattle.machine_steps.specs.Calling.{addresses_carried, carried, new_fr
 ghost use Rattle.machine_steps.specs.Operands.{contents, put};
 
 use crate::machine::Machine;
+use crate::operands::NO_ADDRESS;
 use leaf_windows::{gather_carried, hand_over, lay_carried, lengthen, mark_carried};
-use machine_steps::{Address, Frame, Home, Task};
+use machine_steps::{Frame, Task};
 use ready_code::{Carry, CarryAddress, ReadyFunction};
 use run_values::Leaf;
 use sil_ast::{Exhausted, FuncId};
@@ -37,15 +38,7 @@ impl Machine {
         self.push_task(Task::Runs { frame })?;
         lengthen(&mut self.there, f.values, false)?;
         lengthen(&mut self.leaves, f.leaves, Leaf::Blank)?;
-        let no_address = Address {
-            home: Home::Slot {
-                index: 0,
-                serial: 0,
-            },
-            from: 0,
-            is_part: false,
-        };
-        lengthen(&mut self.addresses, f.addresses, no_address)?;
+        lengthen(&mut self.addresses, f.addresses, NO_ADDRESS)?;
         Ok(frame)
     }
 

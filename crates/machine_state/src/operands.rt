@@ -10,6 +10,16 @@ use ready_code::{Local, LocalAddress};
 use run_values::Leaf;
 use sil_ast::{Exhausted, List, ValueId};
 
+/// What stands where no address was put.
+pub(crate) const NO_ADDRESS: Address = Address {
+    home: Home::Slot {
+        index: 0,
+        serial: 0,
+    },
+    from: 0,
+    is_part: false,
+};
+
 impl Machine {
     /// Whether a value of the frame is there.
     #[inline]
@@ -87,14 +97,7 @@ impl Machine {
             .get(frame.addresses.saturating_add(address.at as usize))
         {
             Some(found) => *found,
-            None => Address {
-                home: Home::Slot {
-                    index: 0,
-                    serial: 0,
-                },
-                from: 0,
-                is_part: false,
-            },
+            None => NO_ADDRESS,
         }
     }
 

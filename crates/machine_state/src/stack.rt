@@ -1,11 +1,11 @@
 //! The stack of tasks.
 
-ghost use Rattle.std.specs.Prelude.{◌≡◌, ◌∷◌, List, Some, drop, IfSome, OnOk, reverse, slice_get, length, IfErr};
+ghost use Rattle.std.specs.Prelude.{◌≡◌, ◌∷◌, List, drop, OnOk, reverse, slice_get, length, IfErr};
 ghost use Rattle.machine_steps.specs.Ends.{in_block};
 ghost use Rattle.machine_steps.specs.Turning.{frames_in};
 ghost use Rattle.machine_steps.specs.declared.frame.Task.{Task};
 ghost use Rattle.machine_steps.specs.declared.frame.Task.TheVariants.{Runs};
-ghost use Rattle.machine_state.specs.GoingOn.{GoesOn};
+ghost use Rattle.machine_state.specs.GoingOn.{GoesOn, frame_of};
 ghost use Rattle.machine_state.specs.declared.stop.Stop.TheVariants.{Memory};
 ghost use Rattle.machine_state.specs.inner.Raised.{moved, raised};
 
@@ -38,7 +38,7 @@ impl Machine {
     /// The frame that goes on, where a frame does. It is read field by field: one that was just changed in part is there sooner so.
     #[inline]
     pub fn top_frame(&self) -> Option<Frame>
-        ensures { IfSome result (λ fr. slice_get self.now.tasks 0 ≡ Some (Runs fr)) }
+        ensures { result ≡ frame_of (slice_get self.now.tasks 0) }
     {
         match self.tasks.last() {
             Some(Task::Runs { frame }) => Some(Frame {

@@ -1,17 +1,18 @@
-use Rattle.std.proofs.Common.{◌≡◌, ◌≤◌, Some}
+use Rattle.std.proofs.Common.{◌≡◌, ◌<◌, ◌≤◌, None}
 use Rattle.std.specs.Prelude.{slice_get}
 use Rattle.machine_steps.specs.Runs.{Leads}
 use Rattle.machine_steps.specs.Views.{Goes}
-use Rattle.machine_steps.specs.declared.frame.Task.TheVariants.{Runs}
+use Rattle.machine_state.specs.GoingOn.{frame_of}
 use Rattle.machine_engine.specs.inner.Work.{work}
 use Rattle.machine_engine.proofs.run.run_frames.Given as goal
 
-abbrev pub invariant-loop-stop : goal.invariant-loop-stop
-invariant-loop-stop l = record {
-  top : slice_get l.machine.tasks 0 ≡ Some (Runs l.frame);
+abbrev pub invariant-loop-frame : goal.invariant-loop-frame
+invariant-loop-frame l = record {
   led : Leads l.ready l.bound l.initial.machine (Goes l.machine);
   less : work l.ready l.bound l.machine ≤ work l.ready l.bound l.initial.machine;
+  -- a frame went on before no frame is there
+  begun : None ≡ frame_of (slice_get l.machine.tasks 0) → work l.ready l.bound l.machine < work l.ready l.bound l.initial.machine;
 }
 
-abbrev pub decreases-loop-stop : goal.decreases-loop-stop
-decreases-loop-stop l = work l.ready l.bound l.machine
+abbrev pub decreases-loop-frame : goal.decreases-loop-frame
+decreases-loop-frame l = work l.ready l.bound l.machine
