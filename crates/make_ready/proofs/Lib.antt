@@ -1,7 +1,6 @@
 pub mod BlockRows
 pub mod Callees
 pub mod CaseRuns
-pub mod ClassLines
 pub mod ClassPlaces
 pub mod EndParts
 pub mod EnumCases
@@ -15,6 +14,5 @@ pub mod Noting
 pub mod Offsets
 pub mod OneByOne
 pub mod ReachedCode
-pub mod Reaching
 pub mod RowParts
 pub mod TypedRows

@@ -3,7 +3,5 @@ pub mod BuiltinsTold
 pub mod Cases
 pub mod Ends
 pub mod Functions
-pub mod Names
 pub mod Parts
-pub mod Reaching
 pub mod Rows

@@ -5,10 +5,9 @@ ghost use Rattle.ready_code.specs.run_typing.Runnable.{IsRunnable};
 ghost use Rattle.type_definitions.specs.Declarations.{declarations_of};
 ghost use Rattle.ready_code.specs.ReadyModules.{IsReadyModule, Reaches};
 
-use crate::classes::ready_classes;
 use crate::functions::ready_functions;
-use crate::reached::reached_from;
 use frame_layouts::layouts_of;
+use reached_functions::{reached_from, ready_classes};
 use ready_code::ReadyModule;
 use sil_ast::{Exhausted, FuncId, Module};
 use sil_types::TypeTable;

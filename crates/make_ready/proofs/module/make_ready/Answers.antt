@@ -1,7 +1,6 @@
 use Rattle.std.proofs.Common.{sym, ap₂, ◌∙◌, map, subst}
 use Rattle.ready_code.specs.ReadyModules.{IsClosed, Reaches, ready_class}
-use Rattle.type_definitions.specs.Declarations.{declarations_of}
-use Rattle.make_ready.proofs.ReachedCode.{code_there, found_closed}
+use Rattle.make_ready.proofs.ReachedCode.{code_there}
 use Rattle.make_ready.proofs.module.make_ready.Goals as goal
 
 pub reached_from-requires-clause-classes : goal.reached_from-requires-clause-classes
@@ -9,22 +8,18 @@ reached_from-requires-clause-classes c =
     c.as_slice-2.ensures ∙ c.in_ok-classes.ensures ∙ ap₂ (λ d ds. map (ready_class d) ds) c.requires.of_it c.as_slice.ensures
 
 pub ready_functions-requires-clause-closed : goal.ready_functions-requires-clause-closed
-ready_functions-requires-clause-closed c =
-    let m = c.args.m.now in
-    let classes = c.as_slice-2.ensures ∙ c.in_ok-classes.ensures ∙ ap₂ (λ d ds. map (ready_class d) ds) c.requires.of_it c.as_slice.ensures in
-    subst (IsClosed m) (sym c.as_slice-reached.ensures.value) (found_closed m c.as_slice-2.result.now c.args.entry c.in_ok-found.found.items classes c.in_ok-found.ensures)
+ready_functions-requires-clause-closed c = subst (IsClosed c.args.m.now) (sym c.as_slice-reached.ensures.value) c.in_ok-found.ensures.closed
 
 pub returns : goal.returns
 returns c =
     let m = c.args.m.now in
     let reached = c.as_slice-reached.result.now in
-    let own = c.in_ok-classes.ensures ∙ ap₂ (λ d ds. map (ready_class d) ds) c.requires.of_it c.as_slice.ensures in
-    let closed = found_closed m c.as_slice-2.result.now c.args.entry c.in_ok-found.found.items (c.as_slice-2.ensures ∙ own) c.in_ok-found.ensures in (
+    let is = sym c.as_slice-reached.ensures.value in (
       reached,
       record {
-        closed = subst (IsClosed m) (sym c.as_slice-reached.ensures.value) closed;
+        closed = subst (IsClosed m) is c.in_ok-found.ensures.closed;
         functions = code_there m reached c.in_ok-functions.functions c.in_ok-functions.ensures;
-        classes = own;
+        classes = c.in_ok-classes.ensures ∙ ap₂ (λ d ds. map (ready_class d) ds) c.requires.of_it c.as_slice.ensures;
       },
-      subst (λ r. Reaches r c.args.entry) (sym c.as_slice-reached.ensures.value) c.in_ok-found.ensures.begun,
+      subst (λ r. Reaches r c.args.entry) is c.in_ok-found.ensures.begun,
     )

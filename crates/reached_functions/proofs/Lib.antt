@@ -1,0 +1,3 @@
+pub mod ClassLines
+pub mod Closing
+pub mod Reaching
