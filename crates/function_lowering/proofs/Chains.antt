@@ -7,7 +7,7 @@ use Rattle.sil_ast.specs.declared.place.ValueId.{ValueId}
 use Rattle.ownership_chains.specs.Chains.{HasNoRing, IsInRange}
 use Rattle.ownership_chains.specs.declared.definition.Definition.{Definition}
 use Rattle.lowering_model.specs.Names.{renamed_from, stands_for, stands_within, unless_renamed}
-use Rattle.lowering_laws.proofs.Ends.{ends_at, stands_itself}
+use Rattle.lowering_laws.proofs.Ends.{ends_at}
 use Rattle.lowering_laws.proofs.Placed.{no_operands}
 
 module _ (renamings : List Definition) where
@@ -35,7 +35,7 @@ module _ (renamings : List Definition) where
   beyond : (v : ValueId) → length renamings ≤ v.0 → renamed_from renamings v ≡ None
   beyond v le = ap (λ vs. slice_get vs 0) (no_operands renamings v le)
 
-  named_inside : (v w : ValueId) → renamed_from renamings v ≡ Some w → v.0 < length renamings
+  pub named_inside : (v w : ValueId) → renamed_from renamings v ≡ Some w → v.0 < length renamings
   named_inside v w e = at (cases_lt v.0 (length renamings))
     where
       at : (v.0 < length renamings) ⊎ (length renamings ≤ v.0) → v.0 < length renamings
@@ -56,7 +56,3 @@ module _ (renamings : List Definition) where
           let ended : renamed_from renamings (stands_within renamings n w) ≡ None =
           sym (ap (renamed_from renamings) (along n v w e)) ∙ subst (λ k. renamed_from renamings (stands_within renamings k v) ≡ None) is own in
           along n v w e ∙ sym (stays 1 (stands_within renamings n w) ended) ∙ sym (one_more n w)
-
-  -- a value beyond those of the function is no other name
-  pub beyond_itself : (v : ValueId) → length renamings ≤ v.0 → stands_for renamings v ≡ v
-  beyond_itself v le = stands_itself renamings v (beyond v le)

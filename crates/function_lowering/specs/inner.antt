@@ -1,4 +1,3 @@
 pub mod Drafts
 pub mod Standing
-pub mod Numbers
 pub mod Lowerable

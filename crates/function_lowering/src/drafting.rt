@@ -32,8 +32,6 @@ fn add_inst<'a>(
 ) -> Result<(), Exhausted>
     ensures { OnOk result (told_insts drafts.new ≡ told_insts drafts.old ++ insts.becomes table.now spare inst.now) }
 {
-    let operands = inst.operands.as_slice();
-    let results = inst.results.as_slice();
     match lowering_of(inst.op) {
         Lowering::Stays => drafts.push(Draft::Kept {
             inst,
@@ -41,13 +39,22 @@ fn add_inst<'a>(
             qualifier: inst.qualifier,
         }),
         Lowering::Vanishes => Ok(()),
-        Lowering::Retains => add_retains(table, operands, drafts),
-        Lowering::Releases => add_releases(table, operands, drafts),
+        Lowering::Retains => add_retains(table, inst.operands.as_slice(), drafts),
+        Lowering::Releases => add_releases(table, inst.operands.as_slice(), drafts),
         Lowering::Loads => add_load(table, inst, drafts),
         Lowering::Stores => add_store(table, spare, inst, drafts),
         Lowering::Destroys => add_destroy(table, spare, inst, drafts),
-        Lowering::ExtractsFields => add_field_extracts(table, operands, results, drafts),
-        Lowering::ExtractsElements => add_element_extracts(operands, results, drafts),
+        Lowering::ExtractsFields => add_field_extracts(
+            table,
+            inst.operands.as_slice(),
+            inst.results.as_slice(),
+            drafts,
+        ),
+        Lowering::ExtractsElements => add_element_extracts(
+            inst.operands.as_slice(),
+            inst.results.as_slice(),
+            drafts,
+        ),
     }
 }
 

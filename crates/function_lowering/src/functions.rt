@@ -31,7 +31,7 @@ fn lowered_blocks(
     let drafts = draft_blocks(alloc, table, spare, f.blocks.as_slice())?;
     let defined = defined_values(alloc, renamings, drafts.as_slice())?;
     let places = numbers_by_place(alloc, defined.as_slice())?;
-    let numbers = numbers_of_names(alloc, renamings, &places)?;
+    let numbers = numbers_of_names(alloc, renamings, places)?;
     written_blocks(alloc, renamings, &numbers, drafts.as_slice())
 }
 

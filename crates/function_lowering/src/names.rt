@@ -3,7 +3,8 @@
 ghost use Rattle.std.specs.Prelude.{◌≡◌, ◌<◌, IfOk, length};
 ghost use Rattle.lowering_model.specs.Names as spec;
 ghost use Rattle.ownership_chains.specs.Chains.{HasNoRing, IsInRange};
-ghost use Rattle.function_lowering.specs.inner.Standing.{AreNoted, AreRight, AreStillNoted, IsNoted};
+ghost use Rattle.function_lowering.specs.inner.Standing.{AreRight, AreStillNoted, IsNoted};
+ghost use Rattle.value_renumbering.specs.inner.NewNumbers.{name_in};
 
 use ownership_chains::Definition;
 use sil_ast::{Exhausted, ValueId};
@@ -72,20 +73,22 @@ fn note_chain(renamings: &[Definition], noted: &mut [Option<ValueId>], value: Va
     }
 }
 
-/// The value for which each value of a function stands, by its renamings. Fails where memory runs out.
+/// For each value of a function that is another name, by its renamings, the value for which it stands. Fails where memory runs out.
 pub(crate) fn all_standings(
     alloc: Global,
     renamings: &[Definition],
 ) -> Result<Vec<Option<ValueId>>, Exhausted>
     requires range { IsInRange renamings.now }
     requires ends { HasNoRing renamings.now }
-    ensures { IfOk result (λ noted. AreNoted renamings.now noted.items) }
+    ensures { IfOk result (λ noted. (v : ValueId) → name_in noted.items v ≡ spec.stands_for renamings.now v) }
 {
     let mut noted = vec![in alloc; None; renamings.len()]?;
     for number in 0..renamings.len() {
         let value = ValueId(number as u32);
-        let end = stands_for(renamings, noted.as_slice(), value);
-        note_chain(renamings, noted.as_mut_slice(), value, end);
+        if is_other_name(renamings, value) {
+            let end = stands_for(renamings, noted.as_slice(), value);
+            note_chain(renamings, noted.as_mut_slice(), value, end);
+        }
     }
     Ok(noted)
 }

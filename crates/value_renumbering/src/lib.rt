@@ -7,5 +7,5 @@ mod new_numbers;
 mod places;
 
 pub use copies::{renumbered_inst, renumbered_operand};
-pub use new_numbers::NewNumbers;
+pub use new_numbers::{NewNumbers, Places};
 pub use places::numbers_by_place;

@@ -3,10 +3,10 @@
 ghost use Rattle.std.specs.Prelude.{◌≡◌, ◌<◌, ◌^◌, All, IfOk, length};
 ghost use Rattle.sil_ast.specs.declared.place.ValueId.{ValueId};
 ghost use Rattle.lowering_model.specs.Numbers.{place_among};
-ghost use Rattle.value_renumbering.specs.inner.NewNumbers.{number_in};
+ghost use Rattle.value_renumbering.specs.inner.NewNumbers.{place_in};
 ghost use Rattle.value_renumbering.specs.inner.Places.{ArePlaced};
 
-use crate::new_numbers::NewNumbers;
+use crate::new_numbers::Places;
 use sil_ast::{Exhausted, List, ValueId};
 use std::alloc::Global;
 
@@ -34,14 +34,14 @@ fn write_places(numbers: &mut [ValueId], defined: &[ValueId])
 }
 
 /// Numbers each value by its place among those that are defined. All others have the number behind these. Fails where memory runs out.
-pub fn numbers_by_place(alloc: Global, defined: &[ValueId]) -> Result<NewNumbers, Exhausted>
+pub fn numbers_by_place(alloc: Global, defined: &[ValueId]) -> Result<Places, Exhausted>
     requires { length defined.now < 2 ^ 32 }
-    ensures { IfOk result (λ table. (v : ValueId) → number_in table v ≡ place_among defined.now v) }
+    ensures { IfOk result (λ table. (v : ValueId) → place_in table v ≡ place_among defined.now v) }
 {
     let others = ValueId(defined.len() as u32);
     let mut numbers = vec![in alloc; others; behind_all(defined)]?;
     write_places(numbers.as_mut_slice(), defined);
-    Ok(NewNumbers {
+    Ok(Places {
         numbers: List::from_vec(numbers),
         others,
     })

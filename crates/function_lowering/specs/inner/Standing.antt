@@ -1,5 +1,5 @@
 -- Notes of the values for which others stand.
-use Rattle.std.specs.Prelude.{◌≡◌, ◌<◌, List, length, Option, Some, None, IsSome, slice_index_or}
+use Rattle.std.specs.Prelude.{◌≡◌, List, Option, Some, None, IsSome, slice_index_or}
 use Rattle.sil_ast.specs.declared.place.ValueId.{ValueId}
 use Rattle.ownership_chains.specs.declared.definition.Definition.{Definition}
 use Rattle.lowering_model.specs.Names.{stands_for}
@@ -18,8 +18,3 @@ AreRight renamings noted = (v end : ValueId) → noted_at noted v ≡ Some end �
 -- what was noted is noted now
 abbrev pub AreStillNoted : List (Option ValueId) → List (Option ValueId) → Type 0
 AreStillNoted old new = (v : ValueId) → IsNoted old v → IsNoted new v
-
--- of each value it is noted for which it stands
-pub record AreNoted (renamings : List Definition) (noted : List (Option ValueId)) : Type 0 where
-  pub size : length noted ≡ length renamings
-  pub each : (v : ValueId) → v.0 < length renamings → noted_at noted v ≡ Some (stands_for renamings v)

@@ -11,7 +11,7 @@ use Rattle.ownership_origins.specs.Renamings.{renamings_of}
 use Rattle.lowering_model.specs.LoweredBlocks.{blocks_become, lowered_blocks}
 use Rattle.lowering_model.specs.Names.{stands_for}
 use Rattle.lowering_model.specs.Numbers.{place_among, renumbered}
-use Rattle.value_renumbering.specs.inner.NewNumbers.{number_in}
+use Rattle.value_renumbering.specs.inner.NewNumbers.{number_in, place_in}
 use Rattle.function_lowering.specs.inner.Drafts.{told_block}
 use Rattle.function_lowering.proofs.FewValues.{few_defined, few_values}
 use Rattle.function_lowering.proofs.Numbering.{renumbered_so}
@@ -61,5 +61,5 @@ returns c =
     (ap (λ ds. renumbered (number_in c.in_ok-numbers.numbers) (map (told_block r) ds)) c.as_slice-4.ensures
     ∙ renumbered_so d f (map (told_block r) drafts) places c.in_ok-numbers.numbers all
     (λ v. c.in_ok-places.ensures v ∙ ap (λ vs. place_among vs v) defined)
-    (λ v. c.in_ok-numbers.ensures v ∙ ap (λ rs. number_in places (stands_for rs v)) c.requires.renamings))
+    (λ v. c.in_ok-numbers.ensures v ∙ ap (λ rs. place_in places (stands_for rs v)) c.requires.renamings))
     c.written_blocks.ensures

@@ -1,5 +1,6 @@
-use Rattle.std.proofs.Common.{◌≡◌, ◌<◌, length}
+use Rattle.std.proofs.Common.{◌≡◌, ◌<◌, length, true}
 use Rattle.sil_ast.specs.declared.place.ValueId.{ValueId}
+use Rattle.lowering_model.specs.Names.{is_other_name}
 use Rattle.function_lowering.specs.inner.Standing.{AreRight, IsNoted}
 use Rattle.function_lowering.proofs.names.all_standings.Given as goal
 
@@ -7,5 +8,5 @@ abbrev pub invariant-loop-number : goal.invariant-loop-number
 invariant-loop-number l = record {
   size : length l.noted.items ≡ length l.renamings;
   right : AreRight l.renamings l.noted.items;
-  noted : (v : ValueId) → v.0 < l.number → IsNoted l.noted.items v;
+  noted : (v : ValueId) → v.0 < l.number → is_other_name l.renamings v ≡ true → IsNoted l.noted.items v;
 }
