@@ -1,6 +1,6 @@
 //! Leaves of several values, and the objects of leaves, gathered in one list.
 
-ghost use Rattle.std.specs.Prelude.{◌≡◌, OnOk, ◌++◌};
+ghost use Rattle.std.specs.Prelude.{◌≡◌, OnOk, ◌++◌, drop, take};
 ghost use Rattle.std.specs.List.{flat_map};
 ghost use Rattle.machine_steps.specs.Operands.{objects_among};
 ghost use Rattle.leaf_windows.specs.inner.Grouped.{leaves_from};
@@ -22,8 +22,27 @@ pub fn gather_group(
     moving.clear();
     for local in operands {
         let at = base.saturating_add(local.at as usize);
-        moving.extend_from_slice(window(leaves, at, local.size as usize))?;
+        gather_leaves(moving, leaves, at, local.size as usize)?;
     }
+    Ok(())
+}
+
+/// Leaves from a place on, so many of them, stand behind others. Most values have one.
+#[inline(always)]
+#[tactic(auto, using(crate::proofs::Pieces::one_of))]
+fn gather_leaves(
+    moving: &mut Vec<Leaf>,
+    leaves: &[Leaf],
+    at: usize,
+    size: usize,
+) -> Result<(), Exhausted>
+    ensures { OnOk result (moving.new.items ≡ moving.old.items ++ take size (drop at leaves.now)) }
+{
+    if size == 1 && at < leaves.len() {
+        moving.push(leaves[at])?;
+        return Ok(());
+    }
+    moving.extend_from_slice(window(leaves, at, size))?;
     Ok(())
 }
 
