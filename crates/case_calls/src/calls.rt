@@ -23,34 +23,45 @@ pub(crate) fn answer(
     written: &mut Answer,
 ) -> Result<u8, Exhausted> {
     match words {
-        [_name, "typing"] => answer_on_types(alloc, text, written),
         [_name, "tokens"] => answer_on_tokens(alloc, text, written),
         [_name, "search"] => answer_on_walks(alloc, text, false, written),
         [_name, "search", "together"] => answer_on_walks(alloc, text, true, written),
-        [_name, "lowered-run" | "lowered-end" | "heap", ..] => {
-            answer_of_machine(alloc, words, text, written)
+        [_name, "typing" | "lowered-run" | "lowered-end" | "heap", ..] => {
+            answer_on_text(alloc, words, text, written)
         }
         _ => Ok(written.line("no such call", Status::Usage.code())),
     }
 }
 
-/// Answers what a call of the machine that counts references does, or of its heap, to the module that the text spells.
-fn answer_of_machine(
+/// Answers what a call does to the module that the text spells. (What a function owns where it may end early is dear to prove: a module
+/// and its table are each owned by a function that does nothing else.)
+fn answer_on_text(
     alloc: Global,
     words: &[&str],
     text: &[u8],
     written: &mut Answer,
 ) -> Result<u8, Exhausted> {
-    let Some(m) = module_of(alloc, text)? else {
-        return Ok(written.line("not a module", 1));
-    };
-    match table_of(alloc, &m)? {
-        Some(table) => answer_on_module(alloc, words, &m, &table, written),
-        None => Ok(written.line("no type table", 1)),
+    match module_of(alloc, text)? {
+        Some(m) => answer_on_module(alloc, words, &m, written),
+        None => Ok(written.line("not a module", 1)),
     }
 }
 
 fn answer_on_module(
+    alloc: Global,
+    words: &[&str],
+    m: &Module,
+    written: &mut Answer,
+) -> Result<u8, Exhausted>
+    requires { IsNumbered m.now }
+{
+    match table_of(alloc, m)? {
+        Some(table) => answer_on_table(alloc, words, m, &table, written),
+        None => Ok(written.line("no type table", 1)),
+    }
+}
+
+fn answer_on_table(
     alloc: Global,
     words: &[&str],
     m: &Module,
@@ -61,6 +72,7 @@ fn answer_on_module(
     requires table { AreDeclarationsOf table.now m.now }
 {
     match words {
+        [_name, "typing"] => answer_on_types(alloc, m, table, written),
         [_name, "lowered-run", turns] => answer_on_run(alloc, turns, m, table, true, written),
         [_name, "lowered-end", turns] => answer_on_run(alloc, turns, m, table, false, written),
         [_name, "heap", calls @ ..] => answer_on_heap(alloc, calls, table, written),

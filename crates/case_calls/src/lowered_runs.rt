@@ -1,6 +1,6 @@
 //! The run of a lowered text: what it tells, by the machine that counts references.
 
-ghost use Rattle.std.specs.Prelude.{◌≡◌, ◌<◌, ◌^◌, IfOk, IfSome, length, true};
+ghost use Rattle.std.specs.Prelude.{◌≡◌, ◌<◌, ◌≤◌, ◌^◌, IfOk, IfSome, length, true};
 ghost use Rattle.count_machine.specs.LowRuns.{MayStartAt};
 ghost use Rattle.report_writing.specs.holder_model.Outcomes.{may_start};
 ghost use Rattle.numbered_form.specs.Lists.{Each};
@@ -81,12 +81,31 @@ fn run_main(
     }
     match main_of(m) {
         Some(entry) => {
-            let run = run(alloc, m, table, entry, turns)?;
             let given = given_type(alloc, m, entry)?;
-            add_run(alloc, m, table, &given, run, tells_events, written)
+            run_from(alloc, entry, turns, m, table, &given, tells_events, written)
         }
         None => Ok(written.line("no entry", 1)),
     }
+}
+
+/// Runs a function that gives this type.
+fn run_from(
+    alloc: Global,
+    entry: FuncId,
+    turns: u32,
+    m: &Module,
+    table: &TypeTable,
+    given: &TypeName,
+    tells_events: bool,
+    written: &mut Answer,
+) -> Result<u8, Exhausted>
+    requires runnable { IsRunnable m.now }
+    requires table { AreDeclarationsOf table.now m.now }
+    requires starts { MayStartAt m.now entry }
+    requires some_turns { 1 ≤ turns }
+{
+    let run = run(alloc, m, table, entry, turns)?;
+    add_run(alloc, m, table, given, run, tells_events, written)
 }
 
 /// The type of what a function gives that has no `@out` result.

@@ -110,6 +110,17 @@ pub struct Switches {
     ghost third_size: { length third.marks.items ≡ length first.marks.items },
 }
 
+impl Switches {
+    /// The switches of the three subjects.
+    pub fn of(alloc: Global, f: &Function, g: &Graph) -> Result<Switches, Exhausted> {
+        Ok(Switches {
+            first: Switch::of(alloc, f, g, 0)?,
+            second: Switch::of(alloc, f, g, 1)?,
+            third: Switch::of(alloc, f, g, 2)?,
+        })
+    }
+}
+
 impl Family for Switches {
     ghost step_of = { λ s u state item. step_in mark_step state
         (slice_get (cond (u == 0) s.first.marks.items (cond (u == 1) s.second.marks.items s.third.marks.items)) item) };

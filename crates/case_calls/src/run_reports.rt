@@ -42,12 +42,20 @@ pub(crate) fn add_run(
         retains,
         releases,
     };
-    let text = write_report(alloc, m, table, result_type, &outcome)?;
-    match fault {
-        Some(fault) => add_with_fault(written, text.as_slice(), fault),
-        None => written.add_bytes(text.as_slice()),
+    match write_report(alloc, m, table, result_type, &outcome) {
+        Ok(text) => {
+            add_report(written, text.as_slice(), fault);
+            Ok(status)
+        }
+        Err(Exhausted) => Err(Exhausted),
     }
-    Ok(status)
+}
+
+fn add_report(written: &mut Answer, report: &[u8], fault: Option<LowFault>) {
+    match fault {
+        Some(fault) => add_with_fault(written, report, fault),
+        None => written.add_bytes(report),
+    }
 }
 
 fn fault_in(end: &LowEnd) -> Option<LowFault> {

@@ -4,7 +4,7 @@ use crate::answer::Answer;
 use crate::marked::{MARKS, Switch, Switches};
 use crate::modules::module_of;
 use reach_engine::{Found, FoundAll, search, search_all};
-use sil_ast::{BlockId, EdgeId, Exhausted, Function, PointId};
+use sil_ast::{BlockId, EdgeId, Exhausted, Function, Module, PointId};
 use sil_cfg::{Graph, has_graph};
 use std::alloc::{AllocError, Global};
 
@@ -16,11 +16,19 @@ pub(crate) fn answer_on_walks(
     is_together: bool,
     written: &mut Answer,
 ) -> Result<u8, Exhausted> {
-    let text = text_around(alloc, blocks)?;
-    let Some(module) = module_of(alloc, text.as_slice())? else {
-        return Ok(written.line("not a module", 3));
-    };
-    let Some(f) = module.functions.get(0) else {
+    match module_around(alloc, blocks)? {
+        Some(module) => answer_on_function(alloc, module.functions.get(0), is_together, written),
+        None => Ok(written.line("not a module", 3)),
+    }
+}
+
+fn answer_on_function(
+    alloc: Global,
+    f: Option<&Function>,
+    is_together: bool,
+    written: &mut Answer,
+) -> Result<u8, Exhausted> {
+    let Some(f) = f else {
         return Ok(written.line("no function", 3));
     };
     if !has_graph(f) {
@@ -28,11 +36,16 @@ pub(crate) fn answer_on_walks(
     }
     let g = Graph::build(alloc, f)?;
     if is_together {
-        search_together(alloc, f, &g, written)?;
+        search_together(alloc, f, &g, written)
     } else {
-        search_one(alloc, f, &g, written)?;
+        search_one(alloc, f, &g, written)
     }
-    Ok(written.line("", 0))
+}
+
+/// The module whose function has these blocks behind the marks, or nothing where the text is none.
+fn module_around(alloc: Global, blocks: &[u8]) -> Result<Option<Module>, Exhausted> {
+    let text = text_around(alloc, blocks)?;
+    module_of(alloc, text.as_slice())
 }
 
 /// The text of a module whose function has these blocks behind the marks.
@@ -50,10 +63,10 @@ fn search_one(
     f: &Function,
     g: &Graph,
     written: &mut Answer,
-) -> Result<(), Exhausted> {
+) -> Result<u8, Exhausted> {
     let switch = Switch::of(alloc, f, g, 0)?;
-    match search(alloc, g, &switch)? {
-        Found::Clean(map) => {
+    match search(alloc, g, &switch) {
+        Ok(Found::Clean(map)) => {
             written.add("clean");
             for b in 0..g.blocks() {
                 written.add_number(" ", u64::from(b));
@@ -64,13 +77,14 @@ fn search_one(
                 });
                 written.add(if map.may_hold(BlockId(b), 1) { "1" } else { "" });
             }
+            Ok(written.line("", 0))
         }
-        Found::Fault { walk, point, code } => {
+        Ok(Found::Fault { walk, point, code }) => {
             written.add_number("", u64::from(code));
-            add_walk(written, point, walk.as_slice());
+            Ok(add_walk(written, point, walk.as_slice()))
         }
+        Err(Exhausted) => Err(Exhausted),
     }
-    Ok(())
 }
 
 /// The search for all three switches.
@@ -79,41 +93,41 @@ fn search_together(
     f: &Function,
     g: &Graph,
     written: &mut Answer,
-) -> Result<(), Exhausted> {
-    let switches = Switches {
-        first: Switch::of(alloc, f, g, 0)?,
-        second: Switch::of(alloc, f, g, 1)?,
-        third: Switch::of(alloc, f, g, 2)?,
-    };
-    match search_all(alloc, g, &switches)? {
-        FoundAll::Clean(map) => {
+) -> Result<u8, Exhausted> {
+    let switches = Switches::of(alloc, f, g)?;
+    match search_all(alloc, g, &switches) {
+        Ok(FoundAll::Clean(map)) => {
             written.add("clean");
             for b in 0..g.blocks() {
                 written.add_number(" ", u64::from(b));
                 written.add_number(":", map.row(BlockId(b), 0).get(0).copied().unwrap_or(99));
                 written.add_number("/", map.row(BlockId(b), 1).get(0).copied().unwrap_or(99));
             }
+            Ok(written.line("", 0))
         }
-        FoundAll::Fault {
-            subject,
-            walk,
-            point,
-            code,
-        } => {
+        Ok(
+            FoundAll::Fault {
+                subject,
+                walk,
+                point,
+                code,
+            },
+        ) => {
             written.add_number("", subject as u64);
             written.add_number(" ", u64::from(code));
-            add_walk(written, point, walk.as_slice());
+            Ok(add_walk(written, point, walk.as_slice()))
         }
+        Err(Exhausted) => Err(Exhausted),
     }
-    Ok(())
 }
 
 /// Adds the point of a fault, and each edge of the walk to it.
-fn add_walk(written: &mut Answer, point: PointId, walk: &[EdgeId]) {
+fn add_walk(written: &mut Answer, point: PointId, walk: &[EdgeId]) -> u8 {
     written.add_number(" bb", u64::from(point.block.0));
     written.add_number(":", u64::from(point.index));
     for edge in walk {
         written.add_number(" ", u64::from(edge.block.0));
         written.add_number(".", u64::from(edge.index));
     }
+    written.line("", 0)
 }

@@ -1,25 +1,26 @@
 //! What the check of types answers to a text. It goes into lowered functions too, which `check` refuses as a whole.
 
+ghost use Rattle.numbered_form.specs.inner.NumberedForm.{IsNumbered};
+ghost use Rattle.type_definitions.specs.Rules.{AreDeclarationsOf};
+
 use crate::answer::Answer;
-use crate::modules::{module_of, table_of};
-use sil_ast::{Exhausted, FuncId, PointId};
+use sil_ast::{Exhausted, FuncId, Module, PointId};
 use sil_rules::Rule;
+use sil_types::TypeTable;
 use std::alloc::Global;
 use type_check::{CheckRefusal, check};
 
 /// The line `typed` with status 0, or with status 1 what is wrong with the module.
 pub(crate) fn answer_on_types(
     alloc: Global,
-    text: &[u8],
+    m: &Module,
+    table: &TypeTable,
     written: &mut Answer,
-) -> Result<u8, Exhausted> {
-    let Some(module) = module_of(alloc, text)? else {
-        return Ok(written.line("not a module", 1));
-    };
-    let Some(table) = table_of(alloc, &module)? else {
-        return Ok(written.line("no type table", 1));
-    };
-    match check(alloc, &module, &table) {
+) -> Result<u8, Exhausted>
+    requires numbered { IsNumbered m.now }
+    requires table { AreDeclarationsOf table.now m.now }
+{
+    match check(alloc, m, table) {
         Ok(()) => Ok(written.line("typed", 0)),
         Err(CheckRefusal::Memory) => Err(Exhausted),
         Err(
