@@ -112,7 +112,9 @@ pub struct Switches {
 
 impl Switches {
     /// The switches of the three subjects.
-    pub fn of(alloc: Global, f: &Function, g: &Graph) -> Result<Switches, Exhausted> {
+    pub fn of(alloc: Global, f: &Function, g: &Graph) -> Result<Switches, Exhausted>
+        ensures { IfOk result (λ s. length s.first.marks.items ≡ item_count g.now) }
+    {
         Ok(Switches {
             first: Switch::of(alloc, f, g, 0)?,
             second: Switch::of(alloc, f, g, 1)?,
