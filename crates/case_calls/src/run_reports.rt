@@ -42,20 +42,37 @@ pub(crate) fn add_run(
         retains,
         releases,
     };
-    match write_report(alloc, m, table, result_type, &outcome) {
-        Ok(text) => {
-            add_report(written, text.as_slice(), fault);
-            Ok(status)
-        }
-        Err(Exhausted) => Err(Exhausted),
-    }
+    add_outcome(
+        alloc,
+        m,
+        table,
+        result_type,
+        &outcome,
+        fault,
+        status,
+        written,
+    )
 }
 
-fn add_report(written: &mut Answer, report: &[u8], fault: Option<LowFault>) {
+fn add_outcome(
+    alloc: Global,
+    m: &Module,
+    table: &TypeTable,
+    result_type: &TypeName,
+    outcome: &RunOutcome<'_>,
+    fault: Option<LowFault>,
+    status: u8,
+    written: &mut Answer,
+) -> Result<u8, Exhausted>
+    requires runnable { IsRunnable m.now }
+    requires of_it { table.now ≡ declarations_of m.now }
+{
+    let report = write_report(alloc, m, table, result_type, outcome)?;
     match fault {
-        Some(fault) => add_with_fault(written, report, fault),
-        None => written.add_bytes(report),
+        Some(fault) => add_with_fault(written, report.as_slice(), fault),
+        None => written.add_bytes(report.as_slice()),
     }
+    Ok(status)
 }
 
 fn fault_in(end: &LowEnd) -> Option<LowFault> {
