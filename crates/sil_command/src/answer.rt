@@ -116,8 +116,9 @@ fn run_module(
 {
     match verify(alloc, module) {
         Ok(checked) => {
-            let answer = answer_run(alloc, &checked, entry, turns, optimise);
-            forget(checked);
+            let (module, table) = checked.into_parts();
+            let answer = answer_run(alloc, module, &table, entry, turns, optimise);
+            forget(table);
             answer
         }
         Err(end) => answer_end(alloc, end),
@@ -128,8 +129,9 @@ fn write_lowered(alloc: Global, checked: Checked, optimise: bool) -> Result<Answ
     ensures { IfOk result (λ a. WritesOf (λ k. canonical_text (lowered k)) optimise checked a.text.items (code_of a.status)) }
 {
     let left = optimised_if(alloc, checked, optimise)?;
-    let answer = print_lowered(alloc, &left);
-    forget(left);
+    let (module, table) = left.into_parts();
+    let answer = print_lowered(alloc, &table, module);
+    forget(table);
     answer
 }
 
@@ -142,10 +144,12 @@ fn write_optimised(alloc: Global, checked: Checked) -> Result<Answer, Exhausted>
     answer
 }
 
-fn print_lowered(alloc: Global, checked: &Checked) -> Result<Answer, Exhausted>
-    ensures { IfOk result (λ a. Writes (canonical_text (lowered checked.now)) a.text.items (code_of a.status)) }
+fn print_lowered(alloc: Global, table: &TypeTable, module: Module) -> Result<Answer, Exhausted>
+    requires { IsVerifiedWith module table.now }
+    ensures { IfOk result (λ a. Writes (canonical_text (lowered module)) a.text.items (code_of a.status)) }
 {
-    let lowered = lower(alloc, checked)?;
+    let mut lowered = module;
+    lower_in_place(alloc, table, &mut lowered)?;
     let answer = print_module(alloc, &lowered);
     forget(lowered);
     answer

@@ -18,15 +18,17 @@ use std::mem::forget;
 /// turns.
 pub(crate) fn answer_run(
     alloc: Global,
-    checked: &Checked,
+    module: Module,
+    table: &TypeTable,
     entry: &[u8],
     turns: u32,
     optimise: bool,
 ) -> Result<Answer, Exhausted>
-    requires { 1 ≤ turns }
-    ensures { IfOk result (λ a. AnswersRun checked.now entry.now turns optimise a.text.items (code_of a.status)) }
+    requires verified { IsVerifiedWith module table.now }
+    requires some_turns { 1 ≤ turns }
+    ensures { IfOk result (λ a. AnswersRun module entry.now turns optimise a.text.items (code_of a.status)) }
 {
-    match run_checked(alloc, checked, entry, turns, optimise) {
+    match run_owned(alloc, module, table, entry, turns, optimise) {
         Ok(report) => {
             let answer = answer_report(alloc, &report);
             forget(report);
