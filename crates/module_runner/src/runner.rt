@@ -1,22 +1,22 @@
 //! The run of an accepted module.
 
-ghost use Rattle.std.specs.Prelude.{◌≡◌, ◌≤◌, ◌↔◌, ℕ, Err, IfOk, List};
+ghost use Rattle.std.specs.Prelude.{◌≡◌, ◌≤◌, ◌↔◌, Err, IfOk};
+ghost use Rattle.sil_ast.specs.declared.function.Function.{Function};
 ghost use Rattle.type_definitions.specs.Mentions as mentions;
 ghost use Rattle.module_runner.specs.Entries.{HasEntry, IsEntry};
-ghost use Rattle.module_runner.specs.inner.RunReports.{HeapIsAsTold, IsReportable, TellsAsItself, TellsAsItselfFrom};
-ghost use Rattle.module_runner.specs.inner.RunReports.{TellsOfRun, TellsOfRunFrom};
-ghost use Rattle.sil_verifier.specs.accepted_modules.inner.Checked.{IsVerified};
+ghost use Rattle.module_runner.specs.inner.RunReports.{HeapIsAsTold, IsReportable, TellsAsItself, TellsOfRun};
+ghost use Rattle.sil_verifier.specs.accepted_modules.inner.Checked.{IsVerifiedWith};
 ghost use Rattle.module_runner.specs.declared.runner.RunEnd.TheVariants.{NoEntry};
 
 use crate::ending::reported;
-use crate::entry::{Entry, entry_named};
-use crate::optimising::lowered_if;
+use crate::entry::entry_named;
+use crate::optimising::lower_if;
 use crate::report::RunReport;
 use copy_pairing::{optimised_outcomes_agree, rewriting_keeps_verified};
 use count_machine::{LowRun, run};
 use same_runs::lowered_runs_are_same;
-use sil_ast::{Boxed, Exhausted, Given, List, Signature, TryClone, TypeName};
-use sil_types::only_direct_type;
+use sil_ast::{Boxed, Exhausted, FuncId, Given, List, Module, Signature, TryClone, TypeName};
+use sil_types::{TypeTable, only_direct_type};
 use sil_verifier::Checked;
 use std::alloc::Global;
 
@@ -72,50 +72,39 @@ pub fn run_owned<'t>(
     ensures reportable { IfOk result IsReportable }
     ensures no_entry { (result ≡ Err NoEntry) ↔ ¬ HasEntry m entry.now }
 {
-    let Some(entry) = entry_named(&m, entry) else {
+    let Some(start) = entry_named(&m, entry) else {
         return Err(RunEnd::NoEntry);
     };
-    match run_from(alloc, m, table, entry, turns, optimise) {
+    match run_from(alloc, m, table, entry, start, turns, optimise) {
         Ok(report) => Ok(report),
         Err(Exhausted) => Err(RunEnd::Memory),
     }
 }
 
+/// The run from the entry function of the name `entry`, which has the number `start`.
 fn run_from<'t>(
     alloc: Global,
     m: Module,
     table: &'t TypeTable,
-    entry: FuncId,
+    entry: &[u8],
+    start: FuncId,
     turns: u32,
     optimise: bool,
 ) -> Result<RunReport<'t>, Exhausted>
-    ghost f: { Function }
     requires verified { IsVerifiedWith m table.now }
-    requires entry { (name : List ℕ) × IsEntry m name entry f }
+    requires entry { (f : Function) × IsEntry m entry.now start f }
     requires some_turns { 1 ≤ turns }
-    ensures run { IfOk result (TellsOfRunFrom m entry f turns optimise) }
-    ensures optimised { IfOk result (TellsAsItselfFrom m entry turns) }
+    ensures run { IfOk result (TellsOfRun m entry.now turns optimise) }
+    ensures optimised { IfOk result (TellsAsItself m entry.now turns) }
     ensures heap { IfOk result HeapIsAsTold }
     ensures reportable { IfOk result IsReportable }
 {
-    let result_type = given_type(alloc, &m.functions.as_slice()[entry.0 as usize].signature)?;
-    let mut lowered = m;
-    lower_if(alloc, table, &mut lowered, optimise)?;
-    run_lowered(alloc, lowered, table, entry, result_type, turns)
-}
-
-/// Runs a lowered module, and reports the run.
-fn run_lowered<'t>(
-    alloc: Global,
-    module: Module,
-    table: &'t TypeTable,
-    entry: FuncId,
-    result_type: TypeName,
-    turns: u32,
-) -> Result<RunReport<'t>, Exhausted>
-    ghost left: { Module }
-    ...
-{
+    rewriting_keeps_verified();
+    optimised_outcomes_agree();
+    lowered_runs_are_same();
+    let result_type = given_type(alloc, &m.functions.as_slice()[start.0 as usize].signature)?;
+    let mut module = m;
+    lower_if(alloc, table, &mut module, optimise)?;
     let LowRun {
         events,
         ending,
@@ -123,7 +112,7 @@ fn run_lowered<'t>(
         retains,
         releases,
         heap,
-    } = run(alloc, &module, table, entry, turns)?;
+    } = run(alloc, &module, table, start, turns)?;
     Ok(RunReport {
         module,
         table,
