@@ -6,7 +6,7 @@ use Rattle.std.specs.List.{flat_map, range_with_len}
 use Rattle.instruction_table.specs.Forms.{result_kind_of, roles_of}
 use Rattle.instruction_table.specs.declared.entries.ResultKind.{ResultKind}
 use Rattle.instruction_table.specs.declared.entries.ResultKind.TheVariants.{NoneResult, OwnedResult, ScopeResult, AddressResult, ForwardedResult, OperandResult}
-use Rattle.sil_ast.specs.Blocks.{args_in, args_of}
+use Rattle.sil_ast.specs.Blocks.{args_in}
 use Rattle.sil_ast.specs.declared.function.ArgKind.{ArgKind}
 use Rattle.sil_ast.specs.declared.function.ArgKind.TheVariants as annotation
 use Rattle.sil_ast.specs.declared.function.Block.{Block}
@@ -23,7 +23,7 @@ use Rattle.ownership_chains.specs.declared.definition.Origin.TheVariants as orig
 use Rattle.ownership_chains.specs.declared.facts.Facts.{Facts}
 use Rattle.type_definitions.specs.Declarations.{Declarations}
 use Rattle.type_definitions.specs.declared.kind.Kind.TheVariants as kind
-use Rattle.value_tables.specs.Borrows.{arg_borrows, borrow_at, borrow_by, borrow_in, borrows, borrows_of, is_borrow, result_borrows, takes_address}
+use Rattle.value_tables.specs.Borrows.{arg_borrows, borrow_at, borrow_by, borrow_in, borrows, result_borrows, takes_address}
 use Rattle.value_tables.specs.FirstValue.{first_value}
 use Rattle.value_tables.specs.ValueRows.{rows_from}
 use Rattle.value_tables.specs.declared.borrows.Borrow.{Borrow}

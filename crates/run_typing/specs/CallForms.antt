@@ -1,5 +1,5 @@
 -- What typing says of functions that a run enters, and of the values that their items take and define.
-use Rattle.std.specs.Prelude.{◌≡◌, ◌<◌, ℕ, List, [], ◌∷◌, true, Option, Some, slice_get}
+use Rattle.std.specs.Prelude.{◌≡◌, ◌<◌, [], ◌∷◌, true, Some, slice_get}
 use Rattle.lowered_run.specs.Calling.{value_count}
 use Rattle.lowered_run.specs.Frames.{has_any}
 use Rattle.item_operands.specs.Items.{item_defined}

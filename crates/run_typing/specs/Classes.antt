@@ -1,6 +1,6 @@
 -- Classes in a run: which inherits from which, and where their fields lie.
 use Rattle.std.specs.Prelude.{◌≡◌, ◌||◌, ℕ, List, ◌++◌, Bool, true, Some, bytes_eq}
-use Rattle.lowered_run.specs.ModuleShapes.{ModuleShapes, field_shapes, shapes_of}
+use Rattle.lowered_run.specs.ModuleShapes.{field_shapes, shapes_of}
 use Rattle.numbered_form.specs.Names.{Name}
 use Rattle.run_values.specs.Shapes.{Shape}
 use Rattle.sil_ast.specs.declared.module.Module.{Module}

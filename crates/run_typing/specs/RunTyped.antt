@@ -1,5 +1,5 @@
 -- Whatever a run relies on of the types of a module.
-use Rattle.std.specs.Prelude.{◌≡◌, ℕ, List, [], true, Some, map, slice_get}
+use Rattle.std.specs.Prelude.{◌≡◌, ℕ, [], true, Some, map, slice_get}
 use Rattle.item_operands.specs.Parts.{inst_at, terminator_of}
 use Rattle.item_operands.specs.Roles.{taken_by}
 use Rattle.lowered_run.specs.LowStepParts.{taken_value, values_taken}

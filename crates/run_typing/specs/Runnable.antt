@@ -1,5 +1,5 @@
 -- The modules that a run of lowered code may be asked for: typed, in lowered form, and in numbered form but for the limit on instructions.
-use Rattle.std.specs.Prelude.{◌≡◌, ◌<◌, ◌≤◌, ◌^◌, ℕ, length}
+use Rattle.std.specs.Prelude.{◌≡◌, ◌<◌, ◌≤◌, ◌^◌, length}
 use Rattle.sil_ast.specs.declared.function.Block.{Block}
 use Rattle.sil_ast.specs.declared.function.Form.TheVariants.{Ossa}
 use Rattle.sil_ast.specs.declared.function.Function.{Function}

@@ -1,7 +1,7 @@
 //! A list of few elements that contracts see as its elements.
 
 ghost use Rattle.std.specs.Borrow.{Array, Lends, sem};
-ghost use Rattle.std.specs.Prelude.{◌≡◌, [], ◌∷◌, ◌++◌, ◌≤◌, length, slice_get, ◌↔◌, IsTrue, IsNone, IfOk, OnOk, OnErr};
+ghost use Rattle.std.specs.Prelude.{◌≡◌, [], ◌∷◌, ◌++◌, ◌≤◌, length, slice_get, ◌↔◌, IsTrue, IsNone, OnOk, OnErr};
 ghost use Rattle.std.specs.Option.{option_copied};
 
 use crate::exhausted::Exhausted;

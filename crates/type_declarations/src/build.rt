@@ -1,6 +1,6 @@
 //! Makes a table of a module's declarations.
 
-ghost use Rattle.std.specs.Prelude.{◌≡◌, ◌++◌, map, length, IfOk, OnOk};
+ghost use Rattle.std.specs.Prelude.{◌≡◌, ◌++◌, map, IfOk};
 ghost use Rattle.numbered_form.specs.Names.{AreMembersOnce, AreOnce, case_name, class_name, decl_name, field_name, member_names};
 ghost use Rattle.numbered_form.specs.Lists.{Each};
 ghost use Rattle.numbered_form.specs.inner.NumberedForm.{IsNumbered};

@@ -1,6 +1,6 @@
 -- Whether a type is trivial, how many leaves it has and how deep it is, through declarations.
 -- All three are said of modules whose types are finite: no struct or enum holds itself there.
-use Rattle.std.specs.Prelude.{ℕ, zero, suc, ◌+◌, ◌≤◌, List, [], ◌∷◌, Bool, true, false, map, sum, length, unwrap_or, slice_get, Option}
+use Rattle.std.specs.Prelude.{ℕ, zero, suc, ◌+◌, ◌≤◌, List, [], ◌∷◌, Bool, true, false, map, sum, length, unwrap_or}
 use Rattle.std.specs.List.{list_all}
 use Rattle.sil_ast.specs.TypeName.{largest}
 use Rattle.sil_ast.specs.declared.decl.Decl.{Decl}

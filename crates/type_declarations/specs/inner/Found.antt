@@ -1,5 +1,5 @@
 -- Members found by their names.
-use Rattle.std.specs.Prelude.{ℕ, List, Option, Some, None, option_map}
+use Rattle.std.specs.Prelude.{ℕ, Option, Some, None, option_map}
 use Rattle.sil_ast.specs.declared.decl.Decl.{Decl}
 use Rattle.numbered_form.specs.Names.{Name, member_names}
 use Rattle.type_definitions.specs.Declarations.{place_of}
