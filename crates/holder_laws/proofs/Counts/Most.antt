@@ -5,7 +5,6 @@ use Rattle.std.proofs.lemmas.Bool.{true≢false}
 use Rattle.sil_ast.specs.declared.decl.Storage.{Storage}
 use Rattle.sil_ast.specs.declared.place.ObjectId.{ObjectId}
 use Rattle.run_values.specs.Cells.{Cell, Empty, Gone, cell_count}
-use Rattle.run_values.specs.declared.phase.Phase.{Phase}
 use Rattle.run_values.specs.Memory.{Memory, Object, is_dead_phase, no_object, object_at, phase_of, put_cells}
 use Rattle.run_values.specs.Places.{Home, Inside, OnStack, Place, cells_at, emptied, home_cells, removed, with_cells, with_home_cells}
 use Rattle.holder_model.specs.Holders.{in_cell, in_cells, in_memory, in_object}

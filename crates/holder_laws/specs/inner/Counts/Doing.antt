@@ -1,7 +1,6 @@
 -- What an instruction leaves where it leaves something: row by row, with the operands that it was given.
 use Rattle.std.specs.Prelude.{◌≡◌, ℕ, List, [], ◌∷◌, true, cond, map, Some}
 use Rattle.numbered_form.specs.Names.{Name}
-use Rattle.sil_ast.specs.declared.decl.Storage.{Storage}
 use Rattle.sil_ast.specs.declared.inst.Inst.{Inst}
 use Rattle.sil_ast.specs.declared.place.ObjectId.{ObjectId}
 use Rattle.type_definitions.specs.Declarations.{Declarations}
