@@ -8,6 +8,13 @@ ghost use Rattle.module_runner.specs.inner.Entries as entries;
 use argument_conventions::argument_count;
 use sil_ast::{FuncId, Function, Module};
 
+/// A function of a module with which a run may begin.
+#[derive(Clone, Copy)]
+pub(crate) struct Entry<'m> {
+    pub(crate) id: FuncId,
+    pub(crate) function: &'m Function,
+}
+
 /// Whether the function has a body and no arguments, the places of `@out` results counted.
 fn may_start(function: &Function) -> bool
     ensures { result ≡ outcomes.may_start function.now }
@@ -30,10 +37,14 @@ fn place_named(functions: &[Function], name: &[u8]) -> Option<usize>
 }
 
 /// The function of this name with which a run may begin.
-pub(crate) fn entry_named(m: &Module, name: &[u8]) -> Option<FuncId>
+pub(crate) fn entry_named<'m>(m: &'m Module, name: &[u8]) -> Option<Entry<'m>>
     requires { length m.now.functions < 2 ^ 32 }
-    ensures { MatchOption result (¬ HasEntry m.now name.now) (λ e. (f : Function) × IsEntry m.now name.now e f) }
+    ensures { MatchOption result (¬ HasEntry m.now name.now) (λ e. IsEntry m.now name.now e.id e.function.now) }
 {
-    let place = place_named(m.functions.as_slice(), name)?;
-    Some(FuncId(place as u32))
+    let functions = m.functions.as_slice();
+    let place = place_named(functions, name)?;
+    Some(Entry {
+        id: FuncId(place as u32),
+        function: &functions[place],
+    })
 }

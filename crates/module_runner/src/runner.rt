@@ -72,9 +72,10 @@ pub fn run_owned<'t>(
     ensures reportable { IfOk result IsReportable }
     ensures no_entry { (result ≡ Err NoEntry) ↔ ¬ HasEntry m entry.now }
 {
-    let Some(start) = entry_named(&m, entry) else {
+    let Some(found) = entry_named(&m, entry) else {
         return Err(RunEnd::NoEntry);
     };
+    let start = found.id;
     match run_from(alloc, m, table, entry, start, turns, optimise) {
         Ok(report) => Ok(report),
         Err(Exhausted) => Err(RunEnd::Memory),
