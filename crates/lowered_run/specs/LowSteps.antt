@@ -14,13 +14,13 @@ use Rattle.sil_ast.specs.declared.place.ObjectId.{ObjectId}
 use Rattle.sil_ast.specs.declared.place.ValueId.{ValueId}
 use Rattle.sil_cfg.specs.declared.item.Item.{Item}
 use Rattle.sil_cfg.specs.declared.item.Item.TheVariants as item
-use Rattle.item_operands.specs.Items.{item_defined}
-use Rattle.item_operands.specs.Parts.{inst_at, terminator_of}
-use Rattle.type_definitions.specs.Declarations.{Declarations, declarations_of}
-use Rattle.run_values.specs.Memory.{is_dead, object_at}
-use Rattle.run_values.specs.Shapes.{Shape}
-use Rattle.run_values.specs.Values as value
-use Rattle.run_values.specs.Values.{Value, integer_of, references_of}
+use Rattle.holder_model.specs.item_operands.Items.{item_defined}
+use Rattle.holder_model.specs.item_operands.Parts.{inst_at, terminator_of}
+use Rattle.holder_model.specs.type_definitions.Declarations.{Declarations, declarations_of}
+use Rattle.holder_model.specs.run_values.Memory.{is_dead, object_at}
+use Rattle.holder_model.specs.run_values.Shapes.{Shape}
+use Rattle.holder_model.specs.run_values.Values as value
+use Rattle.holder_model.specs.run_values.Values.{Value, integer_of, references_of}
 use Rattle.holder_model.specs.declared.event.Event.TheVariants as event
 use Rattle.holder_model.specs.declared.trap.Trap.TheVariants as trap
 use Rattle.holder_model.specs.Calling.{value_count}

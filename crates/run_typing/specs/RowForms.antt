@@ -9,9 +9,9 @@ use Rattle.lowered_run.specs.Operation.{Operation}
 use Rattle.lowered_run.specs.Operation.TheVariants as operation
 use Rattle.numbered_form.specs.Names.{Name}
 use Rattle.numbered_form.specs.inner.Literals.{is_residue}
-use Rattle.run_values.specs.Layers.{CaseLayer}
-use Rattle.run_values.specs.Shapes.{CaseShapes}
-use Rattle.run_values.specs.Shapes.{Enum, Integer, NoMember, Reference, Shape, Stored, Struct, Tuple, case_shapes, member_shapes, members_of}
+use Rattle.value_parts.specs.run_values.Layers.{CaseLayer}
+use Rattle.value_parts.specs.run_values.Shapes.{CaseShapes}
+use Rattle.value_parts.specs.run_values.Shapes.{Enum, Integer, NoMember, Reference, Shape, Stored, Struct, Tuple, case_shapes, member_shapes, members_of}
 use Rattle.sil_ast.specs.declared.decl.Storage.{Storage}
 use Rattle.sil_ast.specs.declared.function.Function.{Function}
 use Rattle.sil_ast.specs.declared.inst.Inst.{Inst}
@@ -19,7 +19,7 @@ use Rattle.sil_ast.specs.declared.member.Member.{Member}
 use Rattle.sil_ast.specs.declared.module.Module.{Module}
 use Rattle.sil_ast.specs.declared.place.FuncId.{FuncId}
 use Rattle.lowered_run.specs.Typing.Builtins.{Builtin, Sort, bits, builtin_named, combining, comparing, overflowing, sort_of}
-use Rattle.type_definitions.specs.Declarations.{declarations_of, is_class}
+use Rattle.value_parts.specs.type_definitions.Declarations.{declarations_of, is_class}
 use Rattle.run_typing.specs.Classes.{is_a}
 use Rattle.run_typing.specs.StorageForms.{FieldShapeIs, IsNamed}
 use Rattle.run_typing.specs.Forms.{Form, OfFunction, OfPlace, OfValue, entry_forms, given_shape, has_no_storage}

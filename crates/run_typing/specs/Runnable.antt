@@ -15,7 +15,7 @@ use Rattle.numbered_form.specs.inner.Limits.{IsBlockInLimits, IsDeclInLimits, Is
 use Rattle.numbered_form.specs.inner.Literals.{AreLiteralsInRange}
 use Rattle.numbered_form.specs.inner.Parts.{HaveTheirParts}
 use Rattle.numbered_form.specs.inner.Types.{AreTypesWritten}
-use Rattle.type_definitions.specs.Rules.{Declared, InLimits}
+use Rattle.value_parts.specs.type_definitions.Rules.{Declared, InLimits}
 use Rattle.lowered_run.specs.Typing.Typed.{Typed}
 
 -- fewer than 2^32 instructions in a block, its terminator counted

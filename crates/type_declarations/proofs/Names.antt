@@ -8,8 +8,8 @@ use Rattle.std.proofs.lemmas.Map.Views.{Contains-from_any}
 use Rattle.indexmap.specs.IndexSet.{insert_key}
 use Rattle.std.specs.Prelude.{codes}
 use Rattle.sil_ast.specs.declared.decl.Decl.{Decl}
-use Rattle.numbered_form.specs.Lists.{Each}
-use Rattle.numbered_form.specs.Names.{Name, AreOnce, AreMembersOnce, decl_name}
+use Rattle.type_definitions.specs.numbered_form.Lists.{Each}
+use Rattle.type_definitions.specs.numbered_form.Names.{Name, AreOnce, AreMembersOnce, decl_name}
 use Rattle.sil_ast.specs.Imports.{swift_names}
 use Rattle.type_definitions.specs.Declarations.{swift_structs}
 

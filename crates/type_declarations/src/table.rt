@@ -26,9 +26,9 @@ pub struct DeclarationTable {
 
 impl Model for DeclarationTable {
     ghost use Rattle.std.specs.Prelude.{◌≡◌, map};
-    ghost use Rattle.numbered_form.specs.Lists.{Each};
-    ghost use Rattle.numbered_form.specs.Names.{decl_name, member_names, class_name};
-    ghost use Rattle.numbered_form.specs.inner.Limits.{IsDeclInLimits};
+    ghost use Rattle.type_definitions.specs.numbered_form.Lists.{Each};
+    ghost use Rattle.type_definitions.specs.numbered_form.Names.{decl_name, member_names, class_name};
+    ghost use Rattle.type_definitions.specs.numbered_form.inner.Limits.{IsDeclInLimits};
     ghost use Rattle.type_definitions.specs.Declarations.{Declarations};
     ghost use Rattle.type_declarations.specs.inner.Table.{in_text, IsSplit};
     ghost use Rattle.std.specs.Coded.{codes};
