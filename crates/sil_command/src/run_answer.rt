@@ -3,14 +3,14 @@
 ghost use Rattle.std.specs.Prelude.{◌≡◌, ◌≤◌, IfOk};
 ghost use Rattle.module_runner.specs.inner.RunReports.{IsReportable, text_of};
 ghost use Rattle.module_runner.specs.RunOutcomes.{ending_of};
+ghost use Rattle.accepted_modules.specs.inner.Checked.{IsVerifiedWith};
 ghost use Rattle.sil_command.specs.Statuses.{code_of};
 ghost use Rattle.sil_command.specs.Answers.{AnswersRun, HasStatus};
 
 use crate::answer::Answer;
 use crate::status::Status;
-use module_runner::{Ending, RunEnd, RunReport, report_text, run_checked};
-use sil_ast::Exhausted;
-use sil_verifier::Checked;
+use module_runner::{Ending, RunEnd, RunReport, TypeTable, report_text, run_owned};
+use sil_ast::{Exhausted, Module};
 use std::alloc::Global;
 use std::mem::forget;
 
