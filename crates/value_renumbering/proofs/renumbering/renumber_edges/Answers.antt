@@ -3,10 +3,10 @@ use Rattle.std.proofs.Math.ListN.{set}
 use Rattle.std.proofs.lemmas.List.{length-map}
 use Rattle.std.proofs.lemmas.List.Edits.{map_over_more}
 use Rattle.std.specs.List.{refill}
+use Rattle.sil_ast.proofs.Refilled.{refilled}
 use Rattle.sil_ast.specs.declared.inst.Edge.{Edge}
 use Rattle.lowering_model.specs.Numbers.{renumbered_edge, renumbered_operand}
 use Rattle.value_renumbering.specs.inner.NewNumbers.{number_in}
-use Rattle.value_renumbering.proofs.Refilled.{refilled}
 use Rattle.value_renumbering.proofs.renumbering.renumber_edges.Goals as goal
 
 pub loop-edge-preserved : goal.loop-edge-preserved

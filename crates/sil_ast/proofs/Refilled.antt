@@ -1,4 +1,4 @@
--- A list of which each element is written anew.
+-- A list whose elements were lent for writing: with as many elements it is what was written.
 use Rattle.std.proofs.Common.{◌≡◌, List, ◌++◌, length, take, drop, sym, ap, ◌∙◌, arith}
 use Rattle.std.specs.List.{refill}
 use Rattle.std.proofs.lemmas.List.{append-nil, drop_all, take_all}
