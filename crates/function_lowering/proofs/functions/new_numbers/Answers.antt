@@ -1,18 +1,14 @@
-use Rattle.std.proofs.Common.{◌≡◌, ◌<◌, ◌^◌, ◌∙◌, List, ap, arith, length, subst, sym}
+use Rattle.std.proofs.Common.{◌≡◌, ◌<◌, ◌^◌, ◌∙◌, ap, arith, length, subst, sym}
 use Rattle.std.proofs.lemmas.Result.{IfOk-weaker}
-use Rattle.sil_ast.specs.declared.function.Block.{Block}
-use Rattle.sil_ast.specs.declared.function.Function.{Function}
-use Rattle.ownership_chains.specs.declared.definition.Definition.{Definition}
-use Rattle.type_definitions.specs.Declarations.{Declarations}
 use Rattle.numbered_form.specs.Insts.{insts_in}
 use Rattle.numbered_form.specs.Numbering.{values_of}
-use Rattle.ownership_origins.proofs.Counts.{are_of_values}
 use Rattle.ownership_origins.specs.Renamings.{renamings_of}
-use Rattle.lowering_model.specs.LoweredBlocks.{blocks_become, lowered_blocks}
+use Rattle.lowering_model.specs.LoweredBlocks.{lowered_blocks}
 use Rattle.lowering_model.specs.Names.{stands_for}
 use Rattle.lowering_model.specs.Numbers.{place_among}
 use Rattle.value_renumbering.specs.inner.NewNumbers.{place_in}
 use Rattle.function_lowering.proofs.FewValues.{few_defined, few_values}
+use Rattle.function_lowering.proofs.Numbering.{own_become}
 use Rattle.function_lowering.proofs.functions.new_numbers.Goals as goal
 
 pub overflow_cast-spare : goal.overflow_cast-spare
@@ -28,20 +24,12 @@ defined_values-requires c =
     let blocks : length (insts_in c.as_slice.result.now) ≡ length (insts_in c.args.f.now.blocks) = ap (λ bs. length (insts_in bs)) c.as_slice.ensures in
     omega arith
 
--- by the function's own renamings, the blocks become the lowered ones
-become : (d : Declarations) (f : Function) (renamings : List Definition) (slice : List Block) → slice ≡ f.blocks → renamings ≡ renamings_of f
-    → blocks_become d renamings (length renamings) slice ≡ lowered_blocks d f
-become d f renamings slice blocks own =
-    ap (blocks_become d renamings (length renamings)) blocks
-    ∙ ap (λ r. blocks_become d r (length r) f.blocks) own
-    ∙ ap (λ n. blocks_become d (renamings_of f) n f.blocks) (are_of_values d f).1
-
 pub numbers_by_place-requires : goal.numbers_by_place-requires
 numbers_by_place-requires c =
     let d = c.args.table.now in
     let f = c.args.f.now in
     subst (λ vs. length vs < 2 ^ 32)
-    (sym (c.as_slice-2.ensures ∙ c.in_ok-defined.ensures ∙ ap values_of (become d f c.args.renamings.now c.as_slice.result.now c.as_slice.ensures c.requires.renamings)))
+    (sym (c.as_slice-2.ensures ∙ c.in_ok-defined.ensures ∙ ap values_of (own_become d f c.args.renamings.now c.as_slice.result.now c.as_slice.ensures c.requires.renamings)))
     (few_defined d (renamings_of f) f (length (values_of f.blocks)) c.requires.lowerable.limits)
 
 pub returns : goal.returns
@@ -50,7 +38,7 @@ returns c =
     let f = c.args.f.now in
     let places = c.in_ok-places.places in
     let defined : c.as_slice-2.result.now ≡ values_of (lowered_blocks d f) =
-    c.as_slice-2.ensures ∙ c.in_ok-defined.ensures ∙ ap values_of (become d f c.args.renamings.now c.as_slice.result.now c.as_slice.ensures c.requires.renamings) in
+    c.as_slice-2.ensures ∙ c.in_ok-defined.ensures ∙ ap values_of (own_become d f c.args.renamings.now c.as_slice.result.now c.as_slice.ensures c.requires.renamings) in
     IfOk-weaker c.numbers_of_names.result (λ numbers named v.
         named v
         ∙ ap (λ rs. place_in places (stands_for rs v)) c.requires.renamings
