@@ -9,7 +9,7 @@ use Rattle.sil_rules.specs.declared.group.Group.{Group}
 use Rattle.sil_rules.specs.declared.group.Group.TheVariants as group
 use Rattle.rule_faults.specs.declared.fault.RuleFault.{RuleFault}
 use Rattle.type_definitions.specs.Declarations.{Declarations}
-use Rattle.path_checks.specs.First as paths
+use Rattle.value_availability.specs.path_checks.First as paths
 use Rattle.value_availability.proofs.RulesOf.{on_definitions}
 use Rattle.value_availability.specs.Accesses.{accesses_of}
 use Rattle.lifetime_worklist.proofs.RulesOf.{on_lifetimes}

@@ -12,3 +12,4 @@ pub use Rattle.memory_rules.specs as memory_rules
 pub use Rattle.type_check.specs as type_check
 pub use Rattle.memory_rules.specs.memory_slots as memory_slots
 pub use Rattle.memory_rules.specs.memory_accesses as memory_accesses
+pub use Rattle.value_availability.specs as value_availability

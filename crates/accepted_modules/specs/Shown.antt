@@ -10,8 +10,8 @@ use Rattle.sil_rules.specs.declared.group.Group.TheVariants as group
 use Rattle.sil_rules.specs.declared.rule.Rule.{Rule}
 use Rattle.rule_faults.specs.declared.fault.RuleFault.{RuleFault}
 use Rattle.type_definitions.specs.Declarations.{Declarations}
-use Rattle.path_checks.specs.First as paths
-use Rattle.path_checks.specs.declared.entry.Entry.{Entry}
+use Rattle.value_availability.specs.path_checks.First as paths
+use Rattle.value_availability.specs.path_checks.declared.entry.Entry.{Entry}
 use Rattle.value_availability.specs.Accesses.{accesses_of}
 use Rattle.ownership_kinds.specs.Facts.{facts_in}
 use Rattle.ownership_kinds.specs.Statics as kinds

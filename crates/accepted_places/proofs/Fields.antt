@@ -7,7 +7,7 @@ use Rattle.std.proofs.lemmas.Option.{same_Some}
 use Rattle.argument_conventions.specs.declared.row.AddressRow.{AddressRow}
 use Rattle.accepted_memory.specs.accepted_trails.inner.Defined.{IsDefinedOn, makes}
 use Rattle.accepted_memory.specs.memory_accesses.Accesses.{allowance_of, deallocations_of, does_of, ended, made, made_by, mentioned, mentions_of}
-use Rattle.accepted_memory.specs.memory_accesses.Locations.{cell_by, cell_of, field_cell, location_of, object_built}
+use Rattle.accepted_memory.specs.memory_accesses.Locations.{cell_by, location_of, object_built}
 use Rattle.accepted_memory.specs.memory_accesses.Locations as locations
 use Rattle.accepted_memory.specs.memory_accesses.Operations.{addresses_of, deallocates, operations_of}
 use Rattle.accepted_memory.specs.memory_accesses.Rows.{field_has, has_by, has_operation, is_part}

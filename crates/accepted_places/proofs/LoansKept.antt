@@ -6,7 +6,7 @@ use Rattle.std.proofs.lemmas.Bool.{false≢true}
 use Rattle.accepted_memory.specs.accepted_trails.inner.Passing.{is_end}
 use Rattle.accepted_memory.specs.holder_model.Frames.{has_any}
 use Rattle.accepted_memory.specs.memory_accesses.Accesses as accesses
-use Rattle.accepted_memory.specs.memory_accesses.Accesses.{begun, deallocations_of, does_of, ended, ends_by, made, made_by, mentions_of}
+use Rattle.accepted_memory.specs.memory_accesses.Accesses.{begun, deallocations_of, does_of, ended, ends_by, made, mentions_of}
 use Rattle.accepted_memory.specs.memory_accesses.Locations.{do_overlap, location_of}
 use Rattle.accepted_memory.specs.memory_accesses.Operations.{addresses_of, deallocates, operations_of}
 use Rattle.accepted_memory.specs.memory_accesses.Sources.{sources_of}

@@ -1,15 +1,13 @@
 -- What runs begin with and steps keep holds of each state of a run, and the faults that it excludes don't end one. Two parts are kept together.
-use Rattle.std.proofs.Common.{◌≡◌, ℕ, zero, suc, refl, sym, ap, ◌∙◌, subst, Bool, true, false, Option, Some, None}
-use Rattle.std.specs.Prelude.{◌||◌, option_and_then, slice_get}
-use Rattle.sil_ast.specs.declared.function.Function.{Function}
+use Rattle.std.proofs.Common.{◌≡◌, ℕ, zero, suc, refl, sym, ap, ◌∙◌, subst, Bool, false, Some}
+use Rattle.std.specs.Prelude.{◌||◌, option_and_then}
 use Rattle.sil_ast.specs.declared.module.Module.{Module}
-use Rattle.sil_ast.specs.declared.place.FuncId.{FuncId}
 use Rattle.tracked_frames.specs.accepted_modules.inner.Checked.{IsVerified}
 use Rattle.tracked_frames.specs.holder_laws.holder_model.Faults.{HolderFault}
 use Rattle.tracked_frames.specs.holder_laws.holder_model.HolderStates.{HolderNext, HolderState}
 use Rattle.tracked_frames.specs.holder_laws.holder_model.ModuleFacts.{facts_of}
-use Rattle.tracked_frames.specs.holder_laws.holder_model.Outcomes.{EndsSo, Outcome, begins, may_start, outcome_after, run}
-use Rattle.tracked_frames.specs.holder_laws.holder_model.States.{Ending, Ends, Faulted, Goes, Next, step_on}
+use Rattle.tracked_frames.specs.holder_laws.holder_model.Outcomes.{EndsSo, Outcome, begins, outcome_after, run}
+use Rattle.tracked_frames.specs.holder_laws.holder_model.States.{Ending, Ends, Faulted, Goes, step_on}
 use Rattle.tracked_frames.specs.holder_laws.holder_model.Steps.{step}
 use Rattle.accepted_runs.specs.inner.Kept.{IsKept}
 use Rattle.accepted_runs.specs.inner.Laws.{OnRuns}

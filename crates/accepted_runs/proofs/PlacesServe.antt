@@ -1,5 +1,5 @@
 -- What objects ask of the places of a state: an operand that is no address of a field is on the stack, and a frame that waits stands at a call.
-use Rattle.std.proofs.Common.{◌≡◌, ⊎_elim, ℕ, List, ◌∷◌, Contains, Some, refl, sym, ap, ◌∙◌, subst, slice_get}
+use Rattle.std.proofs.Common.{◌≡◌, ⊎_elim, ◌∷◌, Some, refl, sym, ap, ◌∙◌, subst}
 use Rattle.std.proofs.lemmas.Option.{same_Some}
 use Rattle.tracked_frames.specs.accepted_modules.inner.Checked.{IsVerified}
 use Rattle.tracked_frames.specs.accepted_values.inner.Known.{IsAcceptedBody}
@@ -8,12 +8,8 @@ use Rattle.tracked_frames.proofs.accepted_trails.run_trails.WalkEdges.{are_next}
 use Rattle.tracked_frames.specs.holder_laws.holder_model.memory_accesses.Sources.{source_at, sources_of}
 use Rattle.tracked_frames.specs.holder_laws.holder_model.memory_accesses.declared.source.Source.TheVariants as source
 use Rattle.tracked_frames.specs.holder_laws.holder_model.Effects.{effect_of}
-use Rattle.tracked_frames.specs.holder_laws.holder_model.Frames.{Frame}
 use Rattle.tracked_frames.specs.holder_laws.holder_model.HolderStates.{HolderState}
 use Rattle.tracked_frames.specs.holder_laws.holder_model.Standing.{stands_at}
-use Rattle.tracked_frames.specs.holder_laws.holder_model.States.{Runs, Task}
-use Rattle.tracked_frames.specs.holder_laws.holder_model.declared.row_effect.RowEffect.TheVariants as row
-use Rattle.tracked_frames.specs.inner.Placed.FramePlaces.{Names}
 use Rattle.tracked_frames.specs.inner.Placed.PlaceStates.{AreSlotsRight, TasksPlaced, WaitsPlaced}
 use Rattle.tracked_frames.proofs.Placed.Locating.{IsInObject, IsOperandAt, operand_at}
 use Rattle.tracked_frames.proofs.Placed.PlainAddresses.{named_address}
@@ -21,7 +17,6 @@ use Rattle.tracked_frames.proofs.Placed.Reading.{operand_within}
 use Rattle.tracked_frames.proofs.Placed.RowsFind.{body, frame_typed, holds}
 use Rattle.tracked_frames.proofs.Placed.TrailsSo.{trail_laws}
 use Rattle.item_operands.specs.Parts.{inst_at}
-use Rattle.sil_ast.specs.declared.function.Function.{Function}
 use Rattle.sil_ast.specs.declared.inst.Inst.{Inst}
 use Rattle.sil_ast.specs.declared.module.Module.{Module}
 use Rattle.sil_cfg.specs.declared.item.Item.TheVariants as item

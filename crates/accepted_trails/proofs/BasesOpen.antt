@@ -10,7 +10,7 @@ use Rattle.accepted_modules.specs.lifetime_worklist.inner.Runs.{IsOwned}
 use Rattle.ownership_chains.specs.Facts.{has, is_guaranteed, is_owned, known_or}
 use Rattle.ownership_chains.specs.declared.facts.Facts.{Facts}
 use Rattle.accepted_modules.specs.ownership_kinds.Facts.{facts_in}
-use Rattle.ownership_marks.specs.Marks.{begin_of, begun, begun_with, is_own_base}
+use Rattle.run_trails.specs.ownership_marks.Marks.{begin_of, begun, begun_with, is_own_base}
 use Rattle.sil_ast.specs.declared.function.Function.{Function}
 use Rattle.sil_ast.specs.declared.place.ValueId.{ValueId}
 use Rattle.sil_cfg.specs.Items.{IsItem}

@@ -23,7 +23,7 @@ use Rattle.sil_ast.specs.declared.operands.Operand.{Operand}
 use Rattle.sil_ast.specs.declared.place.ValueId.{ValueId}
 use Rattle.sil_cfg.specs.declared.item.Item.{Item}
 use Rattle.sil_rules.specs.declared.rule.Rule.TheVariants as rule
-use Rattle.value_availability.specs.Accesses.{accesses_of, begun, defined, used}
+use Rattle.accepted_modules.specs.value_availability.Accesses.{accesses_of, begun, defined, used}
 use Rattle.run_trails.specs.inner.RunTrails.{IsTurnedTrail}
 use Rattle.run_trails.specs.inner.Switched.{IsFollowed, switched, switched_over}
 use Rattle.run_trails.proofs.SwitchedTrails.{followed_turned}

@@ -3,8 +3,8 @@ use Rattle.std.proofs.Common.{◌≡◌, [], ◌∷◌, refl, sym, ap, ◌∙◌
 use Rattle.std.specs.Prelude.{◌==◌, filter_map}
 use Rattle.std.specs.List.{cons_option}
 use Rattle.std.proofs.lemmas.Bool.{eqb-true, false≢true}
-use Rattle.ownership_marks.specs.declared.mark.Mark.{Mark}
-use Rattle.ownership_marks.specs.declared.mark.MarkSort.{MarkSort}
+use Rattle.run_trails.specs.ownership_marks.declared.mark.Mark.{Mark}
+use Rattle.run_trails.specs.ownership_marks.declared.mark.MarkSort.{MarkSort}
 use Rattle.path_checks.specs.Entries.{means}
 use Rattle.path_checks.specs.declared.entry.Entry.{Entry}
 use Rattle.path_patterns.specs.declared.mark.Mark as pattern

@@ -4,8 +4,8 @@ use Rattle.std.specs.Prelude.{filter_map, flat_map, option_and_then}
 use Rattle.std.specs.List.{list_any}
 use Rattle.item_operands.specs.Items.{item_defined, item_taken}
 use Rattle.ownership_chains.specs.declared.facts.Facts.{Facts}
-use Rattle.ownership_marks.specs.Marks.{begun, ended, marks_of, used}
-use Rattle.ownership_marks.specs.declared.mark.Mark.{Mark}
+use Rattle.run_trails.specs.ownership_marks.Marks.{begun, ended, marks_of, used}
+use Rattle.run_trails.specs.ownership_marks.declared.mark.Mark.{Mark}
 use Rattle.path_checks.specs.Entries.{marks_for, means}
 use Rattle.path_checks.specs.declared.entry.Entry.{Entry}
 use Rattle.sil_ast.specs.declared.function.Function.{Function}

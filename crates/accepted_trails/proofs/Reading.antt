@@ -9,10 +9,10 @@ use Rattle.run_trails.specs.holder_model.Frames.{ends, has_any}
 use Rattle.item_operands.specs.declared.taken.Taken.{Taken}
 use Rattle.numbered_form.specs.Lists.{Each}
 use Rattle.ownership_chains.specs.declared.facts.Facts.{Facts}
-use Rattle.ownership_marks.specs.Marks.{begin_of, begun, begun_with, end_of, ended, ended_by, ended_with, ends_owned, ends_scope, is_own_base, use_of, used, used_by, used_with}
-use Rattle.ownership_marks.specs.declared.mark.Mark.{Mark}
-use Rattle.ownership_marks.specs.declared.mark.MarkSort.{MarkSort}
-use Rattle.ownership_marks.specs.declared.mark.MarkSort.TheVariants.{Begin, End, Use}
+use Rattle.run_trails.specs.ownership_marks.Marks.{begin_of, begun, begun_with, end_of, ended, ended_by, ended_with, ends_owned, ends_scope, is_own_base, use_of, used, used_by, used_with}
+use Rattle.run_trails.specs.ownership_marks.declared.mark.Mark.{Mark}
+use Rattle.run_trails.specs.ownership_marks.declared.mark.MarkSort.{MarkSort}
+use Rattle.run_trails.specs.ownership_marks.declared.mark.MarkSort.TheVariants.{Begin, End, Use}
 use Rattle.sil_ast.specs.declared.place.ValueId.{ValueId}
 use Rattle.type_definitions.specs.declared.kind.Kind.{Kind}
 use Rattle.type_definitions.specs.declared.kind.Kind.TheVariants as kind

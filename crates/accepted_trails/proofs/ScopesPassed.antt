@@ -13,9 +13,9 @@ use Rattle.numbered_form.specs.Numbering.{values_of}
 use Rattle.ownership_chains.specs.Facts.{has, known_or, value_of}
 use Rattle.ownership_chains.specs.declared.facts.Facts.{Facts}
 use Rattle.accepted_modules.specs.ownership_kinds.Facts.{facts_in}
-use Rattle.ownership_marks.specs.Marks.{begun, end_of, ended, marks_of, used}
-use Rattle.ownership_marks.specs.declared.mark.MarkSort.{MarkSort}
-use Rattle.ownership_marks.specs.declared.mark.MarkSort.TheVariants.{Begin, End, Use}
+use Rattle.run_trails.specs.ownership_marks.Marks.{begun, end_of, ended, marks_of, used}
+use Rattle.run_trails.specs.ownership_marks.declared.mark.MarkSort.{MarkSort}
+use Rattle.run_trails.specs.ownership_marks.declared.mark.MarkSort.TheVariants.{Begin, End, Use}
 use Rattle.path_checks.specs.Entries.{marks_for, means}
 use Rattle.sil_ast.specs.declared.function.Function.{Function}
 use Rattle.sil_ast.specs.declared.place.ValueId.{ValueId}

@@ -5,7 +5,7 @@ use Rattle.sil_ast.specs.declared.place.ValueId.{ValueId}
 use Rattle.path_checks.specs.Entries.{marks_for}
 use Rattle.accepted_modules.specs.ownership_kinds.Facts.{facts_in}
 use Rattle.accepted_modules.specs.borrow_scopes.Others.{other_of}
-use Rattle.value_availability.specs.Accesses.{accesses_of}
+use Rattle.accepted_modules.specs.value_availability.Accesses.{accesses_of}
 use Rattle.type_definitions.specs.Declarations.{Declarations}
 use Rattle.run_trails.proofs.typed_graph_laws.Functions.{graphs_by_blocks}
 use Rattle.accepted_modules.specs.Shown.{lives_in, scopes_in}

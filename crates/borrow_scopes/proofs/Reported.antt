@@ -4,7 +4,7 @@ use Rattle.sil_ast.specs.declared.function.Function.{Function}
 use Rattle.sil_cfg.specs.Layout.{Layout}
 use Rattle.rule_faults.specs.declared.fault.RuleFault.{RuleFault}
 use Rattle.path_checks.specs.declared.fault.PathFault.{PathFault}
-use Rattle.ownership_chains.specs.Facts.{told_at, value_of}
+use Rattle.ownership_marks.specs.ownership_chains.Facts.{told_at, value_of}
 use Rattle.ownership_marks.specs.Known.{Known}
 use Rattle.borrow_scopes.specs.Others.{other_of}
 use Rattle.borrow_scopes.specs.inner.Borrows.{IsFaultOf, IsFirstBrokenScope, IsFirstScope}

@@ -9,8 +9,8 @@ use Rattle.sil_rules.specs.Rules.{group_of}
 use Rattle.sil_rules.specs.declared.group.Group.TheVariants as group
 use Rattle.path_checks.specs.declared.entry.Entry as entry
 use Rattle.path_checks.proofs.RulesShown.{each_append, each_flat, each_if, shown_rule}
-use Rattle.ownership_chains.specs.Facts.{has, known_or, value_of}
-use Rattle.ownership_chains.specs.declared.facts.Facts.{Facts}
+use Rattle.ownership_marks.specs.ownership_chains.Facts.{has, known_or, value_of}
+use Rattle.ownership_marks.specs.ownership_chains.declared.facts.Facts.{Facts}
 use Rattle.ownership_marks.specs.Marks.{marks_of}
 use Rattle.ownership_marks.specs.declared.mark.Mark as mark
 use Rattle.ownership_marks.specs.declared.mark.MarkSort.{MarkSort}

@@ -4,8 +4,8 @@ use Rattle.std.specs.Prelude.{option_map}
 use Rattle.sil_ast.specs.declared.function.Function.{Function}
 use Rattle.sil_ast.specs.declared.place.ValueId.{ValueId}
 use Rattle.sil_cfg.specs.declared.item.Item.{Item}
-use Rattle.ownership_chains.specs.Facts.{known_or}
-use Rattle.ownership_chains.specs.declared.facts.Facts.{Facts}
+use Rattle.ownership_marks.specs.ownership_chains.Facts.{known_or}
+use Rattle.ownership_marks.specs.ownership_chains.declared.facts.Facts.{Facts}
 use Rattle.ownership_marks.proofs.MarkTables.{same_marks}
 use Rattle.item_operands.specs.Items.{item_taken}
 use Rattle.sil_rules.specs.declared.rule.Rule.{Rule}

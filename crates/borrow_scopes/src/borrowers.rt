@@ -1,7 +1,7 @@
 //! An index: from a base to the scopes that borrow from it.
 
 ghost use Rattle.std.specs.Prelude.{◌≡◌, ℕ, ◌<◌, ◌≤◌, ◌==◌, ◌^◌, IfOk, OnOk, length};
-ghost use Rattle.ownership_chains.specs.Facts.{has};
+ghost use Rattle.ownership_marks.specs.ownership_chains.Facts.{has};
 ghost use Rattle.ownership_marks.specs.Known.{facts_of};
 ghost use Rattle.borrow_scopes.specs.inner.Tables as tables;
 ghost use Rattle.borrow_scopes.specs.inner.Tables.{borrowers_at, ends_with, lent_bases_in, with_last, with_last_if};

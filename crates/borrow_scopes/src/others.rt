@@ -1,7 +1,7 @@
 //! The other value of a fault: of 501 the operand that uses the scope, and of 504 the base that ends.
 
 ghost use Rattle.std.specs.Prelude.{◌≡◌, find, option_map, IfOk};
-ghost use Rattle.ownership_chains.specs.Facts.{has, told_at};
+ghost use Rattle.ownership_marks.specs.ownership_chains.Facts.{has, told_at};
 ghost use Rattle.ownership_marks.specs.Known.{facts_of};
 ghost use Rattle.value_tables.specs.Borrows as borrowing;
 ghost use Rattle.borrow_scopes.specs.Others as others;

@@ -2,7 +2,7 @@
 
 ghost use Rattle.std.specs.Prelude.{◌≡◌, ◌++◌, map, OnOk};
 ghost use Rattle.std.specs.List.{flat_map};
-ghost use Rattle.ownership_chains.specs.Facts as facts;
+ghost use Rattle.ownership_marks.specs.ownership_chains.Facts as facts;
 ghost use Rattle.ownership_marks.specs.Known.{facts_of, marks_at};
 ghost use Rattle.borrow_scopes.specs.Scopes as scopes;
 ghost use Rattle.borrow_scopes.specs.Scopes.{lost_at_end};

@@ -1,6 +1,6 @@
 //! All copies of a function searched together: whether, on some walk, one is held where a base of what it copies ends.
 
-ghost use Rattle.std.specs.Prelude.{◌≡◌, ◌<◌, ◌≤◌, ◌^◌, ◌++◌, ℕ, length, map, IfNone, IfOk, IfSome, IsSome, OnOk, Option, Some, None, IsFalse, slice_index_or};
+ghost use Rattle.std.specs.Prelude.{◌≡◌, ◌<◌, ◌≤◌, ◌^◌, ◌++◌, ℕ, length, map, IfNone, IfOk, IfSome, IsSome, OnOk, Option, Some, None};
 ghost use Rattle.std.specs.List.{flat_map};
 ghost use Rattle.sil_ast.specs.declared.place.PointId.{PointId};
 ghost use Rattle.sil_ast.specs.declared.place.ValueId.{ValueId};

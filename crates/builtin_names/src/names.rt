@@ -1,7 +1,6 @@
 //! The names of builtin operations, as a text spells them. What the operations do is not said here.
 
 ghost use Rattle.std.specs.Prelude.{◌≡◌, bytes_eq};
-ghost use Rattle.std.specs.List.{list_any};
 ghost use Rattle.builtin_names.specs.BuiltinNames.{operation_spelling, width_spelling, widths, builtin_name, names_operation, is_builtin_name};
 
 /// An operation on integers of one width.

@@ -1,9 +1,8 @@
 -- A module that was read and is typed may be run, where no function is in ownership form.
-use Rattle.std.proofs.Common.{◌≡◌, ℕ, ◌+◌, ◌<◌, ◌≤◌, ◌^◌, List, [], ◌∷◌, ◌++◌, length, arith, length-append}
+use Rattle.std.proofs.Common.{◌≡◌, ◌+◌, ◌<◌, ◌≤◌, ◌^◌, List, [], ◌∷◌, ◌++◌, length, arith, length-append}
 use Rattle.sil_ast.specs.declared.function.Block.{Block}
 use Rattle.sil_ast.specs.declared.function.Function.{Function}
 use Rattle.sil_ast.specs.declared.module.Module.{Module}
-use Rattle.sil_rules.specs.declared.limits.TheConstants.{INSTRUCTIONS}
 use Rattle.numbered_form.specs.Insts.{insts_in, insts_of}
 use Rattle.numbered_form.specs.Lists.{Each}
 use Rattle.numbered_form.specs.inner.Limits.{IsFunctionInLimits}
@@ -11,7 +10,7 @@ use Rattle.numbered_form.specs.inner.NumberedForm.{IsNumbered}
 use Rattle.type_definitions.specs.Declarations.{Declarations}
 use Rattle.type_definitions.specs.Rules.{AreDeclarationsOf}
 use Rattle.sil_types.specs.Typing.Typed.{Typed}
-use Rattle.report_writing.specs.run_typing.Runnable.{AreBodiesInLimits, IsBodyInLimits, IsNearlyNumbered, IsNotOwned, IsRunnable, IsShort}
+use Rattle.report_writing.specs.run_typing.Runnable.{IsBodyInLimits, IsNotOwned, IsRunnable, IsShort}
 
 are_short : (blocks : List Block) → length (insts_in blocks) < 2 ^ 32 → Each IsShort blocks
 are_short [] lt = tt

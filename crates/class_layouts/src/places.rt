@@ -8,7 +8,7 @@ ghost use Rattle.class_layouts.specs.ClassFields.{field_leaves, named_fields};
 ghost use Rattle.class_layouts.specs.Layouts.{places_from, size_of};
 
 use crate::field_place::FieldPlace;
-use crate::fields::{leaves_of_field, own_fields};
+use crate::fields::leaves_of_field;
 use sil_ast::{Decl, Exhausted, Field, Text};
 use sil_rules::limits::DEPTH;
 use sil_types::TypeTable;
@@ -68,7 +68,7 @@ fn add_chain(
         return Ok(());
     }
     add_chain(places, table, most - 1, table.superclass(class))?;
-    add_fields(places, table, own_fields(table, class))?;
+    add_fields(places, table, table.own_fields(class))?;
     Ok(())
 }
 
@@ -82,7 +82,7 @@ pub(crate) fn places_of(alloc: Global, table: &TypeTable, class: &Text) -> Resul
         size: 0,
     };
     add_chain(&mut places, table, DEPTH, table.superclass(class))?;
-    add_fields(&mut places, table, own_fields(table, class))?;
+    add_fields(&mut places, table, table.own_fields(class))?;
     Ok(places)
 }
 

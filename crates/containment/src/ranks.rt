@@ -1,6 +1,6 @@
 //! Ranks that show many numbers to be on no ring, without a search.
 
-ghost use Rattle.std.specs.Prelude.{◌≡◌, ℕ, ◌<◌, ◌≤◌, length, slice_index, All};
+ghost use Rattle.std.specs.Prelude.{◌≡◌, ◌<◌, ◌≤◌, length, slice_index, All};
 ghost use Rattle.std.specs.Bool.{OnTrue};
 ghost use Rattle.containment.specs.inner.Ranks.{NeverFall, Rises};
 

@@ -1,6 +1,6 @@
 //! Which numbers chains lead to.
 
-ghost use Rattle.std.specs.Prelude.{◌≡◌, ℕ, ◌<◌, ◌↔◌, IfOk, IsTrue, All, length, get_or, Bool, false};
+ghost use Rattle.std.specs.Prelude.{◌≡◌, ℕ, ◌<◌, ◌↔◌, IfOk, IsTrue, All, length, get_or, false};
 ghost use Rattle.containment.specs.Chains.{parts_of, IsInRange, IsCyclic};
 ghost use Rattle.containment.specs.inner.Search.{AreReached, Visits};
 

@@ -2,7 +2,7 @@
 use Rattle.std.proofs.Common.{◌≡◌, ◌≢◌, ◌⊎◌, inl, inr, ℕ, ◌+◌, ◌<◌, ◌≤◌, get_or, List, [], ◌∷◌, ◌++◌, length, refl, sym, ap, ap₂, ◌∙◌, subst, Bool, true, false, Option, Some, None, arith}
 use Rattle.std.specs.Prelude.{◌&&◌, ◌||◌, ◌==◌, ◌↔◌, IfNone, IfSome, IsTrue, nat_lt, unwrap_or}
 use Rattle.std.specs.List.{list_any, slice_get}
-use Rattle.std.proofs.lemmas.Bool.{cases_eq, cases_lt, eqb-true}
+use Rattle.std.proofs.lemmas.Bool.{cases_eq, cases_lt}
 use Rattle.std.proofs.lemmas.Bool.Decides.{nat_tests}
 use Rattle.std.proofs.lemmas.List.Folds.{list_any-append}
 use Rattle.std.proofs.lemmas.Option.{slice_get_cases, slice_get_within}
@@ -42,10 +42,6 @@ borrower_below borrows facts n v e = at (slice_get_cases borrows n).1
     at : ((x : Borrow) × (n < length borrows) × (slice_get borrows n ≡ Some x) × (get_or borrows n x ≡ x)) ⊎ ((length borrows ≤ n) × (slice_get borrows n ≡ None)) → n < length borrows
     at (inl h) = h.1
     at (inr h) = absurd (lent_of facts v (slice_get borrows n) e h.1)
-
-pub empty_is : {A : Type 0} (xs : List A) → (length xs == 0) ≡ true → xs ≡ []
-empty_is [] e = refl
-empty_is (x ∷ xs) e = let wrong : length (x ∷ xs) ≡ 0 = eqb-true (length (x ∷ xs)) 0 e in absurd (omega arith)
 
 or_false : (a : Bool) → (a || false) ≡ a
 or_false true = refl

@@ -12,5 +12,5 @@ mod turns;
 
 pub use copy_removal::Removal;
 pub use optimised_runs::{optimised_outcomes_agree, rewriting_keeps_verified};
-pub use optimiser::{Unfinished, optimize};
+pub use optimiser::{Unfinished, optimize, optimize_in_place};
 pub use removals::removable;

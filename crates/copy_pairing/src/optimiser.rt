@@ -18,6 +18,21 @@ pub struct Unfinished {
     pub checked: Checked,
 }
 
+/// Optimises a module where it stands, by its table, as `optimize` does. Fails where memory runs out, and then parts of it are lost.
+pub fn optimize_in_place(
+    alloc: Global,
+    table: &TypeTable,
+    m: &mut Module,
+) -> Result<(), Exhausted>
+    requires { IsVerifiedWith m.old table.now }
+    ensures optimised { OnOk result (IsOptimised m.old m.new) }
+    ensures runs { OnOk result (RunsAsItDid m.old m.new) }
+    ensures verified { OnOk result (IsVerifiedWith m.new table.now) }
+{
+    optimised_runs_as_it_did();
+    pass_module(alloc, table, m)
+}
+
 /// The optimised module, made of a copy.
 fn optimized_copy(alloc: Global, c: &Checked) -> Result<Module, Exhausted>
     ensures optimised { IfOk result (IsOptimised c.now) }
@@ -25,9 +40,8 @@ fn optimized_copy(alloc: Global, c: &Checked) -> Result<Module, Exhausted>
     ensures verified { IfOk result IsVerified }
     ensures declarations { IfOk result (λ m. declarations_of m ≡ declarations_of c.now) }
 {
-    optimised_runs_as_it_did();
     let mut m = c.module().try_clone(alloc)?;
-    pass_module(alloc, c.table(), &mut m)?;
+    optimize_in_place(alloc, c.table(), &mut m)?;
     Ok(m)
 }
 

@@ -1,6 +1,6 @@
 //! How a copy of a function is rewritten, if it can go.
 
-ghost use Rattle.std.specs.Prelude.{◌↔◌, IfOk, IsTrue};
+ghost use Rattle.std.specs.Prelude.{◌↔◌, IfOk};
 ghost use Rattle.sil_ast.specs.declared.place.PointId.{PointId};
 ghost use Rattle.sil_cfg.specs.Items.{HasBlocks};
 ghost use Rattle.sil_cfg.specs.inner.Build.{HasGraph};

@@ -21,9 +21,9 @@ use Rattle.item_operands.specs.Roles.{by_row, conventions_in, roles_for, taken_a
 use Rattle.item_operands.specs.declared.taken.Taken.{Taken}
 use Rattle.ownership_chains.specs.Facts.{facts_with, is_owned, known_or}
 use Rattle.ownership_chains.specs.declared.facts.Facts.{Facts}
-use Rattle.ownership_marks.specs.Marks.{begun, end_of, ended, ended_by, ended_with, marks_of, used}
-use Rattle.ownership_marks.specs.declared.mark.Mark.{Mark}
-use Rattle.ownership_marks.specs.declared.mark.MarkSort.TheVariants.{End}
+use Rattle.borrow_scopes.specs.ownership_marks.Marks.{begun, end_of, ended, ended_by, ended_with, marks_of, used}
+use Rattle.borrow_scopes.specs.ownership_marks.declared.mark.Mark.{Mark}
+use Rattle.borrow_scopes.specs.ownership_marks.declared.mark.MarkSort.TheVariants.{End}
 use Rattle.type_definitions.specs.declared.kind.Kind.{Kind}
 use Rattle.type_definitions.specs.declared.kind.Kind.TheVariants as kind
 use Rattle.copy_removal.specs.Copies.{Destroys, IsDestroy, is_op}

@@ -12,7 +12,7 @@ use Rattle.sil_ast.specs.declared.place.ValueId.{ValueId}
 use Rattle.sil_cfg.specs.Items.{point_at}
 use Rattle.sil_cfg.specs.declared.item.Item.TheVariants.{Inst}
 use Rattle.sil_rules.specs.Order.{NotAfter}
-use Rattle.ownership_marks.specs.Marks.{marks_of}
+use Rattle.borrow_scopes.specs.ownership_marks.Marks.{marks_of}
 use Rattle.copy_removal.specs.Copies.{IsCopy}
 use Rattle.copy_removal.specs.Removable.{IsBorrowable, IsMovable, concerns}
 use Rattle.copy_removal.specs.Rewritten.{lent, moved, with_function}

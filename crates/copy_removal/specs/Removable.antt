@@ -14,10 +14,10 @@ use Rattle.path_patterns.specs.Along.{IsKept}
 use Rattle.path_patterns.specs.inner.Runs.{IsHeld}
 use Rattle.ownership_chains.specs.Facts.{has, is_owned, known_or}
 use Rattle.ownership_chains.specs.declared.facts.Facts.{Facts}
-use Rattle.ownership_marks.specs.Marks.{marks_of}
-use Rattle.ownership_marks.specs.declared.mark.Mark.{Mark}
-use Rattle.ownership_marks.specs.declared.mark.MarkSort.{MarkSort}
-use Rattle.ownership_marks.specs.declared.mark.MarkSort.TheVariants.{End, Use, Begin}
+use Rattle.borrow_scopes.specs.ownership_marks.Marks.{marks_of}
+use Rattle.borrow_scopes.specs.ownership_marks.declared.mark.Mark.{Mark}
+use Rattle.borrow_scopes.specs.ownership_marks.declared.mark.MarkSort.{MarkSort}
+use Rattle.borrow_scopes.specs.ownership_marks.declared.mark.MarkSort.TheVariants.{End, Use, Begin}
 use Rattle.borrow_scopes.specs.Scopes.{lent_bases}
 use Rattle.borrow_scopes.specs.inner.Runs.{sort_for}
 use Rattle.copy_removal.specs.Copies.{IsDestroy, is_op}

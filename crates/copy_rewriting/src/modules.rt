@@ -1,7 +1,6 @@
 //! Modules with a rewritten function.
 
 ghost use Rattle.std.specs.Prelude.{◌≡◌, ◌<◌, length, slice_get, OnOk, IsSomeAnd};
-ghost use Rattle.sil_ast.specs.declared.function.Function.{Function};
 ghost use Rattle.copy_removal.specs.Rewritten.{lent, moved, with_function};
 
 use crate::functions::{lend_in, move_in};

@@ -7,7 +7,7 @@ use Rattle.std.proofs.lemmas.Option.{unwrap_or-slice_get}
 use Rattle.run_values.specs.declared.phase.Phase.TheVariants.{Dead}
 use Rattle.heap_model.specs.HeapCalls.{dead, empty_heap, finished, is_left, released, unless_freed}
 use Rattle.heap_model.specs.HeapViews.{HeapObject, HeapView, object_in, phase_told, strong_in, strong_told, unfreed_count, unowned_told, weak_told}
-use Rattle.count_heap.specs.inner.Laws.{FinishedAreDead, FreedAreDead, HeapCall, IsFinished, IsNothing, SlotsAreFew, after_call, after_calls, most_unfreed}
+use Rattle.count_heap.specs.inner.Laws.{FinishedAreDead, FreedAreDead, HeapCall, SlotsAreFew, after_call, after_calls, most_unfreed}
 use Rattle.count_heap.specs.inner.Laws as laws
 use Rattle.count_heap.proofs.OneObject.{is_there}
 

@@ -6,7 +6,7 @@ use Rattle.holder_model.specs.declared.trap.Trap.TheVariants as trap
 use Rattle.holder_model.specs.States.{Ending}
 use Rattle.item_operands.specs.Parts.{inst_at}
 use Rattle.lowered_run.specs.declared.low_fault.LowFault.{LowFault}
-use Rattle.machine_laws.specs.inner.Told.{IsEnding, cond_fail, depth, escaped, fault, out_of_turns, outcome_told, returned, returned_leaves, unowned, unreachable}
+use Rattle.machine_laws.specs.inner.Told.{IsEnding, cond_fail, depth, escaped, fault, out_of_turns, returned, returned_leaves, unowned, unreachable}
 use Rattle.machine_laws.specs.inner.Told as stopped
 use Rattle.machine_steps.specs.declared.run_end.RunEnd.{RunEnd}
 use Rattle.machine_steps.specs.declared.run_end.RunEnd.TheVariants as stop

@@ -4,7 +4,6 @@ use Rattle.std.specs.List.{flat_map}
 use Rattle.std.proofs.lemmas.List.{append-nil, drop_more, length-append}
 use Rattle.std.proofs.lemmas.List.Concat.{flat_map-append}
 use Rattle.sil_ast.specs.declared.function.Block.{Block}
-use Rattle.sil_ast.specs.declared.function.BlockArg.{BlockArg}
 use Rattle.sil_ast.specs.declared.inst.Inst.{Inst}
 use Rattle.sil_ast.specs.declared.place.ValueId.{ValueId}
 use Rattle.numbered_form.specs.Insts.{insts_in}
@@ -13,24 +12,26 @@ use Rattle.ownership_chains.specs.declared.definition.Definition.{Definition}
 use Rattle.type_definitions.specs.Declarations.{Declarations}
 use Rattle.lowering_model.specs.LoweredBlocks.{args_become, block_becomes, insts_become}
 use Rattle.function_lowering.specs.declared.draft.Draft.{Draft}
-use Rattle.function_lowering.specs.declared.draft.DraftBlock.{DraftBlock}
-use Rattle.function_lowering.specs.inner.Drafts.{results_told, told_block, told_insts}
+use Rattle.function_lowering.specs.inner.Drafts.{results_told, told_insts}
 
 results_are : (drafts : List Draft) → flat_map results_told drafts ≡ flat_map results_of (told_insts drafts)
 results_are [] = refl
 results_are (d ∷ drafts) = ap (λ r. results_told d ++ r) (results_are drafts)
 
 -- the values of a block behind others: its arguments, the results of its drafts, those of its terminator
-pub block_values : (renamings : List Definition) (b : DraftBlock) (before with_args with_results : List ValueId) → with_args ≡ before ++ map value_of (args_become renamings b.args.now)
-    → with_results ≡ with_args ++ flat_map results_told b.insts → with_results ++ b.terminator.now.results ≡ before ++ defined_in (told_block renamings b)
-block_values renamings b before with_args with_results args results =
-    let own : List ValueId = map value_of (args_become renamings b.args.now) in
-    let given : List ValueId = flat_map results_of (told_insts b.insts) in
-    let last : List ValueId = b.terminator.now.results in
-    ap (λ xs. xs ++ last) (results ∙ ap₂ (λ xs ys. xs ++ ys) args (results_are b.insts))
+pub block_values : (d : Declarations) (renamings : List Definition) (spare : ℕ) (b : Block) (drafts : List Draft) (before with_args with_results : List ValueId)
+    → told_insts drafts ≡ insts_become d renamings spare b.insts → with_args ≡ before ++ map value_of (args_become renamings b.args)
+    → with_results ≡ with_args ++ flat_map results_told drafts
+    → with_results ++ b.terminator.results ≡ before ++ defined_in (block_becomes d renamings spare b)
+block_values d renamings spare b drafts before with_args with_results drafted args results =
+    let own : List ValueId = map value_of (args_become renamings b.args) in
+    let becomes : List Inst = insts_become d renamings spare b.insts in
+    let given : List ValueId = flat_map results_of becomes in
+    let last : List ValueId = b.terminator.results in
+    ap (λ xs. xs ++ last) (results ∙ ap₂ (λ xs ys. xs ++ ys) args (results_are drafts ∙ ap (λ is. flat_map results_of is) drafted))
     ∙ append_assoc (before ++ own) given last
     ∙ append_assoc before own (given ++ last)
-    ∙ ap (λ xs. before ++ (own ++ xs)) (ap (λ xs. given ++ xs) (sym (append-nil last)) ∙ sym (flat_map-append results_of (told_insts b.insts) (b.terminator.now ∷ [])))
+    ∙ ap (λ xs. before ++ (own ++ xs)) (ap (λ xs. given ++ xs) (sym (append-nil last)) ∙ sym (flat_map-append results_of becomes (b.terminator ∷ [])))
 
 -- the room that the instructions of one block take
 pub room_next : (blocks : List Block) (k : ℕ) (b : Block) → k < length blocks → b ≡ get_or blocks k b
@@ -42,8 +43,3 @@ room_next blocks k b lt is =
     let outer = length-append (b.insts ++ b.terminator ∷ []) rest in
     let all : length (insts_in (drop k blocks)) ≡ length ((b.insts ++ b.terminator ∷ []) ++ rest) = ap (λ bs. length (insts_in bs)) split in
     omega arith
-
-pub block_is : (d : Declarations) (renamings : List Definition) (spare : ℕ) (b : Block) (args : List BlockArg) (insts : List Inst) → args ≡ b.args → insts ≡ insts_become d renamings spare b.insts
-    → (let x : Block = record { args = args_become renamings args; insts = insts; terminator = b.terminator } in x) ≡ block_becomes d renamings spare b
-block_is d renamings spare b args insts args_are insts_are =
-    ap₂ (λ a i. let x : Block = record { args = args_become renamings a; insts = i; terminator = b.terminator } in x) args_are insts_are

@@ -1,99 +1,155 @@
-//! Blocks of lowered code with new numbers, from their drafts.
+//! Blocks as lowered code, with new numbers. Instructions that stay are not copied.
 
-ghost use Rattle.std.specs.Prelude.{◌≡◌, IfOk, map};
-ghost use Rattle.lowering_model.specs.LoweredBlocks.{args_become, without_annotation};
+ghost use Rattle.std.specs.Prelude.{◌≡◌, ◌++◌, ◌+◌, ◌<◌, ◌^◌, IfOk, OnOk, List, length, map};
+ghost use Rattle.lowering_model.specs.LoweredBlocks.{args_become, block_becomes, blocks_become, insts_become};
+ghost use Rattle.lowering_model.specs.LoweredInsts as insts;
 ghost use Rattle.lowering_model.specs.Numbers as renumbered;
+ghost use Rattle.numbered_form.specs.Insts.{insts_in};
+ghost use Rattle.ownership_chains.specs.declared.definition.Definition.{Definition};
 ghost use Rattle.value_renumbering.specs.inner.NewNumbers.{number_in};
-ghost use Rattle.function_lowering.specs.inner.Drafts.{told_block, told_insts};
+ghost use Rattle.function_lowering.specs.inner.Drafts.{told_insts};
 
-use crate::draft::{Draft, DraftBlock};
+use crate::draft::Draft;
+use crate::drafting::add_inst;
 use crate::names::is_other_name;
+use crate::staying::kept_alone;
 use crate::writing::written_inst;
 use ownership_chains::Definition;
-use sil_ast::{ArgKind, Block, BlockArg, Boxed, Exhausted, Inst, List, TryClone};
+use sil_ast::{ArgKind, Block, BlockArg, Boxed, Exhausted, Inst, List, ValueId};
+use sil_types::TypeTable;
 use std::alloc::Global;
-use value_renumbering::{NewNumbers, renumbered_inst};
+use std::mem;
+use value_renumbering::{NewNumbers, renumber_inst};
 
-/// An argument without its annotation, with its new number.
-fn written_arg(alloc: Global, numbers: &NewNumbers, arg: &BlockArg) -> Result<BlockArg, Exhausted>
-    ensures { IfOk result (λ copy. copy ≡ renumbered.renumbered_arg (number_in numbers.now) (without_annotation arg.now)) }
-{
-    Ok(BlockArg {
-        value: numbers.number(arg.value),
-        kind: ArgKind::Plain,
-        ty: arg.ty.try_clone(alloc)?,
-    })
-}
-
-/// The arguments that have names of their own.
-fn written_args(
+/// The arguments that have names of their own, without their annotations.
+fn lowered_args(
     alloc: Global,
     renamings: &[Definition],
     numbers: &NewNumbers,
-    args: &[BlockArg],
+    args: List<BlockArg>,
 ) -> Result<List<BlockArg>, Exhausted>
-    ensures { IfOk result (λ copy. copy ≡ map (renumbered.renumbered_arg (number_in numbers.now)) (args_become renamings.now args.now)) }
+    ensures { IfOk result (λ lowered. lowered ≡ map (renumbered.renumbered_arg (number_in numbers.now)) (args_become renamings.now args)) }
 {
-    let mut copy = List::with_capacity(alloc, args.len())?;
-    for arg in args {
+    let mut lowered = List::with_capacity(alloc, args.len())?;
+    for arg in args.into_vec() {
         if !is_other_name(renamings, arg.value) {
-            copy.push(written_arg(alloc, numbers, arg)?)?;
+            lowered.push(BlockArg {
+                value: numbers.number(arg.value),
+                kind: ArgKind::Plain,
+                ty: arg.ty,
+            })?;
         }
     }
-    Ok(copy)
+    Ok(lowered)
 }
 
-fn written_insts(
+/// Adds the instructions that drafts stand for, with new numbers.
+fn add_written(
     alloc: Global,
     numbers: &NewNumbers,
     drafts: &[Draft<'_>],
+    lowered: &mut List<Boxed<Inst>>,
+) -> Result<(), Exhausted>
+    ensures { OnOk result (lowered.new ≡ lowered.old ++ map (renumbered.renumbered_inst (number_in numbers.now)) (told_insts drafts.now)) }
+{
+    for draft in drafts {
+        lowered.push(written_inst(alloc, numbers, draft)?)?;
+    }
+    Ok(())
+}
+
+/// Adds what an instruction becomes that doesn't stay, or not alone.
+fn add_others(
+    alloc: Global,
+    table: &TypeTable,
+    numbers: &NewNumbers,
+    spare: ValueId,
+    inst: &Inst,
+    lowered: &mut List<Boxed<Inst>>,
+) -> Result<(), Exhausted>
+    ensures { OnOk result (lowered.new ≡ lowered.old ++ map (renumbered.renumbered_inst (number_in numbers.now)) (insts.becomes table.now spare inst.now)) }
+{
+    let mut drafts = List::new(alloc);
+    add_inst(table, spare, inst, &mut drafts)?;
+    add_written(alloc, numbers, drafts.as_slice(), lowered)
+}
+
+/// Adds what an instruction becomes. One that stays alone is moved in its box.
+fn add_lowered(
+    alloc: Global,
+    table: &TypeTable,
+    numbers: &NewNumbers,
+    spare: ValueId,
+    mut inst: Boxed<Inst>,
+    lowered: &mut List<Boxed<Inst>>,
+) -> Result<(), Exhausted>
+    ensures { OnOk result (lowered.new ≡ lowered.old ++ map (renumbered.renumbered_inst (number_in numbers.now)) (insts.becomes table.now spare inst)) }
+{
+    match kept_alone(inst.get()) {
+        Some(kept) => {
+            kept.write(numbers, inst.get_mut());
+            lowered.push(inst)
+        }
+        None => add_others(alloc, table, numbers, spare, inst.get(), lowered),
+    }
+}
+
+/// What the instructions of a block become. The first one's spare value has the number `spare`.
+fn lowered_insts(
+    alloc: Global,
+    table: &TypeTable,
+    numbers: &NewNumbers,
+    mut spare: u32,
+    insts: List<Boxed<Inst>>,
 ) -> Result<List<Boxed<Inst>>, Exhausted>
-    ensures { IfOk result (λ insts. insts ≡ map (renumbered.renumbered_inst (number_in numbers.now)) (told_insts drafts.now)) }
+    requires { spare + length insts < 2 ^ 32 }
+    ensures { IfOk result (λ lowered. (renamings : List Definition)
+        → lowered ≡ map (renumbered.renumbered_inst (number_in numbers.now)) (insts_become table.now renamings spare insts)) }
 {
-    let mut insts = List::with_capacity(alloc, drafts.len())?;
-    for draft in drafts {
-        insts.push(written_inst(alloc, numbers, draft)?)?;
+    let mut lowered = List::with_capacity(alloc, insts.len())?;
+    for inst in insts.into_vec() {
+        add_lowered(alloc, table, numbers, ValueId(spare), inst, &mut lowered)?;
+        spare += 1;
     }
-    Ok(insts)
+    Ok(lowered)
 }
 
-/// A terminator, which stands in its block and in no box.
-fn written_terminator(alloc: Global, numbers: &NewNumbers, inst: &Inst) -> Result<Inst, Exhausted>
-    ensures { IfOk result (λ copy. copy ≡ renumbered.renumbered_inst (number_in numbers.now) inst.now) }
-{
-    let copy = renumbered_inst(alloc, numbers, inst, inst.op, inst.qualifier)?;
-    Ok(copy.into_inner())
-}
-
-fn written_block(
+/// Lowers a block. Where memory runs out, parts of it are lost.
+fn lower_block(
     alloc: Global,
+    table: &TypeTable,
     renamings: &[Definition],
     numbers: &NewNumbers,
-    draft: &DraftBlock<'_>,
-) -> Result<Block, Exhausted>
-    ensures { IfOk result (λ block. block ≡ renumbered.renumbered_block (number_in numbers.now) (told_block renamings.now draft.now)) }
+    spare: u32,
+    block: &mut Block,
+) -> Result<(), Exhausted>
+    requires { spare + length block.old.insts < 2 ^ 32 }
+    ensures { OnOk result (block.new ≡ renumbered.renumbered_block (number_in numbers.now) (block_becomes table.now renamings.now spare block.old)) }
 {
-    let args = written_args(alloc, renamings, numbers, draft.args)?;
-    let insts = written_insts(alloc, numbers, draft.insts.as_slice())?;
-    Ok(Block {
-        args,
-        insts,
-        terminator: written_terminator(alloc, numbers, draft.terminator)?,
-    })
+    let args = mem::replace(&mut block.args, List::new(alloc));
+    block.args = lowered_args(alloc, renamings, numbers, args)?;
+    let insts = mem::replace(&mut block.insts, List::new(alloc));
+    block.insts = lowered_insts(alloc, table, numbers, spare, insts)?;
+    renumber_inst(numbers, &mut block.terminator);
+    Ok(())
 }
 
-/// The blocks that drafts stand for, with new numbers. Fails where memory runs out.
-pub(crate) fn written_blocks(
+/// Lowers the blocks of a function. The first instruction's spare value has the number `spare`. Where memory runs out, parts are lost.
+pub(crate) fn lower_blocks(
     alloc: Global,
+    table: &TypeTable,
     renamings: &[Definition],
     numbers: &NewNumbers,
-    drafts: &[DraftBlock<'_>],
-) -> Result<List<Block>, Exhausted>
-    ensures { IfOk result (λ blocks. blocks ≡ renumbered.renumbered (number_in numbers.now) (map (told_block renamings.now) drafts.now)) }
+    mut spare: u32,
+    blocks: &mut [Block],
+) -> Result<(), Exhausted>
+    requires { spare + length (insts_in blocks.old) < 2 ^ 32 }
+    ensures { OnOk result (blocks.new ≡ renumbered.renumbered (number_in numbers.now) (blocks_become table.now renamings.now spare blocks.old)) }
 {
-    let mut blocks = List::with_capacity(alloc, drafts.len())?;
-    for draft in drafts {
-        blocks.push(written_block(alloc, renamings, numbers, draft)?)?;
+    for block in blocks.iter_mut() {
+        let count = block.insts.len() as u32;
+        lower_block(alloc, table, renamings, numbers, spare, block)?;
+        spare += count;
     }
-    Ok(blocks)
+    Ok(())
 }

@@ -1,15 +1,18 @@
 //! The values that lowered code defines, in order.
 
-ghost use Rattle.std.specs.Prelude.{◌≡◌, ◌++◌, IfOk, OnOk, map};
+ghost use Rattle.std.specs.Prelude.{◌≡◌, ◌++◌, ◌+◌, ◌<◌, ◌^◌, IfOk, OnOk, length, map};
 ghost use Rattle.std.specs.List.{flat_map};
-ghost use Rattle.lowering_model.specs.LoweredBlocks.{args_become};
-ghost use Rattle.numbered_form.specs.Numbering.{defined_in, results_of, value_of, values_of};
-ghost use Rattle.function_lowering.specs.inner.Drafts.{results_told, told_block};
+ghost use Rattle.lowering_model.specs.LoweredBlocks.{args_become, block_becomes, blocks_become};
+ghost use Rattle.numbered_form.specs.Insts.{insts_in};
+ghost use Rattle.numbered_form.specs.Numbering.{defined_in, value_of, values_of};
+ghost use Rattle.function_lowering.specs.inner.Drafts.{results_told};
 
-use crate::draft::{Draft, DraftBlock};
+use crate::draft::Draft;
+use crate::drafting::draft_insts;
 use crate::names::is_other_name;
 use ownership_chains::Definition;
-use sil_ast::{BlockArg, Exhausted, List, ValueId};
+use sil_ast::{Block, BlockArg, Exhausted, List, ValueId};
+use sil_types::TypeTable;
 use std::alloc::Global;
 
 /// Adds the arguments that have names of their own.
@@ -59,30 +62,39 @@ fn add_all_results(drafts: &[Draft<'_>], values: &mut List<ValueId>) -> Result<(
     Ok(())
 }
 
-/// Adds the values that a block defines.
+/// Adds the values that a block defines in lowered code. The first instruction's spare value has the number `spare`.
 fn add_block(
+    alloc: Global,
+    table: &TypeTable,
     renamings: &[Definition],
-    block: &DraftBlock<'_>,
+    spare: u32,
+    block: &Block,
     values: &mut List<ValueId>,
 ) -> Result<(), Exhausted>
-    ensures { OnOk result (values.new ≡ values.old ++ defined_in (told_block renamings.now block.now)) }
+    requires { spare + length block.now.insts < 2 ^ 32 }
+    ensures { OnOk result (values.new ≡ values.old ++ defined_in (block_becomes table.now renamings.now spare block.now)) }
 {
-    add_args(renamings, block.args, values)?;
-    add_all_results(block.insts.as_slice(), values)?;
+    add_args(renamings, block.args.as_slice(), values)?;
+    let drafts = draft_insts(alloc, table, spare, block.insts.as_slice())?;
+    add_all_results(drafts.as_slice(), values)?;
     add_values(block.terminator.results.as_slice(), values)
 }
 
-/// The values that lowered blocks define, in order. Fails where memory runs out.
+/// The values that blocks define in lowered code, in order. Fails where memory runs out.
 pub(crate) fn defined_values(
     alloc: Global,
+    table: &TypeTable,
     renamings: &[Definition],
-    blocks: &[DraftBlock<'_>],
+    mut spare: u32,
+    blocks: &[Block],
 ) -> Result<List<ValueId>, Exhausted>
-    ensures { IfOk result (λ values. values ≡ values_of (map (told_block renamings.now) blocks.now)) }
+    requires { spare + length (insts_in blocks.now) < 2 ^ 32 }
+    ensures { IfOk result (λ values. values ≡ values_of (blocks_become table.now renamings.now spare blocks.now)) }
 {
     let mut values = List::with_capacity(alloc, renamings.len())?;
     for block in blocks {
-        add_block(renamings, block, &mut values)?;
+        add_block(alloc, table, renamings, spare, block, &mut values)?;
+        spare += block.insts.len() as u32;
     }
     Ok(values)
 }

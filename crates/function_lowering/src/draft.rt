@@ -1,7 +1,7 @@
 //! Instructions of lowered code before their values have new numbers.
 
 use instruction_table::Op;
-use sil_ast::{BlockArg, Inst, List, Operand, Qualifier, Text, TypeName, ValueId};
+use sil_ast::{Inst, Operand, Qualifier, Text, TypeName, ValueId};
 
 /// An instruction of lowered code, in the old names of values. What it is made of stays in the module that is lowered.
 #[derive(Clone, Copy)]
@@ -36,12 +36,4 @@ pub(crate) enum Draft<'a> {
         number: i64,
         result: ValueId,
     },
-}
-
-/// A block of lowered code, with all arguments that it had.
-#[derive(Drop)]
-pub(crate) struct DraftBlock<'a> {
-    pub args: &'a [BlockArg],
-    pub insts: List<Draft<'a>>,
-    pub terminator: &'a Inst,
 }

@@ -1,30 +1,29 @@
-//! What each instruction and each block becomes.
+//! What each instruction becomes.
 
 ghost use Rattle.std.specs.Prelude.{◌≡◌, ◌++◌, ◌+◌, ◌<◌, ◌^◌, IfOk, OnOk, List, length, map};
-ghost use Rattle.lowering_model.specs.LoweredBlocks.{blocks_become, insts_become};
+ghost use Rattle.lowering_model.specs.LoweredBlocks.{insts_become};
 ghost use Rattle.lowering_model.specs.LoweredInsts as insts;
-ghost use Rattle.numbered_form.specs.Insts.{insts_in};
 ghost use Rattle.ownership_chains.specs.declared.definition.Definition.{Definition};
-ghost use Rattle.function_lowering.specs.inner.Drafts.{told_block, told_insts};
+ghost use Rattle.function_lowering.specs.inner.Drafts.{told_insts};
 
 use crate::counts::{add_releases, add_retains};
-use crate::draft::{Draft, DraftBlock};
+use crate::draft::Draft;
 use crate::extracts::{add_element_extracts, add_field_extracts};
 use crate::words::{add_destroy, add_load, add_store};
 use instruction_table::Op;
 use lowering_model::{LOWERINGS, Lowering};
-use sil_ast::{Block, Boxed, Exhausted, Inst, List, ValueId};
+use sil_ast::{Boxed, Exhausted, Inst, List, ValueId};
 use sil_types::TypeTable;
 use std::alloc::Global;
 
-fn lowering_of(op: Op) -> Lowering
+pub(crate) fn lowering_of(op: Op) -> Lowering
     ensures { result ≡ insts.lowering_of op }
 {
     LOWERINGS[op as usize]
 }
 
 /// Adds what becomes of an instruction. `spare` is a new value, for what a place held.
-fn add_inst<'a>(
+pub(crate) fn add_inst<'a>(
     table: &'a TypeTable,
     spare: ValueId,
     inst: &'a Inst,
@@ -59,7 +58,7 @@ fn add_inst<'a>(
 }
 
 /// What becomes of the instructions of a block. The first one's spare value has the number `spare`.
-fn draft_insts<'a>(
+pub(crate) fn draft_insts<'a>(
     alloc: Global,
     table: &'a TypeTable,
     mut spare: u32,
@@ -72,29 +71,6 @@ fn draft_insts<'a>(
     for inst in insts {
         add_inst(table, ValueId(spare), inst.get(), &mut drafts)?;
         spare += 1;
-    }
-    Ok(drafts)
-}
-
-/// What becomes of the blocks of a function.
-pub(crate) fn draft_blocks<'a>(
-    alloc: Global,
-    table: &'a TypeTable,
-    mut spare: u32,
-    blocks: &'a [Block],
-) -> Result<List<DraftBlock<'a>>, Exhausted>
-    requires { spare + length (insts_in blocks.now) < 2 ^ 32 }
-    ensures { IfOk result (λ drafts. (renamings : List Definition) → map (told_block renamings) drafts ≡ blocks_become table.now renamings spare blocks.now) }
-{
-    let mut drafts = List::with_capacity(alloc, blocks.len())?;
-    for block in blocks {
-        let insts = draft_insts(alloc, table, spare, block.insts.as_slice())?;
-        spare += block.insts.len() as u32;
-        drafts.push(DraftBlock {
-            args: block.args.as_slice(),
-            insts,
-            terminator: &block.terminator,
-        })?;
     }
     Ok(drafts)
 }

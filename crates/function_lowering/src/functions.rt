@@ -1,81 +1,96 @@
-//! Lowered functions.
+//! Functions, lowered where they stand.
 
-ghost use Rattle.std.specs.Prelude.{◌≡◌, IfOk, map};
+ghost use Rattle.std.specs.Prelude.{◌≡◌, IfOk, OnOk, map};
+ghost use Rattle.sil_ast.specs.declared.place.ValueId.{ValueId};
 ghost use Rattle.lowering_model.specs.LoweredModules as modules;
+ghost use Rattle.lowering_model.specs.Numbers.{new_number, numbering_of};
 ghost use Rattle.ownership_origins.specs.Renamings.{renamings_of};
+ghost use Rattle.value_renumbering.specs.inner.NewNumbers.{number_in};
 ghost use Rattle.function_lowering.specs.inner.Lowerable.{AreLowerable, IsLowerable, IsLowerableByForm};
 
-use crate::blocks::written_blocks;
+use crate::blocks::lower_blocks;
 use crate::defined::defined_values;
-use crate::drafting::draft_blocks;
 use crate::numbers::numbers_of_names;
 use ownership_chains::Definition;
 use ownership_origins::{renamings, switches};
-use sil_ast::{Block, Exhausted, Form, Function, List, TryClone};
+use sil_ast::{Exhausted, Form, Function};
 use sil_types::TypeTable;
 use std::alloc::Global;
-use value_renumbering::numbers_by_place;
+use value_renumbering::{NewNumbers, numbers_by_place};
 
-/// The lowered blocks of a function, by its renamings.
-fn lowered_blocks(
+/// The new numbers of a function's values, by its renamings.
+fn new_numbers(
     alloc: Global,
     table: &TypeTable,
     f: &Function,
     renamings: &[Definition],
-) -> Result<List<Block>, Exhausted>
+) -> Result<NewNumbers, Exhausted>
     requires lowerable { IsLowerable f.now }
     requires renamings { renamings.now ≡ renamings_of f.now }
-    ensures { IfOk result (λ blocks. blocks ≡ (modules.lowered_body table.now f.now).blocks) }
+    ensures { IfOk result (λ numbers. (v : ValueId) → number_in numbers v ≡ new_number (numbering_of table.now f.now) v) }
 {
     let spare = renamings.len() as u32;
-    let drafts = draft_blocks(alloc, table, spare, f.blocks.as_slice())?;
-    let defined = defined_values(alloc, renamings, drafts.as_slice())?;
+    let defined = defined_values(alloc, table, renamings, spare, f.blocks.as_slice())?;
     let places = numbers_by_place(alloc, defined.as_slice())?;
-    let numbers = numbers_of_names(alloc, renamings, places)?;
-    written_blocks(alloc, renamings, &numbers, drafts.as_slice())
+    numbers_of_names(alloc, renamings, places)
 }
 
-/// A function in ownership form, lowered.
-fn lowered_body(alloc: Global, table: &TypeTable, f: &Function) -> Result<Function, Exhausted>
-    requires { IsLowerable f.now }
-    ensures { IfOk result (λ lowered. lowered ≡ modules.lowered_body table.now f.now) }
+/// Lowers the blocks of a function, by its renamings.
+fn lower_code(
+    alloc: Global,
+    table: &TypeTable,
+    f: &mut Function,
+    renamings: &[Definition],
+) -> Result<(), Exhausted>
+    requires lowerable { IsLowerable f.old }
+    requires renamings { renamings.now ≡ renamings_of f.old }
+    ensures { OnOk result (f.new ≡ record f.old { blocks = (modules.lowered_body table.now f.old).blocks }) }
+{
+    let numbers = new_numbers(alloc, table, f, renamings)?;
+    lower_blocks(
+        alloc,
+        table,
+        renamings,
+        &numbers,
+        renamings.len() as u32,
+        f.blocks.as_mut_slice(),
+    )
+}
+
+/// Lowers a function in ownership form.
+fn lower_body(alloc: Global, table: &TypeTable, f: &mut Function) -> Result<(), Exhausted>
+    requires { IsLowerable f.old }
+    ensures { OnOk result (f.new ≡ modules.lowered_body table.now f.old) }
 {
     let switches = switches(alloc, f)?;
     let renamings = renamings(alloc, f, switches.as_slice())?;
-    let blocks = lowered_blocks(alloc, table, f, renamings.as_slice())?;
-    Ok(Function {
-        name: f.name.try_clone(alloc)?,
-        form: Form::Lowered,
-        linkage: f.linkage,
-        attributes: f.attributes.try_clone(alloc)?,
-        signature: f.signature.try_clone(alloc)?,
-        blocks,
-    })
+    lower_code(alloc, table, f, renamings.as_slice())?;
+    f.form = Form::Lowered;
+    Ok(())
 }
 
-/// A function, lowered where it is in ownership form.
-fn lowered_function(alloc: Global, table: &TypeTable, f: &Function) -> Result<Function, Exhausted>
-    requires { IsLowerableByForm f.now.form f.now }
-    ensures { IfOk result (λ lowered. lowered ≡ modules.lowered_function table.now f.now) }
+/// Lowers a function where it is in ownership form.
+fn lower_function(alloc: Global, table: &TypeTable, f: &mut Function) -> Result<(), Exhausted>
+    requires { IsLowerableByForm f.old.form f.old }
+    ensures { OnOk result (f.new ≡ modules.lowered_function table.now f.old) }
 {
     match f.form {
-        Form::Ossa => lowered_body(alloc, table, f),
-        Form::Lowered | Form::External => f.try_clone(alloc),
+        Form::Ossa => lower_body(alloc, table, f),
+        Form::Lowered | Form::External => Ok(()),
     }
 }
 
-/// The functions of a module, lowered. Fails where memory runs out.
-pub fn lowered_functions(
+/// Lowers the functions of a module. Where memory runs out, parts of them are lost.
+pub fn lower_functions(
     alloc: Global,
     table: &TypeTable,
-    functions: &[Function],
-) -> Result<List<Function>, Exhausted>
-    requires { AreLowerable functions.now }
-    ensures { IfOk result (λ lowered. lowered ≡ map (modules.lowered_function table.now) functions.now) }
+    functions: &mut [Function],
+) -> Result<(), Exhausted>
+    requires { AreLowerable functions.old }
+    ensures { OnOk result (functions.new ≡ map (modules.lowered_function table.now) functions.old) }
 {
-    let mut lowered = List::with_capacity(alloc, functions.len())?;
-    for f in functions {
-        lowered.push(lowered_function(alloc, table, f)?)?;
+    for f in functions.iter_mut() {
+        lower_function(alloc, table, f)?;
     }
-    Ok(lowered)
+    Ok(())
 }

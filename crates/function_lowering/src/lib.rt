@@ -10,7 +10,8 @@ mod extracts;
 mod functions;
 mod names;
 mod numbers;
+mod staying;
 mod words;
 mod writing;
 
-pub use functions::lowered_functions;
+pub use functions::lower_functions;

@@ -8,13 +8,14 @@ ghost use Rattle.function_lowering.specs.inner.Drafts.{element, member_with, tol
 ghost use Rattle.value_renumbering.specs.inner.NewNumbers.{number_in};
 
 use crate::draft::Draft;
+use crate::staying::Kept;
 use instruction_table::Op;
 use sil_ast::{
     Boxed, Debug, Exhausted, Inst, List, Member, Operand, Qualifier, ShortList, Text, TryClone,
     TypeName, ValueId,
 };
 use std::alloc::Global;
-use value_renumbering::{NewNumbers, renumbered_inst, renumbered_operand};
+use value_renumbering::NewNumbers;
 
 /// An instruction of one operand, with no result and no other part.
 fn new_inst(alloc: Global, op: Op, operand: Operand) -> Result<Inst, Exhausted>
@@ -57,6 +58,34 @@ fn new_inst_giving(
     let mut inst = new_inst(alloc, op, operand)?;
     inst.results.push(result_value)?;
     Ok(inst)
+}
+
+/// A copy of an operand, with its new number.
+fn renumbered_operand(
+    alloc: Global,
+    numbers: &NewNumbers,
+    operand: &Operand,
+) -> Result<Operand, Exhausted>
+    ensures { IfOk result (λ copy. copy ≡ renumbered.renumbered_operand (number_in numbers.now) operand.now) }
+{
+    Ok(Operand {
+        value: numbers.number(operand.value),
+        ty: operand.ty.try_clone(alloc)?,
+    })
+}
+
+/// A copy of an instruction under this name and with this word.
+fn written_copy(
+    alloc: Global,
+    numbers: &NewNumbers,
+    inst: &Inst,
+    kept: Kept,
+) -> Result<Boxed<Inst>, Exhausted>
+    ensures { IfOk result (λ copy. copy ≡ renumbered.renumbered_inst (number_in numbers.now) (record inst.now { op = kept.op; qualifier = kept.qualifier })) }
+{
+    let mut copy = inst.try_clone(alloc)?;
+    kept.write(numbers, &mut copy);
+    Boxed::new(alloc, copy)
 }
 
 fn copied_type(alloc: Global, ty: Option<&TypeName>) -> Result<Option<TypeName>, Exhausted>
@@ -152,7 +181,7 @@ pub(crate) fn written_inst(
             inst,
             op,
             qualifier,
-        } => renumbered_inst(alloc, numbers, inst, op, qualifier),
+        } => written_copy(alloc, numbers, inst, Kept { op, qualifier }),
         Draft::Counted { op, value, ty } => written_counted(alloc, numbers, op, value, ty),
         Draft::Loaded { place, result } => written_load(alloc, numbers, place, result),
         Draft::Field {

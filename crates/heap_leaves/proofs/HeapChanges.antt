@@ -1,10 +1,9 @@
 -- What changes of one object leave as it was.
-use Rattle.std.proofs.Common.{◌≡◌, ℕ, zero, suc, ◌<◌, ◌≤◌, List, [], ◌∷◌, Option, Some, None, length, set, refl, sym, ap, ◌∙◌, arith}
-use Rattle.std.specs.Prelude.{Bool, true, false, option_map, slice_get, unwrap_or}
+use Rattle.std.proofs.Common.{◌≡◌, ℕ, zero, suc, ◌<◌, ◌≤◌, List, [], ◌∷◌, Option, Some, None, length, set, refl, sym, ap, ◌∙◌}
+use Rattle.std.specs.Prelude.{option_map, slice_get, unwrap_or}
 use Rattle.std.proofs.lemmas.List.{set_past}
-use Rattle.count_heap.specs.heap_model.HeapCalls.{changed, with_field_of, with_object_in}
-use Rattle.count_heap.specs.heap_model.HeapViews.{HeapObject, HeapView, fields_told, is_dead_in, object_in, phase_told}
-use Rattle.run_values.specs.Memory.{is_dead_phase}
+use Rattle.count_heap.specs.heap_model.HeapCalls.{with_field_of, with_object_in}
+use Rattle.count_heap.specs.heap_model.HeapViews.{HeapObject, HeapView, fields_told, object_in}
 use Rattle.run_values.specs.declared.leaf.Leaf.{Leaf}
 use Rattle.sil_ast.specs.declared.place.ObjectId.{ObjectId}
 use Rattle.leaf_windows.specs.Held.{without_field}

@@ -1,5 +1,5 @@
 -- What each call makes of a heap, and what it answers.
-use Rattle.std.specs.Prelude.{ℕ, ◌+◌, ◌-◌, ◌==◌, List, [], ◌∷◌, ◌++◌, Bool, ◌&&◌, not, cond, Option, Some, None, Ok, Err, length, map, max}
+use Rattle.std.specs.Prelude.{ℕ, ◌+◌, ◌-◌, ◌==◌, List, [], ◌∷◌, ◌++◌, Bool, ◌&&◌, not, cond, Option, Some, None, Ok, Err, length, max}
 use Rattle.std.specs.Prelude.{option_map, option_and_then, set, slice_get, unwrap_or, take, drop, replicate}
 use Rattle.std.specs.declared.result.Result.{Result}
 use Rattle.sil_ast.specs.declared.place.ObjectId.{ObjectId}
@@ -7,7 +7,7 @@ use Rattle.type_definitions.specs.Declarations.{Declarations}
 use Rattle.run_values.specs.Memory.{is_dead_phase, is_live_phase}
 use Rattle.run_values.specs.declared.leaf.Leaf.{Leaf}
 use Rattle.run_values.specs.declared.phase.Phase.TheVariants.{Dead, Deiniting, Live}
-use Rattle.heap_model.specs.HeapViews.{HeapObject, HeapView, class_fields, is_dead_in, object_in, phase_in, strong_in, unfreed_count}
+use Rattle.heap_model.specs.HeapViews.{HeapObject, HeapView, class_fields, object_in, phase_in, strong_in, unfreed_count}
 use Rattle.heap_model.specs.declared.released.Released.{Released}
 use Rattle.heap_model.specs.declared.released.Released.TheVariants.{Held, LastGone}
 use Rattle.heap_model.specs.declared.released.Underflow.{Underflow}

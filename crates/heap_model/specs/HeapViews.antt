@@ -1,6 +1,6 @@
 -- What contracts see of a heap.
-use Rattle.std.specs.Prelude.{ℕ, ◌==◌, List, [], ◌∷◌, Bool, ◌&&◌, ◌||◌, not, Option, Some, None, is_some, length, map, option_map, option_and_then}
-use Rattle.std.specs.Prelude.{set, slice_get, unwrap_or, count_by}
+use Rattle.std.specs.Prelude.{ℕ, ◌==◌, List, [], ◌∷◌, Bool, ◌&&◌, ◌||◌, not, Option, Some, None, is_some, map, option_and_then}
+use Rattle.std.specs.Prelude.{slice_get, unwrap_or, count_by}
 use Rattle.sil_ast.specs.declared.decl.Field.{Field}
 use Rattle.sil_ast.specs.declared.place.ObjectId.{ObjectId}
 use Rattle.sil_ast.specs.declared.type_name.TypeName.{TypeName}

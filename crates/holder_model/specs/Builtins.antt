@@ -4,7 +4,7 @@ use Rattle.std.specs.Prelude.{Option, Some, None, option_and_then, bit_and, bit_
 use Rattle.std.specs.Int.{int_rem_euclid}
 use Rattle.builtin_names.specs.declared.names.Operation.{Operation}
 use Rattle.builtin_names.specs.declared.names.Operation.TheVariants as o
-use Rattle.numbered_form.specs.inner.Literals.{is_residue}
+use Rattle.run_values.specs.numbered_form.inner.Literals.{is_residue}
 use Rattle.run_values.specs.Values as value
 use Rattle.run_values.specs.Values.{Value, grouped}
 use Rattle.memory_accesses.specs.Typing.Builtins.{Builtin, bits, builtin_named}

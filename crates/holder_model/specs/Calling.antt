@@ -9,8 +9,8 @@ use Rattle.argument_conventions.specs.declared.row.Content.{Content}
 use Rattle.argument_conventions.specs.declared.row.Content.TheVariants as content
 use Rattle.sil_ast.specs.declared.function.Function.{Function}
 use Rattle.sil_ast.specs.declared.place.ValueId.{ValueId}
-use Rattle.item_operands.specs.Items.{item_defined}
-use Rattle.item_operands.specs.declared.taken.Taken.{Taken}
+use Rattle.memory_accesses.specs.item_operands.Items.{item_defined}
+use Rattle.memory_accesses.specs.item_operands.declared.taken.Taken.{Taken}
 use Rattle.sil_cfg.specs.declared.item.Item.TheVariants as item
 use Rattle.memory_accesses.specs.Typing.Values.{value_functions}
 use Rattle.run_values.specs.Memory.{Memory}

@@ -5,9 +5,9 @@ use Rattle.std.specs.Option.{option_to_list}
 use Rattle.sil_ast.specs.declared.decl.Storage.TheVariants as storage
 use Rattle.sil_ast.specs.declared.place.FuncId.{FuncId}
 use Rattle.sil_ast.specs.declared.place.ObjectId.{ObjectId}
-use Rattle.numbered_form.specs.Names.{Name}
-use Rattle.type_definitions.specs.Declarations.{Declarations, ancestors_of}
-use Rattle.type_definitions.specs.Lookups.{deinit_of}
+use Rattle.run_values.specs.numbered_form.Names.{Name}
+use Rattle.run_values.specs.type_definitions.Declarations.{Declarations, ancestors_of}
+use Rattle.run_values.specs.type_definitions.Lookups.{deinit_of}
 use Rattle.run_values.specs.declared.phase.Phase.{Phase}
 use Rattle.run_values.specs.declared.phase.Phase.TheVariants.{Deiniting, Dead}
 use Rattle.run_values.specs.Memory.{Memory, Object, is_live, object_at, with_object}

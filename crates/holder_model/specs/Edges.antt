@@ -9,7 +9,7 @@ use Rattle.sil_ast.specs.declared.function.Function.{Function}
 use Rattle.sil_ast.specs.declared.inst.Edge.{Edge}
 use Rattle.sil_ast.specs.declared.place.EdgeId.{EdgeId}
 use Rattle.sil_ast.specs.declared.place.PointId.{PointId}
-use Rattle.item_operands.specs.Parts.{args_behind, edge_at, item_operands, terminator_of}
+use Rattle.memory_accesses.specs.item_operands.Parts.{args_behind, edge_at, item_operands, terminator_of}
 use Rattle.sil_cfg.specs.declared.item.Item.TheVariants as item
 use Rattle.run_values.specs.Shapes.{Shape}
 use Rattle.run_values.specs.Values.{Value, case_of, integer_of}

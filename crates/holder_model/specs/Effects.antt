@@ -10,7 +10,7 @@ use Rattle.sil_ast.specs.declared.member.Member.{Member}
 use Rattle.sil_ast.specs.declared.place.FuncId.{FuncId}
 use Rattle.sil_ast.specs.declared.place.ObjectId.{ObjectId}
 use Rattle.sil_ast.specs.declared.place.ValueId.{ValueId}
-use Rattle.type_definitions.specs.Declarations.{Declarations}
+use Rattle.run_values.specs.type_definitions.Declarations.{Declarations}
 use Rattle.memory_accesses.specs.Sources.{element_place, member_place}
 use Rattle.run_values.specs.declared.phase.Phase.TheVariants.{Live}
 use Rattle.run_values.specs.Memory.{Memory, new_object}

@@ -10,12 +10,12 @@ use Rattle.sil_ast.specs.declared.place.ObjectId.{ObjectId}
 use Rattle.sil_ast.specs.declared.place.ValueId.{ValueId}
 use Rattle.argument_conventions.specs.declared.row.AddressRow.{AddressRow}
 use Rattle.sil_cfg.specs.declared.item.Item.{Item}
-use Rattle.item_operands.specs.declared.taken.Taken.{Taken}
-use Rattle.ownership_chains.specs.Facts.{known_or}
-use Rattle.ownership_chains.specs.declared.facts.Facts.{Facts}
+use Rattle.memory_accesses.specs.item_operands.declared.taken.Taken.{Taken}
+use Rattle.ownership_kinds.specs.ownership_chains.Facts.{known_or}
+use Rattle.ownership_kinds.specs.ownership_chains.declared.facts.Facts.{Facts}
 use Rattle.memory_accesses.specs.Marks as marks
-use Rattle.type_definitions.specs.declared.kind.Kind.{Kind}
-use Rattle.type_definitions.specs.declared.kind.Kind.TheVariants as kind
+use Rattle.run_values.specs.type_definitions.declared.kind.Kind.{Kind}
+use Rattle.run_values.specs.type_definitions.declared.kind.Kind.TheVariants as kind
 use Rattle.run_values.specs.Memory.{Memory, is_dead}
 use Rattle.run_values.specs.Places.{Home, Inside, OnStack, Place}
 use Rattle.run_values.specs.Values.{references_of}

@@ -24,3 +24,7 @@ pub use Rattle.memory_accesses.specs.sil_types as sil_types
 pub use Rattle.memory_accesses.specs as memory_accesses
 pub use Rattle.ownership_kinds.specs as ownership_kinds
 pub use Rattle.ownership_kinds.specs.ownership_origins as ownership_origins
+pub use Rattle.memory_accesses.specs.item_operands as item_operands
+pub use Rattle.run_values.specs as run_values
+pub use Rattle.run_values.specs.type_definitions as type_definitions
+pub use Rattle.memory_accesses.specs.ownership_marks as ownership_marks

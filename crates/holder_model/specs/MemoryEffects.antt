@@ -12,7 +12,7 @@ use Rattle.sil_ast.specs.declared.place.ObjectId.{ObjectId}
 use Rattle.memory_accesses.specs.Operations.{access_kind_of, operation_by}
 use Rattle.memory_accesses.specs.declared.access.Operation.{Operation}
 use Rattle.memory_accesses.specs.declared.access.Operation.TheVariants as operation
-use Rattle.type_definitions.specs.Declarations.{Declarations}
+use Rattle.run_values.specs.type_definitions.Declarations.{Declarations}
 use Rattle.run_values.specs.Memory.{Memory, is_live}
 use Rattle.run_values.specs.Places.{Place, cells_at, emptied, filled, is_empty_at, is_there_at, removed, value_at}
 use Rattle.run_values.specs.Shapes.{Shape, storage_in}

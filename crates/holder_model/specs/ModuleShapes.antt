@@ -11,9 +11,9 @@ use Rattle.sil_ast.specs.declared.module.Module.{Module}
 use Rattle.sil_ast.specs.declared.place.FuncId.{FuncId}
 use Rattle.sil_ast.specs.declared.place.ValueId.{ValueId}
 use Rattle.sil_ast.specs.declared.type_name.TypeName.{TypeName}
-use Rattle.numbered_form.specs.Names.{Name}
-use Rattle.type_definitions.specs.Declarations.{Declarations, declarations_of}
-use Rattle.type_definitions.specs.Lookups.{fields_of}
+use Rattle.run_values.specs.numbered_form.Names.{Name}
+use Rattle.run_values.specs.type_definitions.Declarations.{Declarations, declarations_of}
+use Rattle.run_values.specs.type_definitions.Lookups.{fields_of}
 use Rattle.memory_accesses.specs.Typing.Shapes.{stored_as, target}
 use Rattle.memory_accesses.specs.Typing.Values.{value_types}
 use Rattle.run_values.specs.Layers.{CaseLayer}

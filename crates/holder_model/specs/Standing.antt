@@ -6,7 +6,7 @@ use Rattle.sil_ast.specs.declared.inst.Edge as edge
 use Rattle.sil_ast.specs.declared.place.PointId.{PointId}
 use Rattle.sil_cfg.specs.declared.item.Item.{Item}
 use Rattle.sil_cfg.specs.declared.item.Item.TheVariants as item
-use Rattle.item_operands.specs.Parts.{edge_at}
+use Rattle.memory_accesses.specs.item_operands.Parts.{edge_at}
 
 abbrev pub first_point : ℕ → PointId
 first_point b = record { block = record { 0 = b }; index = 0 }

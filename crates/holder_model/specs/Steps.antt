@@ -13,10 +13,10 @@ use Rattle.sil_ast.specs.declared.place.PointId.{PointId}
 use Rattle.sil_ast.specs.declared.place.ValueId.{ValueId}
 use Rattle.sil_cfg.specs.declared.item.Item.{Item}
 use Rattle.sil_cfg.specs.declared.item.Item.TheVariants as item
-use Rattle.item_operands.specs.Items.{item_defined, item_taken}
-use Rattle.item_operands.specs.Parts.{inst_at, terminator_of}
-use Rattle.ownership_chains.specs.declared.facts.Facts.{Facts}
-use Rattle.type_definitions.specs.Declarations.{Declarations, declarations_of}
+use Rattle.memory_accesses.specs.item_operands.Items.{item_defined, item_taken}
+use Rattle.memory_accesses.specs.item_operands.Parts.{inst_at, terminator_of}
+use Rattle.ownership_kinds.specs.ownership_chains.declared.facts.Facts.{Facts}
+use Rattle.run_values.specs.type_definitions.Declarations.{Declarations, declarations_of}
 use Rattle.run_values.specs.Shapes.{Shape}
 use Rattle.run_values.specs.Values as value
 use Rattle.run_values.specs.Values.{Value, integer_of}

@@ -1,7 +1,7 @@
 //! What the items of blocks break, from the states that walks bring there.
 
 ghost use Rattle.std.specs.Prelude.{◌≡◌, ℕ, ◌+◌, ◌*◌, ◌<◌, ◌≤◌, ◌↔◌, ◌++◌, All, IsTrue, IfOk, OnOk, length};
-ghost use Rattle.sil_cfg.specs.Flow.{block_count, items_at, numbered};
+ghost use Rattle.sil_cfg.specs.Flow.{block_count, numbered};
 ghost use Rattle.sil_cfg.specs.Layout.{item_count};
 ghost use Rattle.path_lists.specs.inner.Lists.{list_at};
 ghost use Rattle.reach_engine.specs.inner.Bits.{bit_in};

@@ -1,7 +1,7 @@
 //! Some of the subjects, as one family of automata that never breaks: what a mark breaks stays in state 2.
 
 ghost use Rattle.std.specs.Prelude.{◌≡◌, ◌+◌, ◌*◌, ◌<◌, ◌≤◌, ◌^◌, [], ◌∷◌, length};
-ghost use Rattle.reach_engine.specs.inner.Run.{run, StaysBelow};
+ghost use Rattle.reach_engine.specs.inner.Run.{run};
 ghost use Rattle.reach_engine.specs.declared.scan.Step.TheVariants.{Go};
 ghost use Rattle.path_lists.specs.inner.Lists.{list_at};
 ghost use Rattle.path_patterns.specs.inner.Reads.{read_step};

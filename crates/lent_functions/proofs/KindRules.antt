@@ -14,7 +14,8 @@ use Rattle.instruction_table.specs.declared.entries.Role.TheVariants as role
 use Rattle.instruction_table.specs.declared.op.Op.TheVariants as op
 use Rattle.item_operands.specs.Roles.{by_row, conventions_in, roles_for, taken_along, taken_as, taken_each}
 use Rattle.item_operands.specs.declared.taken.Taken.{Taken}
-use Rattle.numbered_form.specs.Lists.{Each, is_empty}
+use Rattle.numbered_form.specs.Lists.{Each}
+use Rattle.numbered_form.proofs.Lists.{empty_is}
 use Rattle.numbered_form.specs.Numbering.{values_of}
 use Rattle.numbered_form.specs.inner.Parts.{has_edges, has_operands}
 use Rattle.ownership_chains.specs.Chains.{Chain, IsCyclic, more, one}
@@ -79,10 +80,6 @@ forwarding OperandResult e = absurd (let wrong : false ≡ true = e in cc)
 find_each : {A : Type 0} (p q : A → Bool) (xs : List A) → Each (λ x. p x ≡ q x) xs → find p xs ≡ find q xs
 find_each p q [] h = refl
 find_each p q (x ∷ xs) h = ap₂ (λ b o. cond b (Some x) o) h.0 (find_each p q xs h.1)
-
-nothing : {A : Type 0} (xs : List A) → is_empty xs ≡ true → xs ≡ []
-nothing [] e = refl
-nothing (x ∷ xs) e = absurd (let wrong : false ≡ true = e in cc)
 
 mapped : {A B : Type 0} (g : A → B) (o : Option A) (y : B) → option_map g o ≡ Some y → (x : A) × (o ≡ Some x) × (y ≡ g x)
 mapped g None y e = absurd (let wrong : None ≡ Some y = e in cc)
@@ -214,7 +211,7 @@ module _ (d : Declarations) (f : Function) (p : PointId) (c v : ValueId) (r : Re
   fits n k i _ t at (ends e m) h =
       let parts = r.formed.parts n k i at in
       let alone = one_operand i.operands (subst (λ x. has_operands x i.operands ≡ true) e parts.operands) in
-      let none : i.edges ≡ [] = nothing i.edges (subst (λ x. has_edges x i.edges ≡ true) e parts.edges) in
+      let none : i.edges ≡ [] = empty_is i.edges (subst (λ x. has_edges x i.edges ≡ true) e parts.edges) in
       let taken : (alone.operand.value.0 == c.0) ≡ true =
       first (alone.operand.value.0 == c.0) (sym (ap (list_any (λ (x : Operand). x.value.0 == c.0)) alone.alone) ∙ m) in
       let is : alone.operand.value ≡ c = same_value alone.operand.value c (eqb-true alone.operand.value.0 c.0 taken) in

@@ -27,7 +27,7 @@ use Rattle.ownership_chains.specs.Facts.{facts_with, has, is_owned, known_or}
 use Rattle.ownership_chains.specs.declared.facts.Facts.{Facts}
 use Rattle.accepted_memory.specs.ownership_kinds.Facts.{facts_in}
 use Rattle.ownership_marks.specs.Marks as marks
-use Rattle.ownership_marks.specs.Marks.{end_of, ended_by, ended_with, ends_owned, marks_of, use_of, used_with}
+use Rattle.ownership_marks.specs.Marks.{end_of, ended_with, ends_owned, marks_of, use_of, used_with}
 use Rattle.ownership_marks.specs.declared.mark.Mark.{Mark}
 use Rattle.ownership_marks.specs.declared.mark.MarkSort.TheVariants.{End}
 use Rattle.sil_ast.specs.Blocks.{args_of}

@@ -24,8 +24,8 @@ use Rattle.path_checks.proofs.OneSubject.{marks_shared}
 use Rattle.path_checks.proofs.QuietEntries.{IsQuiet, quiet_turns}
 use Rattle.path_checks.proofs.RulesShown.{each_flat, each_if}
 use Rattle.path_checks.specs.Entries.{marks_for, means}
-use Rattle.ownership_chains.specs.Facts.{is_owned, known_or, value_of}
-use Rattle.ownership_chains.specs.declared.facts.Facts.{Facts}
+use Rattle.ownership_marks.specs.ownership_chains.Facts.{is_owned, known_or, value_of}
+use Rattle.ownership_marks.specs.ownership_chains.declared.facts.Facts.{Facts}
 use Rattle.ownership_marks.specs.Marks.{marks_of}
 use Rattle.ownership_marks.specs.declared.mark.Mark.{Mark}
 use Rattle.ownership_marks.specs.declared.mark.MarkSort.{MarkSort}

@@ -10,8 +10,8 @@ use Rattle.path_checks.specs.declared.entry.Entry as entry
 use Rattle.path_patterns.specs.Marks.{needs_off, needs_off_turns_on, needs_on, needs_on_turns_off}
 use Rattle.path_patterns.specs.declared.mark.Mark as pattern
 use Rattle.sil_rules.specs.declared.rule.Rule.TheVariants as rule
-use Rattle.ownership_chains.specs.Facts.{is_owned, known_or, value_of}
-use Rattle.ownership_chains.specs.declared.facts.Facts.{Facts}
+use Rattle.ownership_marks.specs.ownership_chains.Facts.{is_owned, known_or, value_of}
+use Rattle.ownership_marks.specs.ownership_chains.declared.facts.Facts.{Facts}
 use Rattle.ownership_marks.specs.Marks.{marks_of}
 use Rattle.ownership_marks.specs.declared.mark.Mark as mark
 use Rattle.ownership_marks.specs.declared.mark.MarkSort.{MarkSort}

@@ -24,3 +24,4 @@ pub use Rattle.holder_model.specs.memory_accesses as memory_accesses
 pub use Rattle.holder_model.specs as holder_model
 pub use Rattle.holder_model.specs.ownership_kinds as ownership_kinds
 pub use Rattle.holder_model.specs.ownership_origins as ownership_origins
+pub use Rattle.holder_model.specs.item_operands as item_operands

@@ -6,12 +6,12 @@ use Rattle.sil_ast.specs.declared.place.ObjectId.{ObjectId}
 use Rattle.holder_model.specs.Operations.{access_kind_of, operation_by}
 use Rattle.holder_model.specs.Operation.{Operation}
 use Rattle.holder_model.specs.Operation.TheVariants as operation
-use Rattle.type_definitions.specs.Declarations.{Declarations}
-use Rattle.run_values.specs.Cells.{in_cells}
-use Rattle.run_values.specs.Memory.{Memory, is_dead}
-use Rattle.run_values.specs.Places.{Place, cells_at, emptied, filled, is_there_at, removed, value_at}
-use Rattle.run_values.specs.Shapes.{Shape, storage_in}
-use Rattle.run_values.specs.Values.{Value, references_of}
+use Rattle.holder_model.specs.type_definitions.Declarations.{Declarations}
+use Rattle.holder_model.specs.run_values.Cells.{in_cells}
+use Rattle.holder_model.specs.run_values.Memory.{Memory, is_dead}
+use Rattle.holder_model.specs.run_values.Places.{Place, cells_at, emptied, filled, is_there_at, removed, value_at}
+use Rattle.holder_model.specs.run_values.Shapes.{Shape, storage_in}
+use Rattle.holder_model.specs.run_values.Values.{Value, references_of}
 use Rattle.holder_model.specs.ModuleShapes.{ModuleShapes}
 use Rattle.holder_model.specs.declared.row_effect.RowEffect.{RowEffect}
 use Rattle.holder_model.specs.declared.row_effect.RowEffect.TheVariants as row

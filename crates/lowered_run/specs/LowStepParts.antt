@@ -1,15 +1,15 @@
 -- The states of a run of lowered code, and what its steps are made of.
-use Rattle.std.specs.Prelude.{ℕ, ◌+◌, ◌==◌, List, [], ◌∷◌, ◌++◌, cond, map, length, Option, Some, None, Ok, Err}
+use Rattle.std.specs.Prelude.{◌+◌, ◌==◌, List, [], ◌∷◌, ◌++◌, cond, map, length, Option, Some, None, Ok, Err}
 use Rattle.std.specs.declared.result.Result.{Result}
 use Rattle.sil_ast.specs.declared.function.Function.{Function}
 use Rattle.sil_ast.specs.declared.place.FuncId.{FuncId}
 use Rattle.sil_ast.specs.declared.place.ObjectId.{ObjectId}
 use Rattle.sil_ast.specs.declared.place.ValueId.{ValueId}
 use Rattle.sil_cfg.specs.declared.item.Item.{Item}
-use Rattle.item_operands.specs.Items.{item_taken}
-use Rattle.item_operands.specs.declared.taken.Taken.{Taken}
-use Rattle.run_values.specs.Memory.{Memory, is_dead}
-use Rattle.run_values.specs.Places.{Place}
+use Rattle.holder_model.specs.item_operands.Items.{item_taken}
+use Rattle.holder_model.specs.item_operands.declared.taken.Taken.{Taken}
+use Rattle.holder_model.specs.run_values.Memory.{Memory, is_dead}
+use Rattle.holder_model.specs.run_values.Places.{Place}
 use Rattle.holder_model.specs.Data.{Datum}
 use Rattle.holder_model.specs.Effects.{ClosesSlot, OpensSlot, SameSlots, SlotChange}
 use Rattle.holder_model.specs.Outcomes.{Numbers}

@@ -1,7 +1,6 @@
 -- The steps of a run of lowered code, by stored numbers.
-use Rattle.std.specs.Prelude.{ℕ, zero, suc, ℤ, ◌+◌, List, [], ◌∷◌, ◌++◌, cond, map, length, Option, Some, None, Ok, Err}
+use Rattle.std.specs.Prelude.{ℕ, zero, suc, ℤ, ◌+◌, List, [], ◌∷◌, ◌++◌, cond, map, Option, Some, None}
 use Rattle.std.specs.Prelude.{◌==◌, find, slice_get, option_and_then}
-use Rattle.std.specs.declared.result.Result.{Result}
 use Rattle.instruction_table.specs.Forms.{ending_of}
 use Rattle.instruction_table.specs.declared.entries.Ending as table
 use Rattle.instruction_table.specs.declared.entries.Ending.TheVariants as ending
@@ -15,15 +14,13 @@ use Rattle.sil_ast.specs.declared.place.ObjectId.{ObjectId}
 use Rattle.sil_ast.specs.declared.place.ValueId.{ValueId}
 use Rattle.sil_cfg.specs.declared.item.Item.{Item}
 use Rattle.sil_cfg.specs.declared.item.Item.TheVariants as item
-use Rattle.item_operands.specs.Items.{item_defined, item_taken}
-use Rattle.item_operands.specs.Parts.{inst_at, terminator_of}
-use Rattle.item_operands.specs.declared.taken.Taken.{Taken}
-use Rattle.type_definitions.specs.Declarations.{Declarations, declarations_of}
-use Rattle.run_values.specs.Memory.{Memory, is_dead, object_at}
-use Rattle.run_values.specs.Places.{Place}
-use Rattle.run_values.specs.Shapes.{Shape}
-use Rattle.run_values.specs.Values as value
-use Rattle.run_values.specs.Values.{Value, integer_of, references_of}
+use Rattle.holder_model.specs.item_operands.Items.{item_defined}
+use Rattle.holder_model.specs.item_operands.Parts.{inst_at, terminator_of}
+use Rattle.holder_model.specs.type_definitions.Declarations.{Declarations, declarations_of}
+use Rattle.holder_model.specs.run_values.Memory.{is_dead, object_at}
+use Rattle.holder_model.specs.run_values.Shapes.{Shape}
+use Rattle.holder_model.specs.run_values.Values as value
+use Rattle.holder_model.specs.run_values.Values.{Value, integer_of, references_of}
 use Rattle.holder_model.specs.declared.event.Event.TheVariants as event
 use Rattle.holder_model.specs.declared.trap.Trap.TheVariants as trap
 use Rattle.holder_model.specs.Calling.{value_count}
@@ -31,19 +28,18 @@ use Rattle.holder_model.specs.Data.{Datum, ValueOf, all_of, as_value, values_of}
 use Rattle.holder_model.specs.Dropping.{drop_with, finish_with}
 use Rattle.holder_model.specs.Edges.{branch_of, carried_along, case_edge, edge_of}
 use Rattle.holder_model.specs.Effects as effects
-use Rattle.holder_model.specs.Effects.{Change, ClosesSlot, Effect, OpensSlot, SameSlots, SlotChange, only, unchanged}
+use Rattle.holder_model.specs.Effects.{Change, Effect, only, unchanged}
 use Rattle.holder_model.specs.Frames.{has_any}
 use Rattle.holder_model.specs.ModuleShapes.{ModuleShapes, shapes_in}
-use Rattle.holder_model.specs.Outcomes.{Numbers}
 use Rattle.holder_model.specs.StepParts.{switched_shape}
-use Rattle.holder_model.specs.Standing.{behind, first_point, is_slot}
-use Rattle.holder_model.specs.States.{Drops, Ends, Faulted, Finishes, Goes, Next, Returned, Runs, State, Task, Trapped, dropping, enter, turn}
+use Rattle.holder_model.specs.Standing.{behind}
+use Rattle.holder_model.specs.States.{Drops, Ends, Finishes, Goes, Returned, Runs, Task, Trapped, dropping, enter, turn}
 use Rattle.lowered_run.specs.declared.low_fault.LowFault.{LowFault}
 use Rattle.lowered_run.specs.declared.low_fault.LowFault.TheVariants as fault
 use Rattle.lowered_run.specs.LowEffects.{low_effect, stored_behind}
 use Rattle.lowered_run.specs.LowFrames.{LowFrame, no_values, put_all, read_all}
 use Rattle.lowered_run.specs.LowStepParts.{LowState, LowNext, fails, misfits, on_ok, on_some, slots_behind, values_taken, retains_each, numbers_for, new_frame}
-use Rattle.lowered_run.specs.Stored.{changed, new_numbers, numbers_of, one_less, one_more, unnamed}
+use Rattle.lowered_run.specs.Stored.{changed, numbers_of, one_less, unnamed}
 
 module _ (m : Module) (told : ModuleShapes) (bound : ℕ) where
   abbrev pub declared : Declarations

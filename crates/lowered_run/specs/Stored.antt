@@ -3,7 +3,7 @@ use Rattle.std.specs.Prelude.{◌+◌, ◌-◌, List, [], ◌∷◌, set, slice_
 use Rattle.std.specs.List.{flat_map}
 use Rattle.sil_ast.specs.declared.decl.Storage.TheVariants as storage
 use Rattle.sil_ast.specs.declared.place.ObjectId.{ObjectId}
-use Rattle.run_values.specs.Cells.{Cell}
+use Rattle.holder_model.specs.run_values.Cells.{Cell}
 use Rattle.holder_model.specs.Holders.{kept_references}
 use Rattle.holder_model.specs.Outcomes.{Numbers}
 

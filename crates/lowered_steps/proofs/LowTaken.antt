@@ -1,5 +1,5 @@
 -- What is told of a step of a run of lowered code is the step.
-use Rattle.std.proofs.Common.{◌≡◌, ℕ, ◌+◌, ◌++◌, arith, List, [], ◌∷◌, refl, sym, ap, ◌∙◌, Bool, true, false, cond, Option, Some, None, Ok, Err}
+use Rattle.std.proofs.Common.{◌≡◌, ℕ, ◌+◌, ◌++◌, arith, List, [], ◌∷◌, refl, ap, ◌∙◌, Bool, true, false, cond, Option, Some, None}
 use Rattle.std.specs.Prelude.{find}
 use Rattle.instruction_table.specs.Forms.{ending_of}
 use Rattle.sil_ast.specs.declared.function.Function.{Function}

@@ -31,11 +31,11 @@ use Rattle.lowered_run.specs.holder_model.Effects as effects
 use Rattle.lowered_run.specs.holder_model.Effects.{Change, only, unchanged}
 use Rattle.lowered_run.specs.holder_model.Frames.{has_any}
 use Rattle.lowered_run.specs.holder_model.ModuleShapes.{ModuleShapes}
-use Rattle.lowered_run.specs.holder_model.States.{Drops, Ends, Finishes, Goes, OutOfTurns, Returned, Runs, Task, Trapped, enter, frame_count, turn}
+use Rattle.lowered_run.specs.holder_model.States.{Drops, Ends, Finishes, Goes, OutOfTurns, Runs, Task, Trapped, enter, frame_count, turn}
 use Rattle.lowered_run.specs.declared.low_fault.LowFault.{LowFault}
 use Rattle.lowered_run.specs.declared.low_fault.LowFault.TheVariants as fault
 use Rattle.lowered_run.specs.LowFrames.{LowFrame, no_values, put_all}
-use Rattle.lowered_run.specs.LowStepParts.{LowNext, LowState, fails, misfits, new_frame, on_ok, on_some, retains_each, slots_behind}
+use Rattle.lowered_run.specs.LowStepParts.{LowNext, LowState, fails, new_frame, on_ok, on_some, retains_each, slots_behind}
 use Rattle.lowered_run.specs.LowSteps as steps
 use Rattle.lowered_run.specs.Stored.{changed, numbers_of, one_more}
 use Rattle.lowered_steps.specs.inner.LowWays.{Acts, AreLowStepsTold, Chooses, Enters, Falls, FinishesOne, GoesBehind, Performs, Reaches, ReleasesOne, StandsAtEnd, StepsBy, TakesEdge}

@@ -5,7 +5,7 @@ use Rattle.std.specs.Prelude.{◌&&◌, ◌||◌, ◌==◌, is_some, option_and_
 use Rattle.std.specs.List.{flat_map}
 use Rattle.std.specs.Option.{option_to_list}
 use Rattle.std.proofs.lemmas.Bool.{and_parts, eqb-true, not-false}
-use Rattle.std.proofs.lemmas.List.{length-map}
+use Rattle.std.proofs.lemmas.List.{length-map, nil_from_length}
 use Rattle.instruction_table.specs.Forms.{results_of, type_words_of}
 use Rattle.instruction_table.specs.declared.entries.Results.TheVariants.{NoResult, OneResult, ResultList}
 use Rattle.instruction_table.specs.declared.op.Op.{Op}
@@ -33,7 +33,7 @@ use Rattle.lowering_laws.specs.lowering_model.LoweredInsts.{retains_loaded, stor
 use Rattle.lowering_laws.specs.lowering_model.NewInsts.{loaded_from, release, retain}
 use Rattle.lowering_laws.specs.lowering_model.declared.lowering.Lowering.TheVariants as lowering
 use Rattle.lowering_laws.proofs.run_typing_laws.EndFacts.{one_operand}
-use Rattle.lowering_laws.proofs.run_typing_laws.ListFacts.{empty_is}
+use Rattle.numbered_form.proofs.Lists.{empty_is}
 use Rattle.lowering_laws.proofs.run_typing_laws.Rows.Finding.{found_behind, mapped_from, mapped_some, passed, some_of, where_found}
 use Rattle.lowering_laws.proofs.Structs.{IsStruct, struct_is}
 use Rattle.lowered_typing_laws.proofs.Sound.{Sound, Source}
@@ -108,10 +108,6 @@ no_more [] e = absurd (cc)
 no_more (x ∷ []) e = (x, refl)
 no_more (x ∷ y ∷ xs) e = let none : suc (suc (length xs)) ≡ 1 = eqb-true (suc (suc (length xs))) 1 e in absurd (omega arith)
 
-pub none_left : {A : Type 0} (xs : List A) → (length xs == 0) ≡ true → xs ≡ []
-none_left [] e = refl
-none_left (x ∷ xs) e = let none : suc (length xs) ≡ 0 = eqb-true (suc (length xs)) 0 e in absurd (omega arith)
-
 module _ (m : Module) (f : Function) (source : Source m f) (i : Inst) (sound : Sound m f i) where
   abbrev d : Declarations
   d = declarations_of m
@@ -132,7 +128,7 @@ module _ (m : Module) (f : Function) (source : Source m f) (i : Inst) (sound : S
       (subst (λ x. (is_owned_form x && not (has_word_by (type_words_of i.op) d i)) ≡ false) source.owned sound.words))
 
   pub no_results : (o : Op) → i.op ≡ o → results_of o ≡ NoResult → i.results ≡ []
-  no_results o is none = none_left i.results (subst (λ x. is_count_by x (given_by o d i) (length i.results) ≡ true) none (counted_by o is))
+  no_results o is none = nil_from_length i.results (eqb-true (length i.results) 0 (subst (λ x. is_count_by x (given_by o d i) (length i.results) ≡ true) none (counted_by o is)))
 
   one_result : (o : Op) → i.op ≡ o → results_of o ≡ OneResult → (v : ValueId) × (i.results ≡ v ∷ [])
   one_result o is one = no_more i.results (subst (λ x. is_count_by x (given_by o d i) (length i.results) ≡ true) one (counted_by o is))

@@ -1,5 +1,5 @@
 -- The types of what the instructions define that stand in the place of one.
-use Rattle.std.proofs.Common.{◌≡◌, ℕ, ◌+◌, List, [], ◌∷◌, ◌++◌, length, map, refl, sym, ap, ap₂, ◌∙◌, append-nil, append_assoc, length-append, arith}
+use Rattle.std.proofs.Common.{◌≡◌, ℕ, ◌+◌, List, [], ◌∷◌, ◌++◌, length, map, refl, sym, ap, ap₂, ◌∙◌, append-nil, arith}
 use Rattle.std.proofs.Common.{Option, Some, None}
 use Rattle.std.specs.Prelude.{pos, option_and_then, option_map, slice_get, unwrap_or}
 use Rattle.std.specs.List.{flat_map, range_with_len}
@@ -32,7 +32,6 @@ use Rattle.lowering_laws.proofs.run_typing_laws.ListFacts.{get_below, slices}
 use Rattle.lowered_typing_laws.proofs.Becomes.{Becomes, IsCounted, IsLoad, at_storage, assigns, becomes_so, by_elements, by_fields, copies, destroys, loads}
 use Rattle.lowered_typing_laws.proofs.Becomes.{no_results, object_there, releases, retains, stays, stores, vanishes}
 use Rattle.lowered_typing_laws.proofs.Fields.{fields_again, fields_are}
-use Rattle.lowered_typing_laws.proofs.Lists.{get_behind}
 use Rattle.lowered_typing_laws.proofs.Sound.{Sound, Source}
 use Rattle.lowered_typing_laws.proofs.Told.{InstTold}
 

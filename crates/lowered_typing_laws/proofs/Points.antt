@@ -42,7 +42,8 @@ use Rattle.lowering_laws.specs.lowering_model.NewInsts.{load, loaded_from, relea
 use Rattle.lowering_laws.specs.lowering_model.Numbers.{renumbered_edge, renumbered_inst, renumbered_operand}
 use Rattle.lowering_laws.specs.lowering_model.declared.lowering.Lowering.TheVariants as lowering
 use Rattle.lowering_laws.proofs.run_typing_laws.Found.{each_at}
-use Rattle.lowering_laws.proofs.run_typing_laws.ListFacts.{empty_is, get_below}
+use Rattle.lowering_laws.proofs.run_typing_laws.ListFacts.{get_below}
+use Rattle.numbered_form.proofs.Lists.{empty_is}
 use Rattle.lowered_typing_laws.proofs.Becomes.{Becomes, IsCounted, IsLoad, IsOne, at_storage, assigns, becomes_so, by_elements, by_fields, copies, destroys}
 use Rattle.lowered_typing_laws.proofs.Becomes.{loads, object_there, releases, retains, stays, stores, vanishes}
 use Rattle.lowered_typing_laws.proofs.Fields.{fields_again}

@@ -24,7 +24,7 @@ use Rattle.run_typing_laws.proofs.Rows.Tables.{row_at, told_of_results}
 use Rattle.lowering_laws.specs.inner.Lowerable.{IsLowerable, IsLowerableBlock, IsLowerableInst}
 use Rattle.lowering_laws.proofs.Lists.{each_weaker}
 use Rattle.run_typing_laws.proofs.Declared.{each_from}
-use Rattle.run_typing_laws.proofs.ListFacts.{empty_is}
+use Rattle.numbered_form.proofs.Lists.{empty_is}
 use Rattle.run_typing_laws.proofs.Rows.Finding.{each_at}
 use Rattle.run_typing_laws.proofs.Rows.Points.{in_front}
 use Rattle.run_typing_laws.proofs.Rows.Shares.{of_parts}

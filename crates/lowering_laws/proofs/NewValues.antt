@@ -1,11 +1,11 @@
 -- What an instruction defines in lowered code: a spare value where it takes one, and those of its results that have names of their own.
-use Rattle.std.proofs.Common.{◌≡◌, ℕ, suc, ◌+◌, ◌≤◌, List, [], ◌∷◌, ◌++◌, length, map, append-nil, refl, sym, ap, ◌∙◌, subst, arith, Bool, true, false, not}
+use Rattle.std.proofs.Common.{◌≡◌, ℕ, ◌+◌, ◌≤◌, List, [], ◌∷◌, ◌++◌, length, map, append-nil, refl, sym, ap, ◌∙◌, subst, arith, Bool, true, false, not}
 use Rattle.std.proofs.Common.{cond}
 use Rattle.std.specs.Prelude.{◌==◌, ◌||◌, filter, slice_get}
 use Rattle.std.specs.List.{flat_map}
 use Rattle.std.specs.Option.{option_to_list}
 use Rattle.std.proofs.lemmas.Bool.{eqb-true}
-use Rattle.std.proofs.lemmas.List.{length-map}
+use Rattle.std.proofs.lemmas.List.{length-map, nil_from_length}
 use Rattle.instruction_table.specs.Forms.{results_of as results_of_row}
 use Rattle.instruction_table.specs.declared.entries.Results.TheVariants.{NoResult}
 use Rattle.instruction_table.specs.declared.op.Op.{Op}
@@ -57,13 +57,10 @@ spare_values_by takes spare = cond takes (spare ∷ []) []
 
 -- ---- rows without results
 
-nothing : (xs : List ValueId) → (length xs == 0) ≡ true → xs ≡ []
-nothing [] e = refl
-nothing (x ∷ xs) e = let none : suc (length xs) ≡ 0 = eqb-true (suc (length xs)) 0 e in absurd (omega arith)
-
 pub no_results : (d : Declarations) (f : Function) (i : Inst) → Known d f i → (o : Op) → i.op ≡ o → results_of_row o ≡ NoResult → i.results ≡ []
 no_results d f i k o e none =
-    nothing i.results (subst (λ x. is_count_by x (row_types d i) (length i.results) ≡ true) (ap results_of_row e ∙ none) k.lowerable.results)
+    nil_from_length i.results
+    (eqb-true (length i.results) 0 (subst (λ x. is_count_by x (row_types d i) (length i.results) ≡ true) (ap results_of_row e ∙ none) k.lowerable.results))
 
 -- ---- what each kind of lowering defines
 

@@ -11,7 +11,6 @@ use Rattle.machine_steps.specs.Operands.{contents, gives, int_among, put}
 use Rattle.machine_steps.specs.Turning.{turn}
 use Rattle.machine_steps.specs.Views.{Goes, MachineView, Stops, Went}
 use Rattle.ready_code.specs.declared.local.Local.{Local}
-use Rattle.run_values.specs.declared.leaf.Leaf.{Leaf}
 use Rattle.sil_ast.specs.declared.place.FuncId.{FuncId}
 use Rattle.machine_state.specs.GoingOn.{GoesOn}
 use Rattle.machine_state.specs.Went.{HasGone}

@@ -32,7 +32,7 @@ use Rattle.sil_ast.specs.declared.module.Module.{Module}
 use Rattle.sil_ast.specs.declared.place.FuncId.{FuncId}
 use Rattle.sil_ast.specs.declared.place.ObjectId.{ObjectId}
 use Rattle.type_definitions.specs.Declarations.{declarations_of}
-use Rattle.machine_laws.proofs.Agreement.{Agrees, Follows, PartsAgree, StepsFollow, ends_of}
+use Rattle.machine_laws.proofs.Agreement.{Follows, PartsAgree, StepsFollow, ends_of}
 use Rattle.machine_laws.proofs.Agreement as agreement
 use Rattle.machine_laws.proofs.CallingForms.{CallOf, arguments_taken, integers_taken}
 use Rattle.machine_laws.proofs.CallingOut.{call_out_alike}

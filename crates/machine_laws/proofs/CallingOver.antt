@@ -4,7 +4,6 @@ use Rattle.std.specs.Prelude.{slice_get}
 use Rattle.std.proofs.lemmas.Bool.{cond-true}
 use Rattle.machine_steps.specs.holder_model.Calling.{value_count}
 use Rattle.machine_steps.specs.holder_model.Data.{Datum, as_function}
-use Rattle.machine_steps.specs.holder_model.Effects.{effect_of}
 use Rattle.machine_steps.specs.holder_model.Effects as effects
 use Rattle.machine_steps.specs.holder_model.Frames.{has_any}
 use Rattle.machine_steps.specs.holder_model.ModuleShapes.{shapes_in, shapes_of}

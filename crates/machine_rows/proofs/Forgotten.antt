@@ -1,12 +1,12 @@
 -- Storage that is emptied, and what it gives.
-use Rattle.std.proofs.Common.{◌≡◌, ℕ, Bool, true, false, cond, List, [], ◌∷◌, Option, Some, None, refl, sym, ap, ◌∙◌}
-use Rattle.std.specs.Prelude.{find, IfSome}
+use Rattle.std.proofs.Common.{◌≡◌, ℕ, Bool, true, false, cond, List, [], ◌∷◌, Option, Some, None, refl, ap, ◌∙◌}
+use Rattle.std.specs.Prelude.{IfSome}
 use Rattle.machine_steps.specs.heap_model.HeapViews.{HeapView, is_dead_in, phase_in}
-use Rattle.machine_steps.specs.Held.{empty_at, empty_by, empty_slot, slot_in}
+use Rattle.machine_steps.specs.Held.{empty_by, empty_slot, slot_in}
 use Rattle.machine_steps.specs.Naming.{leaf_unnamed, none_leaves, some_leaves}
 use Rattle.machine_steps.specs.Operands.{gives, object_in_leaf}
 use Rattle.machine_steps.specs.Places.{forgotten, given, retained_and}
-use Rattle.machine_steps.specs.Views.{MachineView, Stops, Went}
+use Rattle.machine_steps.specs.Views.{MachineView, Stops}
 use Rattle.machine_steps.specs.declared.address.Address.{Address}
 use Rattle.machine_steps.specs.declared.address.Home.{Home}
 use Rattle.machine_steps.specs.declared.address.Home.TheVariants as home

@@ -1,8 +1,8 @@
 -- Names and fields may change: the phases of objects don't.
-use Rattle.std.proofs.Common.{◌≡◌, ℕ, zero, suc, ◌==◌, Bool, true, false, not, ◌&&◌, cond, List, [], ◌∷◌, Option, Some, None, set, refl, sym, ap, subst, ◌∙◌}
+use Rattle.std.proofs.Common.{◌≡◌, ℕ, zero, suc, ◌==◌, Bool, true, false, not, ◌&&◌, cond, List, [], ◌∷◌, Option, Some, None, set, refl, ap, ◌∙◌}
 use Rattle.std.specs.Prelude.{option_and_then, option_map, slice_get, unwrap_or}
 use Rattle.machine_steps.specs.heap_model.HeapCalls.{changed, changed_or_freed, is_left, less_unowned, less_weak, more_unowned, more_weak, unless_freed, unowned_unnamed, weakly_unnamed, with_field_of}
-use Rattle.machine_steps.specs.heap_model.HeapViews.{HeapObject, HeapView, is_dead_in, object_in, phase_in, phase_told, unowned_in, weak_in}
+use Rattle.machine_steps.specs.heap_model.HeapViews.{HeapObject, HeapView, phase_in, phase_told, unowned_in, weak_in}
 use Rattle.run_values.specs.Memory.{is_dead_phase}
 use Rattle.run_values.specs.declared.leaf.Leaf.{Leaf}
 use Rattle.run_values.specs.declared.phase.Phase.{Phase}

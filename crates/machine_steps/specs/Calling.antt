@@ -1,5 +1,5 @@
 -- How frames come and go.
-use Rattle.std.specs.Prelude.{ℕ, List, [], ◌∷◌, ◌++◌, Bool, false, cond, Option, Some, None, length, map, nat_lt, replicate, take, slice_get}
+use Rattle.std.specs.Prelude.{ℕ, List, [], ◌∷◌, ◌++◌, false, cond, length, map, nat_lt, replicate, take}
 use Rattle.lowered_run.specs.limits.TheConstants.{FRAMES}
 use Rattle.run_values.specs.declared.leaf.Leaf.{Leaf}
 use Rattle.run_values.specs.declared.leaf.Leaf.TheVariants as leaf
@@ -14,7 +14,7 @@ use Rattle.machine_steps.specs.declared.frame.Task.TheVariants as task
 use Rattle.machine_steps.specs.declared.run_end.RunEnd.TheVariants as end
 use Rattle.machine_steps.specs.Operands.{address_in, contents, no_address, put, put_address}
 use Rattle.machine_steps.specs.Turning.{frames_in, turn}
-use Rattle.machine_steps.specs.Views.{Goes, MachineView, Stops, Went}
+use Rattle.machine_steps.specs.Views.{MachineView, Stops, Went}
 
 -- the frame of a function that is called now
 abbrev pub new_frame : MachineView → FuncId → Frame

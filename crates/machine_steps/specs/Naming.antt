@@ -1,5 +1,5 @@
 -- Weak and unowned storage in the machine: which object it names, and the numbers of those that it names.
-use Rattle.std.specs.Prelude.{ℕ, ◌==◌, List, [], ◌∷◌, cond}
+use Rattle.std.specs.Prelude.{◌==◌, List, [], ◌∷◌, cond}
 use Rattle.heap_model.specs.HeapCalls.{unowned_named, unowned_unnamed, weakly_named, weakly_unnamed}
 use Rattle.heap_model.specs.HeapViews.{HeapView, unowned_in, weak_in}
 use Rattle.run_values.specs.declared.leaf.Leaf.{Leaf}

@@ -1,19 +1,11 @@
 -- What the machine does at places, to storage, and with the parts of values.
-use Rattle.std.specs.Prelude.{ℕ, ℤ, ◌+◌, ◌==◌, List, [], ◌∷◌, ◌++◌, Bool, true, false, ◌&&◌, not, cond, Option, Some, None, Err, Ok}
-use Rattle.std.specs.Prelude.{find, length, map, nat_le, option_map, replicate, slice_get, take, drop, unwrap_or, ◌-◌}
+use Rattle.std.specs.Prelude.{ℕ, ◌+◌, ◌==◌, List, [], ◌∷◌, ◌++◌, Bool, true, false, ◌&&◌, cond, Option, Some, None}
+use Rattle.std.specs.Prelude.{find, length, map, nat_le, replicate, take, ◌-◌}
 use Rattle.std.specs.List.{flat_map}
-use Rattle.std.specs.Option.{option_to_list}
-use Rattle.builtin_names.specs.declared.names.Operation as builtin
 use Rattle.builtin_names.specs.declared.names.Operation.TheVariants as o
-use Rattle.builtin_names.specs.declared.names.Width.{Width}
-use Rattle.lowered_run.specs.Builtins.{bit, combined, compared, is_set, overflowing, same_number, signed}
-use Rattle.lowered_run.specs.Event.TheVariants as event
-use Rattle.heap_model.specs.HeapCalls.{allocated_in, retained}
+use Rattle.heap_model.specs.HeapCalls.{retained}
 use Rattle.heap_model.specs.HeapViews.{HeapView, is_dead_in, phase_in}
 use Rattle.lowered_run.specs.declared.low_fault.LowFault.TheVariants as fault
-use Rattle.ready_code.specs.declared.function.ReadyModule.{ReadyModule}
-use Rattle.ready_code.specs.declared.local.Carry.{Carry}
-use Rattle.ready_code.specs.declared.local.CarryAddress.{CarryAddress}
 use Rattle.ready_code.specs.declared.local.Local.{Local}
 use Rattle.ready_code.specs.declared.local.LocalAddress.{LocalAddress}
 use Rattle.ready_code.specs.declared.op.ReadyOp.{ReadyOp}
@@ -23,11 +15,8 @@ use Rattle.run_values.specs.declared.leaf.Leaf.{Leaf}
 use Rattle.run_values.specs.declared.leaf.Leaf.TheVariants as leaf
 use Rattle.sil_ast.specs.declared.decl.Storage.{Storage}
 use Rattle.sil_ast.specs.declared.decl.Storage.TheVariants as storage
-use Rattle.sil_ast.specs.declared.place.FuncId.{FuncId}
 use Rattle.sil_ast.specs.declared.place.ObjectId.{ObjectId}
-use Rattle.sil_ast.specs.declared.place.PointId.{PointId}
 use Rattle.sil_ast.specs.declared.place.ValueId.{ValueId}
-use Rattle.lowered_run.specs.Typing.Builtins.{bits}
 use Rattle.machine_steps.specs.declared.address.Address.{Address}
 use Rattle.machine_steps.specs.declared.address.Home.{Home}
 use Rattle.machine_steps.specs.declared.address.Home.TheVariants as home
@@ -36,13 +25,10 @@ use Rattle.machine_steps.specs.declared.frame.Frame.{Frame}
 use Rattle.machine_steps.specs.declared.frame.Task.{Task}
 use Rattle.machine_steps.specs.declared.frame.Task.TheVariants as task
 use Rattle.machine_steps.specs.declared.run_end.RunEnd.TheVariants as end
-use Rattle.machine_steps.specs.Calling.{addresses_carried, carried, enter, new_frame, with_frame}
-use Rattle.machine_steps.specs.Held.{Empty, Full, Gone, Held, OfDead, empty_at, held_at, slot_in, write_at}
-use Rattle.machine_steps.specs.Naming.{leaf_named, leaf_unnamed, name_of, none_leaves, some_leaves}
-use Rattle.machine_steps.specs.Operands.{address_in, behind_op, contents, faults, first_leaf, gives, gives_address, go_on, int_among, object_in_leaf}
-use Rattle.machine_steps.specs.Operands.{objects_among}
-use Rattle.machine_steps.specs.Operands.{put, put_there, with_all}
-use Rattle.machine_steps.specs.Turning.{dropping, retains_all, turn}
+use Rattle.machine_steps.specs.Held.{Empty, Full, Gone, Held, OfDead, empty_at, slot_in, write_at}
+use Rattle.machine_steps.specs.Naming.{leaf_named, leaf_unnamed, none_leaves, some_leaves}
+use Rattle.machine_steps.specs.Operands.{behind_op, contents, faults, first_leaf, gives, gives_address, go_on, object_in_leaf}
+use Rattle.machine_steps.specs.Turning.{dropping}
 use Rattle.machine_steps.specs.Views.{Goes, MachineView, Stops, Went}
 
 module _ (st : MachineView) (fr : Frame) (rest : List Task) where

@@ -23,10 +23,10 @@ use Rattle.machine_steps.specs.declared.frame.Task.{Task}
 use Rattle.machine_steps.specs.declared.run_end.RunEnd.TheVariants as end
 use Rattle.machine_steps.specs.Calling.{addresses_carried, carried, enter, new_frame, with_frame}
 use Rattle.machine_steps.specs.Computing.{computed_leaves}
-use Rattle.machine_steps.specs.Held.{held_at, write_at}
+use Rattle.machine_steps.specs.Held.{held_at}
 use Rattle.machine_steps.specs.Naming.{name_of}
 use Rattle.machine_steps.specs.Operands.{address_in, contents, faults, gives, gives_address, go_on, int_among, objects_among, put_there, with_all}
-use Rattle.machine_steps.specs.Places.{all_contents, chosen_leaves, drops, field_address, forgets_name, loads, loads_name, locals_values, made_object}
+use Rattle.machine_steps.specs.Places.{all_contents, chosen_leaves, drops, field_address, forgets_name, loads, loads_name, made_object}
 use Rattle.machine_steps.specs.Places.{payload_contents}
 use Rattle.machine_steps.specs.Places.{removes_home, slot_address, stores, stores_name, with_slot}
 use Rattle.machine_steps.specs.Turning.{retains_all, turn}

@@ -1,11 +1,10 @@
 -- Runs of the machine: steps, one after another, and how a run begins.
-use Rattle.std.specs.Prelude.{◌≡◌, ℕ, zero, suc, List, [], ◌∷◌, Option, Some, None, replicate, slice_get, false}
+use Rattle.std.specs.Prelude.{◌≡◌, ℕ, zero, suc, [], ◌∷◌}
 use Rattle.heap_model.specs.HeapCalls.{empty_heap}
 use Rattle.ready_code.specs.declared.function.ReadyFunction.{ReadyFunction}
 use Rattle.ready_code.specs.declared.function.ReadyModule.{ReadyModule}
 use Rattle.sil_ast.specs.declared.place.FuncId.{FuncId}
 use Rattle.type_definitions.specs.Declarations.{Declarations}
-use Rattle.machine_steps.specs.declared.run_end.RunEnd.{RunEnd}
 use Rattle.machine_steps.specs.Calling.{with_frame}
 use Rattle.machine_steps.specs.Steps.{machine_step}
 use Rattle.machine_steps.specs.Views.{Goes, MachineView, Stops, Went}

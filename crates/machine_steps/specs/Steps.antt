@@ -1,5 +1,5 @@
 -- The steps of the machine: one instruction or terminator, one drop, one call of a deinitialiser, or one finish.
-use Rattle.std.specs.Prelude.{ℕ, suc, ◌+◌, ◌-◌, ◌==◌, List, [], ◌∷◌, ◌++◌, Bool, true, false, not, cond, Option, Some, None, length, option_and_then}
+use Rattle.std.specs.Prelude.{ℕ, ◌+◌, ◌-◌, ◌==◌, List, [], ◌∷◌, ◌++◌, Bool, true, false, not, cond, Option, Some, None, length}
 use Rattle.std.specs.Prelude.{slice_get, take, unwrap_or}
 use Rattle.lowered_run.specs.Event.TheVariants as event
 use Rattle.heap_model.specs.HeapCalls.{finished, released, started, takes_last}

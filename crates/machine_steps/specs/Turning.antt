@@ -8,7 +8,7 @@ use Rattle.machine_steps.specs.declared.frame.Task.{Task}
 use Rattle.machine_steps.specs.declared.frame.Task.TheVariants as task
 use Rattle.machine_steps.specs.declared.run_end.RunEnd.TheVariants as end
 use Rattle.machine_steps.specs.Operands.{faults}
-use Rattle.machine_steps.specs.Views.{Goes, MachineView, Stops, Went}
+use Rattle.machine_steps.specs.Views.{MachineView, Stops, Went}
 
 -- a turn: the one that would be past the bound isn't begun
 abbrev pub turn : ℕ → MachineView → (MachineView → Went) → Went

@@ -8,7 +8,7 @@ use Rattle.ready_code.specs.lowered_run.LowEffects.{is_first_write}
 use Rattle.holder_model.specs.memory_accesses.Operations.{load_operation, store_operation}
 use Rattle.ready_code.specs.run_typing.Forms.{OfPlace, form_of}
 use Rattle.run_values.specs.Shapes as shapes
-use Rattle.run_values.specs.Shapes.{Shape, Stored, member_shapes, shape_of, storage_in}
+use Rattle.run_values.specs.Shapes.{Shape, Stored, storage_in}
 use Rattle.sil_ast.specs.declared.decl.Storage.{Storage}
 use Rattle.sil_ast.specs.declared.function.Function.{Function}
 use Rattle.sil_ast.specs.declared.inst.Inst.{Inst}
@@ -16,7 +16,7 @@ use Rattle.sil_ast.specs.declared.module.Module.{Module}
 use Rattle.sil_ast.specs.declared.place.ValueId.{ValueId}
 use Rattle.type_definitions.specs.Declarations.{Declarations, declarations_of}
 use Rattle.ready_code.specs.Layout.{local, local_address, size_of}
-use Rattle.ready_code.specs.ReadyOps.{IsReadyOp, first_of, leaf_offset, operands_of}
+use Rattle.ready_code.specs.ReadyOps.{IsReadyOp, operands_of}
 use Rattle.ready_code.specs.ReadyOps as made
 use Rattle.ready_code.specs.declared.local.Local.{Local}
 use Rattle.ready_code.specs.declared.local.LocalAddress.{LocalAddress}

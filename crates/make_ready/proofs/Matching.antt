@@ -1,6 +1,5 @@
 -- Lists that match element by element, built one by one.
 use Rattle.std.proofs.Common.{◌≡◌, ℕ, ◌+◌, ◌<◌, ◌≤◌, List, [], ◌∷◌, ◌++◌, length, take, get_or, sym, subst}
-use Rattle.std.proofs.lemmas.List.{take_all}
 use Rattle.ready_code.specs.Matched.{Matched, none, both}
 use Rattle.frame_layouts.proofs.Lists.{further}
 
@@ -20,7 +19,3 @@ module _ {A B : Type 0} (match_ : A → B → Type 0) where
 
   pub matched_none : (xs : List A) (ys : List B) → ys ≡ [] → Matched match_ (take 0 xs) ys
   matched_none xs ys is = subst (Matched match_ []) (sym is) none
-
-  -- all are matched
-  pub matched_all : (xs items : List A) (k : ℕ) (ys : List B) → items ≡ xs → length items ≤ k → Matched match_ (take k xs) ys → Matched match_ xs ys
-  matched_all xs items k ys same le so_far = subst (λ zs. Matched match_ zs ys) (take_all k xs (subst (λ zs. length zs ≤ k) same le)) so_far

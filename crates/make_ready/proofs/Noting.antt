@@ -1,7 +1,7 @@
 -- The first edge of each case, noted edge by edge.
 use Rattle.std.proofs.Common.{◌≡◌, ℕ, zero, suc, ◌+◌, ◌<◌, ◌≤◌, List, [], ◌∷◌, ◌++◌, length, take, set, get_or, refl, sym, ap, ap₂, ◌∙◌, subst, arith}
 use Rattle.std.proofs.Common.{Bool, true, false, Option, Some, None, eqb, inl, inr}
-use Rattle.std.specs.Prelude.{◌==◌, ◌⊎◌, cond, is_some, position, slice_get, replicate}
+use Rattle.std.specs.Prelude.{◌==◌, ◌⊎◌, cond, is_some, position, slice_get}
 use Rattle.std.specs.List.{position_from}
 use Rattle.std.specs.Option.{option_or}
 use Rattle.std.proofs.lemmas.Bool.Decides.{eqb_tells}
@@ -81,21 +81,6 @@ position_more test xs x =
 module _ (s : Shape) (edges : List Edge) (count : ℕ) where
   abbrev By : ℕ → List (Option ℕ) → Type 0
   By j chosen = AreByCase s (take j edges) count chosen
-
-  abbrev nones : ℕ → List (Option ℕ)
-  nones n = replicate n None
-
-  pub none_noted : (chosen : List (Option ℕ)) → chosen ≡ nones count → By 0 chosen
-  none_noted chosen is = subst (By 0) (sym is) (record { all = all count; each = each count })
-    where
-      all : (n : ℕ) → length (nones n) ≡ n
-      all zero = refl
-      all (suc n) = ap suc (all n)
-
-      each : (n k : ℕ) → k < n → slice_get (nones n) k ≡ Some (position (is_for s k) [])
-      each zero k lt = absurd (omega arith)
-      each (suc n) zero lt = refl
-      each (suc n) (suc k) lt = each n k (omega arith)
 
   module _ (j : ℕ) (e : Edge) (more : take (j + 1) edges ≡ take j edges ++ e ∷ []) (inside : j < length edges)
       (chosen : List (Option ℕ)) (by : By j chosen) where

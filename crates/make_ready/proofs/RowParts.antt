@@ -26,7 +26,7 @@ use Rattle.type_definitions.specs.Lookups.{payload_of}
 use Rattle.ready_code.specs.run_typing.EndForms.{value_in}
 use Rattle.ready_code.specs.run_typing.Forms.{Form, OfPlace, OfValue, form_by, form_of, form_with, forms_of}
 use Rattle.ready_code.specs.run_typing.RowForms as typed
-use Rattle.ready_code.specs.run_typing.RowForms.{RowForms, operand_shapes, operation_done, shapes_by}
+use Rattle.ready_code.specs.run_typing.RowForms.{RowForms, operation_done, shapes_by}
 use Rattle.ready_code.specs.run_typing.Runnable.{IsRunnable}
 use Rattle.frame_layouts.proofs.run_typing_laws.Rows.Finding.{mapped_from}
 use Rattle.ready_code.specs.ReadyOps.{operands_of}

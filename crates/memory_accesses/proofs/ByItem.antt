@@ -7,9 +7,9 @@ use Rattle.sil_ast.specs.declared.function.Function.{Function}
 use Rattle.sil_ast.specs.declared.place.ValueId.{ValueId}
 use Rattle.sil_cfg.specs.Layout.{Layout, item_at, item_count}
 use Rattle.sil_cfg.specs.declared.item.Item.{Item}
-use Rattle.path_patterns.specs.inner.Reads.{accesses_at, AgreesWith}
-use Rattle.ownership_chains.specs.Facts.{told_at}
-use Rattle.ownership_chains.specs.declared.facts.Facts.{Facts}
+use Rattle.path_checks.specs.path_patterns.inner.Reads.{accesses_at, AgreesWith}
+use Rattle.ownership_marks.specs.ownership_chains.Facts.{told_at}
+use Rattle.ownership_marks.specs.ownership_chains.declared.facts.Facts.{Facts}
 use Rattle.ownership_marks.proofs.MarkTables.{same_marks}
 use Rattle.ownership_marks.specs.Known.{AreKindsBy, Known, marks_at}
 use Rattle.ownership_marks.specs.declared.mark.Mark.{Mark}

@@ -6,7 +6,7 @@ use Rattle.std.proofs.lemmas.List.{reverse-append}
 use Rattle.std.proofs.lemmas.List.FromFn.{get_or-map-range_with_len, length-map-range_with_len}
 use Rattle.std.proofs.lemmas.Option.{slice_get_past, unwrap_or-slice_get}
 use Rattle.std.proofs.lemmas.Bool.{cases_lt}
-use Rattle.ownership_chains.specs.Facts.{value_of}
+use Rattle.ownership_marks.specs.ownership_chains.Facts.{value_of}
 use Rattle.sil_ast.specs.declared.place.ValueId.{ValueId}
 use Rattle.argument_conventions.specs.declared.row.AddressRow.{AddressRow}
 use Rattle.memory_accesses.specs.declared.location.Location.{Location}

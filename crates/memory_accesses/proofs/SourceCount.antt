@@ -7,8 +7,8 @@ use Rattle.sil_ast.specs.declared.function.BlockArg.{BlockArg}
 use Rattle.sil_ast.specs.declared.function.Function.{Function}
 use Rattle.sil_ast.specs.declared.signature.Signature.{Signature}
 use Rattle.argument_conventions.specs.Arguments.{arguments_of}
-use Rattle.numbered_form.specs.Numbering.{values_of}
-use Rattle.type_definitions.specs.Declarations.{Declarations}
+use Rattle.value_tables.specs.numbered_form.Numbering.{values_of}
+use Rattle.ownership_marks.specs.type_definitions.Declarations.{Declarations}
 use Rattle.value_tables.proofs.Rows.{rows_count}
 use Rattle.memory_accesses.specs.declared.source.Source.TheVariants.{Other}
 use Rattle.memory_accesses.specs.Sources.{arg_sources, argument_source_or, result_source, result_sources, sources_of}

@@ -13,8 +13,8 @@ use Rattle.sil_ast.specs.declared.signature.Signature.{Signature}
 use Rattle.argument_conventions.specs.Arguments.{Told, arguments_of}
 use Rattle.argument_conventions.specs.Rows.{address_row}
 use Rattle.argument_conventions.specs.declared.row.AddressRow.{AddressRow}
-use Rattle.type_definitions.specs.Declarations.{Declarations}
-use Rattle.type_definitions.specs.Lookups.{FoundField, field_of, fields_of}
+use Rattle.ownership_marks.specs.type_definitions.Declarations.{Declarations}
+use Rattle.ownership_marks.specs.type_definitions.Lookups.{FoundField, field_of, fields_of}
 use Rattle.sil_types.specs.Typing.Shapes.{is_trivial_object}
 use Rattle.value_tables.specs.FirstValue.{first_value}
 use Rattle.value_tables.specs.ValueRows.{value_rows}

@@ -3,9 +3,9 @@
 ghost use Rattle.std.specs.Prelude.{◌≡◌, ℕ, Option, IfOk, OnOk, length};
 ghost use Rattle.sil_ast.specs.declared.place.ValueId.{ValueId};
 ghost use Rattle.sil_cfg.specs.Layout.{item_count};
-ghost use Rattle.path_patterns.specs.inner.Reads.{accesses_at, AgreesWith};
-ghost use Rattle.ownership_chains.specs.Facts.{told_at};
-ghost use Rattle.ownership_chains.specs.declared.facts.Facts.{Facts};
+ghost use Rattle.path_checks.specs.path_patterns.inner.Reads.{accesses_at, AgreesWith};
+ghost use Rattle.ownership_marks.specs.ownership_chains.Facts.{told_at};
+ghost use Rattle.ownership_marks.specs.ownership_chains.declared.facts.Facts.{Facts};
 ghost use Rattle.ownership_marks.specs.Known.{AreKindsBy};
 ghost use Rattle.memory_accesses.specs.Accesses.{accesses_of, accesses_with};
 

@@ -2,7 +2,7 @@
 
 ghost use Rattle.std.specs.Prelude.{◌≡◌, ◌≤◌, ◌^◌, IfOk, length};
 ghost use Rattle.std.specs.Option.{option_copied};
-ghost use Rattle.numbered_form.specs.Numbering.{values_of};
+ghost use Rattle.value_tables.specs.numbered_form.Numbering.{values_of};
 ghost use Rattle.memory_accesses.specs.Locations as locations;
 ghost use Rattle.memory_accesses.specs.Rows as rows;
 ghost use Rattle.memory_accesses.specs.Sources as sources;

@@ -7,7 +7,7 @@ use Rattle.sil_ast.specs.declared.function.Function.{Function}
 use Rattle.sil_ast.specs.declared.place.ValueId.{ValueId}
 use Rattle.sil_rules.proofs.Firsts.{first_earlier, first_same, first_some}
 use Rattle.sil_rules.specs.Order.{Either, IsEarlier, IsFirst}
-use Rattle.ownership_chains.specs.declared.facts.Facts.{Facts}
+use Rattle.ownership_marks.specs.ownership_chains.declared.facts.Facts.{Facts}
 use Rattle.memory_accesses.specs.declared.source.Source.{Source}
 use Rattle.memory_parts.specs.inner.Batches.{AreRising, is_behind}
 use Rattle.memory_parts.specs.Parts.{subject_of}

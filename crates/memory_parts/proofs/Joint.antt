@@ -9,8 +9,8 @@ use Rattle.sil_ast.specs.declared.function.Function.{Function}
 use Rattle.sil_ast.specs.declared.place.ValueId.{ValueId}
 use Rattle.sil_cfg.specs.Layout.{Layout, item_at}
 use Rattle.sil_cfg.specs.declared.item.Item.{Item}
-use Rattle.ownership_chains.specs.Facts.{known_or, value_of}
-use Rattle.ownership_chains.specs.declared.facts.Facts.{Facts}
+use Rattle.ownership_marks.specs.ownership_chains.Facts.{known_or, value_of}
+use Rattle.ownership_marks.specs.ownership_chains.declared.facts.Facts.{Facts}
 use Rattle.ownership_marks.proofs.MarkTables.{flat_map_same}
 use Rattle.ownership_marks.specs.Known.{AreKindsBy, Known, facts_of, marks_at}
 use Rattle.path_checks.specs.inner.Shared.{entries_with, entry_if, shared_from, shared_if}

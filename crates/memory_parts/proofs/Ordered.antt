@@ -4,8 +4,8 @@ use Rattle.std.specs.Prelude.{cond}
 use Rattle.std.specs.List.{flat_map, range_with_len}
 use Rattle.std.proofs.lemmas.List.Elements.{All-nil, All-cons, All-head, All-tail, All-append, All-weaker}
 use Rattle.sil_ast.specs.declared.place.ValueId.{ValueId}
-use Rattle.ownership_chains.specs.Facts.{value_of}
-use Rattle.ownership_chains.specs.declared.facts.Facts.{Facts}
+use Rattle.ownership_marks.specs.ownership_chains.Facts.{value_of}
+use Rattle.ownership_marks.specs.ownership_chains.declared.facts.Facts.{Facts}
 use Rattle.argument_conventions.specs.declared.row.AddressRow.{AddressRow}
 use Rattle.memory_accesses.specs.Locations.{location_of}
 use Rattle.memory_accesses.specs.Sources.{source_at}

@@ -14,8 +14,8 @@ use Rattle.sil_rules.specs.declared.rule.Rule.TheVariants as rule
 use Rattle.rule_faults.specs.declared.fault.RuleFault.{RuleFault}
 use Rattle.path_checks.proofs.RulesShown.{broken_rule}
 use Rattle.path_patterns.specs.declared.mark.Mark.{Mark}
-use Rattle.ownership_chains.specs.Facts.{known_or}
-use Rattle.ownership_chains.specs.declared.facts.Facts.{Facts}
+use Rattle.ownership_marks.specs.ownership_chains.Facts.{known_or}
+use Rattle.ownership_marks.specs.ownership_chains.declared.facts.Facts.{Facts}
 use Rattle.memory_accesses.specs.Accesses.{accesses_of}
 use Rattle.memory_accesses.specs.Locations.{cell_of, location_of}
 use Rattle.memory_accesses.specs.Sources.{is_slot, is_trivial_at}

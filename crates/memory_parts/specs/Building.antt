@@ -4,8 +4,8 @@ use Rattle.std.specs.List.{list_any}
 use Rattle.sil_ast.specs.declared.place.ValueId.{ValueId}
 use Rattle.memory_accesses.specs.declared.access.Access.{Access}
 use Rattle.memory_accesses.specs.declared.access.Access.TheVariants.{Ends, Begins, Allocates, Deallocates, Given, Does, Mentions}
-use Rattle.ownership_chains.specs.Facts.{is_guaranteed}
-use Rattle.ownership_chains.specs.declared.facts.Facts.{Facts}
+use Rattle.ownership_marks.specs.ownership_chains.Facts.{is_guaranteed}
+use Rattle.ownership_marks.specs.ownership_chains.declared.facts.Facts.{Facts}
 use Rattle.memory_accesses.specs.declared.access.Operation.{Operation}
 use Rattle.memory_accesses.specs.declared.columns.Allowance.{Allowance}
 use Rattle.memory_accesses.specs.declared.columns.Allowance.TheVariants.{NeitherOfThem, FreshObject, BuildingBorrow, BothOfThem}

@@ -1,14 +1,14 @@
 -- The earlier of two that come first of their kinds comes first of both.
-use Rattle.std.proofs.Common.{◌≡◌, ℕ, List, ap, inl, inr, false, Option, Some, None}
+use Rattle.std.proofs.Common.{◌≡◌, List, ap, inl, inr, false, Option}
 use Rattle.sil_ast.specs.declared.function.Function.{Function}
 use Rattle.sil_ast.specs.declared.place.ValueId.{ValueId}
 use Rattle.sil_cfg.specs.Layout.{Layout}
 use Rattle.rule_faults.specs.Keys.{fault_key}
 use Rattle.rule_faults.specs.declared.fault.RuleFault.{RuleFault}
 use Rattle.sil_rules.proofs.Firsts.{first_same}
-use Rattle.sil_rules.specs.Order.{Either, IsEarlier, IsFirst}
-use Rattle.ownership_chains.specs.Facts.{known_or}
-use Rattle.ownership_chains.specs.declared.facts.Facts.{Facts}
+use Rattle.sil_rules.specs.Order.{Either, IsEarlier}
+use Rattle.ownership_marks.specs.ownership_chains.Facts.{known_or}
+use Rattle.ownership_marks.specs.ownership_chains.declared.facts.Facts.{Facts}
 use Rattle.ownership_marks.specs.Known.{Known}
 use Rattle.memory_accesses.specs.declared.source.Source.{Source}
 use Rattle.memory_parts.specs.Parts.{parts_of}

@@ -18,7 +18,7 @@ use Rattle.sil_rules.specs.Order.{NotAfter}
 use Rattle.reach_engine.specs.declared.scan.Step.TheVariants.{Go}
 use Rattle.reach_engine.specs.inner.Run.{run}
 use Rattle.reach_engine.specs.inner.Reach.{ReachesFirst}
-use Rattle.ownership_chains.specs.declared.facts.Facts.{Facts}
+use Rattle.ownership_marks.specs.ownership_chains.declared.facts.Facts.{Facts}
 use Rattle.ownership_marks.specs.Known.{AreKindsBy, Known}
 use Rattle.path_patterns.specs.Along.{Shows}
 use Rattle.path_patterns.specs.inner.Reads.{AgreesWith}

@@ -8,7 +8,7 @@ use Rattle.sil_cfg.specs.Items.{flow_of}
 use Rattle.sil_cfg.specs.Layout.{Layout}
 use Rattle.sil_cfg.specs.declared.item.Item.{Item}
 use Rattle.sil_rules.specs.Order.{IsFirst}
-use Rattle.ownership_chains.specs.declared.facts.Facts.{Facts}
+use Rattle.ownership_marks.specs.ownership_chains.declared.facts.Facts.{Facts}
 use Rattle.ownership_marks.specs.Known.{AreKindsBy, Known}
 use Rattle.path_patterns.specs.Along.{Shows}
 use Rattle.memory_accesses.specs.declared.source.Source.{Source}

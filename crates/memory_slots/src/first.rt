@@ -4,7 +4,7 @@ ghost use Rattle.std.specs.Prelude.{◌≡◌, ◌<◌, ℕ, IfOk, All, AllPairs
 ghost use Rattle.sil_ast.specs.declared.place.ValueId as value;
 ghost use Rattle.sil_cfg.specs.Layout.{item_count};
 ghost use Rattle.sil_cfg.specs.inner.Build.{IsGraphOf};
-ghost use Rattle.ownership_chains.specs.declared.facts.Facts.{Facts};
+ghost use Rattle.ownership_marks.specs.ownership_chains.declared.facts.Facts.{Facts};
 ghost use Rattle.ownership_marks.specs.Known.{AreKindsBy};
 ghost use Rattle.path_patterns.specs.inner.Reads.{AgreesWith, accesses_at};
 ghost use Rattle.memory_accesses.specs.Accesses.{accesses_of};

@@ -10,8 +10,8 @@ use Rattle.holder_model.specs.Outcomes.{EndsSo, Outcome}
 use Rattle.holder_model.specs.States.{Ending, Faulted, OutOfTurns, Returned, Trapped}
 use Rattle.holder_model.specs.declared.event.Event.{Event}
 use Rattle.holder_model.specs.declared.left_object.LeftObject.{LeftObject}
-use Rattle.lowered_run.specs.declared.low_fault.LowFault.{LowFault}
-use Rattle.lowered_run.specs.LowOutcomes.{LowEndsSo}
+use Rattle.count_machine.specs.lowered_run.declared.low_fault.LowFault.{LowFault}
+use Rattle.count_machine.specs.lowered_run.LowOutcomes.{LowEndsSo}
 use Rattle.ownership_lowering.specs.lowering_model.LoweredModules.{lowered}
 use Rattle.report_writing.specs.RunOutcomes.{ending_of, value_of}
 use Rattle.report_writing.specs.declared.outcome.Ending as told

@@ -2,8 +2,8 @@
 use Rattle.std.specs.Prelude.{◌≡◌, ℕ}
 use Rattle.holder_model.specs.Outcomes.{Outcome}
 use Rattle.holder_model.specs.States.{Faulted}
-use Rattle.lowered_run.specs.LowOutcomes.{LowEndsSo}
-use Rattle.lowered_run.specs.declared.low_fault.LowFault.{LowFault}
+use Rattle.count_machine.specs.lowered_run.LowOutcomes.{LowEndsSo}
+use Rattle.count_machine.specs.lowered_run.declared.low_fault.LowFault.{LowFault}
 use Rattle.ownership_lowering.specs.lowering_model.LoweredModules.{lowered}
 use Rattle.sil_ast.specs.declared.module.Module.{Module}
 use Rattle.sil_ast.specs.declared.place.FuncId.{FuncId}

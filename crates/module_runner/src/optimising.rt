@@ -4,8 +4,8 @@ ghost use Rattle.std.specs.Prelude.{IfOk};
 ghost use Rattle.module_runner.specs.Optimising.{IsOptimisedIf};
 ghost use Rattle.module_runner.specs.inner.RunReports.{IsLoweredIf};
 
-use copy_pairing::optimize;
-use ownership_lowering::lower;
+use copy_pairing::{optimize, optimize_in_place};
+use ownership_lowering::lower_in_place;
 use sil_ast::{Exhausted, Module};
 use sil_verifier::Checked;
 use std::alloc::Global;
@@ -23,13 +23,18 @@ pub fn optimised_if(alloc: Global, c: Checked, optimise: bool) -> Result<Checked
     }
 }
 
-/// Lowers the optimised module where that is asked for, and else the module itself.
-pub(crate) fn lowered_if(alloc: Global, c: &Checked, optimise: bool) -> Result<Module, Exhausted>
-    ensures { IfOk result (λ made. IsLoweredIf optimise c.now made) }
+/// Lowers a module where it stands, optimised first where that is asked for.
+pub(crate) fn lower_if(
+    alloc: Global,
+    table: &TypeTable,
+    m: &mut Module,
+    optimise: bool,
+) -> Result<(), Exhausted>
+    requires { IsVerifiedWith m.old table.now }
+    ensures { OnOk result (IsLoweredIf optimise m.old m.new) }
 {
-    if !optimise {
-        return lower(alloc, c);
+    if optimise {
+        optimize_in_place(alloc, table, m)?;
     }
-    let optimised = optimised_if(alloc, c.try_clone(alloc)?, true)?;
-    lower(alloc, &optimised)
+    lower_in_place(alloc, table, m)
 }

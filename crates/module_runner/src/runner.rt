@@ -1,22 +1,22 @@
 //! The run of an accepted module.
 
-ghost use Rattle.std.specs.Prelude.{◌≡◌, ◌≤◌, ◌↔◌, ℕ, Err, IfOk, List};
+ghost use Rattle.std.specs.Prelude.{◌≡◌, ◌≤◌, ◌↔◌, Err, IfOk};
+ghost use Rattle.sil_ast.specs.declared.function.Function.{Function};
 ghost use Rattle.type_definitions.specs.Mentions as mentions;
 ghost use Rattle.module_runner.specs.Entries.{HasEntry, IsEntry};
-ghost use Rattle.module_runner.specs.inner.RunReports.{HeapIsAsTold, IsReportable, TellsAsItself, TellsAsItselfFrom};
-ghost use Rattle.module_runner.specs.inner.RunReports.{TellsOfRun, TellsOfRunFrom};
-ghost use Rattle.sil_verifier.specs.accepted_modules.inner.Checked.{IsVerified};
+ghost use Rattle.module_runner.specs.inner.RunReports.{HeapIsAsTold, IsReportable, TellsAsItself, TellsOfRun};
+ghost use Rattle.sil_verifier.specs.accepted_modules.inner.Checked.{IsVerifiedWith};
 ghost use Rattle.module_runner.specs.declared.runner.RunEnd.TheVariants.{NoEntry};
 
 use crate::ending::reported;
-use crate::entry::{Entry, entry_named};
-use crate::optimising::lowered_if;
+use crate::entry::entry_named;
+use crate::optimising::lower_if;
 use crate::report::RunReport;
 use copy_pairing::{optimised_outcomes_agree, rewriting_keeps_verified};
 use count_machine::{LowRun, run};
 use same_runs::lowered_runs_are_same;
-use sil_ast::{Boxed, Exhausted, Given, List, Signature, TryClone, TypeName};
-use sil_types::only_direct_type;
+use sil_ast::{Boxed, Exhausted, FuncId, Given, List, Module, Signature, TryClone, TypeName};
+use sil_types::{TypeTable, only_direct_type};
 use sil_verifier::Checked;
 use std::alloc::Global;
 
@@ -31,7 +31,7 @@ pub enum RunEnd {
 
 /// Lowers an accepted module, optimised first where that is asked for, and runs the lowered one from the function with the name
 /// `entry`, for a bound on turns. What is reported is the run by holders, of the module that was lowered: a lowered run ends as that one
-/// does.
+/// does. The module stays as it is: a copy is lowered.
 pub fn run_checked<'c>(
     alloc: Global,
     c: &'c Checked,
@@ -46,35 +46,66 @@ pub fn run_checked<'c>(
     ensures reportable { IfOk result IsReportable }
     ensures no_entry { (result ≡ Err NoEntry) ↔ ¬ HasEntry c.now entry.now }
 {
-    let Some(entry) = entry_named(c.module(), entry) else {
+    if entry_named(c.module(), entry).is_none() {
+        return Err(RunEnd::NoEntry);
+    }
+    match c.module().try_clone(alloc) {
+        Ok(m) => run_owned(alloc, m, c.table(), entry, turns, optimise),
+        Err(Exhausted) => Err(RunEnd::Memory),
+    }
+}
+
+/// Does as `run_checked` with a module that is given up for that, and its table: it is lowered where it stands.
+pub fn run_owned<'t>(
+    alloc: Global,
+    m: Module,
+    table: &'t TypeTable,
+    entry: &[u8],
+    turns: u32,
+    optimise: bool,
+) -> Result<RunReport<'t>, RunEnd>
+    requires verified { IsVerifiedWith m table.now }
+    requires some_turns { 1 ≤ turns }
+    ensures run { IfOk result (TellsOfRun m entry.now turns optimise) }
+    ensures optimised { IfOk result (TellsAsItself m entry.now turns) }
+    ensures heap { IfOk result HeapIsAsTold }
+    ensures reportable { IfOk result IsReportable }
+    ensures no_entry { (result ≡ Err NoEntry) ↔ ¬ HasEntry m entry.now }
+{
+    let Some(found) = entry_named(&m, entry) else {
         return Err(RunEnd::NoEntry);
     };
-    match run_from(alloc, c, entry, turns, optimise) {
+    let start = found.id;
+    match run_from(alloc, m, table, entry, start, turns, optimise) {
         Ok(report) => Ok(report),
         Err(Exhausted) => Err(RunEnd::Memory),
     }
 }
 
-fn run_from<'c>(
+/// The run from the entry function of the name `entry`, which has the number `start`.
+fn run_from<'t>(
     alloc: Global,
-    c: &'c Checked,
-    entry: Entry<'_>,
+    m: Module,
+    table: &'t TypeTable,
+    entry: &[u8],
+    start: FuncId,
     turns: u32,
     optimise: bool,
-) -> Result<RunReport<'c>, Exhausted>
-    requires verified { IsVerified c.now }
-    requires entry { (name : List ℕ) × IsEntry c.now name entry.id entry.function.now }
+) -> Result<RunReport<'t>, Exhausted>
+    requires verified { IsVerifiedWith m table.now }
+    requires entry { (f : Function) × IsEntry m entry.now start f }
     requires some_turns { 1 ≤ turns }
-    ensures run { IfOk result (TellsOfRunFrom c.now entry.entry.id entry.entry.function.now turns optimise) }
-    ensures optimised { IfOk result (TellsAsItselfFrom c.now entry.entry.id turns) }
+    ensures run { IfOk result (TellsOfRun m entry.now turns optimise) }
+    ensures optimised { IfOk result (TellsAsItself m entry.now turns) }
     ensures heap { IfOk result HeapIsAsTold }
     ensures reportable { IfOk result IsReportable }
 {
     rewriting_keeps_verified();
     optimised_outcomes_agree();
     lowered_runs_are_same();
-    let result_type = given_type(alloc, &entry.function.signature)?;
-    let module = lowered_if(alloc, c, optimise)?;
+    let result_type = given_type(alloc, &m.functions.as_slice()[start.0 as usize].signature)?;
+    let mut module = m;
+    lower_if(alloc, table, &mut module, optimise)?;
     let LowRun {
         events,
         ending,
@@ -82,10 +113,10 @@ fn run_from<'c>(
         retains,
         releases,
         heap,
-    } = run(alloc, &module, c.table(), entry.id, turns)?;
+    } = run(alloc, &module, table, start, turns)?;
     Ok(RunReport {
         module,
-        table: c.table(),
+        table,
         result_type,
         events,
         ending: reported(ending),

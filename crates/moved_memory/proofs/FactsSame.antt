@@ -3,6 +3,7 @@ use Rattle.std.proofs.Common.{◌≡◌, ℕ, zero, suc, ◌<◌, List, [], ◌�
 use Rattle.std.specs.Prelude.{◌&&◌, ◌==◌, is_some, not, unwrap_or}
 use Rattle.std.specs.List.{list_all, range_with_len, slice_get}
 use Rattle.std.proofs.lemmas.Bool.{and_parts, eqb-true, not-true, not_from_false, true_from_ne_false}
+use Rattle.std.proofs.lemmas.List.{nil_from_length}
 use Rattle.std.proofs.lemmas.Option.{none-some, slice_get_within}
 use Rattle.copy_removal.specs.Copies.{IsCopy, IsDestroy}
 use Rattle.copy_removal.specs.Rewritten.{moved, moved_block, with_op}
@@ -108,10 +109,6 @@ module _ (d : Declarations) (i : Inst) (is_copy : i.op ≡ op.CopyValue) (kept :
       each [] = refl
       each (k ∷ ks) = ap₂ (λ x xs. x ∷ xs) (definition_same k) (each ks)
 
-nothing : (xs : List ValueId) → (length xs == 0) ≡ true → xs ≡ []
-nothing [] e = refl
-nothing (x ∷ xs) e = let none : suc (length xs) ≡ 0 = eqb-true (suc (length xs)) 0 e in absurd (omega arith)
-
 -- ---- in an accepted module
 
 module _ (m : Module) (n : ℕ) (f : Function) (verified : IsVerified m) (there : slice_get m.functions n ≡ Some f) where
@@ -140,9 +137,10 @@ module _ (m : Module) (n : ℕ) (f : Function) (verified : IsVerified m) (there 
   -- a destroy has no results
   pub destroy_makes_none : (q : PointId) (v : ValueId) (h : IsDestroy f q v) → h.inst.results ≡ []
   destroy_makes_none q v h =
-      nothing h.inst.results
+      nil_from_length h.inst.results
+      (eqb-true (length h.inst.results) 0
       (subst (λ o. is_count_by (results_of o) (row_types d h.inst) (length h.inst.results) ≡ true) (op_is op.DestroyValue h.inst h.destroys.destroys)
-      (count_kept q.block.0 q.index h.inst (at_point_of f q h.inst h.stands)))
+      (count_kept q.block.0 q.index h.inst (at_point_of f q h.inst h.stands))))
 
   -- nothing is shown in a function that has an instruction
   pub nothing_shown : (q : PointId) (i : Inst) → inst_at f q ≡ Some i → IsCleanIn d f

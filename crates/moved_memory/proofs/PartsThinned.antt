@@ -32,7 +32,7 @@ use Rattle.moved_memory.specs.inner.Items.{Cut, IsGone, IsMoved, IsSame, gone, m
 use Rattle.moved_memory.proofs.EachOf.{each_append, each_contained, each_flat}
 use Rattle.moved_memory.proofs.MovedAccesses.{gone_accesses, moved_accesses, same_accesses}
 use Rattle.moved_memory.proofs.Thinned as thinned
-use Rattle.moved_memory.proofs.Thinned.{Thinned, TurnsNothing, all_kept, both_thinned, none_kept, same_kept}
+use Rattle.moved_memory.proofs.Thinned.{Thinned, TurnsNothing, both_thinned, none_kept, same_kept}
 
 -- ---- what holds of each part
 

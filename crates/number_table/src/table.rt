@@ -1,6 +1,6 @@
 //! The table.
 
-ghost use Rattle.std.specs.Prelude.{◌≡◌, ◌+◌, ◌<◌, ◌^◌, IfOk, IfSome, OnErr, OnOk, length, true, is_some};
+ghost use Rattle.std.specs.Prelude.{◌≡◌, ◌+◌, ◌<◌, ◌^◌, IfOk, OnErr, OnOk, length, true, is_some};
 ghost use Rattle.number_table.specs.Numbers.{AreApart, IsFree, no_numbers, slot_in, with_next, without};
 
 use crate::chains::{find, find_present, insert, remove};

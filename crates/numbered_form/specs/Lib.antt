@@ -3,3 +3,5 @@ pub mod Insts
 pub mod Numbering
 pub mod Names
 pub mod inner
+pub use Rattle.sil_rules.specs as sil_rules
+pub use Rattle.builtin_names.specs as builtin_names

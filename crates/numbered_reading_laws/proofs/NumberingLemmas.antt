@@ -10,7 +10,7 @@ use Rattle.written_tree.specs.declared.written_instructions.WrittenInst.{Written
 use Rattle.name_scopes.specs.Names.{Name}
 use Rattle.name_resolution.specs.Resolved.{Scope, counted, defined_by_arg, defined_by_inst, defined_in, resolved_args, resolved_block, resolved_blocks, resolved_insts}
 use Rattle.numbered_form.specs.Lists.{Each}
-use Rattle.numbered_form.specs.Numbering.{AreCountedFrom, AreNumbered, IsEdgeInRange, IsFunctionNumbered, IsInstInRange, IsValueBelow, IsVtableInRange}
+use Rattle.numbered_form.specs.Numbering.{AreCountedFrom}
 use Rattle.numbered_form.specs.Numbering as numbering
 use Rattle.numbered_reading_laws.proofs.BlockLemmas.{end_defines_none, length-args}
 use Rattle.numbered_reading_laws.proofs.FaultlessParts.{IsGoodBlock}

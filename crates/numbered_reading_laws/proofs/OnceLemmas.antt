@@ -1,5 +1,5 @@
 -- No name of a module that is read is given twice.
-use Rattle.std.proofs.Common.{◌≡◌, List, [], ◌∷◌, ◌++◌, map, Some, None, Bool, true, false, if◌then◌else◌, ◌||◌, Contains, ap, sym}
+use Rattle.std.proofs.Common.{◌≡◌, List, [], ◌∷◌, ◌++◌, map, None, Bool, true, false, if◌then◌else◌, ◌||◌, Contains, ap, sym}
 use Rattle.std.proofs.Common.{refl, subst, ◌∙◌, codes, flat_map, append_assoc, append-nil, true≢false, ⊎_elim, ap₂}
 use Rattle.std.specs.List.{list_any}
 use Rattle.std.specs.Str.{bytes_eq}
@@ -7,7 +7,6 @@ use Rattle.std.proofs.lemmas.List.Elements.{Contains-push_cases}
 use Rattle.std.proofs.lemmas.List.Folds.{list_any_at}
 use Rattle.std.proofs.lemmas.Slice.Eq.{bytes_eq-Decides}
 use Rattle.sil_ast.specs.declared.module.Imports.{Imports}
-use Rattle.written_tree.specs.declared.fault.Fault.{Fault}
 use Rattle.written_tree.specs.declared.fault.FaultKind.TheVariants.{Twice}
 use Rattle.written_tree.specs.declared.written_declarations.WrittenDecl.{WrittenDecl}
 use Rattle.written_tree.specs.declared.written_declarations.WrittenDecl.TheVariants as decl

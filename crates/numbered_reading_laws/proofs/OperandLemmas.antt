@@ -24,6 +24,7 @@ use Rattle.written_values.specs.inner.RowMeaning.{bare_operand, typed_by, with_p
 use Rattle.written_values.specs.Values.{operands_of, token_of, tokens_of}
 use Rattle.name_resolution.specs.Resolved.{Scope, resolved_operand}
 use Rattle.numbered_form.specs.Lists.{Each, is_empty}
+use Rattle.numbered_form.proofs.Lists.{empty_is}
 use Rattle.numbered_form.specs.inner.Parts.{are_of_parts, has_operands, is_bare, is_typed}
 use Rattle.numbered_form.specs.inner.Types.{HasOperandType}
 use Rattle.numbered_reading_laws.proofs.ListsAndFaults.{Each-append, Each-weaker, all_each, both, either_first, implied, not_passed-map}
@@ -96,10 +97,6 @@ rest_follows true true rest empty stands same e = same refl ∙ none_follow true
 rest_follows true false rest empty stands same e = absurd (true≢false (sym stands))
 rest_follows false last true empty stands same e = refl
 rest_follows false last false empty stands same e = e
-
-empty_is : (os : List Operand) → is_empty os ≡ true → os ≡ []
-empty_is [] e = refl
-empty_is (o ∷ os) e = absurd (true≢false (sym e))
 
 asks_none : (ps : List Part) (more : List Operand) → (operand_parts ps == 0) ≡ true → are_of_parts ps more ≡ is_empty more
 asks_none ps more e = none_asked ps more (eqb-true (operand_parts ps) 0 e)

@@ -29,7 +29,7 @@ use Rattle.name_resolution.specs.Resolved.{Scope, defined_by, defined_by_arg, de
 use Rattle.name_resolution.specs.Resolved.{resolved_edge, resolved_function, resolved_inst, resolved_operand, scope_of, value_of, values_of, resolved_entry, resolved_vtable}
 use Rattle.numbered_form.specs.Lists.{Each}
 use Rattle.numbered_form.specs.Insts.{EachInBlock}
-use Rattle.numbered_form.specs.Numbering.{AreCountedFrom, AreNumbered, IsEdgeInRange, IsFunctionNumbered, IsInstInRange, IsValueBelow, IsVtableInRange}
+use Rattle.numbered_form.specs.Numbering.{AreNumbered, IsEdgeInRange, IsFunctionNumbered, IsInstInRange, IsValueBelow, IsVtableInRange}
 use Rattle.numbered_form.specs.Numbering as numbering
 use Rattle.numbered_reading_laws.proofs.ListsAndFaults.{Each-flat_map, Each-map}
 use Rattle.numbered_reading_laws.proofs.BlockLemmas.{Each-blocks, Each-insts, length-blocks}

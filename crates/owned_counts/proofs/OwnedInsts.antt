@@ -44,7 +44,7 @@ use Rattle.accepted_runs.proofs.accepted_values.run_typing_laws.Rows.Known.{Know
 use Rattle.accepted_runs.proofs.accepted_values.run_typing_laws.Rows.Points.{is_at}
 use Rattle.stored_counts.specs.holder_laws.holder_model.Data.{Datum}
 use Rattle.stored_counts.specs.holder_laws.holder_model.Effects as effects
-use Rattle.stored_counts.specs.holder_laws.holder_model.Effects.{Change, Effect, effect_of}
+use Rattle.stored_counts.specs.holder_laws.holder_model.Effects.{Change, effect_of}
 use Rattle.stored_counts.specs.holder_laws.holder_model.Frames.{Entry, Operands}
 use Rattle.stored_counts.specs.holder_laws.holder_model.ModuleShapes.{shapes_in, shapes_of}
 use Rattle.stored_counts.specs.holder_laws.holder_model.declared.row_effect.RowEffect.{RowEffect}

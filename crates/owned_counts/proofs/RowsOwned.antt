@@ -49,7 +49,7 @@ use Rattle.stored_counts.specs.holder_laws.holder_model.Frames.{Entry, Operands,
 use Rattle.stored_counts.specs.holder_laws.holder_model.Frames.{entry_at, operand, operand_data, operands_of, unless_dead, used_datum, with_ok}
 use Rattle.stored_counts.specs.holder_laws.holder_model.Holders.{in_cells, of_references}
 use Rattle.stored_counts.specs.holder_laws.holder_model.MemoryEffects as memory_effects
-use Rattle.stored_counts.specs.holder_laws.holder_model.MemoryEffects.{asked_before, at_places, fault_of, holds, references_at, takes, where_held}
+use Rattle.stored_counts.specs.holder_laws.holder_model.MemoryEffects.{asked_before, at_places, fault_of, holds, references_at, where_held}
 use Rattle.stored_counts.specs.holder_laws.holder_model.ModuleShapes.{shapes_in, shapes_of}
 use Rattle.stored_counts.specs.holder_laws.holder_model.Outcomes.{Numbers}
 use Rattle.stored_counts.specs.holder_laws.holder_model.declared.row_effect.RowEffect.{RowEffect}

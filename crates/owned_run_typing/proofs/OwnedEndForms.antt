@@ -1,14 +1,13 @@
 -- Terminators in ownership form: a switch hands a default the whole enum, where its block takes it, and all else ends as in lowered form.
-use Rattle.std.proofs.Common.{◌≡◌, ℕ, List, [], ◌∷◌, map, refl, sym, ap, ◌∙◌, true, false, ◌⊎◌, inl, inr, Option, Some}
-use Rattle.std.specs.Prelude.{not, slice_get}
-use Rattle.run_typing_laws.specs.holder_model.Edges.{is_default}
+use Rattle.std.proofs.Common.{◌≡◌, ℕ, List, [], ◌∷◌, map, refl, sym, ap, ◌∙◌, true, ◌⊎◌, inl, inr, Some}
+use Rattle.std.specs.Prelude.{not}
 use Rattle.instruction_table.specs.Forms.{ending_of, is_terminator}
 use Rattle.instruction_table.specs.declared.entries.Ending.TheVariants as ending
 use Rattle.instruction_table.specs.declared.op.Op.{Op}
 use Rattle.instruction_table.specs.declared.op.Op.TheVariants as op
 use Rattle.item_operands.specs.Parts.{terminator_of}
 use Rattle.run_values.specs.Layers.{CaseLayer}
-use Rattle.run_values.specs.Shapes.{Shape, case_shapes, shape_of}
+use Rattle.run_values.specs.Shapes.{Shape, shape_of}
 use Rattle.sil_ast.specs.Blocks.{args_of}
 use Rattle.sil_ast.specs.declared.function.BlockArg.{BlockArg}
 use Rattle.sil_ast.specs.declared.function.Function.{Function}
@@ -30,7 +29,7 @@ use Rattle.run_typing_laws.proofs.Found.{both_second}
 use Rattle.run_typing_laws.proofs.MemberFacts.{enum_is}
 use Rattle.run_typing_laws.proofs.ShapeFacts.{same_types}
 use Rattle.run_typing_laws.proofs.SwitchFacts.{DefaultEdge, edge_chosen}
-use Rattle.owned_run_typing.specs.inner.OwnedEnds.{OwnedCase, OwnedCaseForms, OwnedEndForms, also_lowered, cases}
+use Rattle.owned_run_typing.specs.inner.OwnedEnds.{OwnedCaseForms, OwnedEndForms, also_lowered, cases}
 
 module _ (m : Module) (r : IsWellTyped m) (f : Function) (typed : TypedFunction m f) (i : Inst) (here : TypedInst m f i) where
   -- a default takes nothing, or the enum

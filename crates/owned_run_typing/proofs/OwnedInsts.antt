@@ -1,5 +1,5 @@
 -- Each instruction of a function in ownership form takes its operands, and they and its results are of the forms that its row has to do with.
-use Rattle.std.proofs.Common.{◌≡◌, ℕ, ap, true, false, Some}
+use Rattle.std.proofs.Common.{◌≡◌, ℕ, true, false, Some}
 use Rattle.std.specs.Prelude.{slice_get}
 use Rattle.instruction_table.specs.Forms.{forms_of}
 use Rattle.instruction_table.specs.declared.op.Op.{Op}

@@ -1,15 +1,12 @@
 -- A typed module in ownership form is typed in the words of a run: function by function, and its deinitialisers, classes, fields and sizes.
 use Rattle.std.proofs.Common.{◌≡◌, ℕ, refl, ap, Some, None}
 use Rattle.std.specs.Prelude.{slice_get}
-use Rattle.item_operands.specs.Parts.{inst_at}
 use Rattle.point_checks.specs.Points.{IsAt}
 use Rattle.sil_ast.specs.declared.function.Block.{Block}
 use Rattle.sil_ast.specs.declared.function.Form.{Form}
 use Rattle.sil_ast.specs.declared.function.Form.TheVariants.{External, Lowered, Ossa}
 use Rattle.sil_ast.specs.declared.function.Function.{Function}
-use Rattle.sil_ast.specs.declared.inst.Inst.{Inst}
 use Rattle.sil_ast.specs.declared.module.Module.{Module}
-use Rattle.sil_ast.specs.declared.place.PointId.{PointId}
 use Rattle.run_typing_laws.proofs.ClassFacts.{classes, fields_are_typed}
 use Rattle.run_typing_laws.proofs.DeinitFacts.{deinits}
 use Rattle.run_typing_laws.proofs.EndFacts.{ends_take}

@@ -1,5 +1,5 @@
 -- The rows that stand in ownership form alone, or do there what they don't do in lowered form.
-use Rattle.std.proofs.Common.{◌≡◌, ℕ, List, [], ◌∷◌, map, refl, sym, ap, ◌∙◌, subst, Bool, true, false, not, Option, Some, None}
+use Rattle.std.proofs.Common.{◌≡◌, ℕ, List, [], ◌∷◌, map, refl, sym, ap, ◌∙◌, subst, Bool, true, false, not, Some, None}
 use Rattle.std.specs.Prelude.{◌||◌, pos, option_and_then, option_map, slice_get}
 use Rattle.std.proofs.lemmas.Bool.{and_parts}
 use Rattle.instruction_table.specs.declared.forms.Part.TheVariants as part

@@ -1,6 +1,6 @@
 //! The facts of all values whose chains end.
 
-ghost use Rattle.std.specs.Prelude.{◌≡◌, ℕ, ◌<◌, IfOk, length, None};
+ghost use Rattle.std.specs.Prelude.{◌≡◌, ◌<◌, IfOk, length, None};
 ghost use Rattle.sil_ast.specs.declared.place.ValueId.{ValueId};
 ghost use Rattle.ownership_chains.specs.Chains.{IsInRange};
 ghost use Rattle.ownership_chains.specs.Facts.{told_at};

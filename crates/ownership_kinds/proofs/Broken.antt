@@ -11,9 +11,9 @@ use Rattle.sil_ast.specs.declared.function.BlockArg.{BlockArg}
 use Rattle.sil_ast.specs.declared.function.Function.{Function}
 use Rattle.sil_ast.specs.declared.inst.Inst.{Inst}
 use Rattle.sil_ast.specs.declared.place.ValueId.{ValueId}
-use Rattle.numbered_form.specs.Insts.{insts_of}
-use Rattle.numbered_form.specs.Numbering.{AreCountedFrom, defined_in, results_of, values_of}
-use Rattle.numbered_form.specs.Numbering as numbering
+use Rattle.value_tables.specs.numbered_form.Insts.{insts_of}
+use Rattle.value_tables.specs.numbered_form.Numbering.{AreCountedFrom, defined_in, results_of, values_of}
+use Rattle.value_tables.specs.numbered_form.Numbering as numbering
 use Rattle.sil_rules.specs.Order.{NotAfter}
 use Rattle.sil_rules.specs.declared.rule.Rule.{Rule}
 use Rattle.sil_rules.specs.declared.rule.Rule.TheVariants as rule

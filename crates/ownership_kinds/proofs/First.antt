@@ -3,7 +3,7 @@ use Rattle.std.proofs.Common.{◌≡◌, ℕ, sym, ap, ◌∙◌, Option, Some, 
 use Rattle.std.specs.Prelude.{IfSome, IfNone, option_map}
 use Rattle.sil_ast.specs.declared.function.Function.{Function}
 use Rattle.sil_ast.specs.declared.place.ValueId.{ValueId}
-use Rattle.numbered_form.specs.Numbering.{AreCountedFrom, values_of}
+use Rattle.value_tables.specs.numbered_form.Numbering.{AreCountedFrom, values_of}
 use Rattle.sil_rules.specs.Order.{NotAfter}
 use Rattle.sil_rules.specs.declared.rule.Rule.{Rule}
 use Rattle.sil_rules.proofs.Keys.{not_after_trans}

@@ -5,7 +5,7 @@ use Rattle.std.proofs.lemmas.Bool.Decides.{nat_tests}
 use Rattle.sil_ast.specs.declared.function.Function.{Function}
 use Rattle.sil_ast.specs.declared.place.ValueId.{ValueId}
 use Rattle.sil_cfg.specs.Layout.{Layout}
-use Rattle.numbered_form.specs.Numbering.{values_of}
+use Rattle.value_tables.specs.numbered_form.Numbering.{values_of}
 use Rattle.ownership_chains.specs.Chains.{HasNoRing, IsFirstCyclic}
 use Rattle.ownership_chains.specs.Facts.{told_at}
 use Rattle.ownership_chains.specs.Steps.{told_in}

@@ -2,7 +2,7 @@
 
 ghost use Rattle.std.specs.Prelude.{◌≡◌, IfNone, IfOk, IfSome};
 ghost use Rattle.std.specs.List.{flat_map};
-ghost use Rattle.numbered_form.specs.Numbering.{AreCountedFrom, values_of};
+ghost use Rattle.value_tables.specs.numbered_form.Numbering.{AreCountedFrom, values_of};
 ghost use Rattle.point_checks.specs.inner.Faults.{least};
 ghost use Rattle.point_checks.specs.inner.Numbered.{IsOfNumberedModule};
 ghost use Rattle.ownership_origins.specs.inner.Tables.{AreSwitches};

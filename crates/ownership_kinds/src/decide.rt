@@ -1,7 +1,7 @@
 //! The kinds of a function whose values' definitions and first ring of renamings are known, or the first broken rule on kinds.
 
 ghost use Rattle.std.specs.Prelude.{◌≡◌, IfErr, IfNone, IfOk, IfSome, OnOk, length};
-ghost use Rattle.numbered_form.specs.Numbering.{AreCountedFrom, values_of};
+ghost use Rattle.value_tables.specs.numbered_form.Numbering.{AreCountedFrom, values_of};
 ghost use Rattle.point_checks.specs.inner.Numbered.{IsOfNumberedModule};
 ghost use Rattle.ownership_chains.specs.Chains.{HasNoRing, IsFirstCyclic, IsInRange};
 ghost use Rattle.ownership_chains.specs.Facts.{told_at};

@@ -1,10 +1,10 @@
 //! 303: one forwarding instruction has Owned and Guaranteed operands.
 
-ghost use Rattle.std.specs.Prelude.{◌≡◌, ℕ, find, map};
+ghost use Rattle.std.specs.Prelude.{◌≡◌, find, map};
 ghost use Rattle.std.specs.List.{list_any};
 ghost use Rattle.instruction_table.specs.Forms as form;
 ghost use Rattle.value_tables.specs.FirstValue.{value_of};
-ghost use Rattle.point_checks.specs.inner.Faults.{fault_at, least};
+ghost use Rattle.point_checks.specs.inner.Faults.{least};
 ghost use Rattle.ownership_kinds.specs.inner.Faults.{mixed_faults};
 ghost use Rattle.ownership_kinds.specs.inner.Known.{kind_told};
 ghost use Rattle.ownership_kinds.specs.Statics as statics;

@@ -1,3 +1,2 @@
 mod Accepted
-mod Made
 mod Runnable

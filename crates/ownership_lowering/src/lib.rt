@@ -5,4 +5,4 @@ mod laws;
 mod lowering;
 
 pub use laws::accepted_lowers_runnable;
-pub use lowering::lower;
+pub use lowering::{lower, lower_in_place};

@@ -3,8 +3,8 @@ use Rattle.std.proofs.Common.{◌≡◌, ℕ, ◌+◌, ◌<◌, List, [], ◌++�
 use Rattle.std.specs.List.{flat_map}
 use Rattle.sil_ast.specs.declared.function.Block.{Block}
 use Rattle.sil_ast.specs.declared.function.Function.{Function}
-use Rattle.numbered_form.specs.Insts.{insts_of}
-use Rattle.type_definitions.specs.Declarations.{Declarations}
+use Rattle.value_tables.specs.numbered_form.Insts.{insts_of}
+use Rattle.ownership_chains.specs.type_definitions.Declarations.{Declarations}
 use Rattle.value_tables.proofs.Rows.{rows_next, same_args}
 use Rattle.value_tables.specs.ValueRows.{rows_from, value_rows}
 use Rattle.ownership_chains.specs.declared.definition.Definition.{Definition}

@@ -6,7 +6,7 @@ use Rattle.std.specs.List.{flat_map, range_with_len}
 use Rattle.instruction_table.specs.Forms.{result_kind_of, roles_of}
 use Rattle.instruction_table.specs.declared.entries.ResultKind.{ResultKind}
 use Rattle.instruction_table.specs.declared.entries.ResultKind.TheVariants.{NoneResult, OwnedResult, ScopeResult, AddressResult, ForwardedResult, OperandResult}
-use Rattle.sil_ast.specs.Blocks.{args_in, args_of}
+use Rattle.sil_ast.specs.Blocks.{args_in}
 use Rattle.sil_ast.specs.declared.function.ArgKind.{ArgKind}
 use Rattle.sil_ast.specs.declared.function.ArgKind.TheVariants as annotation
 use Rattle.sil_ast.specs.declared.function.Block.{Block}
@@ -14,16 +14,16 @@ use Rattle.sil_ast.specs.declared.function.BlockArg.{BlockArg}
 use Rattle.sil_ast.specs.declared.function.Function.{Function}
 use Rattle.sil_ast.specs.declared.inst.Inst.{Inst}
 use Rattle.sil_ast.specs.declared.place.ValueId.{ValueId}
-use Rattle.numbered_form.specs.Insts.{insts_of}
+use Rattle.value_tables.specs.numbered_form.Insts.{insts_of}
 use Rattle.ownership_chains.specs.Chains.{operands_at}
 use Rattle.ownership_chains.specs.Facts.{AreFactsOf, is_guaranteed, origin_at, told, told_by}
 use Rattle.ownership_chains.specs.declared.definition.Definition.{Definition}
 use Rattle.ownership_chains.specs.declared.definition.Origin.{Origin}
 use Rattle.ownership_chains.specs.declared.definition.Origin.TheVariants as origin
 use Rattle.ownership_chains.specs.declared.facts.Facts.{Facts}
-use Rattle.type_definitions.specs.Declarations.{Declarations}
-use Rattle.type_definitions.specs.declared.kind.Kind.TheVariants as kind
-use Rattle.value_tables.specs.Borrows.{arg_borrows, borrow_at, borrow_by, borrow_in, borrows, borrows_of, is_borrow, result_borrows, takes_address}
+use Rattle.ownership_chains.specs.type_definitions.Declarations.{Declarations}
+use Rattle.ownership_chains.specs.type_definitions.declared.kind.Kind.TheVariants as kind
+use Rattle.value_tables.specs.Borrows.{arg_borrows, borrow_at, borrow_by, borrow_in, borrows, result_borrows, takes_address}
 use Rattle.value_tables.specs.FirstValue.{first_value}
 use Rattle.value_tables.specs.ValueRows.{rows_from}
 use Rattle.value_tables.specs.declared.borrows.Borrow.{Borrow}

@@ -16,11 +16,11 @@ use Rattle.sil_ast.specs.declared.inst.Edge.{Edge}
 use Rattle.sil_ast.specs.declared.inst.Inst.{Inst}
 use Rattle.sil_ast.specs.declared.operands.Operand.{Operand}
 use Rattle.sil_ast.specs.declared.place.ValueId.{ValueId}
-use Rattle.numbered_form.specs.Insts.{EachInBlock}
-use Rattle.numbered_form.specs.inner.Limits.{value_count, IsFunctionInLimits}
-use Rattle.numbered_form.specs.Lists.{Each}
-use Rattle.numbered_form.specs.Numbering.{values_of, IsValueBelow, IsInstInRange, IsFunctionNumbered}
-use Rattle.type_definitions.specs.Declarations.{Declarations}
+use Rattle.value_tables.specs.numbered_form.Insts.{EachInBlock}
+use Rattle.value_tables.specs.numbered_form.inner.Limits.{value_count, IsFunctionInLimits}
+use Rattle.value_tables.specs.numbered_form.Lists.{Each}
+use Rattle.value_tables.specs.numbered_form.Numbering.{values_of, IsValueBelow, IsInstInRange, IsFunctionNumbered}
+use Rattle.ownership_chains.specs.type_definitions.Declarations.{Declarations}
 use Rattle.ownership_chains.specs.Chains.{operands_at, IsInRange}
 use Rattle.ownership_chains.specs.declared.definition.Definition.{Definition}
 use Rattle.ownership_origins.specs.inner.Laws.{AreInRange}

@@ -8,7 +8,7 @@ use Rattle.instruction_table.specs.declared.entries.ResultKind.{ResultKind}
 use Rattle.instruction_table.specs.declared.entries.ResultKind.TheVariants.{NoneResult, OwnedResult, ScopeResult, AddressResult, ForwardedResult, OperandResult}
 use Rattle.sil_ast.specs.declared.inst.Inst.{Inst}
 use Rattle.sil_ast.specs.declared.type_name.TypeName.{TypeName}
-use Rattle.type_definitions.specs.Declarations.{Declarations}
+use Rattle.ownership_chains.specs.type_definitions.Declarations.{Declarations}
 use Rattle.ownership_chains.specs.declared.definition.Definition.{Definition}
 use Rattle.sil_types.specs.Typing.RowTypes.{row_types}
 use Rattle.ownership_origins.specs.Origins.{is_trivial_or_untyped, result_definition_by, result_definitions}

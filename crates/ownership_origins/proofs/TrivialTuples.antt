@@ -6,10 +6,10 @@ use Rattle.std.proofs.lemmas.List.Folds.{list_all-append}
 use Rattle.sil_ast.specs.declared.operands.Operand.{Operand}
 use Rattle.sil_ast.specs.declared.type_name.TypeName.{TypeName}
 use Rattle.sil_ast.specs.declared.type_name.TypeName.TheVariants as type
-use Rattle.type_definitions.specs.Declarations.{Declarations, all_names}
-use Rattle.type_definitions.specs.Measures.{is_trivial, is_trivial_measure, measure_at, measure_of, measures_of}
-use Rattle.type_definitions.specs.Mentions.{together}
-use Rattle.type_measures.proofs.Agreement.{measure-Tuple}
+use Rattle.ownership_chains.specs.type_definitions.Declarations.{Declarations, all_names}
+use Rattle.ownership_chains.specs.type_definitions.Measures.{is_trivial, is_trivial_measure, measure_at, measure_of, measures_of}
+use Rattle.ownership_chains.specs.type_definitions.Mentions.{together}
+use Rattle.sil_types.proofs.type_measures.Agreement.{measure-Tuple}
 use Rattle.sil_types.specs.Typing.RowTypes.{all_written, types_of}
 
 all_mapped : {A B : Type 0} (test : B → Bool) (f : A → B) (xs : List A) → list_all test (map f xs) ≡ list_all (λ x. test (f x)) xs

@@ -15,8 +15,8 @@ use Rattle.sil_ast.specs.declared.type_name.TypeName.{TypeName}
 use Rattle.ownership_chains.specs.declared.definition.Definition.{Definition}
 use Rattle.ownership_chains.specs.declared.definition.Origin.{Origin}
 use Rattle.ownership_chains.specs.declared.definition.Origin.TheVariants as origin
-use Rattle.type_definitions.specs.Declarations.{Declarations}
-use Rattle.type_definitions.specs.Measures.{is_trivial}
+use Rattle.ownership_chains.specs.type_definitions.Declarations.{Declarations}
+use Rattle.ownership_chains.specs.type_definitions.Measures.{is_trivial}
 use Rattle.sil_types.specs.Typing.RowTypes.{made_types}
 use Rattle.value_tables.specs.FirstValue.{value_of}
 use Rattle.value_tables.specs.ValueRows.{value_rows}

@@ -3,8 +3,8 @@
 ghost use Rattle.std.specs.Prelude.{◌++◌, ◌<◌, [], All, IfSome, cond, map};
 ghost use Rattle.std.specs.Bool.{OnTrue};
 ghost use Rattle.std.specs.List.{flat_map};
-ghost use Rattle.numbered_form.specs.Insts.{insts_of};
-ghost use Rattle.numbered_form.specs.Lists.{Each};
+ghost use Rattle.value_tables.specs.numbered_form.Insts.{insts_of};
+ghost use Rattle.value_tables.specs.numbered_form.Lists.{Each};
 ghost use Rattle.ownership_chains.specs.Chains.{HasNoRing};
 ghost use Rattle.ownership_origins.specs.inner.InOrder.{LeadsOn};
 ghost use Rattle.ownership_origins.specs.Renamings as spec;

@@ -1,9 +1,9 @@
 //! For each block the switch that goes to it, by one walk over the terminators.
 
-ghost use Rattle.std.specs.Prelude.{◌≡◌, ◌<◌, IfOk, length};
+ghost use Rattle.std.specs.Prelude.{◌≡◌, ◌<◌, IfOk};
 ghost use Rattle.std.specs.List.{filter_map, flat_map};
 ghost use Rattle.std.specs.Option.{option_to_list};
-ghost use Rattle.ownership_origins.specs.Switched.{edge_to, switch_to, switches_from};
+ghost use Rattle.ownership_origins.specs.Switched.{edge_to, switches_from};
 ghost use Rattle.ownership_origins.specs.inner.Tables.{Adds, AreSwitches, switch_at};
 
 use crate::switched::Switched;

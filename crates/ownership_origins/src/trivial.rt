@@ -2,8 +2,8 @@
 
 ghost use Rattle.std.specs.Prelude.{◌≡◌, option_map, slice_get, unwrap_or, []};
 ghost use Rattle.std.specs.List.{list_all};
-ghost use Rattle.type_definitions.specs.Measures.{is_trivial};
-ghost use Rattle.type_definitions.specs.Mentions.{direct_types};
+ghost use Rattle.ownership_chains.specs.type_definitions.Measures.{is_trivial};
+ghost use Rattle.ownership_chains.specs.type_definitions.Mentions.{direct_types};
 ghost use Rattle.sil_types.specs.Typing.RowTypes.{types_of};
 ghost use Rattle.typing_rows.specs.inner.Views.{made_told, view_told};
 ghost use Rattle.ownership_origins.specs.Origins.{is_trivial_or_untyped};

@@ -12,7 +12,6 @@ use Rattle.sil_cfg.specs.Items.{flow_of}
 use Rattle.path_patterns.specs.Switch.{IsInPlace, code_of}
 use Rattle.path_patterns.specs.declared.mark.Mark.{Mark}
 use Rattle.path_patterns.proofs.SameMarks.{same_shown}
-use Rattle.path_checks.specs.declared.entry.Entry.{Entry}
 use Rattle.path_checks.specs.Entries.{means}
 use Rattle.path_checks.specs.First.{IsBreakShown}
 use Rattle.path_checks.specs.inner.Shared.{shared_from}

@@ -1,6 +1,6 @@
 //! The first fault of all subjects.
 
-ghost use Rattle.std.specs.Prelude.{◌≡◌, ℕ, ◌+◌, ◌<◌, ◌≤◌, ◌^◌, List, length, IfOk};
+ghost use Rattle.std.specs.Prelude.{◌≡◌, ◌+◌, ◌<◌, ◌≤◌, ◌^◌, List, length, IfOk};
 ghost use Rattle.sil_cfg.specs.declared.item.Item.{Item};
 ghost use Rattle.sil_cfg.specs.Layout.{item_count};
 ghost use Rattle.sil_cfg.specs.inner.Build.{IsGraphOf};

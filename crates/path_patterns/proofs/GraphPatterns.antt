@@ -3,15 +3,15 @@ use Rattle.std.proofs.Common.{◌≡◌, ℕ, List, [], ◌∷◌, ◌++◌, ref
 use Rattle.std.specs.Prelude.{flat_map}
 use Rattle.std.specs.List.{slice_get}
 use Rattle.std.proofs.lemmas.Option.{same_Some}
-use Rattle.sil_ast.specs.declared.place.EdgeId.{EdgeId}
-use Rattle.sil_ast.specs.declared.function.Function.{Function}
-use Rattle.sil_cfg.specs.declared.item.Item.{Item}
-use Rattle.sil_cfg.specs.Layout.{Layout, item_at}
-use Rattle.sil_cfg.specs.Flow.{numbered}
-use Rattle.sil_cfg.specs.Items.{flow_of}
-use Rattle.sil_cfg.specs.inner.Build.{AreItems, IsGraphOf}
-use Rattle.sil_cfg.specs.Walk.{IsTrail}
-use Rattle.sil_cfg.proofs.GraphTrails.{trail_there, trail_back}
+use Rattle.reach_engine.specs.sil_ast.declared.place.EdgeId.{EdgeId}
+use Rattle.reach_engine.specs.sil_ast.declared.function.Function.{Function}
+use Rattle.reach_engine.specs.sil_cfg.declared.item.Item.{Item}
+use Rattle.reach_engine.specs.sil_cfg.Layout.{Layout, item_at}
+use Rattle.reach_engine.specs.sil_cfg.Flow.{numbered}
+use Rattle.reach_engine.specs.sil_cfg.Items.{flow_of}
+use Rattle.reach_engine.specs.sil_cfg.inner.Build.{AreItems, IsGraphOf}
+use Rattle.reach_engine.specs.sil_cfg.Walk.{IsTrail}
+use Rattle.reach_engine.proofs.sil_cfg.GraphTrails.{trail_there, trail_back}
 use Rattle.path_patterns.specs.Lawful.{FirstBreak}
 use Rattle.path_patterns.specs.Along.{Shows}
 use Rattle.path_patterns.specs.inner.Reads.{AgreesWith}

@@ -3,10 +3,10 @@ use Rattle.std.proofs.Common.{◌≡◌, ℕ, ◌+◌, ◌<◌, get_or, take, dr
 use Rattle.std.specs.Prelude.{flat_map}
 use Rattle.std.proofs.lemmas.List.{append-nil, drop_more}
 use Rattle.std.proofs.lemmas.Grind.{flat_map-append}
-use Rattle.sil_ast.specs.declared.place.EdgeId.{EdgeId}
-use Rattle.sil_cfg.specs.Flow.{Flow}
-use Rattle.sil_cfg.specs.Walk.{IsTrail}
-use Rattle.sil_cfg.proofs.Paths.{Trail-front, some_pushed}
+use Rattle.reach_engine.specs.sil_ast.declared.place.EdgeId.{EdgeId}
+use Rattle.reach_engine.specs.sil_cfg.Flow.{Flow}
+use Rattle.reach_engine.specs.sil_cfg.Walk.{IsTrail}
+use Rattle.reach_engine.proofs.sil_cfg.Paths.{Trail-front, some_pushed}
 use Rattle.reach_engine.specs.declared.scan.Step.{Step}
 use Rattle.reach_engine.specs.declared.scan.Step.TheVariants.{Go, Bad}
 use Rattle.reach_engine.specs.inner.Run.{run}

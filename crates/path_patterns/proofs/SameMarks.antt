@@ -1,8 +1,8 @@
 -- What is shown depends on the marks of each item alone: another table with the same marks shows the same.
 use Rattle.std.proofs.Common.{◌≡◌, ℕ, List, [], ◌∷◌, ◌++◌, refl, ap₂, subst}
 use Rattle.std.specs.Prelude.{flat_map}
-use Rattle.sil_ast.specs.declared.place.EdgeId.{EdgeId}
-use Rattle.sil_cfg.specs.Flow.{Flow}
+use Rattle.reach_engine.specs.sil_ast.declared.place.EdgeId.{EdgeId}
+use Rattle.reach_engine.specs.sil_cfg.Flow.{Flow}
 use Rattle.path_patterns.specs.Lawful.{FirstBreak}
 use Rattle.path_patterns.specs.Along.{Shows}
 

@@ -1,8 +1,8 @@
 -- A pattern along the walks of a graph; `marks` gives the marks of an item, in order.
 use Rattle.std.specs.Prelude.{ℕ, List, [], ◌∷◌, ◌++◌, flat_map}
-use Rattle.sil_ast.specs.declared.place.EdgeId.{EdgeId}
-use Rattle.sil_cfg.specs.Flow.{Flow}
-use Rattle.sil_cfg.specs.Walk.{IsTrail}
+use Rattle.reach_engine.specs.sil_ast.declared.place.EdgeId.{EdgeId}
+use Rattle.reach_engine.specs.sil_cfg.Flow.{Flow}
+use Rattle.reach_engine.specs.sil_cfg.Walk.{IsTrail}
 use Rattle.path_patterns.specs.Lawful.{AreLawful, FirstBreak}
 
 -- on every trail the marks are lawful

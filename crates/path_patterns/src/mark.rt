@@ -1,6 +1,6 @@
 //! A mark of a subject, and the two states of its switch.
 
-ghost use Rattle.std.specs.Prelude.{◌≡◌, ℕ, ◌<◌};
+ghost use Rattle.std.specs.Prelude.{◌≡◌, ◌<◌};
 ghost use Rattle.reach_engine.specs.inner.Run.{StaysBelow};
 ghost use Rattle.path_patterns.specs.Marks as marks;
 ghost use Rattle.path_patterns.specs.inner.Automaton.{mark_step};

@@ -19,11 +19,11 @@ use Rattle.sil_ast.specs.declared.member.Member.{Member}
 use Rattle.sil_ast.specs.declared.operands.Operand.{Operand}
 use Rattle.sil_ast.specs.declared.place.FuncId.{FuncId}
 use Rattle.sil_ast.specs.declared.type_name.TypeName.{TypeName}
-use Rattle.sil_printer.specs.CanonicalInsts.{debug_text, edge_text, flags_text, function_name, gap, member_text, part_text, qualifier_text, quoted, signature_word, type_word}
+use Rattle.sil_printer.specs.CanonicalInsts.{edge_text, function_name, gap, member_text, part_text, quoted, signature_word, type_word}
 use Rattle.sil_printer.specs.CanonicalInsts as printed
 use Rattle.sil_printer.specs.Words.{listed}
 use Rattle.sil_shape.specs.Derivation.{Accepts}
-use Rattle.grammar_tables.specs.Rows.{behind_colon, behind_dollar, brings_comma, symbols_of, text_by, text_of, word_by}
+use Rattle.grammar_tables.specs.Rows.{brings_comma, symbols_of, text_by, text_of, word_by}
 use Rattle.grammar_tables.specs.Rows as rows
 use Rattle.grammar_tables.specs.declared.grammar.Symbol.TheVariants.{Read}
 use Rattle.grammar_tables.specs.declared.grammar.Terminal.TheVariants as t

@@ -5,14 +5,14 @@ use Rattle.std.proofs.lemmas.Fmt.{decimal_nonempty, digits_decimal, length-decim
 use Rattle.std.proofs.lemmas.Str.Parse.{FoldsDigits, IsNumeralModel, digit_from_value, numerals_by_fold, tells_digits}
 use Rattle.std.specs.Char.{is_ascii_digit}
 use Rattle.std.specs.Int.{IsInRange}
-use Rattle.std.specs.Prelude.{◌&&◌, ◌+◌, fold, nat_le, take, ℤ, pos, negsuc}
+use Rattle.std.specs.Prelude.{◌&&◌, ◌+◌, fold, nat_le, ℤ, pos, negsuc}
 use Rattle.std.specs.Str.Parse.{AllDigits}
 use lib.Signed.{mag}
 use Rattle.std.specs.List.{list_all}
 use Rattle.std.specs.Fmt.{signed_decimal}
 use Rattle.std.proofs.lemmas.Bool.{and_parts}
 use Rattle.text_bytes.specs.Bytes.{is_punctuation, is_name_byte, is_word_start}
-use Rattle.sil_lexer.specs.Spelling.{Spells, Spells as spells, begins_with, continues, name_length, without_quotes}
+use Rattle.sil_lexer.specs.Spelling.{Spells, Spells as spells, begins_with, continues, name_length}
 use Rattle.sil_lexer.specs.declared.token.TokenKind.TheVariants as kind
 use Rattle.token_classes.specs.declared.classes.Class.TheVariants as c
 use Rattle.grammar_tables.specs.declared.grammar.Symbol.{Symbol}

@@ -1,7 +1,6 @@
 -- Printed types between two parentheses: tuples, and payloads of one type.
 use Rattle.std.proofs.Common.{◌≡◌, ℕ, suc, ◌+◌, ◌≤◌, List, [], ◌∷◌, ◌++◌, length, map, max, Some, None, false, ◌==◌, codes, refl, ap, ◌∙◌, arith, true≢false}
 use Rattle.std.proofs.lemmas.List.{append_assoc}
-use Rattle.std.proofs.lemmas.Bool.Decides.{nat_tests}
 use Rattle.sil_ast.specs.TypeName.{depth_of, largest}
 use Rattle.sil_ast.specs.declared.place.Place.{Place}
 use Rattle.sil_ast.specs.declared.type_name.TypeName.{TypeName}

@@ -5,7 +5,7 @@ ghost use Rattle.std.specs.Prelude.{◌≡◌, ◌≢◌, ℕ, ◌+◌, ◌*◌,
 ghost use Rattle.sil_cfg.specs.Layout.{item_count};
 ghost use Rattle.sil_cfg.specs.Flow.{block_count, items_at, numbered};
 ghost use Rattle.reach_engine.specs.inner.Bits.{bit_in};
-ghost use Rattle.reach_engine.specs.inner.Columns.{cell, AllMoved};
+ghost use Rattle.reach_engine.specs.inner.Columns.{AllMoved};
 ghost use Rattle.reach_engine.specs.inner.Effects.{effect_rows, IsEffect, AreKnown, EffectAdded, RowAdded, BadAdded, Applied};
 
 use crate::bits::{merge_masked, set_words};

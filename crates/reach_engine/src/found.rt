@@ -1,6 +1,6 @@
 //! What a search found.
 
-ghost use Rattle.std.specs.Prelude.{◌≡◌, ℕ, ◌+◌, ◌*◌, ◌<◌, ◌↔◌, IsTrue, length};
+ghost use Rattle.std.specs.Prelude.{◌≡◌, ◌+◌, ◌*◌, ◌<◌, ◌↔◌, IsTrue, length};
 
 use sil_ast::{BlockId, EdgeId, List, PointId};
 use std::marker::Model;

@@ -1,8 +1,8 @@
 //! The search's frontier: which blocks were entered in which states, in the order of their depths.
 
-ghost use Rattle.std.specs.Prelude.{◌≡◌, ◌⊎◌, ℕ, suc, ◌+◌, ◌*◌, ◌<◌, ◌≤◌, ◌^◌, Some, length, vec_len, slice_get, IfOk, OnOk};
+ghost use Rattle.std.specs.Prelude.{◌≡◌, ◌⊎◌, ℕ, ◌+◌, ◌*◌, ◌<◌, ◌≤◌, ◌^◌, Some, length, slice_get, IfOk, OnOk};
 ghost use Rattle.sil_cfg.specs.Layout.{item_count};
-ghost use Rattle.sil_cfg.specs.Flow.{block_count, items_at, edge_item, IsEdge, numbered};
+ghost use Rattle.sil_cfg.specs.Flow.{items_at, edge_item, IsEdge, numbered};
 ghost use Rattle.reach_engine.specs.inner.Run.{run};
 ghost use Rattle.reach_engine.specs.declared.scan.Step.TheVariants.{Go};
 ghost use Rattle.reach_engine.specs.declared.scan.Step.{Step};

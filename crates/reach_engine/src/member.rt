@@ -1,6 +1,6 @@
 //! One subject of a family as an automaton by itself.
 
-ghost use Rattle.std.specs.Prelude.{◌≡◌, ℕ, ◌<◌};
+ghost use Rattle.std.specs.Prelude.{◌≡◌, ◌<◌};
 
 use crate::family::Family;
 use crate::scan::{Scan, Step};

@@ -1,6 +1,6 @@
 //! Breadth first over pairs of block and state.
 
-ghost use Rattle.std.specs.Prelude.{◌≡◌, ℕ, ◌<◌, IfOk};
+ghost use Rattle.std.specs.Prelude.{◌≡◌, ◌<◌, IfOk};
 ghost use Rattle.sil_cfg.specs.Layout.{item_count};
 ghost use Rattle.sil_cfg.specs.Flow.{numbered};
 ghost use Rattle.reach_engine.specs.inner.Reach.{ReachesFirst, ReachesPoint};

@@ -48,18 +48,6 @@ fn deinits_of(alloc: Global, table: &TypeTable, chain: &[&Text]) -> Result<List<
     Ok(deinits)
 }
 
-/// The fields that a struct or class declares itself.
-fn own_fields<'t>(table: &'t TypeTable, owner: &Text) -> &'t [Field]
-    ensures { result.now ≡ lookups.own_fields table.now owner.now }
-{
-    match table.decl(owner) {
-        Some(Decl::Struct { fields, .. }) => fields.as_slice(),
-        Some(Decl::Class { fields, .. }) => fields.as_slice(),
-        Some(Decl::Enum { .. }) => &[],
-        None => &[],
-    }
-}
-
 /// Adds how some fields are stored.
 fn add_storages(storages: &mut List<Storage>, fields: &[Field]) -> Result<(), Exhausted>
     ensures { OnOk result (storages.new ≡ storages.old ++ map spec.storage_of fields.now) }
@@ -80,7 +68,7 @@ fn storages_of(
 {
     let mut storages = List::new(alloc);
     while let Some(class) = chain.pop() {
-        add_storages(&mut storages, own_fields(table, class))?;
+        add_storages(&mut storages, table.own_fields(class))?;
     }
     Ok(storages)
 }

@@ -11,7 +11,7 @@ use Rattle.type_definitions.specs.Declarations.{Declarations}
 use Rattle.run_values.specs.Cells.{Cell}
 use Rattle.run_values.specs.Memory.{Memory, Object, is_dead, is_dead_phase}
 use Rattle.run_values.specs.Places as places
-use Rattle.run_values.specs.Places.{Home, Inside, OnStack, Place, emptied, filled, is_there_at, removed, value_at, with_home_cells}
+use Rattle.run_values.specs.Places.{Home, Inside, OnStack, Place, emptied, is_there_at, value_at, with_home_cells}
 use Rattle.run_values.specs.Shapes.{Shape, class_in, storage_in}
 use Rattle.run_values.specs.Values as value
 use Rattle.run_values.specs.Values.{Value}

@@ -1,8 +1,8 @@
 -- Facts on lists: what stands in front, and tests that fail at each element.
-use Rattle.std.proofs.Common.{◌≡◌, ℕ, zero, suc, List, [], ◌∷◌, ◌++◌, length, refl, sym, ◌∙◌, Bool, true, false, Some}
+use Rattle.std.proofs.Common.{◌≡◌, ℕ, zero, suc, List, [], ◌∷◌, ◌++◌, sym, ◌∙◌, Bool, false, Some}
 use Rattle.std.specs.Prelude.{◌==◌, slice_get}
 use Rattle.std.specs.List.{list_any}
-use Rattle.std.proofs.lemmas.Bool.{eqb-true, or_from, or_parts}
+use Rattle.std.proofs.lemmas.Bool.{or_from, or_parts}
 use Rattle.std.proofs.lemmas.List.Folds.{list_any-append}
 use Rattle.std.proofs.lemmas.Option.{same_Some}
 
@@ -10,10 +10,6 @@ pub get_front : {A : Type 0} (xs ys : List A) (k : ℕ) (x : A) → slice_get xs
 get_front [] ys k x e = cc
 get_front (y ∷ xs) ys zero x e = e
 get_front (y ∷ xs) ys (suc k) x e = get_front xs ys k x e
-
-pub is_empty_list : {A : Type 0} (xs : List A) → (length xs == 0) ≡ true → xs ≡ []
-is_empty_list [] e = refl
-is_empty_list (x ∷ xs) e = absurd (let wrong : suc (length xs) ≡ 0 = eqb-true (suc (length xs)) 0 e in cc)
 
 pub none_in_parts : {A : Type 0} (test : A → Bool) (xs ys : List A) → list_any test (xs ++ ys) ≡ false → (list_any test xs ≡ false) × (list_any test ys ≡ false)
 none_in_parts test xs ys e = or_parts (list_any test xs) (list_any test ys) (sym (list_any-append test xs ys) ∙ e)

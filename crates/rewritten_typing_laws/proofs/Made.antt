@@ -3,6 +3,7 @@ use Rattle.std.proofs.Common.{◌≡◌, ℕ, zero, suc, ◌<◌, List, [], ◌�
 use Rattle.std.specs.Prelude.{◌&&◌, if◌then◌else◌, is_some, length, not, remove, slice_get}
 use Rattle.std.specs.List.{list_all}
 use Rattle.std.proofs.lemmas.Bool.{and_parts, eqb-true}
+use Rattle.std.proofs.lemmas.List.{nil_from_length}
 use Rattle.std.proofs.lemmas.Option.{same_Some}
 use Rattle.copy_removal.specs.Copies.{IsCopy, is_op}
 use Rattle.copy_removal.specs.Optimised.{Rewrites, facts_of, lends, moves}
@@ -33,7 +34,7 @@ use Rattle.type_definitions.specs.Declarations.{Declarations, declarations_of}
 use Rattle.type_definitions.specs.Measures.{is_trivial}
 use Rattle.rewritten_typing_laws.proofs.Alike.{Alike, Blocks, Functions, Rest, block, borrows, changed, ends, function, goes, keeps, moves as moves_op, no_block}
 use Rattle.rewritten_typing_laws.proofs.Alike.{no_function, nothing, same, same_blocks, same_functions, same_insts}
-use Rattle.rewritten_typing_laws.proofs.Lists.{get_front, is_empty_list, same_at}
+use Rattle.rewritten_typing_laws.proofs.Lists.{get_front, same_at}
 
 -- two instructions with one number are the same
 same_op : (a b : Op) → number_of a ≡ number_of b → a ≡ b
@@ -146,9 +147,10 @@ module _ (m : Module) (typed : Typed m) (n : ℕ) (f : Function) (there : slice_
 
     no_results : i.op ≡ op.DestroyValue → i.results ≡ []
     no_results is =
-        is_empty_list i.results
+        nil_from_length i.results
+        (eqb-true (length i.results) 0
         (sym (ap (λ o. is_count_by (results_of o) (row_types d i) (length i.results)) is)
-        ∙ by (is_count_by (results_of i.op) (row_types d i) (length i.results)) refl)
+        ∙ by (is_count_by (results_of i.op) (row_types d i) (length i.results)) refl))
       where
         by : (x : Bool) → is_count_by (results_of i.op) (row_types d i) (length i.results) ≡ x → is_count_by (results_of i.op) (row_types d i) (length i.results) ≡ true
         by true e = e

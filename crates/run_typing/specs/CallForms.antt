@@ -1,19 +1,19 @@
 -- What typing says of functions that a run enters, and of the values that their items take and define.
-use Rattle.std.specs.Prelude.{◌≡◌, ◌<◌, ℕ, List, [], ◌∷◌, true, Option, Some, slice_get}
+use Rattle.std.specs.Prelude.{◌≡◌, ◌<◌, [], ◌∷◌, true, Some, slice_get}
 use Rattle.lowered_run.specs.Calling.{value_count}
 use Rattle.lowered_run.specs.Frames.{has_any}
-use Rattle.item_operands.specs.Items.{item_defined}
+use Rattle.lowered_run.specs.item_operands.Items.{item_defined}
 use Rattle.lowered_run.specs.LowStepParts.{values_taken}
 use Rattle.numbered_form.specs.Lists.{Each}
 use Rattle.numbered_form.specs.Names.{Name}
-use Rattle.run_values.specs.Shapes.{Reference}
+use Rattle.value_parts.specs.run_values.Shapes.{Reference}
 use Rattle.sil_ast.specs.declared.function.Function.{Function}
 use Rattle.sil_ast.specs.declared.module.Module.{Module}
 use Rattle.sil_ast.specs.declared.place.FuncId.{FuncId}
 use Rattle.sil_ast.specs.declared.place.ValueId.{ValueId}
 use Rattle.sil_cfg.specs.declared.item.Item.{Item}
-use Rattle.type_definitions.specs.Declarations.{declarations_of}
-use Rattle.type_definitions.specs.Lookups.{deinit_of}
+use Rattle.value_parts.specs.type_definitions.Declarations.{declarations_of}
+use Rattle.value_parts.specs.type_definitions.Lookups.{deinit_of}
 use Rattle.run_typing.specs.Forms.{OfValue, entry_forms}
 
 -- the value is one of the function's

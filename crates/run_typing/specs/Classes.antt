@@ -1,11 +1,11 @@
 -- Classes in a run: which inherits from which, and where their fields lie.
 use Rattle.std.specs.Prelude.{◌≡◌, ◌||◌, ℕ, List, ◌++◌, Bool, true, Some, bytes_eq}
-use Rattle.lowered_run.specs.ModuleShapes.{ModuleShapes, field_shapes, shapes_of}
+use Rattle.lowered_run.specs.ModuleShapes.{field_shapes, shapes_of}
 use Rattle.numbered_form.specs.Names.{Name}
-use Rattle.run_values.specs.Shapes.{Shape}
+use Rattle.value_parts.specs.run_values.Shapes.{Shape}
 use Rattle.sil_ast.specs.declared.module.Module.{Module}
-use Rattle.type_definitions.specs.Declarations.{Declarations, declarations_of, inherits, is_class}
-use Rattle.type_definitions.specs.Lookups.{class_at}
+use Rattle.value_parts.specs.type_definitions.Declarations.{Declarations, declarations_of, inherits, is_class}
+use Rattle.value_parts.specs.type_definitions.Lookups.{class_at}
 
 -- the class is the other one or inherits from it
 abbrev pub is_a : Declarations → Name → Name → Bool

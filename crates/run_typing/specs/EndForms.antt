@@ -1,18 +1,18 @@
 -- What typing says of a terminator of lowered code, and of its edges.
-use Rattle.std.specs.Prelude.{◌≡◌, ◌<◌, ℕ, List, [], ◌∷◌, Bool, true, false, Option, Some, None, map, length, slice_get}
+use Rattle.std.specs.Prelude.{◌≡◌, ◌<◌, ℕ, List, [], ◌∷◌, true, false, Option, Some, None, map, length, slice_get}
 use Rattle.lowered_run.specs.Edges.{edge_for, is_default}
 use Rattle.instruction_table.specs.Forms.{ending_of}
 use Rattle.instruction_table.specs.declared.entries.Ending.TheVariants as ending
-use Rattle.item_operands.specs.Items.{arg_value}
-use Rattle.run_values.specs.Layers.{CaseLayer}
-use Rattle.run_values.specs.Shapes.{Shape, case_shapes}
+use Rattle.lowered_run.specs.item_operands.Items.{arg_value}
+use Rattle.value_parts.specs.run_values.Layers.{CaseLayer}
+use Rattle.value_parts.specs.run_values.Shapes.{Shape, case_shapes}
 use Rattle.sil_ast.specs.Blocks.{args_of}
 use Rattle.sil_ast.specs.declared.function.Function.{Function}
 use Rattle.sil_ast.specs.declared.inst.Edge.{Edge}
 use Rattle.sil_ast.specs.declared.inst.Inst.{Inst}
 use Rattle.sil_ast.specs.declared.operands.Operand.{Operand}
 use Rattle.sil_ast.specs.declared.place.ValueId.{ValueId}
-use Rattle.type_definitions.specs.Declarations.{Declarations}
+use Rattle.value_parts.specs.type_definitions.Declarations.{Declarations}
 use Rattle.run_typing.specs.Forms.{Form, OfValue, forms_of, given_shape}
 use Rattle.run_typing.specs.RowForms.{IsEnum, bit}
 

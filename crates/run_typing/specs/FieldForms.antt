@@ -3,13 +3,13 @@ use Rattle.std.specs.Prelude.{◌≡◌, true, map}
 use Rattle.lowered_run.specs.ModuleShapes.{field_shape, field_shapes, shapes_of}
 use Rattle.numbered_form.specs.Lists.{Each}
 use Rattle.numbered_form.specs.Names.{Name}
-use Rattle.run_values.specs.Leaves.{in_leaves}
+use Rattle.value_parts.specs.run_values.Leaves.{in_leaves}
 use Rattle.sil_ast.specs.declared.decl.Field.{Field}
 use Rattle.sil_ast.specs.declared.module.Module.{Module}
 use Rattle.lowered_run.specs.Typing.Shapes.{stored_as}
-use Rattle.type_definitions.specs.Declarations.{Declarations, declarations_of, is_class}
-use Rattle.type_definitions.specs.Lookups.{fields_of}
-use Rattle.type_definitions.specs.Measures.{leaves_of}
+use Rattle.value_parts.specs.type_definitions.Declarations.{Declarations, declarations_of, is_class}
+use Rattle.value_parts.specs.type_definitions.Lookups.{fields_of}
+use Rattle.value_parts.specs.type_definitions.Measures.{leaves_of}
 use Rattle.run_typing.specs.StorageForms.{FieldShapeIs}
 
 abbrev pub IsTypedField : Declarations → Field → Type 0

@@ -1,7 +1,7 @@
 -- What the values of a function are to a run, by their types.
 use Rattle.std.specs.Prelude.{◌≡◌, List, Bool, true, false, Option, Some, None, map}
-use Rattle.item_operands.specs.Items.{item_defined}
-use Rattle.run_values.specs.Shapes.{Shape, shape_of}
+use Rattle.lowered_run.specs.item_operands.Items.{item_defined}
+use Rattle.value_parts.specs.run_values.Shapes.{Shape, shape_of}
 use Rattle.value_parts.specs.inner.Storages.{holds_no_storage}
 use Rattle.sil_ast.specs.declared.function.Function.{Function}
 use Rattle.sil_ast.specs.declared.place.FuncId.{FuncId}
@@ -10,8 +10,8 @@ use Rattle.sil_ast.specs.declared.type_name.TypeName.{TypeName}
 use Rattle.sil_cfg.specs.declared.item.Item.TheVariants as item
 use Rattle.lowered_run.specs.Typing.Shapes.{target}
 use Rattle.lowered_run.specs.Typing.Values.{function_at, type_at, value_functions, value_types}
-use Rattle.type_definitions.specs.Declarations.{Declarations}
-use Rattle.type_definitions.specs.Mentions.{given_type}
+use Rattle.value_parts.specs.type_definitions.Declarations.{Declarations}
+use Rattle.value_parts.specs.type_definitions.Mentions.{given_type}
 
 -- a value of a shape; the address of a place of a shape; a function; or nothing that typing tells of
 pub data Form : Type 0 where

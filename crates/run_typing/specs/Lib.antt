@@ -24,3 +24,4 @@ pub use Rattle.lowered_run.specs.holder_model as holder_model
 pub use Rattle.lowered_run.specs as lowered_run
 pub use Rattle.lowered_run.specs.ownership_kinds as ownership_kinds
 pub use Rattle.lowered_run.specs.ownership_origins as ownership_origins
+pub use Rattle.value_parts.specs as value_parts

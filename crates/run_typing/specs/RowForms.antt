@@ -1,5 +1,5 @@
 -- What typing says of an instruction of lowered code, by what its row does in a run: the forms of its operands and of its results.
-use Rattle.std.specs.Prelude.{◌≡◌, ◌<◌, ℕ, ℤ, List, [], ◌∷◌, Bool, true, false, Option, Some, None, map, option_and_then, slice_get}
+use Rattle.std.specs.Prelude.{◌≡◌, ◌<◌, ℕ, ℤ, List, [], ◌∷◌, true, false, Option, Some, None, map, option_and_then, slice_get}
 use Rattle.lowered_run.specs.RowEffect.TheVariants as row
 use Rattle.lowered_run.specs.Effects.{effect_of, part_number}
 use Rattle.lowered_run.specs.Frames.{has_any}
@@ -9,18 +9,17 @@ use Rattle.lowered_run.specs.Operation.{Operation}
 use Rattle.lowered_run.specs.Operation.TheVariants as operation
 use Rattle.numbered_form.specs.Names.{Name}
 use Rattle.numbered_form.specs.inner.Literals.{is_residue}
-use Rattle.run_values.specs.Layers.{CaseLayer}
-use Rattle.run_values.specs.Shapes.{CaseShapes, FullCase, NoCase, PlainCase}
-use Rattle.run_values.specs.Shapes.{Enum, Integer, NoMember, Reference, Shape, Stored, Struct, Tuple, case_shapes, member_shapes, members_of}
+use Rattle.value_parts.specs.run_values.Layers.{CaseLayer}
+use Rattle.value_parts.specs.run_values.Shapes.{CaseShapes}
+use Rattle.value_parts.specs.run_values.Shapes.{Enum, Integer, NoMember, Reference, Shape, Stored, Struct, Tuple, case_shapes, member_shapes, members_of}
 use Rattle.sil_ast.specs.declared.decl.Storage.{Storage}
-use Rattle.sil_ast.specs.declared.decl.Storage.TheVariants as storage
 use Rattle.sil_ast.specs.declared.function.Function.{Function}
 use Rattle.sil_ast.specs.declared.inst.Inst.{Inst}
 use Rattle.sil_ast.specs.declared.member.Member.{Member}
 use Rattle.sil_ast.specs.declared.module.Module.{Module}
 use Rattle.sil_ast.specs.declared.place.FuncId.{FuncId}
 use Rattle.lowered_run.specs.Typing.Builtins.{Builtin, Sort, bits, builtin_named, combining, comparing, overflowing, sort_of}
-use Rattle.type_definitions.specs.Declarations.{declarations_of, is_class}
+use Rattle.value_parts.specs.type_definitions.Declarations.{declarations_of, is_class}
 use Rattle.run_typing.specs.Classes.{is_a}
 use Rattle.run_typing.specs.StorageForms.{FieldShapeIs, IsNamed}
 use Rattle.run_typing.specs.Forms.{Form, OfFunction, OfPlace, OfValue, entry_forms, given_shape, has_no_storage}

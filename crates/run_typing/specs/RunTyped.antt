@@ -1,12 +1,12 @@
 -- Whatever a run relies on of the types of a module.
-use Rattle.std.specs.Prelude.{◌≡◌, ℕ, List, [], true, Some, map, slice_get}
-use Rattle.item_operands.specs.Parts.{inst_at, terminator_of}
-use Rattle.item_operands.specs.Roles.{taken_by}
+use Rattle.std.specs.Prelude.{◌≡◌, ℕ, [], true, Some, map, slice_get}
+use Rattle.lowered_run.specs.item_operands.Parts.{inst_at, terminator_of}
+use Rattle.lowered_run.specs.item_operands.Roles.{taken_by}
 use Rattle.lowered_run.specs.LowStepParts.{taken_value, values_taken}
 use Rattle.numbered_form.specs.Lists.{Each}
-use Rattle.run_values.specs.Leaves.{in_leaves}
-use Rattle.run_values.specs.Shapes.{shape_of}
-use Rattle.run_values.specs.inner.Laws.{has_no_address}
+use Rattle.value_parts.specs.run_values.Leaves.{in_leaves}
+use Rattle.value_parts.specs.run_values.Shapes.{shape_of}
+use Rattle.value_parts.specs.run_values.inner.Laws.{has_no_address}
 use Rattle.sil_ast.specs.declared.function.Function.{Function}
 use Rattle.sil_ast.specs.declared.inst.Inst.{Inst}
 use Rattle.sil_ast.specs.declared.module.Module.{Module}
@@ -14,8 +14,8 @@ use Rattle.sil_ast.specs.declared.place.PointId.{PointId}
 use Rattle.sil_ast.specs.declared.type_name.TypeName.{TypeName}
 use Rattle.sil_cfg.specs.declared.item.Item.{Item}
 use Rattle.sil_cfg.specs.declared.item.Item.TheVariants as item
-use Rattle.type_definitions.specs.Declarations.{Declarations, declarations_of}
-use Rattle.type_definitions.specs.Measures.{leaves_of}
+use Rattle.value_parts.specs.type_definitions.Declarations.{Declarations, declarations_of}
+use Rattle.value_parts.specs.type_definitions.Measures.{leaves_of}
 use Rattle.run_typing.specs.CallForms.{DeinitsAreTyped, ItemIsOf}
 use Rattle.run_typing.specs.Classes.{ClassesAreSound}
 use Rattle.run_typing.specs.FieldForms.{AreFieldsTyped}

@@ -1,5 +1,5 @@
 -- The modules that a run of lowered code may be asked for: typed, in lowered form, and in numbered form but for the limit on instructions.
-use Rattle.std.specs.Prelude.{◌≡◌, ◌<◌, ◌≤◌, ◌^◌, ℕ, length}
+use Rattle.std.specs.Prelude.{◌≡◌, ◌<◌, ◌≤◌, ◌^◌, length}
 use Rattle.sil_ast.specs.declared.function.Block.{Block}
 use Rattle.sil_ast.specs.declared.function.Form.TheVariants.{Ossa}
 use Rattle.sil_ast.specs.declared.function.Function.{Function}
@@ -15,7 +15,7 @@ use Rattle.numbered_form.specs.inner.Limits.{IsBlockInLimits, IsDeclInLimits, Is
 use Rattle.numbered_form.specs.inner.Literals.{AreLiteralsInRange}
 use Rattle.numbered_form.specs.inner.Parts.{HaveTheirParts}
 use Rattle.numbered_form.specs.inner.Types.{AreTypesWritten}
-use Rattle.type_definitions.specs.Rules.{Declared, InLimits}
+use Rattle.value_parts.specs.type_definitions.Rules.{Declared, InLimits}
 use Rattle.lowered_run.specs.Typing.Typed.{Typed}
 
 -- fewer than 2^32 instructions in a block, its terminator counted

@@ -1,7 +1,7 @@
 -- Weak and unowned storage in the words of a run: what it gives, and where it stands.
 use Rattle.std.specs.Prelude.{◌≡◌, true}
 use Rattle.numbered_form.specs.Names.{Name}
-use Rattle.run_values.specs.Shapes.{Enum, FullCase, NoCase, PlainCase, Reference, Shape, Stored}
+use Rattle.value_parts.specs.run_values.Shapes.{Enum, FullCase, NoCase, PlainCase, Reference, Shape, Stored}
 use Rattle.sil_ast.specs.declared.decl.Storage.{Storage}
 use Rattle.sil_ast.specs.declared.decl.Storage.TheVariants as storage
 use Rattle.run_typing.specs.Forms.{has_no_storage}

@@ -36,7 +36,7 @@ use Rattle.run_typing_laws.specs.inner.WellTyped.{IsWellTyped}
 use Rattle.run_typing_laws.proofs.BlockFacts.{edge_forms, lowered_form}
 use Rattle.run_typing_laws.proofs.FunctionFacts.{TypedFunction, TypedInst}
 use Rattle.run_typing_laws.proofs.Found.{both_first, both_second, not_false}
-use Rattle.run_typing_laws.proofs.ListFacts.{empty_is}
+use Rattle.numbered_form.proofs.Lists.{empty_is}
 use Rattle.run_typing_laws.proofs.MemberFacts.{enum_is}
 use Rattle.run_typing_laws.proofs.Rows.Finding.{mapped_some, passes_at, some_of, where_found}
 use Rattle.run_typing_laws.proofs.Rows.Layers.{target-Int}

@@ -1,5 +1,5 @@
 -- The fields of a class are those of its shape.
-use Rattle.std.proofs.Common.{◌≡◌, ℕ, zero, suc, List, [], ◌∷◌, ◌++◌, Bool, true, false, Option, Some, None, map, refl, sym, ap, ◌∙◌, subst, cond, append-nil}
+use Rattle.std.proofs.Common.{◌≡◌, ℕ, zero, suc, List, [], ◌∷◌, ◌++◌, true, false, Option, Some, map, refl, ap, ◌∙◌, cond, append-nil}
 use Rattle.std.specs.Prelude.{find, slice_get}
 use Rattle.std.specs.List.{flat_map}
 use Rattle.std.specs.Option.{option_to_list}
@@ -11,7 +11,6 @@ use Rattle.sil_ast.specs.declared.module.Module.{Module}
 use Rattle.numbered_form.specs.Names.{AreOnce, Name, decl_name}
 use Rattle.run_typing.specs.holder_model.ModuleShapes.{ClassShape, class_shape, field_shape, field_shapes, fields_in, shapes_of}
 use Rattle.run_typing.specs.holder_model.ModuleShapes.{is_class as is_named}
-use Rattle.run_values.specs.Shapes.{Shape}
 use Rattle.type_definitions.specs.Declarations.{Declarations, declarations_of, is_class}
 use Rattle.type_definitions.specs.Lookups.{fields_of}
 use Rattle.run_typing_laws.specs.inner.WellTyped.{IsWellTyped}

@@ -23,7 +23,7 @@ use Rattle.run_values.specs.Layers.{case_with, decl_with, field_with, named_with
 use Rattle.run_values.specs.Shapes.{CaseShapes, Shape, cases_by_layers, cases_of, each_by_layers, members_of, shape_of, shape_with, with_case}
 use Rattle.run_values.specs.Trivial.{itself}
 use Rattle.run_typing.specs.Forms.{has_no_storage}
-use Rattle.value_parts.specs.inner.Storages.{no_storage_layer, payload_holds_none}
+use Rattle.run_typing.specs.value_parts.inner.Storages.{no_storage_layer, payload_holds_none}
 use Rattle.run_typing_laws.specs.inner.WellTyped.{IsWellTyped}
 use Rattle.run_typing_laws.proofs.Declared.{each_append, each_at, each_from, holds_of_found}
 use Rattle.run_typing_laws.proofs.Opened.{Proved, by_layer, fold-Int, type_in, types_in}

@@ -1,5 +1,4 @@
 -- A runnable module is typed in the words of a run: function by function, and its deinitialisers, classes, fields and sizes.
-use Rattle.std.proofs.Common.{Some}
 use Rattle.sil_ast.specs.declared.module.Module.{Module}
 use Rattle.run_typing.specs.RunTyped.{RunnableIsTyped}
 use Rattle.run_typing.specs.Runnable.{IsNotOwned, IsRunnable}

@@ -37,7 +37,8 @@ use Rattle.run_typing_laws.specs.inner.WellTyped.{IsWellTyped}
 use Rattle.run_typing_laws.proofs.BlockFacts.{block_forms, block_there}
 use Rattle.run_typing_laws.proofs.FunctionFacts.{TypedFunction, TypedInst}
 use Rattle.run_typing_laws.proofs.Found.{both_first, both_second, neither_first, neither_second, not_false}
-use Rattle.run_typing_laws.proofs.ListFacts.{empty_is, or_second}
+use Rattle.run_typing_laws.proofs.ListFacts.{or_second}
+use Rattle.numbered_form.proofs.Lists.{empty_is}
 use Rattle.run_typing_laws.proofs.MemberFacts.{case_found, cases_counted}
 use Rattle.run_typing_laws.proofs.Rows.Finding.{fails_at, passes_at, some_of}
 use Rattle.run_typing_laws.proofs.SameFacts.{same_type_lists}

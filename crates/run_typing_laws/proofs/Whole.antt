@@ -22,8 +22,8 @@ use Rattle.numbered_form.specs.Names.{Name}
 use Rattle.type_definitions.specs.Contained.{containment, field_type, held_names, held_places, itself, lower_places, names_in, names_over, payload_types, place_list}
 use Rattle.type_definitions.specs.Declarations.{Declarations, all_decls, all_names, at_place, decl_of, declarations_of, place_of, swift_structs}
 use Rattle.type_definitions.specs.Rules.{Declared}
-use Rattle.type_measures.proofs.Agreement.{names-Int}
-use Rattle.type_measures.proofs.Ordered.{held_at, held_part}
+use Rattle.run_typing.proofs.type_measures.Agreement.{names-Int}
+use Rattle.run_typing.proofs.type_measures.Ordered.{held_at, held_part}
 use Rattle.run_values.specs.Layers.{Layer, Unknown, case_with, decl_with, field_with, named_within, optional_layer, over, told, type_with}
 use Rattle.run_values.specs.Layers as layer
 use Rattle.run_typing_laws.proofs.Finite.{all_seen, is_seen}

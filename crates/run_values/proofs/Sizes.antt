@@ -10,7 +10,7 @@ use Rattle.sil_ast.specs.declared.decl.Decl.{Decl}
 use Rattle.sil_ast.specs.declared.decl.Decl.TheVariants as decl
 use Rattle.sil_ast.specs.declared.decl.Field.{Field}
 use Rattle.sil_ast.specs.declared.type_name.TypeName.{TypeName, TypeName-F, fold-roll-TypeName, ind-TypeName, map-TypeName, roll-TypeName}
-use Rattle.numbered_form.specs.Names.{Name}
+use Rattle.type_definitions.specs.numbered_form.Names.{Name}
 use Rattle.type_definitions.specs.Contained.{field_type, payload_types}
 use Rattle.type_definitions.specs.Declarations.{Declarations, all_decls, all_names, at_place, place_of}
 use Rattle.type_definitions.specs.Measures.{leaves_in, measure_at, measure_decl, measure_over, measure_with, measures_within, unmeasured}

@@ -3,7 +3,7 @@ use Rattle.std.specs.Prelude.{ℕ, ℤ, List, [], ◌∷◌, Bool, true, false, 
 use Rattle.std.specs.Prelude.{option_and_then, option_map, slice_get, unwrap_or}
 use Rattle.sil_ast.specs.declared.decl.Storage.{Storage}
 use Rattle.sil_ast.specs.declared.decl.Storage.TheVariants as storage
-use Rattle.numbered_form.specs.inner.Literals.{is_residue}
+use Rattle.type_definitions.specs.numbered_form.inner.Literals.{is_residue}
 use Rattle.run_values.specs.Layers.{CaseLayer, Layer, Integer, Reference, Struct, Tuple, Enum, Stored, Unknown}
 use Rattle.run_values.specs.Shapes.{Shape, by_layers}
 use Rattle.run_values.specs.Values.{ChosenCase, Value, case_of, integer_of, members_of, object_of}

@@ -9,7 +9,7 @@ use Rattle.sil_ast.specs.declared.decl.Storage.TheVariants as storage
 use Rattle.sil_ast.specs.declared.type_name.TypeName.{TypeName, fold-TypeName}
 use Rattle.sil_ast.specs.declared.type_name.TypeName.TheOpen.{TypeName-F, Int, Named, Optional, Weak, Unowned, Address}
 use Rattle.sil_ast.specs.declared.type_name.TypeName.TheOpen as layer
-use Rattle.numbered_form.specs.Names.{Name}
+use Rattle.type_definitions.specs.numbered_form.Names.{Name}
 use Rattle.type_definitions.specs.Declarations.{Declarations, all_decls, decl_of}
 
 -- a case of an enum, with what is told of its payload if it has one

@@ -1,7 +1,7 @@
 -- The memory of a run: the cells of all slots, and the objects.
 use Rattle.std.specs.Prelude.{ℕ, zero, suc, List, [], ◌∷◌, Bool, true, false, unwrap_or, slice_get, set, length}
 use Rattle.sil_ast.specs.declared.place.ObjectId.{ObjectId}
-use Rattle.numbered_form.specs.Names.{Name}
+use Rattle.type_definitions.specs.numbered_form.Names.{Name}
 use Rattle.run_values.specs.declared.phase.Phase.{Phase}
 use Rattle.run_values.specs.declared.phase.Phase.TheVariants.{Live, Deiniting, Dead}
 use Rattle.run_values.specs.Cells.{Cell}

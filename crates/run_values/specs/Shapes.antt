@@ -2,7 +2,7 @@
 use Rattle.std.specs.Prelude.{ℕ, List, [], ◌∷◌, Option, Some, None}
 use Rattle.sil_ast.specs.declared.decl.Storage.{Storage}
 use Rattle.sil_ast.specs.declared.type_name.TypeName.{TypeName}
-use Rattle.numbered_form.specs.Names.{Name}
+use Rattle.type_definitions.specs.numbered_form.Names.{Name}
 use Rattle.type_definitions.specs.Declarations.{Declarations}
 use Rattle.run_values.specs.Layers.{CaseLayer, Layer, told}
 use Rattle.run_values.specs.Layers as layer

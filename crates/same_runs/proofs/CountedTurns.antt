@@ -35,7 +35,6 @@ use Rattle.stored_runs.proofs.accepted_values.run_typing_laws.ShapeFacts.{tuple_
 use Rattle.run_values.specs.Shapes.{Shape, shape_of}
 use Rattle.run_values.specs.Trivial.{is_trivial}
 use Rattle.run_values.specs.Values as value
-use Rattle.run_values.specs.Values.{Value}
 use Rattle.stored_runs.specs.lowered_run.holder_model.Calling.{holds_something}
 use Rattle.stored_runs.specs.lowered_run.holder_model.Data.{AddressOf, Datum, FunctionOf, ValueOf}
 use Rattle.stored_runs.specs.lowered_run.holder_model.Effects.{only, unchanged}

@@ -3,3 +3,4 @@ pub mod Imports
 pub mod Blocks
 pub mod formers
 pub mod inner
+pub use Rattle.instruction_table.specs as instruction_table

@@ -1,5 +1,6 @@
 //! A box that contracts see as the value in it, with no pointer.
 
+ghost use Rattle.std.specs.Borrow.{Lends, sem};
 ghost use Rattle.std.specs.Prelude.{◌≡◌, IfOk};
 
 use crate::exhausted::Exhausted;
@@ -32,10 +33,20 @@ impl<T: Drop> Boxed<T> {
 }
 
 impl<T> Boxed<T> {
+    ghost use Rattle.sil_ast.specs.contracts.boxed.Boxed.{the_row};
+
     pub fn get(&self) -> &T
         ensures { result.now ≡ self.now }
     {
         &self.inner
+    }
+
+    /// The value, for writing.
+    pub fn get_mut(&mut self) -> &mut T
+        ensures* writes_back { sem 𝓛 (Lends (the_row T.row) T.row self.entry result (λ w. w)) }
+        ensures value { result.now ≡ self.old }
+    {
+        &mut self.inner
     }
 
     /// The value, out of its box.

@@ -1,5 +1,7 @@
 //! A list in a `Vec` that contracts see as its elements, with no capacity and no pointer.
 
+ghost use Rattle.std.specs.Borrow.{Array, Lends, sem};
+ghost use Rattle.std.specs.List.{refill};
 ghost use Rattle.std.specs.Prelude.{◌≡◌, [], ◌∷◌, ◌++◌, ◌≤◌, length, slice_get, ◌↔◌, IsTrue, IsNone, IfOk, OnOk, OnErr};
 ghost use Rattle.std.specs.Option.{option_copied};
 
@@ -26,6 +28,8 @@ impl<T> Model for List<T> {
 }
 
 impl<T> List<T> {
+    ghost use Rattle.sil_ast.specs.contracts.list.List.{the_row};
+
     /// The empty list, which takes no memory.
     pub fn new(alloc: Global) -> List<T>
         ensures { result ≡ [] }
@@ -83,6 +87,14 @@ impl<T> List<T> {
         ensures { result.now ≡ self.now }
     {
         self.items.as_slice()
+    }
+
+    /// The elements, for writing.
+    pub fn as_mut_slice(&mut self) -> &mut [T]
+        ensures* writes_back { sem 𝓛 (Lends (the_row T.row) (Array T.row 0) self.entry result (refill (length self.old) self.old)) }
+        ensures value { result.now ≡ self.old }
+    {
+        self.items.as_mut_slice()
     }
 }
 

@@ -1,6 +1,8 @@
 //! A list of few elements that contracts see as its elements.
 
-ghost use Rattle.std.specs.Prelude.{◌≡◌, [], ◌∷◌, ◌++◌, ◌≤◌, length, slice_get, ◌↔◌, IsTrue, IsNone, IfOk, OnOk, OnErr};
+ghost use Rattle.std.specs.Borrow.{Array, Lends, sem};
+ghost use Rattle.std.specs.List.{refill};
+ghost use Rattle.std.specs.Prelude.{◌≡◌, [], ◌∷◌, ◌++◌, ◌≤◌, length, slice_get, ◌↔◌, IsTrue, IsNone, OnOk, OnErr};
 ghost use Rattle.std.specs.Option.{option_copied};
 
 use crate::exhausted::Exhausted;
@@ -49,6 +51,8 @@ impl<T: MadeWith<Global> + Drop, const N: usize> ShortList<T, N> {
 }
 
 impl<T, const N: usize> ShortList<T, N> {
+    ghost use Rattle.sil_ast.specs.contracts.short_list.ShortList.{the_row};
+
     pub fn len(&self) -> usize
         ensures { result ≡ length self.now }
     {
@@ -73,6 +77,14 @@ impl<T, const N: usize> ShortList<T, N> {
         ensures { result.now ≡ self.now }
     {
         self.items.as_slice()
+    }
+
+    /// The elements, for writing.
+    pub fn as_mut_slice(&mut self) -> &mut [T]
+        ensures* writes_back { sem 𝓛 (Lends (the_row T.row N.row) (Array T.row 0) self.entry result (refill (length self.old) self.old)) }
+        ensures value { result.now ≡ self.old }
+    {
+        self.items.as_mut_slice()
     }
 }
 

@@ -1,10 +1,10 @@
 //! Builds a graph: one block after another, each with numbers for its items.
 
-ghost use Rattle.std.specs.Prelude.{◌≡◌, ℕ, ◌+◌, ◌<◌, ◌≤◌, ◌^◌, [], ◌∷◌, ◌++◌, length, map, IfOk, OnOk};
+ghost use Rattle.std.specs.Prelude.{◌≡◌, ◌+◌, ◌<◌, ◌≤◌, ◌^◌, [], ◌∷◌, ◌++◌, length, IfOk, OnOk};
 ghost use Rattle.sil_cfg.specs.Layout.{block_of, layout_of, IsSound};
 ghost use Rattle.sil_cfg.specs.Items.{entry_of, exit_of, insts_from, point_at, ends_function};
 ghost use Rattle.sil_cfg.specs.inner.Build.{HasGraph, IsGraphOf};
-ghost use Rattle.sil_cfg.specs.inner.Laying.{LaysMore, LaysBlock, HasLaid, Adds, AreEdgesLaid};
+ghost use Rattle.sil_cfg.specs.inner.Laying.{LaysMore, LaysBlock, Adds, AreEdgesLaid};
 
 use crate::exits::is_exit;
 use crate::item::Item;

@@ -1,6 +1,6 @@
 //! The graph of a function: its blocks, their items and the edges between them, by numbers.
 
-ghost use Rattle.std.specs.Prelude.{◌≡◌, ℕ, ◌+◌, ◌<◌, ◌≤◌, ◌^◌, length, All, Some, IfOk};
+ghost use Rattle.std.specs.Prelude.{◌≡◌, ◌+◌, ◌<◌, ◌≤◌, ◌^◌, All, Some, IfOk};
 
 use crate::build::build_blocks;
 use crate::item::Item;

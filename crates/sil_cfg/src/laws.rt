@@ -1,6 +1,5 @@
 //! Laws of walks and trails, each on a call that does nothing.
 
-ghost use Rattle.std.specs.Prelude.{ℕ, List};
 ghost use Rattle.sil_ast.specs.declared.function.Function.{Function};
 ghost use Rattle.sil_cfg.specs.inner.Laws.{HasTrails, HasItsTrails};
 ghost use Rattle.sil_cfg.specs.inner.Splice.{Splices};

@@ -1,6 +1,6 @@
 //! Whether a function has a graph.
 
-ghost use Rattle.std.specs.Prelude.{◌≡◌, ◌↔◌, ℕ, ◌<◌, ◌^◌, length, All, IsTrue};
+ghost use Rattle.std.specs.Prelude.{◌≡◌, ◌↔◌, ◌<◌, ◌^◌, All, IsTrue};
 ghost use Rattle.sil_cfg.specs.inner.Build.{HasGraph, IsBlockLinked};
 
 use sil_ast::{Block, Edge, Function};

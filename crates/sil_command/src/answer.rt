@@ -4,6 +4,7 @@ ghost use Rattle.std.specs.Prelude.{◌≡◌, ◌≤◌, IfOk, length, true};
 ghost use Rattle.module_runner.specs.LoweredModules.{lowered};
 ghost use Rattle.sil_printer.specs.CanonicalModules.{canonical_text};
 ghost use Rattle.sil_rules.specs.declared.limits.TheConstants.{TEXT_BYTES};
+ghost use Rattle.accepted_modules.specs.inner.Checked.{IsVerifiedWith};
 ghost use Rattle.sil_command.specs.Statuses.{code_of};
 ghost use Rattle.numbered_form.specs.inner.NumberedForm.{IsNumbered};
 ghost use Rattle.sil_command.specs.declared.words.Mode.TheVariants.{Check, Lower, Optimize, Run};
@@ -16,7 +17,7 @@ use crate::run_answer::answer_run;
 use crate::status::Status;
 use crate::verified::answer_end;
 use crate::words::Mode;
-use module_runner::{lower, optimised_if};
+use module_runner::{TypeTable, lower_in_place, optimised_if};
 use sil_ast::{Exhausted, Module};
 use sil_grammar::read_owned;
 use sil_printer::print;
@@ -116,8 +117,9 @@ fn run_module(
 {
     match verify(alloc, module) {
         Ok(checked) => {
-            let answer = answer_run(alloc, &checked, entry, turns, optimise);
-            forget(checked);
+            let (module, table) = checked.into_parts();
+            let answer = answer_run(alloc, module, &table, entry, turns, optimise);
+            forget(table);
             answer
         }
         Err(end) => answer_end(alloc, end),
@@ -128,8 +130,9 @@ fn write_lowered(alloc: Global, checked: Checked, optimise: bool) -> Result<Answ
     ensures { IfOk result (λ a. WritesOf (λ k. canonical_text (lowered k)) optimise checked a.text.items (code_of a.status)) }
 {
     let left = optimised_if(alloc, checked, optimise)?;
-    let answer = print_lowered(alloc, &left);
-    forget(left);
+    let (module, table) = left.into_parts();
+    let answer = print_lowered(alloc, &table, module);
+    forget(table);
     answer
 }
 
@@ -142,10 +145,12 @@ fn write_optimised(alloc: Global, checked: Checked) -> Result<Answer, Exhausted>
     answer
 }
 
-fn print_lowered(alloc: Global, checked: &Checked) -> Result<Answer, Exhausted>
-    ensures { IfOk result (λ a. Writes (canonical_text (lowered checked.now)) a.text.items (code_of a.status)) }
+fn print_lowered(alloc: Global, table: &TypeTable, module: Module) -> Result<Answer, Exhausted>
+    requires { IsVerifiedWith module table.now }
+    ensures { IfOk result (λ a. Writes (canonical_text (lowered module)) a.text.items (code_of a.status)) }
 {
-    let lowered = lower(alloc, checked)?;
+    let mut lowered = module;
+    lower_in_place(alloc, table, &mut lowered)?;
     let answer = print_module(alloc, &lowered);
     forget(lowered);
     answer

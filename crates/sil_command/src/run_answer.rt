@@ -3,14 +3,14 @@
 ghost use Rattle.std.specs.Prelude.{◌≡◌, ◌≤◌, IfOk};
 ghost use Rattle.module_runner.specs.inner.RunReports.{IsReportable, text_of};
 ghost use Rattle.module_runner.specs.RunOutcomes.{ending_of};
+ghost use Rattle.accepted_modules.specs.inner.Checked.{IsVerifiedWith};
 ghost use Rattle.sil_command.specs.Statuses.{code_of};
 ghost use Rattle.sil_command.specs.Answers.{AnswersRun, HasStatus};
 
 use crate::answer::Answer;
 use crate::status::Status;
-use module_runner::{Ending, RunEnd, RunReport, report_text, run_checked};
-use sil_ast::Exhausted;
-use sil_verifier::Checked;
+use module_runner::{Ending, RunEnd, RunReport, TypeTable, report_text, run_owned};
+use sil_ast::{Exhausted, Module};
 use std::alloc::Global;
 use std::mem::forget;
 
@@ -18,15 +18,17 @@ use std::mem::forget;
 /// turns.
 pub(crate) fn answer_run(
     alloc: Global,
-    checked: &Checked,
+    module: Module,
+    table: &TypeTable,
     entry: &[u8],
     turns: u32,
     optimise: bool,
 ) -> Result<Answer, Exhausted>
-    requires { 1 ≤ turns }
-    ensures { IfOk result (λ a. AnswersRun checked.now entry.now turns optimise a.text.items (code_of a.status)) }
+    requires verified { IsVerifiedWith module table.now }
+    requires some_turns { 1 ≤ turns }
+    ensures { IfOk result (λ a. AnswersRun module entry.now turns optimise a.text.items (code_of a.status)) }
 {
-    match run_checked(alloc, checked, entry, turns, optimise) {
+    match run_owned(alloc, module, table, entry, turns, optimise) {
         Ok(report) => {
             let answer = answer_report(alloc, &report);
             forget(report);

@@ -1,7 +1,7 @@
 //! A sink in memory that takes short pieces, fails at chosen calls and has room for so many bytes.
 //! It stands in for an output that nobody can foresee.
 
-ghost use Rattle.std.specs.Prelude.{◌≡◌, ℕ, ◌↔◌, ◌<◌, ◌≤◌, [], ◌++◌, Some, IfOk, IsOk, IsErr, IsTrue, MatchResult, length, vec_len, take};
+ghost use Rattle.std.specs.Prelude.{◌≡◌, ◌↔◌, ◌<◌, ◌≤◌, [], ◌++◌, Some, IfOk, IsOk, IsErr, IsTrue, MatchResult, length, vec_len, take};
 ghost use Rattle.std.specs.Vec.{vec_capacity};
 ghost use Rattle.sil_io.specs.inner.MemorySink.{SinkState, refuses_next, next_taken, after_taking, after_refusal};
 

@@ -1,7 +1,7 @@
 //! A source in memory that gives short pieces and fails at chosen calls.
 //! It stands in for an input that nobody can foresee.
 
-ghost use Rattle.std.specs.Prelude.{◌≡◌, ℕ, ◌↔◌, ◌<◌, ◌≤◌, [], ◌++◌, Some, IfOk, OnErr, IsErr, IsTrue, MatchResult, length, vec_len, take, drop};
+ghost use Rattle.std.specs.Prelude.{◌≡◌, ◌↔◌, ◌<◌, ◌≤◌, [], ◌++◌, Some, IfOk, OnErr, IsErr, IsTrue, MatchResult, length, vec_len, take, drop};
 ghost use Rattle.sil_io.specs.inner.MemorySource.{SourceState, fails_next, next_given, after_giving, after_fault};
 
 use crate::copying::copy_front;

@@ -1,7 +1,7 @@
 //! A source over a reader from outside: a call is one read. It counts what goes wrong, and doesn't tell what is left,
 //! since a read that failed doesn't say what it took.
 
-ghost use Rattle.std.specs.Prelude.{◌≡◌, ℕ, ◌<◌, ◌≤◌, None, IfOk, OnOk, OnErr, MatchResult, length, take};
+ghost use Rattle.std.specs.Prelude.{◌≡◌, ◌<◌, ◌≤◌, None, IfOk, OnOk, OnErr, MatchResult, length, take};
 ghost use Rattle.std.specs.Io.KnownBytes.{Consumes, IsAtEnd};
 ghost use Rattle.sil_io.specs.inner.Calls.{ReadGave, ReadFailed};
 ghost use Rattle.sil_io.specs.Count.{Counted, next_count};

@@ -1,6 +1,6 @@
 //! Reading a source to its end, within a limit.
 
-ghost use Rattle.std.specs.Prelude.{◌≡◌, ℕ, ◌↔◌, ◌+◌, ◌<◌, ◌≤◌, IfOk, IfErr, IfSome, IsErrOf, OnOk, length, vec_len};
+ghost use Rattle.std.specs.Prelude.{◌≡◌, ◌↔◌, ◌+◌, ◌<◌, ◌≤◌, IfOk, IfErr, IfSome, IsErrOf, OnOk, length, vec_len};
 ghost use Rattle.std.specs.Io.KnownBytes.{IsAtEnd};
 ghost use Rattle.sil_io.specs.Reading.{SomeTaken, CountAfter, GivesToEnd, GivesUp};
 ghost use Rattle.sil_io.specs.declared.reading.ReadEnd.TheVariants.{Fault, Memory};

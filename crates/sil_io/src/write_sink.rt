@@ -1,7 +1,7 @@
 //! A sink over a writer to the outside: a call is one write and one flush. It counts what goes wrong, and doesn't tell what it holds,
 //! since a flush that failed doesn't say how much of the piece went out.
 
-ghost use Rattle.std.specs.Prelude.{◌≡◌, ℕ, ◌<◌, ◌≤◌, None, IfOk, OnOk, OnErr, length, take};
+ghost use Rattle.std.specs.Prelude.{◌≡◌, ◌<◌, ◌≤◌, None, IfOk, OnOk, OnErr, length, take};
 ghost use Rattle.std.specs.Io.KnownBytes.{Appends};
 ghost use Rattle.sil_io.specs.inner.Calls.{WritesAndFlushes, Breaks};
 ghost use Rattle.sil_io.specs.Count.{Counted, next_count};

@@ -1,6 +1,6 @@
 //! Writing all of some bytes to a sink.
 
-ghost use Rattle.std.specs.Prelude.{◌≡◌, ℕ, ◌<◌, ◌≤◌, IfErr, OnOk, OnErr, length, take};
+ghost use Rattle.std.specs.Prelude.{◌≡◌, ◌<◌, ◌≤◌, IfErr, OnOk, OnErr, length, take};
 ghost use Rattle.std.specs.Io.KnownBytes.{Appends};
 ghost use Rattle.sil_io.specs.Count.{MayFail};
 ghost use Rattle.sil_io.specs.Writing.{Puts, PutsUntilRefused};

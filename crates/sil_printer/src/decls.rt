@@ -1,7 +1,6 @@
 //! The texts of declared types.
 
 ghost use Rattle.std.specs.Prelude.{◌≡◌, ◌++◌, OnOk, codes};
-ghost use Rattle.sil_printer.specs.Words.{if_there};
 ghost use Rattle.sil_printer.specs.CanonicalDecls.{storage_text, field_text, payload_text, case_text, braced, heading, decl_text};
 
 use crate::pieces::{Canonical, push_bytes, push_indented, push_opening};

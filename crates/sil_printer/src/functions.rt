@@ -1,8 +1,8 @@
 //! The texts of functions and their blocks.
 
 ghost use Rattle.std.specs.Prelude.{◌≡◌, ◌++◌, OnOk, codes};
-ghost use Rattle.sil_printer.specs.Words.{line, indented, parens_if_any, each_behind, line_feed};
-ghost use Rattle.sil_printer.specs.CanonicalInsts.{block_name, inst_text};
+ghost use Rattle.sil_printer.specs.Words.{line, indented, each_behind, line_feed};
+ghost use Rattle.sil_printer.specs.CanonicalInsts.{inst_text};
 ghost use Rattle.sil_printer.specs.CanonicalFunctions.{kind_text, arg_text, block_text, blocks_text, linkage_text, form_text};
 ghost use Rattle.sil_printer.specs.CanonicalFunctions.{attribute_text, words_text, head_text, body_text, function_text};
 

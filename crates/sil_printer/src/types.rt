@@ -1,6 +1,6 @@
 //! The texts of types.
 
-ghost use Rattle.std.specs.Prelude.{◌≡◌, ◌↔◌, ◌++◌, IsTrue, OnOk, codes, decimal};
+ghost use Rattle.std.specs.Prelude.{◌≡◌, ◌↔◌, ◌++◌, OnOk, codes, decimal};
 ghost use Rattle.sil_printer.specs.Words.{in_parens};
 ghost use Rattle.sil_printer.specs.CanonicalTypes.{type_text, opens_parens, is_several};
 

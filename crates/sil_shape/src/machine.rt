@@ -1,7 +1,7 @@
 //! The machine that finds the derivation: it keeps its own stack of what the grammar still needs, so that no nesting
 //! of the text takes room on the stack of the program.
 
-ghost use Rattle.std.specs.Prelude.{◌≡◌, ◌++◌, ◌∷◌, [], List, ◌≤◌, ◌+◌, ◌↔◌, length, reverse, slice_get, IfOk, OnOk, IfErr, IsTrue, MatchResult, MatchBool};
+ghost use Rattle.std.specs.Prelude.{◌≡◌, ◌++◌, ◌∷◌, [], ◌≤◌, ◌+◌, ◌↔◌, length, reverse, slice_get, IfOk, OnOk, IfErr, IsTrue, MatchBool};
 ghost use Rattle.sil_shape.specs.inner.Turns.{Turns, IsAccepted, Pops, Expands, Settles, Takes, Refuses};
 ghost use Rattle.sil_shape.specs.Derivation.{start, IsDerivation};
 ghost use Rattle.sil_shape.specs.inner.Values.{takes_of, values_left, IsEnough};

@@ -7,7 +7,7 @@ use Rattle.std.specs.List.{list_any}
 use Rattle.sil_rules.specs.declared.limits.TheConstants.{DEPTH, LEAVES}
 use Rattle.sil_ast.specs.declared.module.Module.{Module}
 use Rattle.sil_ast.specs.declared.type_name.TypeName.TheVariants.{Int, Named}
-use Rattle.numbered_form.specs.Names.{Name}
+use Rattle.value_tables.specs.numbered_form.Names.{Name}
 use Rattle.type_definitions.specs.Declarations.{Declarations, all_names, at_place, declarations_of, place_of}
 use Rattle.type_definitions.specs.Measures.{measure_at, measure_of, measured, measures_of, unmeasured}
 use Rattle.type_definitions.specs.declared.measure.Measure.{Measure}

@@ -1,7 +1,7 @@
 //! Makes a module's type table, or says why it has none.
 
 ghost use Rattle.std.specs.Prelude.{◌≡◌, ◌||◌, ◌+◌, ◌<◌, ◌^◌, ℕ, OnOk, IfOk, IfErr, length, true};
-ghost use Rattle.numbered_form.specs.inner.NumberedForm.{IsNumbered};
+ghost use Rattle.value_tables.specs.numbered_form.inner.NumberedForm.{IsNumbered};
 ghost use Rattle.type_definitions.specs.Declarations.{declarations_of};
 ghost use Rattle.type_definitions.specs.Rules.{AreDeclarationsOf, HoldsItself, InLimits, exceeds_depth, exceeds_leaves};
 ghost use Rattle.type_item_rules.specs.Faults.{BreaksIn};

@@ -1,8 +1,8 @@
 //! Whether a type that a module mentions exceeds the limit on depth, or on leaves.
 
-ghost use Rattle.std.specs.Prelude.{◌≡◌, false, map};
+ghost use Rattle.std.specs.Prelude.{◌≡◌, false};
 ghost use Rattle.std.specs.List.{list_any};
-ghost use Rattle.numbered_form.specs.Names.{Name};
+ghost use Rattle.value_tables.specs.numbered_form.Names.{Name};
 ghost use Rattle.sil_ast.specs.declared.type_name.TypeName.TheVariants as type_of;
 ghost use Rattle.type_definitions.specs.Measures.{measure_of};
 ghost use Rattle.type_definitions.specs.Rules as rules;

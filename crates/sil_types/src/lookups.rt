@@ -44,6 +44,13 @@ impl TypeTable {
         self.declarations.superclass(class_name)
     }
 
+    /// The fields that a struct or class declares itself, in the order of the text.
+    pub fn own_fields(&self, owner: &Text) -> &[Field]
+        ensures { result.now ≡ lookups.own_fields self.now owner.now }
+    {
+        self.declarations.own_fields(owner)
+    }
+
     /// Whether a class inherits from another, through any number of classes.
     pub fn inherits(&self, class_name: &Text, other: &Text) -> bool
         ensures { result ≡ inherits self.now class_name.now other.now }

@@ -14,13 +14,13 @@ use Rattle.item_operands.specs.declared.taken.Taken.{Taken}
 use Rattle.type_definitions.specs.Declarations.{Declarations}
 use Rattle.type_definitions.specs.declared.kind.Kind.{Kind}
 use Rattle.type_definitions.specs.declared.kind.Kind.TheVariants as kind
-use Rattle.run_values.specs.Cells.{Cell, Empty, cell_count}
+use Rattle.run_values.specs.Cells.{cell_count}
 use Rattle.run_values.specs.Cells as cells
 use Rattle.run_values.specs.Memory.{Memory, Object, new_object}
 use Rattle.run_values.specs.Places.{Place, cells_at, emptied, filled, home_cells, removed, value_at}
 use Rattle.run_values.specs.Shapes.{Shape}
 use Rattle.run_values.specs.Values as value
-use Rattle.run_values.specs.Values.{Value, references_in_each, references_of}
+use Rattle.run_values.specs.Values.{Value, references_of}
 use Rattle.lowered_run.specs.holder_model.Operation.{Operation}
 use Rattle.lowered_run.specs.holder_model.Data.{AddressOf, Datum, ValueOf, as_function, as_place, home_references, references_in}
 use Rattle.lowered_run.specs.holder_model.Effects as effects

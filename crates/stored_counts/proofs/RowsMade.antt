@@ -15,7 +15,7 @@ use Rattle.run_values.specs.Values.{Value, references_of}
 use Rattle.lowered_run.specs.holder_model.Operation.{Operation}
 use Rattle.lowered_run.specs.holder_model.Data.{AddressOf, Datum, FunctionOf, ValueOf, as_place, as_value, references_in, values_of, with_first}
 use Rattle.lowered_run.specs.holder_model.Effects as effects
-use Rattle.lowered_run.specs.holder_model.Effects.{Change, Effect, Faults, Makes, Traps, effect_by, effect_of, only, unchanged, with_some}
+use Rattle.lowered_run.specs.holder_model.Effects.{Change, Effect, Faults, Makes, Traps, effect_by, only, unchanged, with_some}
 use Rattle.lowered_run.specs.holder_model.Faults.{HolderFault, NotLastSlot}
 use Rattle.lowered_run.specs.holder_model.MemoryEffects as memory
 use Rattle.lowered_run.specs.holder_model.MemoryEffects.{after, all_live, asked_before, at_places, effect, fault_of, holds}

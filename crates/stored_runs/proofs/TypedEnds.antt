@@ -14,6 +14,7 @@ use Rattle.item_operands.specs.Items.{item_taken, taken_along_in, taken_in}
 use Rattle.item_operands.specs.Parts.{edge_at, edge_in, inst_at, terminator_of}
 use Rattle.item_operands.specs.Roles.{consumed, taken_along, taken_by}
 use Rattle.numbered_form.specs.Lists.{Each, is_empty}
+use Rattle.numbered_form.proofs.Lists.{empty_is}
 use Rattle.numbered_form.specs.inner.Parts.{are_cases, are_edges_by, has_operands, is_branch, is_case, is_default}
 use Rattle.run_values.specs.Shapes.{Shape}
 use Rattle.sil_ast.specs.declared.function.Function.{Function}
@@ -79,10 +80,6 @@ no_operands : (o : Op) (os : List Operand) → ending_of o ≡ ending.Unreachabl
 no_operands op.Unreachable [] h e = refl
 no_operands op.Unreachable (x ∷ os) h e = absurd (cc)
 no_operands _ os h e = absurd (cc)
-
-empty_is : (os : List Operand) → is_empty os ≡ true → os ≡ []
-empty_is [] g = refl
-empty_is (o ∷ os) g = absurd (false≢true g)
 
 none_behind : (es : List Edge) → is_empty es ≡ true → (k : ℕ) (y : Edge) → slice_get es k ≡ Some y → y.args ≡ []
 none_behind [] g k y is = absurd (none-some y is)

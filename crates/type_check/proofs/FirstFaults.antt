@@ -1,5 +1,5 @@
 -- The fault that is found first is the first by its key.
-use Rattle.std.proofs.Common.{◌≡◌, ℕ, zero, suc, ◌+◌, ◌<◌, ◌≤◌, List, [], ◌∷◌, refl, sym, ap, ◌∙◌, subst, arith, ◌⊎◌, inl, inr, Bool, true, false, Option, Some, None}
+use Rattle.std.proofs.Common.{◌≡◌, ℕ, ◌+◌, ◌<◌, ◌≤◌, List, [], ◌∷◌, refl, sym, ap, ◌∙◌, subst, arith, ◌⊎◌, inl, inr, Bool, Option, Some, None}
 use Rattle.std.specs.Prelude.{slice_get, ⊤, option_map}
 use Rattle.std.specs.Option.{option_or}
 use Rattle.std.proofs.lemmas.Bool.{cases_lt}
@@ -10,19 +10,17 @@ use Rattle.sil_ast.specs.declared.module.Module.{Module}
 use Rattle.sil_ast.specs.declared.vtable.Vtable.{Vtable}
 use Rattle.numbered_form.specs.Insts.{insts_of}
 use Rattle.sil_rules.proofs.Firsts.{first_some, first_none, first_same}
-use Rattle.sil_rules.proofs.Keys.{not_after_refl}
-use Rattle.sil_rules.specs.Order.{NotAfter, IsFirst, IsLeast, Either, stage_of}
+use Rattle.sil_rules.specs.Order.{NotAfter, IsFirst, Either, stage_of}
 use Rattle.sil_rules.specs.Rules.{number_of, group_of}
 use Rattle.sil_rules.specs.declared.rule.Rule.{Rule}
 use Rattle.sil_rules.specs.declared.rule.Rule.TheVariants as rule
 use Rattle.sil_types.specs.Typing.Typed.{BreaksAtFunction, BreaksAtPoint, BreaksAtVtable, BreaksAt, Site, at_function, at_point, at_vtable}
-use Rattle.point_checks.specs.Points.{IsAt}
 use Rattle.sil_types.specs.Typing.Typed.BreaksAt.{function, point, vtable}
 use Rattle.sil_types.specs.Typing.Typed.BreaksAtFunction.{external, address_escapes, signature as function_signature, mixed_forms as function_mixed}
 use Rattle.sil_types.specs.Typing.Typed.BreaksAtPoint.{operand_type, result_count, edge_arguments, callee, switch_cases, entry_has_predecessor}
 use Rattle.sil_types.specs.Typing.Typed.BreaksAtPoint.{qualifier, signature as point_signature, mixed_forms as point_mixed}
 use Rattle.sil_types.specs.Typing.Typed.BreaksAtVtable.{deinit_signature}
-use Rattle.type_check.proofs.Firsts.{IsIn, AreAfter, AreInOrder, IsFirstRule, first_rule, first_of_places, at_zero, of_zero}
+use Rattle.type_check.proofs.Firsts.{IsIn, AreInOrder, IsFirstRule, first_rule, first_of_places, at_zero, of_zero}
 use Rattle.type_check.specs.inner.FirstFault.{judged_function, judged_point, judged_vtable, fault_of_inst, fault_of_block, fault_of_body, fault_of_function, fault_of_vtable, fault_of}
 use Rattle.type_check.specs.inner.Firsts.{Judged, first_broken, first_from, IsAtSome}
 use Rattle.type_check.specs.Refusals.{fault_at, fault_key, IsBroken}

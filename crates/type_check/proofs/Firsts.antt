@@ -5,7 +5,7 @@ use Rattle.std.specs.Option.{option_or}
 use Rattle.sil_rules.specs.Order.{NotAfter, IsFirst, IsLeast}
 use Rattle.sil_rules.specs.Rules.{number_of}
 use Rattle.sil_rules.specs.declared.rule.Rule.{Rule}
-use Rattle.type_check.specs.inner.Firsts.{Judged, rule_or, first_broken, first_from, IsAtSome}
+use Rattle.type_check.specs.inner.Firsts.{Judged, first_broken, first_from, IsAtSome}
 
 -- the rule is one of these, and broken
 abbrev pub IsIn : List Judged → Rule → Type 0

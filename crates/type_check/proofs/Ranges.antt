@@ -1,6 +1,5 @@
 -- In a module in numbered form, blocks and instructions can be counted, and edges go to blocks.
-use Rattle.std.proofs.Common.{◌≡◌, ℕ, ◌+◌, ◌<◌, ◌≤◌, ◌^◌, List, [], ◌∷◌, ◌++◌, length, length-append, arith, sym, subst}
-use Rattle.std.specs.List.{flat_map}
+use Rattle.std.proofs.Common.{◌≡◌, ℕ, ◌+◌, ◌<◌, ◌≤◌, ◌^◌, List, [], ◌∷◌, ◌++◌, length, length-append, arith}
 use Rattle.sil_ast.specs.declared.function.Block.{Block}
 use Rattle.sil_ast.specs.declared.function.Function.{Function}
 use Rattle.sil_ast.specs.declared.inst.Inst.{Inst}
@@ -9,8 +8,8 @@ use Rattle.numbered_form.specs.Insts.{insts_of, insts_in, EachInBlock}
 use Rattle.numbered_form.specs.inner.Limits.{IsFunctionInLimits}
 use Rattle.numbered_form.specs.Lists.{Each}
 use Rattle.numbered_form.specs.inner.NumberedForm.{IsNumbered}
-use Rattle.numbered_form.specs.Numbering.{IsEdgeInRange, IsFunctionNumbered, IsInstInRange, values_of}
-use Rattle.sil_rules.specs.declared.limits.TheConstants.{BLOCKS, INSTRUCTIONS}
+use Rattle.numbered_form.specs.Numbering.{IsFunctionNumbered, IsInstInRange, values_of}
+use Rattle.sil_rules.specs.declared.limits.TheConstants.{INSTRUCTIONS}
 use Rattle.type_check.specs.inner.Body.{AreEdgesInRange, HasBodyInRange, IsBlockInRange}
 
 each_of : {A : Type 0} (P Q : A → Type 0) → ((x : A) → P x → Q x) → (xs : List A) → Each P xs → Each Q xs

@@ -1,6 +1,6 @@
 //! Decides whether a module is typed.
 
-ghost use Rattle.std.specs.Prelude.{◌≡◌, ◌+◌, ◌<◌, ◌^◌, length, IfOk, IfErr, OnOk};
+ghost use Rattle.std.specs.Prelude.{◌≡◌, ◌+◌, ◌<◌, ◌^◌, IfOk, IfErr, OnOk};
 ghost use Rattle.numbered_form.specs.inner.Limits.{IsDeclInLimits};
 ghost use Rattle.numbered_form.specs.Lists.{Each};
 ghost use Rattle.numbered_form.specs.inner.NumberedForm.{IsNumbered};

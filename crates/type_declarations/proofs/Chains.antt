@@ -8,9 +8,9 @@ use Rattle.sil_ast.specs.declared.decl.Decl.{Decl}
 use Rattle.sil_ast.specs.declared.decl.Decl.TheVariants.{Struct, Enum, Class}
 use Rattle.sil_ast.specs.declared.decl.Field.{Field}
 use Rattle.sil_rules.specs.declared.limits.TheConstants.{DEPTH, MEMBERS}
-use Rattle.numbered_form.specs.Lists.{Each}
-use Rattle.numbered_form.specs.Names.{Name, field_name}
-use Rattle.numbered_form.specs.inner.Limits.{IsDeclInLimits}
+use Rattle.type_definitions.specs.numbered_form.Lists.{Each}
+use Rattle.type_definitions.specs.numbered_form.Names.{Name, field_name}
+use Rattle.type_definitions.specs.numbered_form.inner.Limits.{IsDeclInLimits}
 use Rattle.type_definitions.specs.Declarations.{Declarations, all_decls, all_names, ancestors_of, at_place, chain, is_longer, place_of, superclass_of, swift_structs}
 use Rattle.type_definitions.specs.Lookups.{chain_fields, decl_fields, field_at, own_fields}
 

@@ -1,7 +1,6 @@
 -- Names that differ: none stands before its place, and a new one goes to the end.
 use Rattle.std.proofs.Common.{◌≡◌, ℕ, zero, suc, ◌<◌, List, [], ◌∷◌, ◌++◌, length, get_or, take, map, Contains, refl, sym, ap, ◌∙◌, subst, arith, Bool, true, false}
 use Rattle.std.specs.Prelude.{◌⊎◌, if◌then◌else◌, drop, slice_get, ◌+◌}
-use Rattle.std.proofs.Common.{inl, inr}
 use Rattle.std.specs.List.{list_any}
 use Rattle.std.specs.Str.{bytes_eq}
 use Rattle.std.specs.Cmp.Lexicographic.{bytes_decides}
@@ -9,8 +8,8 @@ use Rattle.std.proofs.lemmas.Map.Views.{Contains-from_any}
 use Rattle.indexmap.specs.IndexSet.{insert_key}
 use Rattle.std.specs.Prelude.{codes}
 use Rattle.sil_ast.specs.declared.decl.Decl.{Decl}
-use Rattle.numbered_form.specs.Lists.{Each}
-use Rattle.numbered_form.specs.Names.{Name, AreOnce, AreMembersOnce, decl_name}
+use Rattle.type_definitions.specs.numbered_form.Lists.{Each}
+use Rattle.type_definitions.specs.numbered_form.Names.{Name, AreOnce, AreMembersOnce, decl_name}
 use Rattle.sil_ast.specs.Imports.{swift_names}
 use Rattle.type_definitions.specs.Declarations.{swift_structs}
 

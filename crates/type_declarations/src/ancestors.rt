@@ -61,7 +61,7 @@ impl DeclarationTable {
     }
 
     /// The fields that a struct or class declares itself.
-    pub(crate) fn own_fields(&self, owner: &Text) -> &[Field]
+    pub fn own_fields(&self, owner: &Text) -> &[Field]
         ensures fields { result.now ≡ lookups.own_fields self.now owner.now }
         ensures few { length result.now ≤ MEMBERS }
     {

@@ -1,9 +1,9 @@
 //! Makes a table of a module's declarations.
 
-ghost use Rattle.std.specs.Prelude.{◌≡◌, ◌++◌, map, length, IfOk, OnOk};
-ghost use Rattle.numbered_form.specs.Names.{AreMembersOnce, AreOnce, case_name, class_name, decl_name, field_name, member_names};
-ghost use Rattle.numbered_form.specs.Lists.{Each};
-ghost use Rattle.numbered_form.specs.inner.NumberedForm.{IsNumbered};
+ghost use Rattle.std.specs.Prelude.{◌≡◌, ◌++◌, map, IfOk};
+ghost use Rattle.type_definitions.specs.numbered_form.Names.{AreMembersOnce, AreOnce, case_name, class_name, decl_name, field_name, member_names};
+ghost use Rattle.type_definitions.specs.numbered_form.Lists.{Each};
+ghost use Rattle.type_definitions.specs.numbered_form.inner.NumberedForm.{IsNumbered};
 ghost use Rattle.type_definitions.specs.Declarations.{declarations_of, integer_struct, swift_structs};
 
 use crate::name_index::NameIndex;

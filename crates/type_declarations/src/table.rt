@@ -1,8 +1,8 @@
 //! What a module declares, with an index of its names.
 
-ghost use Rattle.std.specs.Prelude.{◌≡◌, ◌+◌, IfSome, length};
+ghost use Rattle.std.specs.Prelude.{◌≡◌, ◌+◌, length};
 ghost use Rattle.std.specs.Option.{option_copied};
-ghost use Rattle.type_definitions.specs.Declarations.{all_decls, all_names, at_place, decl_of, has_member, is_class, is_swift_optional};
+ghost use Rattle.type_definitions.specs.Declarations.{all_decls, all_names, decl_of, has_member, is_class, is_swift_optional};
 ghost use Rattle.type_definitions.specs.Declarations.{members_of, optional_cases, place_of, swift_structs};
 ghost use Rattle.std.specs.Prelude.{is_some};
 
@@ -26,9 +26,9 @@ pub struct DeclarationTable {
 
 impl Model for DeclarationTable {
     ghost use Rattle.std.specs.Prelude.{◌≡◌, map};
-    ghost use Rattle.numbered_form.specs.Lists.{Each};
-    ghost use Rattle.numbered_form.specs.Names.{decl_name, member_names, class_name};
-    ghost use Rattle.numbered_form.specs.inner.Limits.{IsDeclInLimits};
+    ghost use Rattle.type_definitions.specs.numbered_form.Lists.{Each};
+    ghost use Rattle.type_definitions.specs.numbered_form.Names.{decl_name, member_names, class_name};
+    ghost use Rattle.type_definitions.specs.numbered_form.inner.Limits.{IsDeclInLimits};
     ghost use Rattle.type_definitions.specs.Declarations.{Declarations};
     ghost use Rattle.type_declarations.specs.inner.Table.{in_text, IsSplit};
     ghost use Rattle.std.specs.Coded.{codes};

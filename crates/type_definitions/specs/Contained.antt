@@ -2,12 +2,12 @@
 use Rattle.std.specs.Prelude.{ℕ, List, [], ◌∷◌, ◌++◌, Option, map, cond}
 use Rattle.std.specs.List.{flat_map}
 use Rattle.std.specs.Option.{option_to_list}
-use Rattle.sil_ast.specs.declared.decl.Case.{Case}
-use Rattle.sil_ast.specs.declared.decl.Decl.{Decl}
-use Rattle.sil_ast.specs.declared.decl.Decl.TheVariants.{Struct, Enum, Class}
-use Rattle.sil_ast.specs.declared.decl.Field.{Field}
-use Rattle.sil_ast.specs.declared.type_name.TypeName.{TypeName, fold-TypeName}
-use Rattle.sil_ast.specs.declared.type_name.TypeName.TheOpen.{TypeName-F, Int, Named, Optional, Tuple, Weak, Unowned, Address}
+use Rattle.argument_conventions.specs.sil_ast.declared.decl.Case.{Case}
+use Rattle.argument_conventions.specs.sil_ast.declared.decl.Decl.{Decl}
+use Rattle.argument_conventions.specs.sil_ast.declared.decl.Decl.TheVariants.{Struct, Enum, Class}
+use Rattle.argument_conventions.specs.sil_ast.declared.decl.Field.{Field}
+use Rattle.argument_conventions.specs.sil_ast.declared.type_name.TypeName.{TypeName, fold-TypeName}
+use Rattle.argument_conventions.specs.sil_ast.declared.type_name.TypeName.TheOpen.{TypeName-F, Int, Named, Optional, Tuple, Weak, Unowned, Address}
 use Rattle.numbered_form.specs.Names.{Name, superclass_in}
 use Rattle.type_definitions.specs.Declarations.{Declarations, all_decls, all_names, is_class, place_of}
 

@@ -3,16 +3,14 @@ use Rattle.std.specs.Prelude.{ℕ, zero, suc, List, [], ◌∷◌, ◌++◌, Boo
 use Rattle.std.specs.Prelude.{position, slice_get, is_some, option_map, codes, if◌then◌else◌}
 use Rattle.std.specs.List.{list_any}
 use Rattle.std.specs.Str.{bytes_eq}
-use Rattle.sil_ast.specs.declared.decl.Case.{Case}
-use Rattle.sil_ast.specs.declared.decl.Decl.{Decl}
-use Rattle.sil_ast.specs.declared.decl.Decl.TheVariants.{Struct, Enum, Class}
-use Rattle.sil_ast.specs.declared.decl.Field.{Field}
-use Rattle.sil_ast.specs.declared.decl.Storage.TheVariants.{Strong}
-use Rattle.sil_ast.specs.declared.module.Module.{Module}
-use Rattle.sil_ast.specs.declared.type_name.TypeName.TheVariants as type
-use Rattle.sil_ast.specs.declared.vtable.Vtable.{Vtable}
-use Rattle.sil_rules.specs.declared.limits.TheConstants.{DEPTH}
-use Rattle.numbered_form.specs.Names.{Name, decl_name, field_name, case_name, member_names, class_name, superclass_in}
+use Rattle.argument_conventions.specs.sil_ast.declared.decl.Decl.{Decl}
+use Rattle.argument_conventions.specs.sil_ast.declared.decl.Decl.TheVariants.{Struct, Enum, Class}
+use Rattle.argument_conventions.specs.sil_ast.declared.decl.Storage.TheVariants.{Strong}
+use Rattle.argument_conventions.specs.sil_ast.declared.module.Module.{Module}
+use Rattle.argument_conventions.specs.sil_ast.declared.type_name.TypeName.TheVariants as type
+use Rattle.argument_conventions.specs.sil_ast.declared.vtable.Vtable.{Vtable}
+use Rattle.numbered_form.specs.sil_rules.declared.limits.TheConstants.{DEPTH}
+use Rattle.numbered_form.specs.Names.{Name, decl_name, member_names, superclass_in}
 
 -- what a module declares, with whether it imports `Swift`
 pub record Declarations : Type 0 where

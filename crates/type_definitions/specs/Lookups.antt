@@ -1,16 +1,14 @@
 -- What look-ups give: fields, payloads, deinitialisers, and classes by their places.
-use Rattle.std.specs.Prelude.{ℕ, ◌+◌, ◌-◌, ◌++◌, List, [], ◌∷◌, Bool, true, false, Option, Some, None, map}
-use Rattle.std.specs.Prelude.{slice_get, codes, option_map, cond, if◌then◌else◌, ◌==◌, length}
-use Rattle.std.specs.Str.{bytes_eq}
-use Rattle.sil_ast.specs.declared.decl.Case.{Case}
-use Rattle.sil_ast.specs.declared.decl.Decl.{Decl}
-use Rattle.sil_ast.specs.declared.decl.Decl.TheVariants.{Struct, Enum, Class}
-use Rattle.sil_ast.specs.declared.decl.Field.{Field}
-use Rattle.sil_ast.specs.declared.place.FuncId.{FuncId}
-use Rattle.sil_ast.specs.declared.type_name.TypeName.{TypeName, out-TypeName}
-use Rattle.sil_ast.specs.declared.type_name.TypeName.TheOpen.{TypeName-F, Int, Named, Optional, Tuple, Weak, Unowned, Address}
-use Rattle.sil_ast.specs.declared.vtable.DeinitEntry.{DeinitEntry}
-use Rattle.sil_ast.specs.declared.vtable.Vtable.{Vtable}
+use Rattle.std.specs.Prelude.{ℕ, ◌+◌, ◌-◌, ◌++◌, List, [], ◌∷◌, Option, Some, None, map}
+use Rattle.std.specs.Prelude.{slice_get, option_map, cond, if◌then◌else◌, ◌==◌, length}
+use Rattle.argument_conventions.specs.sil_ast.declared.decl.Case.{Case}
+use Rattle.argument_conventions.specs.sil_ast.declared.decl.Decl.{Decl}
+use Rattle.argument_conventions.specs.sil_ast.declared.decl.Decl.TheVariants.{Struct, Enum, Class}
+use Rattle.argument_conventions.specs.sil_ast.declared.decl.Field.{Field}
+use Rattle.argument_conventions.specs.sil_ast.declared.place.FuncId.{FuncId}
+use Rattle.argument_conventions.specs.sil_ast.declared.type_name.TypeName.{TypeName, out-TypeName}
+use Rattle.argument_conventions.specs.sil_ast.declared.type_name.TypeName.TheOpen.{TypeName-F, Int, Named, Optional, Tuple, Weak, Unowned, Address}
+use Rattle.argument_conventions.specs.sil_ast.declared.vtable.Vtable.{Vtable}
 use Rattle.numbered_form.specs.Names.{Name, decl_name, field_name, case_name, class_name}
 use Rattle.type_definitions.specs.Declarations.{Declarations, all_names, ancestors_of, at_place, decl_of, is_class, is_class_decl}
 use Rattle.type_definitions.specs.Declarations.{optional_cases, place_of, swift_structs}

@@ -1,12 +1,12 @@
 -- Whether a type is trivial, how many leaves it has and how deep it is, through declarations.
 -- All three are said of modules whose types are finite: no struct or enum holds itself there.
-use Rattle.std.specs.Prelude.{ℕ, zero, suc, ◌+◌, ◌≤◌, List, [], ◌∷◌, Bool, true, false, map, sum, length, unwrap_or, slice_get, Option}
+use Rattle.std.specs.Prelude.{ℕ, zero, suc, ◌+◌, ◌≤◌, List, [], ◌∷◌, Bool, true, false, map, sum, length, unwrap_or}
 use Rattle.std.specs.List.{list_all}
-use Rattle.sil_ast.specs.TypeName.{largest}
-use Rattle.sil_ast.specs.declared.decl.Decl.{Decl}
-use Rattle.sil_ast.specs.declared.decl.Decl.TheVariants.{Struct, Enum, Class}
-use Rattle.sil_ast.specs.declared.type_name.TypeName.{TypeName, fold-TypeName}
-use Rattle.sil_ast.specs.declared.type_name.TypeName.TheOpen.{TypeName-F, Int, Named, Optional, Tuple, Weak, Unowned, Address}
+use Rattle.argument_conventions.specs.sil_ast.TypeName.{largest}
+use Rattle.argument_conventions.specs.sil_ast.declared.decl.Decl.{Decl}
+use Rattle.argument_conventions.specs.sil_ast.declared.decl.Decl.TheVariants.{Struct, Enum, Class}
+use Rattle.argument_conventions.specs.sil_ast.declared.type_name.TypeName.{TypeName, fold-TypeName}
+use Rattle.argument_conventions.specs.sil_ast.declared.type_name.TypeName.TheOpen.{TypeName-F, Int, Named, Optional, Tuple, Weak, Unowned, Address}
 use Rattle.numbered_form.specs.Names.{Name}
 use Rattle.type_definitions.specs.declared.measure.Measure.{Measure}
 use Rattle.type_definitions.specs.Contained.{held_types}

@@ -1,31 +1,31 @@
 -- The types that a module mentions, by its parts, and the members that instructions name.
-use Rattle.std.specs.Prelude.{ℕ, List, [], ◌∷◌, ◌++◌, Bool, true, false, Option, Some, None, map, if◌then◌else◌}
+use Rattle.std.specs.Prelude.{List, [], ◌∷◌, ◌++◌, Option, map, if◌then◌else◌}
 use Rattle.std.specs.List.{flat_map}
 use Rattle.std.specs.Option.{option_to_list}
-use Rattle.instruction_table.specs.Forms.{makes_tuple, may_have_storage}
-use Rattle.sil_ast.specs.declared.decl.Case.{Case}
-use Rattle.sil_ast.specs.declared.decl.Decl.{Decl}
-use Rattle.sil_ast.specs.declared.decl.Decl.TheVariants.{Struct, Enum, Class}
-use Rattle.sil_ast.specs.declared.decl.Field.{Field}
-use Rattle.sil_ast.specs.declared.decl.Storage.{Storage}
-use Rattle.sil_ast.specs.declared.decl.Storage.TheVariants.{Strong, Weak, Unowned}
-use Rattle.sil_ast.specs.declared.function.Block.{Block}
-use Rattle.sil_ast.specs.declared.function.BlockArg.{BlockArg}
-use Rattle.sil_ast.specs.declared.function.Function.{Function}
-use Rattle.sil_ast.specs.declared.inst.Edge.{Edge}
-use Rattle.sil_ast.specs.declared.inst.Inst.{Inst}
-use Rattle.sil_ast.specs.declared.member.Member.{Member}
-use Rattle.sil_ast.specs.declared.module.Module.{Module}
-use Rattle.instruction_table.specs.declared.op.Op.{Op}
-use Rattle.sil_ast.specs.declared.operands.Operand.{Operand}
-use Rattle.sil_ast.specs.declared.signature.Given.{Given}
-use Rattle.sil_ast.specs.declared.signature.Param.{Param}
-use Rattle.sil_ast.specs.declared.signature.Signature.{Signature}
-use Rattle.sil_ast.specs.declared.type_name.TypeName.{TypeName, out-TypeName}
-use Rattle.sil_ast.specs.declared.type_name.TypeName.TheOpen.{TypeName-F}
-use Rattle.sil_ast.specs.declared.type_name.TypeName.TheOpen as layer
-use Rattle.sil_ast.specs.declared.type_name.TypeName.TheVariants as type
-use Rattle.sil_ast.specs.declared.vtable.Vtable.{Vtable}
+use Rattle.argument_conventions.specs.instruction_table.Forms.{makes_tuple, may_have_storage}
+use Rattle.argument_conventions.specs.sil_ast.declared.decl.Case.{Case}
+use Rattle.argument_conventions.specs.sil_ast.declared.decl.Decl.{Decl}
+use Rattle.argument_conventions.specs.sil_ast.declared.decl.Decl.TheVariants.{Struct, Enum, Class}
+use Rattle.argument_conventions.specs.sil_ast.declared.decl.Field.{Field}
+use Rattle.argument_conventions.specs.sil_ast.declared.decl.Storage.{Storage}
+use Rattle.argument_conventions.specs.sil_ast.declared.decl.Storage.TheVariants.{Strong, Weak, Unowned}
+use Rattle.argument_conventions.specs.sil_ast.declared.function.Block.{Block}
+use Rattle.argument_conventions.specs.sil_ast.declared.function.BlockArg.{BlockArg}
+use Rattle.argument_conventions.specs.sil_ast.declared.function.Function.{Function}
+use Rattle.argument_conventions.specs.sil_ast.declared.inst.Edge.{Edge}
+use Rattle.argument_conventions.specs.sil_ast.declared.inst.Inst.{Inst}
+use Rattle.argument_conventions.specs.sil_ast.declared.member.Member.{Member}
+use Rattle.argument_conventions.specs.sil_ast.declared.module.Module.{Module}
+use Rattle.argument_conventions.specs.instruction_table.declared.op.Op.{Op}
+use Rattle.argument_conventions.specs.sil_ast.declared.operands.Operand.{Operand}
+use Rattle.argument_conventions.specs.sil_ast.declared.signature.Given.{Given}
+use Rattle.argument_conventions.specs.sil_ast.declared.signature.Param.{Param}
+use Rattle.argument_conventions.specs.sil_ast.declared.signature.Signature.{Signature}
+use Rattle.argument_conventions.specs.sil_ast.declared.type_name.TypeName.{TypeName, out-TypeName}
+use Rattle.argument_conventions.specs.sil_ast.declared.type_name.TypeName.TheOpen.{TypeName-F}
+use Rattle.argument_conventions.specs.sil_ast.declared.type_name.TypeName.TheOpen as layer
+use Rattle.argument_conventions.specs.sil_ast.declared.type_name.TypeName.TheVariants as type
+use Rattle.argument_conventions.specs.sil_ast.declared.vtable.Vtable.{Vtable}
 use Rattle.argument_conventions.specs.Arguments.{direct_results}
 use Rattle.numbered_form.specs.Insts.{insts_of}
 use Rattle.numbered_form.specs.Names.{decl_name}

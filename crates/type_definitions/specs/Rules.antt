@@ -1,17 +1,16 @@
 -- The rules on declarations and on the types that a module mentions, and the limits on types.
-use Rattle.std.specs.Prelude.{◌≡◌, ℕ, ◌+◌, ◌-◌, ◌≤◌, ◌<◌, List, Bool, true, false, not, ◌&&◌, ◌||◌, Option, Some, None, IsTrue, All, length, slice_get, nat_le}
+use Rattle.std.specs.Prelude.{◌≡◌, ℕ, ◌+◌, ◌-◌, ◌≤◌, ◌<◌, List, Bool, true, false, not, ◌&&◌, ◌||◌, Option, All, length, nat_le}
 use Rattle.std.specs.List.{list_any, list_all}
 use Rattle.std.specs.Option.{option_to_list}
 use Rattle.std.specs.Str.{bytes_eq}
-use Rattle.sil_ast.specs.declared.decl.Decl.{Decl}
-use Rattle.sil_ast.specs.declared.member.Member.{Member}
-use Rattle.sil_ast.specs.declared.module.Module.{Module}
-use Rattle.sil_ast.specs.declared.type_name.TypeName.{TypeName, fold-TypeName, out-TypeName}
-use Rattle.sil_ast.specs.declared.type_name.TypeName.TheOpen.{TypeName-F, Int, Named, Optional, Tuple, Weak, Unowned, Address}
-use Rattle.sil_ast.specs.declared.vtable.DeinitEntry.{DeinitEntry}
-use Rattle.sil_ast.specs.declared.vtable.Vtable.{Vtable}
+use Rattle.argument_conventions.specs.sil_ast.declared.decl.Decl.{Decl}
+use Rattle.argument_conventions.specs.sil_ast.declared.member.Member.{Member}
+use Rattle.argument_conventions.specs.sil_ast.declared.module.Module.{Module}
+use Rattle.argument_conventions.specs.sil_ast.declared.type_name.TypeName.{TypeName, fold-TypeName, out-TypeName}
+use Rattle.argument_conventions.specs.sil_ast.declared.type_name.TypeName.TheOpen.{TypeName-F, Int, Named, Optional, Tuple, Weak, Unowned, Address}
+use Rattle.argument_conventions.specs.sil_ast.declared.vtable.DeinitEntry.{DeinitEntry}
 use Rattle.containment.specs.Chains.{IsCyclic}
-use Rattle.sil_rules.specs.declared.limits.TheConstants.{DEPTH, LEAVES}
+use Rattle.numbered_form.specs.sil_rules.declared.limits.TheConstants.{DEPTH, LEAVES}
 use Rattle.numbered_form.specs.Names.{superclass_in}
 use Rattle.type_definitions.specs.declared.standing.Standing.{Standing}
 use Rattle.type_definitions.specs.declared.standing.Standing.TheVariants.{Object, WeakField, UnownedField, Slot, Value, Unwritten}

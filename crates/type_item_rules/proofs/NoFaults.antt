@@ -10,7 +10,7 @@ use Rattle.sil_ast.specs.declared.member.Member.{Member}
 use Rattle.sil_ast.specs.declared.module.Module.{Module}
 use Rattle.sil_rules.specs.declared.rule.Rule.{Rule}
 use Rattle.sil_rules.specs.declared.rule.Rule.TheVariants as rule
-use Rattle.numbered_form.specs.Names.{Name}
+use Rattle.type_definitions.specs.numbered_form.Names.{Name}
 use Rattle.type_definitions.specs.Declarations.{Declarations, has_name, members_of}
 use Rattle.type_definitions.specs.Mentions.{Item, Mention, decl, function, vtable, function_members, in_decl, in_function, mentions_of}
 use Rattle.type_definitions.specs.Rules.{has_bad_member, has_misplaced_storage, has_unknown_owner, has_unknown_type, is_misplaced, is_no_member, is_of_unknown_class, is_unknown}

@@ -1,6 +1,6 @@
 //! The first item of a module that breaks a rule.
 
-ghost use Rattle.std.specs.Prelude.{◌≡◌, ℕ, ◌+◌, ◌<◌, ◌^◌, map, length};
+ghost use Rattle.std.specs.Prelude.{◌≡◌, ◌+◌, ◌<◌, ◌^◌, map, length};
 ghost use Rattle.std.specs.Option.{option_or};
 ghost use Rattle.sil_rules.specs.Order.{IsFirst};
 ghost use Rattle.type_definitions.specs.Mentions as item;

@@ -1,6 +1,6 @@
 //! Whether the names in types and members are declared.
 
-ghost use Rattle.std.specs.Prelude.{◌≡◌, map, not};
+ghost use Rattle.std.specs.Prelude.{◌≡◌, map};
 ghost use Rattle.std.specs.List.{list_all};
 ghost use Rattle.type_definitions.specs.Mentions.{mention};
 ghost use Rattle.type_definitions.specs.Rules.{has_unknown_owner, is_no_member};

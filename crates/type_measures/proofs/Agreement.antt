@@ -8,7 +8,7 @@ use Rattle.sil_ast.specs.declared.decl.Decl.TheVariants as decl
 use Rattle.sil_ast.specs.declared.type_name.TypeName.{TypeName, TypeName-F, fold-roll-TypeName, ind-TypeName, roll-TypeName, map-TypeName, out-TypeName, fold_out-TypeName}
 use Rattle.sil_ast.specs.declared.type_name.TypeName.TheVariants.{Int, Named, Optional, Tuple, Weak, Unowned, Address, rolls-Int, rolls-Named}
 use Rattle.sil_ast.specs.declared.type_name.TypeName.TheVariants.{rolls-Optional, rolls-Tuple, rolls-Weak, rolls-Unowned, rolls-Address}
-use Rattle.numbered_form.specs.Names.{Name}
+use Rattle.type_definitions.specs.numbered_form.Names.{Name}
 use Rattle.type_definitions.specs.Contained.{names_in, names_over, held_names, held_types, itself}
 use Rattle.type_definitions.specs.Measures.{measure_with, measure_over, measure_decl, of_members, of_payloads, of_storage, measured}
 use Rattle.type_definitions.specs.declared.measure.Measure.{Measure}

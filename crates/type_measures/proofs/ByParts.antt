@@ -4,11 +4,11 @@ use Rattle.std.specs.Prelude.{Option, Some, None, option_map, slice_get, unwrap_
 use Rattle.std.proofs.lemmas.List.{length-map, get_or-take, ext_get_or}
 use Rattle.std.proofs.lemmas.List.Elements.{All-contains}
 use Rattle.std.proofs.lemmas.Option.{slice_get-map}
-use Rattle.containment.specs.Chains.{parts_of}
-use Rattle.containment.specs.inner.Order.{IsOrder}
+use Rattle.type_definitions.specs.containment.Chains.{parts_of}
+use Rattle.type_definitions.specs.containment.inner.Order.{IsOrder}
 use Rattle.sil_ast.specs.declared.decl.Decl.{Decl}
 use Rattle.sil_ast.specs.declared.decl.Decl.TheVariants as decl
-use Rattle.numbered_form.specs.Names.{Name}
+use Rattle.type_definitions.specs.numbered_form.Names.{Name}
 use Rattle.type_definitions.specs.Contained.{containment, held_names, held_places, lower_places}
 use Rattle.type_definitions.specs.Declarations.{Declarations, all_decls, all_names, at_place, place_of}
 use Rattle.type_definitions.specs.Measures.{measure_at, measure_decl, measures_of, measures_within, unmeasured}

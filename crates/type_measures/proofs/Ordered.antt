@@ -8,10 +8,10 @@ use Rattle.std.proofs.lemmas.Bool.{cases_lt, cases_eq}
 use Rattle.std.proofs.lemmas.List.{length-map, get_or-map, get_or-take, ext_get_or}
 use Rattle.std.proofs.lemmas.Option.{unwrap_or-slice_get}
 use Rattle.std.proofs.lemmas.List.Elements.{All-contains, Contains-append_left, Contains-append_right}
-use Rattle.containment.specs.Chains.{parts_of}
-use Rattle.containment.specs.inner.Order.{ArePartsBefore, IsOrder}
+use Rattle.type_definitions.specs.containment.Chains.{parts_of}
+use Rattle.type_definitions.specs.containment.inner.Order.{ArePartsBefore, IsOrder}
 use Rattle.sil_ast.specs.declared.decl.Decl.{Decl}
-use Rattle.numbered_form.specs.Names.{Name}
+use Rattle.type_definitions.specs.numbered_form.Names.{Name}
 use Rattle.type_definitions.specs.Contained.{containment, held_names, held_places, lower_places, place_list, superclass_places}
 use Rattle.type_definitions.specs.Declarations.{Declarations, all_decls, all_names, at_place, place_of}
 use Rattle.type_definitions.specs.Measures.{measure_at, measure_decl, measure_of, measure_with, measures_of, measures_within, unmeasured}

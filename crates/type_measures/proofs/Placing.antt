@@ -7,11 +7,11 @@ use Rattle.std.proofs.lemmas.List.Elements.{All-append}
 use Rattle.std.specs.Str.{bytes_eq}
 use Rattle.std.proofs.lemmas.List.{append-nil, take_more, length-map}
 use Rattle.std.proofs.lemmas.Bool.{ltb-true}
-use Rattle.containment.specs.Chains.{IsInRange, parts_of}
+use Rattle.type_definitions.specs.containment.Chains.{IsInRange, parts_of}
 use Rattle.sil_ast.specs.declared.decl.Decl.{Decl}
 use Rattle.std.specs.List.{flat_map}
 use Rattle.sil_ast.specs.declared.type_name.TypeName.{TypeName}
-use Rattle.numbered_form.specs.Names.{Name, decl_name, superclass_in}
+use Rattle.type_definitions.specs.numbered_form.Names.{Name, decl_name, superclass_in}
 use Rattle.type_definitions.specs.Contained.{class_list, containment, names_in, place_list, itself, held_places, held_names, lower_places, superclass_places}
 use Rattle.type_definitions.specs.Declarations.{Declarations, all_decls, all_names, is_class}
 use Rattle.type_measures.specs.inner.Places.{places_in}

@@ -3,7 +3,7 @@
 ghost use Rattle.std.specs.Prelude.{◌≡◌, ◌++◌, map, IfOk, OnOk};
 ghost use Rattle.std.specs.List.{flat_map};
 ghost use Rattle.std.specs.Option.{option_to_list};
-ghost use Rattle.containment.specs.Chains.{IsInRange};
+ghost use Rattle.type_definitions.specs.containment.Chains.{IsInRange};
 ghost use Rattle.type_definitions.specs.Contained as contained;
 ghost use Rattle.type_definitions.specs.Contained.{class_list, field_type, lower_places, names_in, payload_types, place_list};
 ghost use Rattle.type_definitions.specs.Declarations.{all_names};

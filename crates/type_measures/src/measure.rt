@@ -1,6 +1,6 @@
 //! The measures of types, from those of the declarations.
 
-ghost use Rattle.std.specs.Prelude.{◌≡◌, ◌++◌, ℕ, List, [], ◌∷◌, length, map};
+ghost use Rattle.std.specs.Prelude.{◌≡◌, ◌++◌, List, [], ◌∷◌, length, map};
 ghost use Rattle.std.specs.Option.{option_to_list};
 ghost use Rattle.std.specs.List.{flat_map};
 ghost use Rattle.type_definitions.specs.Contained.{field_type, payload_types};

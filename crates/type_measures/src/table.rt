@@ -1,7 +1,7 @@
 //! The measures of all declarations, each once, in an order in which parts stand before wholes.
 
 ghost use Rattle.std.specs.Prelude.{◌≡◌, map, IfOk};
-ghost use Rattle.containment.specs.inner.Order.{IsOrder};
+ghost use Rattle.type_definitions.specs.containment.inner.Order.{IsOrder};
 ghost use Rattle.type_definitions.specs.Contained.{containment};
 ghost use Rattle.type_definitions.specs.Measures.{measures_of};
 ghost use Rattle.type_measures.specs.inner.Gathered.{capped};

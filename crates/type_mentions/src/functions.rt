@@ -2,7 +2,6 @@
 
 ghost use Rattle.std.specs.Prelude.{◌≡◌, map};
 ghost use Rattle.std.specs.List.{flat_map, list_any};
-ghost use Rattle.numbered_form.specs.Insts.{insts_of};
 ghost use Rattle.type_definitions.specs.Mentions.{in_arg, in_block, in_decl, in_function, in_inst, mentions_of};
 
 use crate::decls::{any_in_decl, any_in_signature};

@@ -1,6 +1,6 @@
 //! The members that instructions name.
 
-ghost use Rattle.std.specs.Prelude.{◌≡◌, map};
+ghost use Rattle.std.specs.Prelude.{◌≡◌};
 ghost use Rattle.std.specs.List.{flat_map, list_any};
 ghost use Rattle.std.specs.Option.{option_to_list};
 ghost use Rattle.type_definitions.specs.Mentions.{block_members, edge_members, function_members, inst_members};

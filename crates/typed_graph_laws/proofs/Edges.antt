@@ -18,7 +18,7 @@ use Rattle.sil_ast.specs.declared.type_name.TypeName.{TypeName}
 use Rattle.numbered_form.specs.inner.Limits.{IsDeclInLimits}
 use Rattle.numbered_form.specs.Lists.{Each, is_empty}
 use Rattle.numbered_form.specs.inner.Parts.{are_cases, are_edges_by, is_branch, is_typed}
-use Rattle.type_definitions.specs.Declarations.{Declarations}
+use Rattle.sil_types.specs.type_definitions.Declarations.{Declarations}
 use Rattle.sil_types.specs.Typing.EdgeRules.{goes_to_entry, has_block_types, has_wrong_edge_arguments, have_wrong_arguments_by, is_to_entry}
 use Rattle.sil_types.specs.Typing.RowTypes.{all_written, written}
 use Rattle.sil_types.specs.Typing.Same.{all_pairs, is_same_type}

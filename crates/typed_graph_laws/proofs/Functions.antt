@@ -15,9 +15,9 @@ use Rattle.numbered_form.specs.inner.NumberedForm.{IsNumbered}
 use Rattle.numbered_form.specs.Numbering.{IsEdgeInRange, IsFunctionNumbered, IsInstInRange, values_of}
 use Rattle.numbered_form.specs.inner.Parts.{BlockHasParts, FunctionHasParts, are_edges_by}
 use Rattle.instruction_table.specs.Forms.{ending_of}
-use Rattle.type_definitions.specs.Declarations.{declarations_of}
+use Rattle.sil_types.specs.type_definitions.Declarations.{declarations_of}
 use Rattle.sil_types.specs.Typing.Typed.{Typed, at_point, edge_arguments, entry_has_predecessor, point, switch_cases}
-use Rattle.point_checks.specs.Points.{IsAt}
+use Rattle.sil_types.specs.point_checks.Points.{IsAt}
 use Rattle.typed_graph_laws.specs.inner.Laws.{IsNotExternal, HaveGraphsWhere}
 use Rattle.typed_graph_laws.specs.inner.Ready.{HasFittingEdges, IsReadyForGraph}
 use Rattle.typed_graph_laws.proofs.Edges.{few_edges_at, fitting_edges}

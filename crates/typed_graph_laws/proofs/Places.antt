@@ -19,8 +19,8 @@ use Rattle.sil_rules.specs.declared.limits.TheConstants.{MEMBERS}
 use Rattle.numbered_form.specs.inner.Limits.{IsDeclInLimits}
 use Rattle.numbered_form.specs.Lists.{Each}
 use Rattle.numbered_form.specs.Names.{Name, case_name}
-use Rattle.type_definitions.specs.Declarations.{Declarations, all_decls, at_place, optional_cases, place_of, swift_structs}
-use Rattle.type_definitions.specs.Lookups.{Payload, case_payload, cases_of, decl_cases, optional_payload, payload_at, payload_in}
+use Rattle.sil_types.specs.type_definitions.Declarations.{Declarations, all_decls, at_place, optional_cases, place_of, swift_structs}
+use Rattle.sil_types.specs.type_definitions.Lookups.{Payload, case_payload, cases_of, decl_cases, optional_payload, payload_at, payload_in}
 use Rattle.sil_types.specs.Typing.Shapes.{case_in, is_case_owner_layer}
 use Rattle.sil_types.specs.Typing.SwitchRules.{are_once, has_number, place_in_enum}
 use Rattle.typed_graph_laws.proofs.Facts.{and_first, and_second, each_at, from_not, neither_first, neither_second, or_second}

@@ -8,7 +8,7 @@ use Rattle.sil_rules.specs.declared.limits.TheConstants.{MEMBERS}
 use Rattle.numbered_form.specs.inner.Limits.{IsDeclInLimits}
 use Rattle.numbered_form.specs.Lists.{Each, is_empty}
 use Rattle.numbered_form.specs.inner.Parts.{are_cases, is_case, is_default as is_default_edge}
-use Rattle.type_definitions.specs.Declarations.{Declarations}
+use Rattle.sil_types.specs.type_definitions.Declarations.{Declarations}
 use Rattle.sil_types.specs.Typing.SwitchRules.{are_once, case_of_edge, is_default, is_of_enum, place_in_enum, places_of}
 use Rattle.typed_graph_laws.proofs.Facts.{and_first, and_second, or_second}
 use Rattle.typed_graph_laws.proofs.Places.{IsBelow, few_different, low_place}

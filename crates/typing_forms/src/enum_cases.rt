@@ -3,7 +3,7 @@
 ghost use Rattle.std.specs.Prelude.{◌≡◌, ◌<◌, ◌≤◌, option_map, unwrap_or, IfSome};
 ghost use Rattle.numbered_form.specs.inner.Limits.{IsDeclInLimits};
 ghost use Rattle.numbered_form.specs.Lists.{Each};
-ghost use Rattle.type_declarations.specs.inner.Found.{payload_told};
+ghost use Rattle.sil_types.specs.type_declarations.inner.Found.{payload_told};
 ghost use Rattle.sil_types.specs.Typing.Shapes as shape;
 ghost use Rattle.sil_types.specs.Typing.SwitchRules as rules;
 

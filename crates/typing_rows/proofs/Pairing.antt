@@ -5,7 +5,7 @@ use Rattle.sil_ast.specs.declared.type_name.TypeName.{TypeName, TypeName-F, fold
 use Rattle.sil_ast.specs.declared.type_name.TypeName.TheVariants as type
 use Rattle.sil_ast.specs.declared.type_name.TypeName.TheVariants.{rolls-Tuple}
 use Rattle.sil_types.specs.Typing.Same.{all_pairs, applied, are_same_types, is_same_layer, is_same_type}
-use Rattle.type_definitions.specs.Mentions.{together}
+use Rattle.sil_types.specs.type_definitions.Mentions.{together}
 
 parts_applied : (parts others : List TypeName) → are_same_types parts others ≡ all_pairs applied (map is_same_type parts) others
 parts_applied [] [] = refl

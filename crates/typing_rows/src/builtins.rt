@@ -3,12 +3,9 @@
 ghost use Rattle.std.specs.Prelude.{◌≡◌, [], ◌∷◌, bytes_eq, find, map, option_map};
 ghost use Rattle.std.specs.List.{flat_map};
 ghost use Rattle.std.specs.Option.{option_copied};
-ghost use Rattle.sil_ast.specs.declared.type_name.TypeName.TheVariants as type;
 ghost use Rattle.builtin_names.specs.BuiltinNames as names;
 ghost use Rattle.sil_types.specs.Typing.Builtins as builtins;
 ghost use Rattle.sil_types.specs.Typing.Builtins.{at_width, at_widths};
-ghost use Rattle.sil_types.specs.Typing.Same.{are_same_types, is_same_type};
-ghost use Rattle.sil_types.specs.Typing.RowTypes.{all_written};
 ghost use Rattle.builtin_names.specs.declared.names.Width.{Width};
 ghost use Rattle.typing_rows.specs.inner.BuiltinViews.{builtin_told, is_spelled_by, is_width_text, sort_told};
 

@@ -2,7 +2,7 @@
 
 ghost use Rattle.std.specs.Prelude.{◌≡◌, ◌||◌, option_and_then};
 ghost use Rattle.std.specs.Option.{option_copied};
-ghost use Rattle.type_definitions.specs.Rules as rules;
+ghost use Rattle.sil_types.specs.type_definitions.Rules as rules;
 ghost use Rattle.sil_types.specs.Typing.RowTypes as rows;
 ghost use Rattle.sil_types.specs.Typing.Shapes as shapes;
 ghost use Rattle.sil_types.specs.Typing.Shapes.{where_it};

@@ -2,7 +2,7 @@
 
 ghost use Rattle.std.specs.Prelude.{◌≡◌, option_and_then, option_map};
 ghost use Rattle.std.specs.Option.{option_copied};
-ghost use Rattle.type_definitions.specs.Mentions.{given_type};
+ghost use Rattle.sil_types.specs.type_definitions.Mentions.{given_type};
 ghost use Rattle.sil_types.specs.Typing.RowTypes as rows;
 ghost use Rattle.sil_types.specs.Typing.RowTypes.{address_of, address_of_field};
 ghost use Rattle.sil_types.specs.Typing.Shapes as shapes;

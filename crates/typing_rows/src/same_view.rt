@@ -2,7 +2,7 @@
 
 ghost use Rattle.std.specs.Prelude.{◌≡◌};
 ghost use Rattle.sil_ast.specs.declared.type_name.TypeName.TheVariants as type;
-ghost use Rattle.type_definitions.specs.Mentions.{direct_type, direct_types};
+ghost use Rattle.sil_types.specs.type_definitions.Mentions.{direct_type, direct_types};
 ghost use Rattle.sil_types.specs.Typing.RowTypes.{all_written};
 ghost use Rattle.sil_types.specs.Typing.Same.{are_same_types, is_same_type};
 ghost use Rattle.typing_rows.specs.inner.Views.{view_told};

@@ -2,7 +2,6 @@
 
 ghost use Rattle.std.specs.Prelude.{◌≡◌, ◌==◌, ◌≤◌, length, not};
 ghost use Rattle.std.specs.List.{list_all};
-ghost use Rattle.std.specs.Option.{option_copied};
 ghost use Rattle.sil_types.specs.Typing.RowTypes as rows;
 ghost use Rattle.sil_types.specs.Typing.RowTypes.{all_written};
 ghost use Rattle.sil_types.specs.Typing.Shapes as shapes;

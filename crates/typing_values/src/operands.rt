@@ -1,6 +1,6 @@
 //! Whether the values of operands have the types that are written at them, or that the row asks for.
 
-ghost use Rattle.std.specs.Prelude.{◌≡◌, ◌&&◌, [], ◌∷◌, drop, is_some, map, option_map, take};
+ghost use Rattle.std.specs.Prelude.{◌≡◌, ◌&&◌, [], ◌∷◌, drop, is_some, option_map, take};
 ghost use Rattle.std.specs.List.{flat_map, list_all};
 ghost use Rattle.std.specs.Option.{option_copied, option_to_list};
 ghost use Rattle.argument_conventions.specs.Arguments.{argument_type, as_told};

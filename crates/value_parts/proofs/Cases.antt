@@ -4,7 +4,7 @@ use Rattle.std.specs.Prelude.{length, take, drop, replicate, option_and_then, op
 use Rattle.std.proofs.lemmas.Bool.{false≢true}
 use Rattle.std.proofs.lemmas.List.{take_at}
 use Rattle.std.proofs.lemmas.Option.{none-some, same_Some}
-use Rattle.numbered_form.specs.Names.{Name}
+use Rattle.run_values.specs.numbered_form.Names.{Name}
 use Rattle.run_values.specs.declared.leaf.Leaf.TheVariants as leaf
 use Rattle.run_values.specs.Fits.{Test, fits, fits_case, fits_payload, is_case}
 use Rattle.run_values.specs.Layers.{CaseLayer, Layer}

@@ -6,7 +6,7 @@ use Rattle.std.proofs.lemmas.Bool.{and_parts, false≢true}
 use Rattle.std.proofs.lemmas.Option.{none-some, same_Some}
 use Rattle.run_values.specs.Cells.{cell_count, in_cells}
 use Rattle.run_values.specs.Places.{offset}
-use Rattle.numbered_form.specs.Names.{Name}
+use Rattle.run_values.specs.numbered_form.Names.{Name}
 use Rattle.run_values.specs.Fits.{fit_each}
 use Rattle.run_values.specs.Leaves.{leaves_each, leaves_layer, leaves_of, size_of}
 use Rattle.run_values.specs.Shapes.{Shape, Shapes, Struct, Tuple, each_by_layers, listed, member_shapes, members_of}

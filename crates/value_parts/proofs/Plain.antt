@@ -3,8 +3,8 @@ use Rattle.std.proofs.Common.{◌≡◌, ℕ, ℤ, [], ◌∷◌, true, refl}
 use Rattle.std.proofs.lemmas.Bool.{false≢true}
 use Rattle.sil_ast.specs.declared.decl.Storage.{Storage}
 use Rattle.sil_ast.specs.declared.place.ObjectId.{ObjectId}
-use Rattle.numbered_form.specs.Names.{Name}
-use Rattle.numbered_form.specs.inner.Literals.{is_residue}
+use Rattle.run_values.specs.numbered_form.Names.{Name}
+use Rattle.run_values.specs.numbered_form.inner.Literals.{is_residue}
 use Rattle.run_values.specs.declared.leaf.Leaf.TheVariants as leaf
 use Rattle.run_values.specs.Leaves.{leaves_of}
 use Rattle.run_values.specs.Shapes.{Shape, Integer, Reference, Stored}

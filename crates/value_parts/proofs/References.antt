@@ -9,7 +9,7 @@ use Rattle.std.proofs.lemmas.List.Elements.{All-same}
 use Rattle.sil_ast.specs.declared.decl.Storage.{Storage}
 use Rattle.sil_ast.specs.declared.decl.Storage.TheVariants as storage
 use Rattle.sil_ast.specs.declared.place.ObjectId.{ObjectId}
-use Rattle.numbered_form.specs.Names.{Name}
+use Rattle.run_values.specs.numbered_form.Names.{Name}
 use Rattle.run_values.specs.declared.leaf.Leaf.{Leaf}
 use Rattle.run_values.specs.declared.leaf.Leaf.TheVariants as leaf
 use Rattle.run_values.specs.Fits.{are_members, fit_each, fits, fits_case, fits_layer, is_case, is_name}

@@ -5,7 +5,7 @@ use Rattle.std.specs.List.{All, AllByRecursion}
 use Rattle.std.proofs.lemmas.Bool.{and_parts, and_from, false≢true}
 use Rattle.std.proofs.lemmas.List.Elements.{All-nil, All-cons, All-append}
 use Rattle.sil_ast.specs.declared.place.ObjectId.{ObjectId}
-use Rattle.numbered_form.specs.Names.{Name}
+use Rattle.run_values.specs.numbered_form.Names.{Name}
 use Rattle.run_values.specs.Fits.{Test, are_members, fit_each, fits, fits_case, fits_layer, is_case, is_name}
 use Rattle.run_values.specs.Layers.{Layer}
 use Rattle.run_values.specs.Shapes.{CaseShapes, NoCase, PlainCase, FullCase, Shape, Shapes, NoMember, Member, listed, listed_cases}

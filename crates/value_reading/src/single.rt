@@ -2,7 +2,6 @@
 
 ghost use Rattle.std.specs.Prelude.{◌≡◌, ℕ, IfOk, pos};
 ghost use Rattle.run_values.specs.Shapes.{Integer, Reference, Shape, Stored};
-ghost use Rattle.run_values.specs.Shapes as shape;
 ghost use Rattle.numbered_form.specs.Names.{Name};
 ghost use Rattle.sil_ast.specs.declared.decl.Storage.TheVariants as storage;
 ghost use Rattle.value_reading.specs.inner.Reading.{IsValueOf};

@@ -1,6 +1,6 @@
 //! Side counts by slot. Only `add_slot` takes memory.
 
-ghost use Rattle.std.specs.Prelude.{◌≡◌, ◌<◌, ◌≤◌, ◌^◌, ◌++◌, ◌∷◌, [], ◌↔◌, false, true, IfSome, IsNone, OnErr, OnOk, length, eqb};
+ghost use Rattle.std.specs.Prelude.{◌≡◌, ◌<◌, ◌≤◌, ◌^◌, ◌++◌, ◌∷◌, [], ◌↔◌, false, true, IfSome, IsNone, OnErr, OnOk, length};
 ghost use Rattle.weak_unowned.specs.Sides.{changed, counts_of, idle_count, is_idle, is_idle_at, less_unowned, less_weak, marked};
 ghost use Rattle.weak_unowned.specs.Sides.{more_unowned, more_weak, no_sides, sides_at, unmarked};
 

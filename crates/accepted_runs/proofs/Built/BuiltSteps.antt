@@ -11,7 +11,7 @@ use Rattle.tracked_frames.specs.accepted_places.accepted_memory.holder_model.Cal
 use Rattle.tracked_frames.specs.accepted_places.accepted_memory.holder_model.Data.{Datum, ValueOf, references_in}
 use Rattle.tracked_frames.specs.accepted_places.accepted_memory.holder_model.Edges.{edge_of}
 use Rattle.tracked_frames.specs.accepted_places.accepted_memory.holder_model.Effects as effects
-use Rattle.tracked_frames.specs.accepted_places.accepted_memory.holder_model.Effects.{Change, effect_of, only, unchanged}
+use Rattle.tracked_frames.specs.accepted_places.accepted_memory.holder_model.Effects.{effect_of, only, unchanged}
 use Rattle.tracked_frames.specs.accepted_places.accepted_memory.holder_model.Faults.{HolderFault}
 use Rattle.tracked_frames.specs.accepted_places.accepted_memory.holder_model.Frames.{Entry, Frame, Operands, has_any, operands_of, results_put}
 use Rattle.tracked_frames.specs.accepted_places.accepted_memory.holder_model.HolderStates.{HolderNext, HolderState}

@@ -6,7 +6,7 @@ use Rattle.argument_conventions.specs.declared.row.Content.TheVariants as conten
 use Rattle.tracked_frames.specs.holder_laws.holder_model.Builtins.{builtin_value, is_set}
 use Rattle.tracked_frames.specs.holder_laws.holder_model.Data.{AddressOf, Datum, FunctionOf, ValueOf, all_of, as_function, as_place, as_value, values_of}
 use Rattle.tracked_frames.specs.holder_laws.holder_model.Effects as effects
-use Rattle.tracked_frames.specs.holder_laws.holder_model.Effects.{Calls, Effect, Faults, Makes, Traps, Unfit, effect_by, effect_of, gives, gives_value, only, part_number, unchanged}
+use Rattle.tracked_frames.specs.holder_laws.holder_model.Effects.{Calls, Effect, Faults, Traps, effect_by, effect_of, gives, gives_value, only, part_number}
 use Rattle.tracked_frames.specs.holder_laws.holder_model.Effects.{with_some}
 use Rattle.tracked_frames.specs.holder_laws.holder_model.Faults.{HolderFault, NotLastSlot}
 use Rattle.tracked_frames.specs.holder_laws.holder_model.MemoryEffects as memory

@@ -39,7 +39,6 @@ use Rattle.run_values.specs.Memory.{Memory, object_at}
 use Rattle.run_values.specs.Places.{Inside, field_in, offset}
 use Rattle.run_values.specs.Shapes.{Reference, Shape}
 use Rattle.run_values.specs.Values as value
-use Rattle.run_values.specs.Values.{Value}
 use Rattle.sil_ast.specs.declared.function.Function.{Function}
 use Rattle.sil_ast.specs.declared.inst.Inst.{Inst}
 use Rattle.sil_ast.specs.declared.member.Member.{Member}

@@ -26,7 +26,7 @@ use Rattle.tracked_frames.specs.accepted_places.accepted_memory.run_trails.inner
 use Rattle.tracked_frames.proofs.accepted_places.accepted_memory.run_trails.RunPaths.{are_trails}
 use Rattle.tracked_frames.proofs.accepted_places.ItemStacks.{accepted_in}
 use Rattle.tracked_frames.proofs.accepted_places.Locating.{members_located, root_location}
-use Rattle.tracked_frames.specs.accepted_places.inner.Located.{IsAddress, IsRoot}
+use Rattle.tracked_frames.specs.accepted_places.inner.Located.{IsRoot}
 use Rattle.tracked_frames.specs.accepted_places.inner.Located as located
 use Rattle.tracked_frames.specs.accepted_places.accepted_values.inner.Known.{IsAcceptedBody}
 use Rattle.tracked_frames.specs.accepted_places.accepted_values.run_typing.EndForms.{value_in}

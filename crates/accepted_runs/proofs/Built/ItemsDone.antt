@@ -28,7 +28,7 @@ use Rattle.tracked_frames.proofs.accepted_places.Made.{IsMadeBy, argument, made_
 use Rattle.tracked_frames.specs.accepted_places.accepted_values.inner.Known.{IsAcceptedBody}
 use Rattle.tracked_frames.specs.accepted_places.accepted_values.inner.Rows.{source_of_argument}
 use Rattle.tracked_frames.specs.holder_laws.inner.Built.Building.{Progress}
-use Rattle.tracked_frames.specs.holder_laws.inner.Built.FrameObjects.{Holds, HoldsObjects, MayName, Names}
+use Rattle.tracked_frames.specs.holder_laws.inner.Built.FrameObjects.{Holds, MayName}
 use Rattle.tracked_frames.specs.holder_laws.inner.Built.FrameObjects as frames
 use Rattle.tracked_frames.specs.holder_laws.inner.Built.Laws.{Begins, MayBegin}
 use Rattle.tracked_frames.specs.holder_laws.inner.Built.Laws as laws

@@ -8,7 +8,7 @@ use Rattle.instruction_table.specs.declared.op.Op.{Op}
 use Rattle.instruction_table.specs.declared.op.Op.TheVariants as op
 use Rattle.tracked_frames.specs.accepted_places.accepted_memory.holder_model.Data.{Datum, ValueOf}
 use Rattle.tracked_frames.specs.accepted_places.accepted_memory.holder_model.Effects as effects
-use Rattle.tracked_frames.specs.accepted_places.accepted_memory.holder_model.Effects.{Change, effect_of, result_shape_of}
+use Rattle.tracked_frames.specs.accepted_places.accepted_memory.holder_model.Effects.{Change, effect_of}
 use Rattle.tracked_frames.specs.accepted_places.accepted_memory.holder_model.Frames.{Entry, Frame, Held, Operands, entry_at, made_entry, results_put}
 use Rattle.tracked_frames.specs.accepted_places.accepted_memory.holder_model.MemoryEffects.{effect}
 use Rattle.tracked_frames.specs.accepted_places.accepted_memory.holder_model.ModuleShapes.{field_shapes, shapes_in, shapes_of}

@@ -4,7 +4,7 @@ use Rattle.std.specs.Prelude.{cond}
 use Rattle.std.specs.declared.result.Result.{Result}
 use Rattle.std.proofs.lemmas.Bool.{false≢true}
 use Rattle.tracked_frames.specs.accepted_places.accepted_memory.holder_model.Effects as effects
-use Rattle.tracked_frames.specs.accepted_places.accepted_memory.holder_model.Effects.{Change, ClosesSlot, SlotChange, effect_of}
+use Rattle.tracked_frames.specs.accepted_places.accepted_memory.holder_model.Effects.{Change, ClosesSlot, effect_of}
 use Rattle.tracked_frames.specs.accepted_places.accepted_memory.holder_model.Faults.{HolderFault, NotLastSlot}
 use Rattle.tracked_frames.specs.accepted_places.accepted_memory.holder_model.Frames.{Entry, Frame, Operands, results_put}
 use Rattle.tracked_frames.specs.accepted_places.accepted_memory.holder_model.MemoryEffects.{effect}

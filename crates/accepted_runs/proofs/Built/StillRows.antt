@@ -7,7 +7,7 @@ use Rattle.instruction_table.specs.declared.op.Op.{Op}
 use Rattle.instruction_table.specs.declared.op.Op.TheVariants as op
 use Rattle.tracked_frames.specs.accepted_places.accepted_memory.holder_model.Data.{AddressOf, Datum, ValueOf, home_references, references_in, values_of}
 use Rattle.tracked_frames.specs.accepted_places.accepted_memory.holder_model.Effects as effects
-use Rattle.tracked_frames.specs.accepted_places.accepted_memory.holder_model.Effects.{Change, ClosesSlot, OpensSlot, effect_of, member_of, unchanged}
+use Rattle.tracked_frames.specs.accepted_places.accepted_memory.holder_model.Effects.{Change, ClosesSlot, OpensSlot, effect_of, unchanged}
 use Rattle.tracked_frames.specs.accepted_places.accepted_memory.holder_model.Frames.{Frame, Operands, any_dead}
 use Rattle.tracked_frames.specs.accepted_places.accepted_memory.holder_model.MemoryEffects.{after, effect, references_at, takes}
 use Rattle.tracked_frames.specs.accepted_places.accepted_memory.holder_model.ModuleShapes.{ModuleShapes}

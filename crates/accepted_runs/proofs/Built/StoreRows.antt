@@ -34,7 +34,7 @@ use Rattle.tracked_frames.specs.accepted_places.accepted_values.run_typing.Forms
 use Rattle.tracked_frames.proofs.accepted_places.accepted_values.Accepted.{in_ownership_form, well_typed}
 use Rattle.tracked_frames.specs.holder_laws.inner.Built.Building.{IsFieldAddress, IsNewField, IsUnfinished, Progress, address}
 use Rattle.tracked_frames.specs.holder_laws.inner.Built.FrameObjects.{Holds, Names}
-use Rattle.tracked_frames.specs.holder_laws.inner.Built.Laws.{IsRightAt, WhoseField, WritesField}
+use Rattle.tracked_frames.specs.holder_laws.inner.Built.Laws.{IsRightAt, WhoseField}
 use Rattle.tracked_frames.specs.holder_laws.inner.Built.Laws as laws
 use Rattle.tracked_frames.proofs.holder_laws.Built.About.{builds_it}
 use Rattle.tracked_frames.proofs.holder_laws.Built.Asked.{fields_of}

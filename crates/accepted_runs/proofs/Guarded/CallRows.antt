@@ -14,7 +14,7 @@ use Rattle.sil_ast.specs.declared.place.ObjectId.{ObjectId}
 use Rattle.type_definitions.specs.Declarations.{Declarations}
 use Rattle.run_values.specs.Memory.{Memory}
 use Rattle.run_values.specs.Places as places
-use Rattle.run_values.specs.Places.{Place, filled, is_there_at, removed, value_at}
+use Rattle.run_values.specs.Places.{Place, is_there_at, removed, value_at}
 use Rattle.run_values.specs.Shapes.{Shape, class_in, storage_in}
 use Rattle.run_values.specs.Values as value
 use Rattle.run_values.specs.Values.{Value, grouped, integer_of, members_of, object_of, references_of}
@@ -28,7 +28,7 @@ use Rattle.tracked_frames.specs.holder_laws.holder_model.Effects as effects
 use Rattle.tracked_frames.specs.holder_laws.holder_model.Effects.{Calls, Effect, Faults, Makes, Traps, Unfit, effect_by, effect_of, gives, gives_value, only, unchanged, with_some}
 use Rattle.tracked_frames.specs.holder_laws.holder_model.Faults.{HolderFault, NotLastSlot}
 use Rattle.tracked_frames.specs.holder_laws.holder_model.MemoryEffects as memory
-use Rattle.tracked_frames.specs.holder_laws.holder_model.MemoryEffects.{all_live, asked_before, effect, fault_of, holds, loaded_name, named_again, references_at, two, value_and_place}
+use Rattle.tracked_frames.specs.holder_laws.holder_model.MemoryEffects.{all_live, asked_before, effect, fault_of, holds, loaded_name, named_again, two, value_and_place}
 use Rattle.tracked_frames.specs.holder_laws.holder_model.ModuleShapes.{ModuleShapes, case_place}
 
 pub calls_apply : (o : Op) → effect_of o ≡ row.CallsFunction → o ≡ op.Apply

@@ -35,10 +35,9 @@ use Rattle.tracked_frames.specs.holder_laws.holder_model.Frames.{made_entry, ope
 use Rattle.accepted_runs.specs.inner.Guarded.Guards.{AreLentGuarded, AreOfKinds, IsCurrent, IsNamed, Lending}
 use Rattle.accepted_runs.specs.inner.Guarded.Kept.{IsNewlyGuarded}
 use Rattle.accepted_runs.specs.inner.Guarded.Kept as kept
-use Rattle.accepted_runs.proofs.Guarded.RowTables.{Gives, Opens}
 use Rattle.accepted_runs.proofs.Guarded.RowTables as table
 use Rattle.accepted_runs.proofs.Guarded.Sources as sources
-use Rattle.accepted_runs.proofs.Guarded.Sources.{ended_fact, held, lends_it, named_datum, value_lent}
+use Rattle.accepted_runs.proofs.Guarded.Sources.{held, lends_it, value_lent}
 use Rattle.std.specs.Prelude.{option_and_then, option_map}
 use Rattle.std.specs.List.{AllZip}
 use Rattle.instruction_table.specs.Forms.{ending_of}

@@ -17,7 +17,6 @@ use Rattle.tracked_frames.specs.accepted_premises.owned_run_typing.inner.OwnedRo
 use Rattle.tracked_frames.specs.typed_memory.inner.Worlds.{DatumIs, World}
 use Rattle.tracked_frames.specs.inner.Typed.TypedStates.{EntryIs}
 use Rattle.tracked_frames.proofs.Typed.Data.{read_value}
-use Rattle.tracked_frames.specs.inner.Tracked.TrackedStates.{GoesAlong}
 use Rattle.tracked_frames.specs.inner.Tracked.TrackedStates as tracked
 use Rattle.tracked_frames.specs.holder_laws.holder_model.Data.{Datum}
 use Rattle.tracked_frames.specs.holder_laws.holder_model.Effects.{effect_of}

@@ -45,7 +45,6 @@ use Rattle.accepted_runs.specs.inner.Guarded.Guards.{AreLentGuarded, AreOfKinds,
 use Rattle.accepted_runs.proofs.Guarded.Ended.{unended_stays}
 use Rattle.accepted_runs.proofs.Guarded.Entries.{made_lent_same, plain_bare}
 use Rattle.accepted_runs.proofs.Guarded.Named.{named_nowhere}
-use Rattle.accepted_runs.proofs.Guarded.RowTables.{Gives, Opens}
 use Rattle.accepted_runs.proofs.Guarded.RowTables as table
 
 -- ---- which operand names an object

@@ -1,5 +1,5 @@
 -- Laws of runs by holders of accepted modules.
-use Rattle.std.specs.Prelude.{◌≡◌, ℕ, true, false, Some, slice_get}
+use Rattle.std.specs.Prelude.{◌≡◌, ℕ, true, Some, slice_get}
 use Rattle.sil_ast.specs.declared.function.Function.{Function}
 use Rattle.sil_ast.specs.declared.module.Module.{Module}
 use Rattle.sil_ast.specs.declared.place.FuncId.{FuncId}

@@ -5,7 +5,7 @@ use Rattle.run_trails.specs.holder_model.Frames.{ends, has_any}
 use Rattle.item_operands.specs.Items.{item_defined, item_taken}
 use Rattle.item_operands.specs.declared.taken.Taken.{Taken}
 use Rattle.ownership_chains.specs.declared.facts.Facts.{Facts}
-use Rattle.ownership_marks.specs.Marks.{begun, used}
+use Rattle.run_trails.specs.ownership_marks.Marks.{begun, used}
 use Rattle.sil_ast.specs.declared.function.Function.{Function}
 use Rattle.sil_ast.specs.declared.place.ValueId.{ValueId}
 use Rattle.sil_cfg.specs.Returns.{is_return}

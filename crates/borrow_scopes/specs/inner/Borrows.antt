@@ -11,8 +11,8 @@ use Rattle.sil_cfg.specs.declared.item.Item.{Item}
 use Rattle.path_checks.specs.First.{IsFirst}
 use Rattle.path_checks.specs.inner.Reported.{found_at}
 use Rattle.path_checks.specs.declared.fault.PathFault.{PathFault}
-use Rattle.ownership_chains.specs.Facts.{told_at, value_of}
-use Rattle.ownership_chains.specs.declared.facts.Facts.{Facts}
+use Rattle.ownership_marks.specs.ownership_chains.Facts.{told_at, value_of}
+use Rattle.ownership_marks.specs.ownership_chains.declared.facts.Facts.{Facts}
 use Rattle.ownership_marks.specs.Known.{AreKindsBy, Known}
 use Rattle.borrow_scopes.specs.Others.{other_of}
 use Rattle.borrow_scopes.specs.Scopes.{scopes_of}

@@ -8,8 +8,8 @@ use Rattle.path_patterns.specs.inner.Runs as runs
 use Rattle.path_patterns.specs.inner.Runs.{IsHeld, Sort}
 use Rattle.path_patterns.specs.declared.mark.Mark as pattern
 use Rattle.path_checks.specs.Entries.{marks_for}
-use Rattle.ownership_chains.specs.Facts.{known_or}
-use Rattle.ownership_chains.specs.declared.facts.Facts.{Facts}
+use Rattle.ownership_marks.specs.ownership_chains.Facts.{known_or}
+use Rattle.ownership_marks.specs.ownership_chains.declared.facts.Facts.{Facts}
 use Rattle.ownership_marks.specs.Marks.{marks_of}
 use Rattle.ownership_marks.specs.declared.mark.Mark.{Mark}
 use Rattle.ownership_marks.specs.declared.mark.MarkSort.{MarkSort}

@@ -7,8 +7,8 @@ use Rattle.sil_ast.specs.declared.place.ValueId.{ValueId}
 use Rattle.path_checks.specs.declared.entry.Entry as entry
 use Rattle.path_patterns.specs.inner.Reads.{accesses_at}
 use Rattle.path_patterns.specs.declared.mark.Mark as pattern
-use Rattle.ownership_chains.specs.Facts.{has, is_guaranteed, value_of}
-use Rattle.ownership_chains.specs.declared.facts.Facts.{Facts}
+use Rattle.ownership_marks.specs.ownership_chains.Facts.{has, is_guaranteed, value_of}
+use Rattle.ownership_marks.specs.ownership_chains.declared.facts.Facts.{Facts}
 use Rattle.value_tables.specs.Borrows.{is_borrow_in, lent_in}
 use Rattle.value_tables.specs.declared.borrows.Borrow.{Borrow}
 use Rattle.ownership_marks.specs.declared.mark.Mark as mark

@@ -1,19 +1,15 @@
 -- The lowered code that drafts stand for, in the old names of values.
 use Rattle.std.specs.Prelude.{ℤ, [], ◌∷◌, List, Some, map}
 use Rattle.std.specs.Option.{option_copied}
-use Rattle.sil_ast.specs.declared.function.Block.{Block}
 use Rattle.sil_ast.specs.declared.inst.Inst.{Inst}
 use Rattle.sil_ast.specs.declared.member.Member.{Member}
 use Rattle.sil_ast.specs.declared.operands.Operand.{Operand}
 use Rattle.sil_ast.specs.declared.place.ValueId.{ValueId}
 use Rattle.instruction_table.specs.declared.op.Op.TheVariants as op
 use Rattle.numbered_form.specs.Names.{Name}
-use Rattle.ownership_chains.specs.declared.definition.Definition.{Definition}
-use Rattle.lowering_model.specs.LoweredBlocks.{args_become}
 use Rattle.lowering_model.specs.NewInsts.{load, struct_extract, typed_operand, with_operands}
 use Rattle.function_lowering.specs.declared.draft.Draft.{Draft}
 use Rattle.function_lowering.specs.declared.draft.Draft.TheVariants.{Kept, Counted, Loaded, Field, Element}
-use Rattle.function_lowering.specs.declared.draft.DraftBlock.{DraftBlock}
 
 -- `#S.f`
 abbrev pub member_with : Name → Name → Member
@@ -32,10 +28,6 @@ told (Element whole number v) = element whole.now number v
 
 abbrev pub told_insts : List Draft → List Inst
 told_insts drafts = map told drafts
-
--- by the renamings of the function
-abbrev pub told_block : List Definition → DraftBlock → Block
-told_block renamings b = record { args = args_become renamings b.args.now; insts = told_insts b.insts; terminator = b.terminator.now }
 
 -- the values that an instruction defines
 abbrev pub results_told : Draft → List ValueId

@@ -2,7 +2,6 @@
 use Rattle.std.specs.Prelude.{⊤, ℕ, Bool, false, nat_lt}
 use Rattle.grammar_tables.specs.Grammar.{alternatives, body, written}
 use Rattle.grammar_tables.specs.Shortest.{shortest}
-use Rattle.grammar_tables.specs.Terminals.{at, punctuation, word}
 use Rattle.grammar_tables.specs.inner.Starts.{empty_choice, starts}
 use Rattle.grammar_tables.specs.declared.grammar.Nonterminal.{Nonterminal}
 use Rattle.grammar_tables.specs.declared.grammar.Nonterminal.TheVariants as n

@@ -15,7 +15,7 @@ use Rattle.run_values.specs.Memory.{Memory, object_at}
 use Rattle.run_values.specs.Places.{Place, part_of}
 use Rattle.run_values.specs.Shapes.{Shape, member_shapes}
 use Rattle.run_values.specs.Values as value
-use Rattle.run_values.specs.Values.{Value, references_of}
+use Rattle.run_values.specs.Values.{references_of}
 use Rattle.sil_ast.specs.declared.place.ObjectId.{ObjectId}
 use Rattle.sil_ast.specs.declared.place.ValueId.{ValueId}
 use Rattle.value_parts.proofs.SideBySide.{cells_summed}

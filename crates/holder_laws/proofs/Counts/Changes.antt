@@ -28,7 +28,7 @@ use Rattle.holder_model.specs.declared.trap.Trap.TheVariants as trap
 use Rattle.holder_model.specs.Builtins.{builtin_value, computed, computed_by, is_set}
 use Rattle.holder_model.specs.Data.{AddressOf, Datum, FunctionOf, ValueOf, all_of, as_function, as_place, as_value, values_of, with_first}
 use Rattle.holder_model.specs.Effects as effects
-use Rattle.holder_model.specs.Effects.{Calls, Change, Effect, Faults, Makes, Traps, Unfit, effect_by, effect_of, only, with_some}
+use Rattle.holder_model.specs.Effects.{Calls, Change, Effect, Faults, Makes, Traps, effect_by, effect_of, only, with_some}
 use Rattle.holder_model.specs.Faults.{HolderFault, NotLastSlot}
 use Rattle.holder_model.specs.MemoryEffects as memory
 use Rattle.holder_model.specs.MemoryEffects.{all_live, asked_before, at_place, at_places, copies_with, fault_of, holds, loaded_name, named_again, operation_done}

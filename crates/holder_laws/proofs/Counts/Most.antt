@@ -1,13 +1,11 @@
 -- Bounds on what memory holds, whatever place is written; and phases stay where cells are put.
-use Rattle.std.proofs.Common.{◌≡◌, ℕ, zero, suc, ◌+◌, ◌≤◌, List, [], ◌∷◌, ◌++◌, set, length, take, drop, replicate, refl, sym, ap, ◌∙◌, Bool, true, false, cond, Option, Some, None, arith}
+use Rattle.std.proofs.Common.{◌≡◌, ℕ, zero, suc, ◌+◌, ◌≤◌, List, [], ◌∷◌, ◌++◌, set, length, take, drop, replicate, refl, ap, ◌∙◌, Bool, true, false, cond, arith}
 use Rattle.std.specs.Prelude.{slice_get, unwrap_or}
 use Rattle.std.proofs.lemmas.Bool.{true≢false}
 use Rattle.sil_ast.specs.declared.decl.Storage.{Storage}
 use Rattle.sil_ast.specs.declared.place.ObjectId.{ObjectId}
 use Rattle.run_values.specs.Cells.{Cell, Empty, Gone, cell_count}
-use Rattle.run_values.specs.declared.phase.Phase.{Phase}
-use Rattle.run_values.specs.declared.phase.Phase.TheVariants.{Dead, Live}
-use Rattle.run_values.specs.Memory.{Memory, Object, is_dead_phase, no_object, object_at, phase_of, put_cells, with_object}
+use Rattle.run_values.specs.Memory.{Memory, Object, is_dead_phase, no_object, object_at, phase_of, put_cells}
 use Rattle.run_values.specs.Places.{Home, Inside, OnStack, Place, cells_at, emptied, home_cells, removed, with_cells, with_home_cells}
 use Rattle.holder_model.specs.Holders.{in_cell, in_cells, in_memory, in_object}
 use Rattle.holder_laws.specs.inner.Counts.Keeping.{IsAliveAt}

@@ -1,5 +1,5 @@
 -- What the state holds behind each way of a step.
-use Rattle.std.proofs.Common.{◌≡◌, ℕ, ◌+◌, List, [], ◌∷◌, map, sum, length, replicate, refl, sym, ap, ◌∙◌, subst, Ok, Err, arith}
+use Rattle.std.proofs.Common.{◌≡◌, ℕ, ◌+◌, List, [], ◌∷◌, refl, sym, ap, ◌∙◌, subst, Ok, arith}
 use Rattle.std.specs.declared.result.Result.{Result}
 use Rattle.std.proofs.lemmas.List.{length-replicate}
 use Rattle.item_operands.specs.Items.{item_defined, item_taken}
@@ -15,19 +15,19 @@ use Rattle.run_values.specs.Memory.{Memory, object_at}
 use Rattle.std.specs.Prelude.{Option}
 use Rattle.holder_model.specs.Calling.{value_count}
 use Rattle.holder_model.specs.Data.{Datum}
-use Rattle.holder_model.specs.Dropping.{deinits_of, ended, field_references, in_phase}
+use Rattle.holder_model.specs.Dropping.{deinits_of, field_references}
 use Rattle.holder_model.specs.Faults.{HolderFault}
 use Rattle.holder_model.specs.Frames.{Entry, Frame, Gone, Operands, no_entries, operand_data, operands_of, with_ok, without_ended}
-use Rattle.holder_model.specs.Holders.{in_cells, in_memory, of_references}
-use Rattle.holder_model.specs.HolderStates.{HolderState, in_entry, in_state, in_task}
+use Rattle.holder_model.specs.Holders.{of_references}
+use Rattle.holder_model.specs.HolderStates.{in_entry, in_task}
 use Rattle.holder_model.specs.ModuleFacts.{facts_told}
 use Rattle.holder_model.specs.StepParts.{new_frame}
-use Rattle.holder_model.specs.States.{Drops, Finishes, Runs, Task, dropping}
-use Rattle.holder_laws.specs.inner.Steps.Ways.{left_with, moved}
+use Rattle.holder_model.specs.States.{Drops, Finishes, Runs, Task}
+use Rattle.holder_laws.specs.inner.Steps.Ways.{left_with}
 use Rattle.type_definitions.specs.Declarations.{declarations_of}
 use Rattle.holder_laws.specs.inner.Counts.Moving.{AreDeinitsCounted, AreDropsCounted, AreEntriesCounted, AreFinishesCounted, AreItemsCounted, AreMovesCounted}
 use Rattle.holder_laws.specs.inner.Counts.Moving.{AreWaitingCounted, InEach, in_tasks}
-use Rattle.holder_laws.specs.inner.Counts.Taking.{IsBelow, in_entries, references_begun, references_ended}
+use Rattle.holder_laws.specs.inner.Counts.Taking.{IsBelow, in_entries}
 use Rattle.holder_laws.proofs.Counts.Entries.{begins_counted, ends_counted, ok_through}
 use Rattle.holder_laws.proofs.Counts.Places.{deaths_counted, live_not_dead, phases_counted, references_counted}
 use Rattle.holder_laws.proofs.Counts.Sums.{total_cons, total_none}

@@ -1,22 +1,20 @@
 -- What memory holds where cells are put at a place, and where objects and slots are made or change.
-use Rattle.std.proofs.Common.{◌≡◌, ℕ, ◌+◌, ◌<◌, ◌≤◌, List, [], ◌∷◌, ◌++◌, map, sum, length, set, get_or, take, drop, replicate, refl, sym, ap, ◌∙◌, subst, Bool, true, false, cond}
+use Rattle.std.proofs.Common.{◌≡◌, ℕ, ◌+◌, ◌<◌, ◌≤◌, List, [], ◌∷◌, ◌++◌, map, sum, length, get_or, take, drop, replicate, refl, ap, ◌∙◌, Bool, true, false, cond}
 use Rattle.std.proofs.Common.{Option, Some, None, arith}
 use Rattle.std.specs.Prelude.{slice_get, unwrap_or}
 use Rattle.std.proofs.lemmas.Bool.{false≢true, true≢false}
 use Rattle.std.proofs.lemmas.List.{length-replicate}
 use Rattle.std.proofs.lemmas.Option.{slice_get_within, unwrap_or-slice_get}
-use Rattle.numbered_form.specs.Names.{Name}
 use Rattle.sil_ast.specs.declared.decl.Storage.{Storage}
 use Rattle.sil_ast.specs.declared.decl.Storage.TheVariants as storage
 use Rattle.sil_ast.specs.declared.place.ObjectId.{ObjectId}
-use Rattle.run_values.specs.Cells.{Cell, Gone, Empty, Keeps, cell_count}
+use Rattle.run_values.specs.Cells.{Cell, Gone, Empty, cell_count}
 use Rattle.run_values.specs.declared.phase.Phase.{Phase}
 use Rattle.run_values.specs.declared.phase.Phase.TheVariants.{Dead, Deiniting, Live}
 use Rattle.run_values.specs.Memory.{Memory, Object, is_dead, is_dead_phase, is_live, is_live_phase, no_object, object_at, put_cells, with_object}
-use Rattle.run_values.specs.Places.{Home, Inside, OnStack, Place, cells_at, empty_fields, home_cells, with_home_cells}
-use Rattle.run_values.specs.Shapes.{Shape}
+use Rattle.run_values.specs.Places.{Home, Inside, OnStack, cells_at, empty_fields, home_cells, with_home_cells}
 use Rattle.holder_model.specs.Dropping.{ended}
-use Rattle.holder_model.specs.Holders.{in_cell, in_cells, in_memory, in_object, kept_references, of_references}
+use Rattle.holder_model.specs.Holders.{in_cell, in_cells, in_memory, in_object, kept_references}
 use Rattle.holder_laws.specs.inner.Counts.Keeping.{AreDeathsCounted, AreEmptiedCounted, AreNewCounted, ArePhasesCounted, ArePlacesCounted, AreReferencesCounted, IsAliveAt}
 use Rattle.holder_laws.proofs.Counts.Sums.{total, total_append, total_cons, total_flat, total_none, total_put, total_set}
 

@@ -1,11 +1,10 @@
 -- Totals of weights over lists.
-use Rattle.std.proofs.Common.{◌≡◌, ℕ, zero, suc, ◌+◌, ◌<◌, ◌≤◌, List, [], ◌∷◌, ◌++◌, map, sum, length, set, get_or, take, drop, replicate, refl, sym, ap, ◌∙◌, arith}
+use Rattle.std.proofs.Common.{◌≡◌, ℕ, zero, suc, ◌+◌, ◌<◌, ◌≤◌, List, [], ◌∷◌, ◌++◌, map, sum, length, set, get_or, take, drop, replicate, refl, ap, ◌∙◌, arith}
 use Rattle.std.specs.List.{flat_map}
 use Rattle.std.proofs.lemmas.List.{drop-drop}
 use Rattle.std.proofs.lemmas.List.Sums.{sum-map, sum_by-cons, sum_by-set}
 use Rattle.run_values.specs.Cells.{Cell}
 use Rattle.run_values.specs.Memory.{put_cells}
-use Rattle.value_parts.specs.inner.LeafLists.{spliced}
 use Rattle.value_parts.proofs.Splices.{put_is_spliced}
 
 abbrev pub total : {A : Type 0} → (A → ℕ) → List A → ℕ

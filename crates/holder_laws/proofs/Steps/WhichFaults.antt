@@ -19,7 +19,7 @@ use Rattle.type_definitions.specs.declared.kind.Kind.{Kind}
 use Rattle.type_definitions.specs.declared.kind.Kind.TheVariants as kind
 use Rattle.run_values.specs.Memory.{Memory}
 use Rattle.run_values.specs.Places as places
-use Rattle.run_values.specs.Places.{Place, filled, is_there_at, value_at}
+use Rattle.run_values.specs.Places.{Place, is_there_at, value_at}
 use Rattle.run_values.specs.Shapes.{Shape, class_in, storage_in}
 use Rattle.run_values.specs.Values as value
 use Rattle.run_values.specs.Values.{Value, grouped, integer_of, members_of, object_of, references_of}

@@ -10,7 +10,7 @@ use Rattle.sil_cfg.specs.declared.item.Item.{Item}
 use Rattle.path_checks.specs.First.{IsFirst}
 use Rattle.path_checks.specs.inner.Reported.{found_at}
 use Rattle.path_checks.specs.declared.fault.PathFault.{PathFault}
-use Rattle.ownership_chains.specs.declared.facts.Facts.{Facts}
+use Rattle.ownership_marks.specs.ownership_chains.declared.facts.Facts.{Facts}
 use Rattle.ownership_marks.specs.Known.{AreKindsBy, Known}
 use Rattle.lifetime_worklist.specs.Lives.{lives_of}
 

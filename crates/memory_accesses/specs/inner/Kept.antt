@@ -1,7 +1,7 @@
 -- The table of locations that is kept, and how one is found from its address.
 use Rattle.std.specs.Prelude.{ℕ, List, ◌++◌, map, reverse, length, slice_get, unwrap_or, Option, None}
 use Rattle.std.specs.List.{range_with_len}
-use Rattle.ownership_chains.specs.Facts.{value_of}
+use Rattle.ownership_marks.specs.ownership_chains.Facts.{value_of}
 use Rattle.sil_ast.specs.declared.place.ValueId.{ValueId}
 use Rattle.memory_accesses.specs.declared.location.Location.{Location}
 use Rattle.memory_accesses.specs.declared.source.Source.{Source}

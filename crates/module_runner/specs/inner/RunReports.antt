@@ -3,7 +3,7 @@ use Rattle.std.specs.Prelude.{◌≡◌, ℕ, Bool, List}
 use Rattle.copy_pairing.specs.optimised_runs.lockstep_runs.inner.Agreeing.{TellsAsItDid}
 use Rattle.holder_model.specs.Faults.{HolderFault}
 use Rattle.holder_model.specs.Outcomes.{EndsSo, Outcome}
-use Rattle.lowered_run.specs.LowOutcomes.{LowEndsSo}
+use Rattle.count_machine.specs.lowered_run.LowOutcomes.{LowEndsSo}
 use Rattle.ownership_lowering.specs.lowering_model.LoweredModules.{lowered}
 use Rattle.count_machine.specs.machine_laws.inner.Told.{all_left}
 use Rattle.numbered_form.specs.Names.{Name}

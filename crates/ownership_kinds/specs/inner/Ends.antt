@@ -5,7 +5,7 @@ use Rattle.sil_cfg.specs.Layout.{Layout}
 use Rattle.rule_faults.specs.declared.fault.RuleEnd.{RuleEnd}
 use Rattle.rule_faults.specs.declared.fault.RuleEnd.TheVariants.{Fault, Memory}
 use Rattle.rule_faults.specs.declared.fault.RuleFault.{RuleFault}
-use Rattle.numbered_form.specs.Numbering.{values_of}
+use Rattle.value_tables.specs.numbered_form.Numbering.{values_of}
 use Rattle.point_checks.specs.inner.Reports.{IsReport}
 use Rattle.point_checks.specs.declared.fault.PointFault.{PointFault}
 use Rattle.type_definitions.specs.Declarations.{Declarations}

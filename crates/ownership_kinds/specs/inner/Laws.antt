@@ -2,7 +2,7 @@
 use Rattle.std.specs.Prelude.{◌≡◌, ◌<◌, ◌↔◌, Some, length}
 use Rattle.sil_ast.specs.declared.function.Function.{Function}
 use Rattle.sil_ast.specs.declared.place.ValueId.{ValueId}
-use Rattle.numbered_form.specs.Numbering.{values_of}
+use Rattle.value_tables.specs.numbered_form.Numbering.{values_of}
 use Rattle.point_checks.specs.inner.Numbered.{IsOfNumberedModule}
 use Rattle.ownership_chains.specs.Facts.{AreFactsOf}
 use Rattle.ownership_chains.specs.declared.facts.Facts.{Facts}

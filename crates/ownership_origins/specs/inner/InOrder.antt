@@ -1,6 +1,6 @@
 -- Definitions that go on only to values before them.
 use Rattle.std.specs.Prelude.{ℕ, ◌+◌, ◌<◌, List, [], ◌∷◌, ◌++◌, ⊤}
-use Rattle.numbered_form.specs.Lists.{Each}
+use Rattle.value_tables.specs.numbered_form.Lists.{Each}
 use Rattle.ownership_chains.specs.declared.definition.Definition.{Definition}
 
 -- the operands of each have lesser numbers than it has, where the first one's is n

@@ -4,15 +4,15 @@ use Rattle.sil_ast.specs.Blocks.{args_of}
 use Rattle.sil_ast.specs.declared.function.Function.{Function}
 use Rattle.sil_ast.specs.declared.module.Module.{Module}
 use Rattle.sil_ast.specs.declared.place.ValueId.{ValueId}
-use Rattle.numbered_form.specs.inner.NumberedForm.{IsNumbered}
-use Rattle.numbered_form.specs.Numbering.{values_of}
+use Rattle.value_tables.specs.numbered_form.inner.NumberedForm.{IsNumbered}
+use Rattle.value_tables.specs.numbered_form.Numbering.{values_of}
 use Rattle.ownership_chains.specs.Chains.{IsInRange}
 use Rattle.ownership_chains.specs.Facts.{AreFactsOf, origin_at}
 use Rattle.ownership_chains.specs.declared.definition.Origin.TheVariants as origin
 use Rattle.ownership_chains.specs.declared.facts.Facts.{Facts}
-use Rattle.type_definitions.specs.declared.kind.Kind.TheVariants as kind
+use Rattle.ownership_chains.specs.type_definitions.declared.kind.Kind.TheVariants as kind
 use Rattle.value_tables.specs.Borrows.{is_borrow}
-use Rattle.type_definitions.specs.Declarations.{Declarations}
+use Rattle.ownership_chains.specs.type_definitions.Declarations.{Declarations}
 use Rattle.ownership_origins.specs.Origins.{definitions_of}
 use Rattle.ownership_origins.specs.Renamings.{renamings_of}
 

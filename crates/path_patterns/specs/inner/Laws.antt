@@ -1,12 +1,12 @@
 -- The laws of the switch.
 use Rattle.std.specs.Prelude.{◌≡◌, ◌↔◌, ℕ, List, Some}
-use Rattle.sil_ast.specs.declared.place.EdgeId.{EdgeId}
-use Rattle.sil_ast.specs.declared.function.Function.{Function}
-use Rattle.sil_cfg.specs.declared.item.Item.{Item}
-use Rattle.sil_cfg.specs.Layout.{Layout, item_at}
-use Rattle.sil_cfg.specs.Flow.{Flow, numbered}
-use Rattle.sil_cfg.specs.Items.{flow_of}
-use Rattle.sil_cfg.specs.inner.Build.{IsGraphOf}
+use Rattle.reach_engine.specs.sil_ast.declared.place.EdgeId.{EdgeId}
+use Rattle.reach_engine.specs.sil_ast.declared.function.Function.{Function}
+use Rattle.reach_engine.specs.sil_cfg.declared.item.Item.{Item}
+use Rattle.reach_engine.specs.sil_cfg.Layout.{Layout, item_at}
+use Rattle.reach_engine.specs.sil_cfg.Flow.{Flow, numbered}
+use Rattle.reach_engine.specs.sil_cfg.Items.{flow_of}
+use Rattle.reach_engine.specs.sil_cfg.inner.Build.{IsGraphOf}
 use Rattle.reach_engine.specs.inner.Reach.{ReachesFirst}
 use Rattle.path_patterns.specs.declared.mark.Mark.{Mark}
 use Rattle.path_patterns.specs.Along.{IsKept, Shows}

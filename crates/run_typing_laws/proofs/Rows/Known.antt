@@ -3,6 +3,7 @@ use Rattle.std.proofs.Common.{◌≡◌, ℕ, suc, List, [], ◌∷◌, length, 
 use Rattle.std.specs.Prelude.{◌==◌, ◌&&◌, IfSome, IsTrue, is_some, slice_get, unwrap_or}
 use Rattle.std.specs.List.{list_all}
 use Rattle.std.proofs.lemmas.Bool.{and_parts, eqb-true, not-false, or_parts}
+use Rattle.std.proofs.lemmas.List.{nil_from_length}
 use Rattle.instruction_table.specs.Forms.{bare_operands_of, forms_of as forms_of_row, is_terminator, results_of}
 use Rattle.instruction_table.specs.declared.entries.Results.TheVariants.{NoResult, OneResult, ResultList}
 use Rattle.instruction_table.specs.declared.op.Op.{Op}
@@ -64,10 +65,6 @@ pub record Known (m : Module) (f : Function) (i : Inst) (o : Op) : Type 0 where
   pub placed : (k : ℕ) (x : Operand) (t : TypeName) → slice_get i.operands k ≡ Some x → x.ty ≡ Some t → is_misplaced_value (declarations_of m) t ≡ false
   pub type_placed : (t : TypeName) → i.ty ≡ Some t → is_misplaced_at (declarations_of m) (standing_in o) t ≡ false
 
-nothing : {A : Type 0} (xs : List A) → (length xs == 0) ≡ true → xs ≡ []
-nothing [] e = refl
-nothing (x ∷ xs) e = let none : suc (length xs) ≡ 0 = eqb-true (suc (length xs)) 0 e in absurd (omega arith)
-
 single : {A : Type 0} (xs : List A) → (length xs == 1) ≡ true → (x : A) × (xs ≡ x ∷ [])
 single [] e = absurd (cc)
 single (x ∷ []) e = (x, refl)
@@ -114,7 +111,7 @@ module _ (m : Module) (r : IsWellTyped m) (n : ℕ) (f : Function) (is_function 
         written = typed_parts.1;
         asked = typed_parts.2;
         operands = inside.parts.operands;
-        no_result = λ e. ap (forms_of (declarations_of m) f) (nothing i.results (subst (λ x. is_count_by x given (length i.results) ≡ true) e number_of_results));
+        no_result = λ e. ap (forms_of (declarations_of m) f) (nil_from_length i.results (eqb-true (length i.results) 0 (subst (λ x. is_count_by x given (length i.results) ≡ true) e number_of_results)));
         one_result = λ e.
             let it = single i.results (subst (λ x. is_count_by x given (length i.results) ≡ true) e number_of_results) in
             one_form (declarations_of m) f (counted m r n f is_function) p.block.0 p.index i spot it.0 it.1;

@@ -4,11 +4,11 @@ use Rattle.std.specs.List.{flat_map}
 use Rattle.std.specs.Str.{bytes_eq}
 use Rattle.sil_ast.specs.declared.type_name.TypeName.{TypeName}
 use Rattle.sil_ast.specs.declared.type_name.TypeName.TheVariants as type
-use Rattle.builtin_names.specs.BuiltinNames.{builtin_name, operations, widths}
-use Rattle.builtin_names.specs.declared.names.Operation.{Operation}
-use Rattle.builtin_names.specs.declared.names.Operation.TheVariants as o
-use Rattle.builtin_names.specs.declared.names.Width.{Width}
-use Rattle.builtin_names.specs.declared.names.Width.TheVariants as w
+use Rattle.value_tables.specs.builtin_names.BuiltinNames.{builtin_name, operations, widths}
+use Rattle.value_tables.specs.builtin_names.declared.names.Operation.{Operation}
+use Rattle.value_tables.specs.builtin_names.declared.names.Operation.TheVariants as o
+use Rattle.value_tables.specs.builtin_names.declared.names.Width.{Width}
+use Rattle.value_tables.specs.builtin_names.declared.names.Width.TheVariants as w
 
 abbrev pub bits : Width → ℕ
 bits w.Int1 = 1

@@ -1,8 +1,8 @@
 -- 203, 210 and 211: what edges bring to blocks.
 use Rattle.std.specs.Prelude.{List, Bool, false, not, ◌==◌, drop, map}
 use Rattle.std.specs.List.{list_all, list_any}
-use Rattle.instruction_table.specs.declared.op.Op.{Op}
-use Rattle.instruction_table.specs.declared.op.Op.TheVariants as op
+use Rattle.sil_ast.specs.instruction_table.declared.op.Op.{Op}
+use Rattle.sil_ast.specs.instruction_table.declared.op.Op.TheVariants as op
 use Rattle.sil_ast.specs.Blocks.{args_of}
 use Rattle.sil_ast.specs.declared.function.Block.{Block}
 use Rattle.sil_ast.specs.declared.function.BlockArg.{BlockArg}

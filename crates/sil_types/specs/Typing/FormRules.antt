@@ -2,11 +2,11 @@
 use Rattle.std.specs.Prelude.{ℕ, Bool, true, false, not, ◌&&◌, ◌||◌, ◌==◌, Option, option_and_then, option_map, find}
 use Rattle.std.specs.List.{list_all, list_any}
 use Rattle.std.specs.Option.{option_to_list}
-use Rattle.instruction_table.specs.Forms.{forms_of, type_words_of}
-use Rattle.instruction_table.specs.declared.entries.InForms.{InForms}
-use Rattle.instruction_table.specs.declared.entries.InForms.TheVariants.{BothForms, OwnershipForm, LoweredForm, ByWord, ByStorage}
-use Rattle.instruction_table.specs.declared.entries.TypeWords.{TypeWords}
-use Rattle.instruction_table.specs.declared.entries.TypeWords.TheVariants.{AnyType, ReadWords, WriteWords}
+use Rattle.sil_ast.specs.instruction_table.Forms.{forms_of, type_words_of}
+use Rattle.sil_ast.specs.instruction_table.declared.entries.InForms.{InForms}
+use Rattle.sil_ast.specs.instruction_table.declared.entries.InForms.TheVariants.{BothForms, OwnershipForm, LoweredForm, ByWord, ByStorage}
+use Rattle.sil_ast.specs.instruction_table.declared.entries.TypeWords.{TypeWords}
+use Rattle.sil_ast.specs.instruction_table.declared.entries.TypeWords.TheVariants.{AnyType, ReadWords, WriteWords}
 use Rattle.sil_ast.specs.Blocks.{args_of}
 use Rattle.sil_ast.specs.declared.function.ArgKind.{ArgKind}
 use Rattle.sil_ast.specs.declared.function.ArgKind.TheVariants as kind

@@ -2,9 +2,9 @@
 use Rattle.std.specs.Prelude.{List, [], ◌∷◌, Bool, true, not, ◌&&◌, Option, Some, None, map, take, drop, option_and_then}
 use Rattle.std.specs.List.{flat_map, list_all}
 use Rattle.std.specs.Option.{option_to_list}
-use Rattle.instruction_table.specs.Forms.{bare_operands_of}
-use Rattle.instruction_table.specs.declared.entries.BareOperands.{BareOperands}
-use Rattle.instruction_table.specs.declared.entries.BareOperands.TheVariants.{NoBare, StoredValue, WeakValue, UnownedValue, Condition, Arguments}
+use Rattle.sil_ast.specs.instruction_table.Forms.{bare_operands_of}
+use Rattle.sil_ast.specs.instruction_table.declared.entries.BareOperands.{BareOperands}
+use Rattle.sil_ast.specs.instruction_table.declared.entries.BareOperands.TheVariants.{NoBare, StoredValue, WeakValue, UnownedValue, Condition, Arguments}
 use Rattle.sil_ast.specs.declared.inst.Edge.{Edge}
 use Rattle.sil_ast.specs.declared.inst.Inst.{Inst}
 use Rattle.sil_ast.specs.declared.operands.Operand.{Operand}

@@ -1,8 +1,8 @@
 -- 202: how many results an instruction names.
 use Rattle.std.specs.Prelude.{ℕ, Bool, true, not, ◌==◌, Some, None, length}
-use Rattle.instruction_table.specs.Forms.{results_of}
-use Rattle.instruction_table.specs.declared.entries.Results.{Results}
-use Rattle.instruction_table.specs.declared.entries.Results.TheVariants.{NoResult, OneResult, ResultList}
+use Rattle.sil_ast.specs.instruction_table.Forms.{results_of}
+use Rattle.sil_ast.specs.instruction_table.declared.entries.Results.{Results}
+use Rattle.sil_ast.specs.instruction_table.declared.entries.Results.TheVariants.{NoResult, OneResult, ResultList}
 use Rattle.sil_ast.specs.declared.inst.Inst.{Inst}
 use Rattle.type_definitions.specs.Declarations.{Declarations}
 use Rattle.sil_types.specs.Typing.RowTypes.{MadeTypes, row_types}

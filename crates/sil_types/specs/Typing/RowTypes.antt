@@ -6,12 +6,12 @@ use Rattle.std.specs.Option.{option_to_list}
 use Rattle.sil_ast.specs.declared.decl.Field.{Field}
 use Rattle.sil_ast.specs.declared.inst.Inst.{Inst}
 use Rattle.sil_ast.specs.declared.member.Member.{Member}
-use Rattle.instruction_table.specs.declared.op.Op.{Op}
-use Rattle.instruction_table.specs.declared.op.Op.TheVariants as op
+use Rattle.sil_ast.specs.instruction_table.declared.op.Op.{Op}
+use Rattle.sil_ast.specs.instruction_table.declared.op.Op.TheVariants as op
 use Rattle.sil_ast.specs.declared.operands.Operand.{Operand}
 use Rattle.sil_ast.specs.declared.type_name.TypeName.{TypeName, out-TypeName}
 use Rattle.sil_ast.specs.declared.type_name.TypeName.TheVariants as type
-use Rattle.numbered_form.specs.Names.{Name}
+use Rattle.value_tables.specs.numbered_form.Names.{Name}
 use Rattle.type_definitions.specs.Declarations.{Declarations, inherits}
 use Rattle.type_definitions.specs.Lookups.{Payload}
 use Rattle.type_definitions.specs.Mentions.{given_type}

@@ -11,7 +11,7 @@ use Rattle.sil_ast.specs.declared.member.Member.{Member}
 use Rattle.sil_ast.specs.declared.type_name.TypeName.{TypeName, out-TypeName}
 use Rattle.sil_ast.specs.declared.type_name.TypeName.TheOpen.{TypeName-F, Int, Named, Optional, Tuple, Weak, Unowned, Address}
 use Rattle.sil_ast.specs.declared.type_name.TypeName.TheVariants as type
-use Rattle.numbered_form.specs.Names.{Name}
+use Rattle.value_tables.specs.numbered_form.Names.{Name}
 use Rattle.type_definitions.specs.Declarations.{Declarations, decl_of, optional_cases}
 use Rattle.type_definitions.specs.Lookups.{FoundField, Payload, field_of, payload_of}
 use Rattle.type_definitions.specs.Measures.{is_trivial}

@@ -2,8 +2,8 @@
 use Rattle.std.specs.Prelude.{List, [], ◌∷◌, Bool, true, false, not, ◌&&◌, ◌||◌, Option, Some, None, is_none, option_and_then, option_map, slice_get}
 use Rattle.std.specs.List.{list_all}
 use Rattle.std.specs.Option.{option_to_list}
-use Rattle.instruction_table.specs.declared.op.Op.{Op}
-use Rattle.instruction_table.specs.declared.op.Op.TheVariants as op
+use Rattle.sil_ast.specs.instruction_table.declared.op.Op.{Op}
+use Rattle.sil_ast.specs.instruction_table.declared.op.Op.TheVariants as op
 use Rattle.sil_ast.specs.Blocks.{args_of}
 use Rattle.sil_ast.specs.declared.function.ArgKind.{ArgKind}
 use Rattle.sil_ast.specs.declared.function.ArgKind.TheVariants as kind
@@ -27,7 +27,7 @@ use Rattle.sil_ast.specs.declared.vtable.Vtable.{Vtable}
 use Rattle.argument_conventions.specs.Arguments.{Told, argument_type, arguments_of, convention_of}
 use Rattle.argument_conventions.specs.declared.convention.ArgumentConvention.{ArgumentConvention}
 use Rattle.argument_conventions.specs.declared.convention.ArgumentConvention.TheVariants as convention
-use Rattle.numbered_form.specs.Names.{Name}
+use Rattle.value_tables.specs.numbered_form.Names.{Name}
 use Rattle.type_definitions.specs.Declarations.{Declarations}
 use Rattle.type_definitions.specs.Measures.{is_trivial}
 use Rattle.type_definitions.specs.Mentions.{given_type}

@@ -3,8 +3,8 @@ use Rattle.std.specs.Prelude.{ℕ, List, [], ◌∷◌, Bool, true, false, not, 
 use Rattle.std.specs.Prelude.{is_some, is_none, option_and_then, option_map, map, unwrap_or, count_by}
 use Rattle.std.specs.List.{flat_map, list_all, list_any, filter_map, range_with_len}
 use Rattle.std.specs.Option.{option_to_list}
-use Rattle.instruction_table.specs.declared.op.Op.{Op}
-use Rattle.instruction_table.specs.declared.op.Op.TheVariants as op
+use Rattle.sil_ast.specs.instruction_table.declared.op.Op.{Op}
+use Rattle.sil_ast.specs.instruction_table.declared.op.Op.TheVariants as op
 use Rattle.sil_ast.specs.Blocks.{args_of}
 use Rattle.sil_ast.specs.declared.function.Block.{Block}
 use Rattle.sil_ast.specs.declared.function.BlockArg.{BlockArg}

@@ -5,7 +5,7 @@ use Rattle.holder_laws.specs.holder_model.Effects.{ClosesSlot, Effect, Makes, ef
 use Rattle.holder_laws.specs.holder_model.Faults.{HolderFault}
 use Rattle.holder_laws.specs.holder_model.MemoryEffects as effects
 use Rattle.holder_laws.specs.holder_model.MemoryEffects.{asked_before, at_places, copies_with, effect, loaded_name}
-use Rattle.holder_laws.specs.holder_model.MemoryEffects.{operation_done, references_at, takes, two, value_and_place, where_held}
+use Rattle.holder_laws.specs.holder_model.MemoryEffects.{operation_done, references_at, where_held}
 use Rattle.holder_laws.specs.holder_model.ModuleShapes.{ModuleShapes}
 use Rattle.holder_laws.specs.holder_model.declared.row_effect.RowEffect.{RowEffect}
 use Rattle.holder_laws.specs.holder_model.declared.row_effect.RowEffect.TheVariants as row

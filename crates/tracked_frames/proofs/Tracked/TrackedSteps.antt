@@ -29,7 +29,7 @@ use Rattle.holder_laws.specs.holder_model.Data.{Datum}
 use Rattle.holder_laws.specs.holder_model.Dropping.{field_references}
 use Rattle.holder_laws.specs.holder_model.Edges.{edge_of}
 use Rattle.holder_laws.specs.holder_model.Effects as effects
-use Rattle.holder_laws.specs.holder_model.Effects.{Change, unchanged}
+use Rattle.holder_laws.specs.holder_model.Effects.{Change}
 use Rattle.holder_laws.specs.holder_model.Faults.{HolderFault}
 use Rattle.holder_laws.specs.holder_model.Frames.{Entry, Frame, Gone, Operands, entry_at, has_any, is_held, no_entries, operands_of, results_put}
 use Rattle.holder_laws.specs.holder_model.HolderStates.{HolderNext, HolderState}

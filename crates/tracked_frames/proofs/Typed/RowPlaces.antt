@@ -28,7 +28,7 @@ use Rattle.run_values.specs.Memory.{Memory, new_object}
 use Rattle.run_values.specs.Places.{OnStack, Place, emptied, empty_slot, field_in, filled, part_of, removed, value_at}
 use Rattle.run_values.specs.Shapes.{Reference, Shape, Stored, class_in, member_shapes, storage_in}
 use Rattle.run_values.specs.Values as value
-use Rattle.run_values.specs.Values.{Value, object_of, references_of}
+use Rattle.run_values.specs.Values.{Value, references_of}
 use Rattle.sil_ast.specs.declared.decl.Storage.{Storage}
 use Rattle.sil_ast.specs.declared.decl.Storage.TheVariants as storage
 use Rattle.sil_ast.specs.declared.member.Member.{Member}

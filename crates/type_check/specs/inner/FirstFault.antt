@@ -9,14 +9,14 @@ use Rattle.sil_ast.specs.declared.vtable.Vtable.{Vtable}
 use Rattle.numbered_form.specs.Insts.{insts_of}
 use Rattle.sil_rules.specs.declared.rule.Rule.{Rule}
 use Rattle.sil_rules.specs.declared.rule.Rule.TheVariants as rule
-use Rattle.type_definitions.specs.Declarations.{Declarations, declarations_of}
+use Rattle.type_definitions.specs.Declarations.{declarations_of}
 use Rattle.sil_types.specs.Typing.EdgeRules.{goes_to_entry, has_wrong_edge_arguments, lets_address_escape}
 use Rattle.sil_types.specs.Typing.FormRules.{has_wrong_qualifier, is_of_other_form, mixes_forms}
 use Rattle.sil_types.specs.Typing.OperandTypes.{has_wrong_operand_type}
 use Rattle.sil_types.specs.Typing.ResultCounts.{has_wrong_result_count}
 use Rattle.sil_types.specs.Typing.SignatureRules.{calls_no_function, differs_from_signature, has_wrong_deinitialiser, has_wrong_signature, is_no_output_call}
 use Rattle.sil_types.specs.Typing.SwitchRules.{has_wrong_cases}
-use Rattle.sil_types.specs.Typing.Typed.{Site, at_function, at_point, at_vtable}
+use Rattle.sil_types.specs.Typing.Typed.{at_function, at_point, at_vtable}
 use Rattle.sil_types.specs.Typing.Values.{value_functions, value_types}
 use Rattle.type_check.specs.inner.Firsts.{Judged, judged, first_broken, first_from}
 use Rattle.type_check.specs.Refusals.{fault_at}

@@ -1,7 +1,6 @@
 -- The first rule that is broken at a place, and the first place in a list of places.
-use Rattle.std.specs.Prelude.{◌≡◌, ◌⊎◌, ℕ, ◌+◌, ◌<◌, List, [], ◌∷◌, ⊤, Bool, true, Option, Some, None, slice_get, if◌then◌else◌}
+use Rattle.std.specs.Prelude.{◌≡◌, ◌⊎◌, ℕ, ◌+◌, ◌<◌, List, [], ◌∷◌, ⊤, Bool, Option, Some, None, slice_get, if◌then◌else◌}
 use Rattle.std.specs.Option.{option_or}
-use Rattle.sil_rules.specs.Rules.{number_of}
 use Rattle.sil_rules.specs.declared.rule.Rule.{Rule}
 
 -- a rule, and whether it is broken

@@ -2,7 +2,7 @@
 use Rattle.std.specs.Prelude.{ℕ, List}
 use Rattle.std.specs.List.{flat_map}
 use Rattle.sil_ast.specs.declared.type_name.TypeName.{TypeName}
-use Rattle.numbered_form.specs.Names.{Name}
+use Rattle.type_definitions.specs.numbered_form.Names.{Name}
 use Rattle.type_definitions.specs.Contained.{names_in, place_list}
 
 abbrev pub places_in : List Name → TypeName → List ℕ

@@ -2,7 +2,7 @@
 use Rattle.std.specs.Prelude.{List, [], ◌∷◌, Option, Some, None, map}
 use Rattle.sil_ast.specs.declared.type_name.TypeName.{TypeName}
 use Rattle.sil_ast.specs.declared.type_name.TypeName.TheVariants as type
-use Rattle.type_definitions.specs.Mentions.{direct_type}
+use Rattle.sil_types.specs.type_definitions.Mentions.{direct_type}
 use Rattle.sil_types.specs.Typing.RowTypes.{all_written}
 use Rattle.sil_types.specs.Typing.Shapes.{field_type}
 use Rattle.typing_rows.specs.declared.view.Made.{Made}

@@ -1,7 +1,7 @@
 -- Whether a value suits a shape: it has the shape, and its references pass a test, also those that weak or unowned storage keeps.
 use Rattle.std.specs.Prelude.{Bool, false, ◌&&◌, Option, Some, None}
 use Rattle.sil_ast.specs.declared.place.ObjectId.{ObjectId}
-use Rattle.numbered_form.specs.Names.{Name}
+use Rattle.run_values.specs.numbered_form.Names.{Name}
 use Rattle.run_values.specs.Fits.{Test, are_members, fits_width, is_case, is_name}
 use Rattle.run_values.specs.Layers.{Layer, Integer, Reference, Struct, Tuple, Enum, Stored, Unknown}
 use Rattle.run_values.specs.Shapes.{Shape, by_layers}

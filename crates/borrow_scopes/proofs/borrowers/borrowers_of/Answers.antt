@@ -1,5 +1,5 @@
 use Rattle.std.proofs.Common.{ap, ◌∙◌}
-use Rattle.ownership_chains.specs.Facts.{has}
+use Rattle.ownership_marks.specs.ownership_chains.Facts.{has}
 use Rattle.ownership_marks.specs.Known.{facts_of}
 use Rattle.borrow_scopes.specs.inner.Tables.{borrowers_of, lent_bases_in, with_last_if}
 use Rattle.borrow_scopes.proofs.Rows.{more_values}

@@ -1,7 +1,12 @@
-use Rattle.std.proofs.Common.{◌≡◌, map, take}
+use Rattle.std.proofs.Common.{◌≡◌, ◌++◌, ◌+◌, ◌≤◌, drop, length}
+use Rattle.numbered_form.specs.Insts.{insts_in}
 use Rattle.numbered_form.specs.Numbering.{values_of}
-use Rattle.function_lowering.specs.inner.Drafts.{told_block}
+use Rattle.lowering_model.specs.LoweredBlocks.{blocks_become}
 use Rattle.function_lowering.proofs.defined.defined_values.Given as goal
 
 abbrev pub invariant-loop-block : goal.invariant-loop-block
-invariant-loop-block l = l.values ≡ values_of (map (told_block l.renamings) (take l.block-index l.blocks))
+invariant-loop-block l = record {
+  room : l.spare + length (insts_in (drop l.block-index l.blocks)) ≤ l.initial.spare + length (insts_in l.blocks);
+  defined : l.values ++ values_of (blocks_become l.table l.renamings l.spare (drop l.block-index l.blocks))
+      ≡ values_of (blocks_become l.table l.renamings l.initial.spare l.blocks);
+}

@@ -1,25 +1,19 @@
 -- What an instruction leaves where it leaves something: row by row, with the operands that it was given.
-use Rattle.std.specs.Prelude.{◌≡◌, ℕ, ℤ, List, [], ◌∷◌, Bool, true, cond, map, Option, Some, option_and_then, unwrap_or}
-use Rattle.argument_conventions.specs.declared.row.Content.TheVariants as content
+use Rattle.std.specs.Prelude.{◌≡◌, ℕ, List, [], ◌∷◌, true, cond, map, Some}
 use Rattle.numbered_form.specs.Names.{Name}
-use Rattle.sil_ast.specs.declared.decl.Storage.{Storage}
-use Rattle.sil_ast.specs.declared.decl.Storage.TheVariants as storage
 use Rattle.sil_ast.specs.declared.inst.Inst.{Inst}
-use Rattle.sil_ast.specs.declared.place.FuncId.{FuncId}
 use Rattle.sil_ast.specs.declared.place.ObjectId.{ObjectId}
 use Rattle.type_definitions.specs.Declarations.{Declarations}
 use Rattle.run_values.specs.Memory.{Memory, new_object}
-use Rattle.run_values.specs.Places.{Inside, OnStack, Place, emptied, filled, member_place, removed, value_at}
-use Rattle.run_values.specs.Shapes.{Shape, storage_in}
+use Rattle.run_values.specs.Places.{Inside, OnStack, Place, filled, member_place, removed, value_at}
+use Rattle.run_values.specs.Shapes.{Shape}
 use Rattle.run_values.specs.Values as value
 use Rattle.run_values.specs.Values.{Value, grouped, members_of, object_of, references_of}
 use Rattle.holder_model.specs.memory_accesses.declared.access.Operation.{Operation}
 use Rattle.holder_model.specs.declared.row_effect.RowEffect.TheVariants as row
-use Rattle.holder_model.specs.Builtins.{builtin_value}
-use Rattle.holder_model.specs.Data.{AddressOf, Datum, FunctionOf, ValueOf, references_in, values_of}
+use Rattle.holder_model.specs.Data.{AddressOf, Datum, ValueOf, references_in, values_of}
 use Rattle.holder_model.specs.Effects as effects
-use Rattle.holder_model.specs.Effects.{Change, ClosesSlot, OpensSlot, effect_of, member_of, new_slot, result_shape, unchanged}
-use Rattle.holder_model.specs.Faults.{HolderFault}
+use Rattle.holder_model.specs.Effects.{Change, ClosesSlot, OpensSlot, effect_of, member_of, unchanged}
 use Rattle.holder_model.specs.MemoryEffects.{after, all_live, copies_with, effect, operation_done, references_at}
 use Rattle.holder_model.specs.ModuleShapes.{ModuleShapes, field_shapes}
 use Rattle.holder_laws.specs.inner.Counts.Keeping.{with_new_object, with_new_slot}

@@ -10,7 +10,7 @@ use Rattle.run_values.specs.Cells as cells
 use Rattle.run_values.specs.declared.phase.Phase.{Phase}
 use Rattle.run_values.specs.declared.phase.Phase.TheVariants.{Live}
 use Rattle.run_values.specs.Memory.{Memory, Object, is_dead, is_dead_phase, object_at, with_object}
-use Rattle.run_values.specs.Places.{Home, Inside, OnStack, Place, cells_at, empty_fields, empty_slot, emptied, filled, home_cells, removed, with_cells}
+use Rattle.run_values.specs.Places.{Home, Inside, OnStack, Place, cells_at, empty_fields, empty_slot, emptied, home_cells, removed, with_cells}
 use Rattle.run_values.specs.Shapes.{Shape}
 use Rattle.run_values.specs.Values.{Value, references_of}
 use Rattle.holder_model.specs.Dropping.{ended, field_references, in_phase}

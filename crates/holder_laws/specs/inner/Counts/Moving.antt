@@ -14,13 +14,13 @@ use Rattle.run_values.specs.Places.{Place}
 use Rattle.holder_model.specs.Calling.{value_count}
 use Rattle.holder_model.specs.Data.{Datum}
 use Rattle.holder_model.specs.Effects.{Change}
-use Rattle.holder_model.specs.Frames.{Entry, Frame, Operands, no_entries, operands_of, results_put}
+use Rattle.holder_model.specs.Frames.{Entry, Frame, Operands, no_entries, results_put}
 use Rattle.holder_model.specs.Holders.{in_memory, of_references}
 use Rattle.holder_model.specs.HolderStates.{HolderState, in_state, in_task}
 use Rattle.holder_model.specs.ModuleFacts.{ModuleFacts, facts_told}
 use Rattle.holder_model.specs.StepParts.{new_frame}
 use Rattle.holder_model.specs.States.{Drops, Runs, Task, dropping}
-use Rattle.holder_laws.specs.inner.Steps.Ways.{deinitialising, finished, left_with, moved, operands_in, turned, with_tasks}
+use Rattle.holder_laws.specs.inner.Steps.Ways.{deinitialising, finished, left_with, moved, operands_in, turned}
 use Rattle.holder_laws.specs.inner.Counts.Taking.{IsBelow, in_entries, references_begun, references_ended}
 
 abbrev pub in_tasks : (ObjectId → ℕ) → List (Task Frame) → ℕ

@@ -1,5 +1,6 @@
-use Rattle.std.proofs.Common.{◌≡◌, ◌==◌, suc, true, List, [], ◌∷◌, length, refl, sym, subst, ◌∙◌, arith}
+use Rattle.std.proofs.Common.{◌≡◌, ◌==◌, true, List, [], ◌∷◌, length, sym, subst, ◌∙◌}
 use Rattle.std.proofs.lemmas.Bool.{eqb-true}
+use Rattle.std.proofs.lemmas.List.{nil_from_length}
 use Rattle.ready_code.specs.declared.local.Local.{Local}
 use Rattle.ready_code.specs.declared.op.ReadyOp.TheVariants as op
 use Rattle.machine_rows.specs.Performing.{Performs}
@@ -10,11 +11,8 @@ returns c =
     subst (λ (ls : List Local). Performs c.args.machine.now c.args.frame.now (op.Group ls c.args.to) c.group_of.result c.group_of.new.machine)
     c.as_slice-operands.ensures c.group_of.ensures
 
-nothing : {A : Type 0} (xs : List A) → (length xs == 0) ≡ true → [] ≡ xs
-nothing [] e = refl
-nothing (x ∷ xs) e = let none : suc (length xs) ≡ 0 = eqb-true (suc (length xs)) 0 e in absurd (omega arith)
-
 pub returns-then-is_empty : goal.returns-then-is_empty
 returns-then-is_empty c =
     subst (λ (ls : List Local). Performs c.args.machine.now c.args.frame.now (op.Group ls c.args.to) c.give_nothing.result c.give_nothing.new.machine)
-    (nothing c.as_slice-operands.result.now (sym c.is_empty.ensures ∙ c.if-is_empty.true) ∙ c.as_slice-operands.ensures) (λ ready bound. c.give_nothing.ensures)
+    (sym (nil_from_length c.as_slice-operands.result.now (eqb-true (length c.as_slice-operands.result.now) 0 (sym c.is_empty.ensures ∙ c.if-is_empty.true)))
+    ∙ c.as_slice-operands.ensures) (λ ready bound. c.give_nothing.ensures)

@@ -1,8 +1,7 @@
 use Rattle.std.proofs.Common.{◌≡◌, ◌∙◌, [], cond, false, sym, subst, ap}
 use Rattle.std.specs.Prelude.{IfSome, Option}
-use Rattle.machine_steps.specs.heap_model.HeapViews.{HeapView, is_dead_in}
-use Rattle.machine_steps.specs.Operands.{object_in_leaf}
-use Rattle.machine_steps.specs.Places.{forgotten, given}
+use Rattle.machine_steps.specs.heap_model.HeapViews.{is_dead_in}
+use Rattle.machine_steps.specs.Places.{forgotten}
 use Rattle.machine_steps.specs.Views.{MachineView, Went}
 use Rattle.sil_ast.specs.declared.place.ObjectId.{ObjectId}
 use Rattle.machine_state.specs.Went.{HasGone}

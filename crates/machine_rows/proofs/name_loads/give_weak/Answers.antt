@@ -2,7 +2,6 @@ use Rattle.std.proofs.Common.{[], ◌∷◌}
 use Rattle.machine_steps.specs.heap_model.HeapCalls.{retained}
 use Rattle.machine_steps.specs.Naming.{some_leaves}
 use Rattle.machine_steps.specs.Views.{MachineView}
-use Rattle.run_values.specs.declared.leaf.Leaf.TheVariants as leaf
 use Rattle.machine_rows.proofs.GoingOn.{gives_in}
 use Rattle.machine_rows.proofs.name_loads.give_weak.Goals as goal
 

@@ -3,7 +3,7 @@ use Rattle.std.specs.declared.alloc.Global.{Global}
 use Rattle.std.specs.declared.vec.Vec.{Vec}
 use Rattle.sil_cfg.proofs.Gets.{length_push}
 use Rattle.path_checks.proofs.Accesses.{accesses_one_more}
-use Rattle.path_patterns.specs.inner.Reads.{accesses_at}
+use Rattle.path_checks.specs.path_patterns.inner.Reads.{accesses_at}
 use Rattle.memory_accesses.specs.declared.access.Access.{Access}
 use Rattle.memory_accesses.specs.inner.Done.{told_at_item}
 use Rattle.memory_accesses.proofs.ByItem.{all_agree, told_of_item}

@@ -1,5 +1,5 @@
 use Rattle.std.proofs.Common.{◌≡◌, ℕ, ◌<◌, length}
-use Rattle.path_patterns.specs.inner.Reads.{accesses_at}
+use Rattle.path_checks.specs.path_patterns.inner.Reads.{accesses_at}
 use Rattle.memory_accesses.specs.inner.Done.{told_at_item}
 use Rattle.memory_accesses.proofs.accesses.accesses_by_item.Given as goal
 

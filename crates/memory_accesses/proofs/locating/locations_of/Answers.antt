@@ -1,7 +1,7 @@
 use Rattle.std.proofs.Common.{[], ◌∷◌, ◌++◌, map, sym, ap, ◌∙◌, arith}
 use Rattle.std.specs.List.{range_with_len}
 use Rattle.std.proofs.lemmas.List.FromFn.{map-range_with_len_more}
-use Rattle.ownership_chains.specs.Facts.{value_of}
+use Rattle.ownership_marks.specs.ownership_chains.Facts.{value_of}
 use Rattle.memory_accesses.specs.Locations.{location_of}
 use Rattle.memory_accesses.proofs.locating.locations_of.Goals as goal
 

@@ -1,6 +1,6 @@
 use Rattle.std.proofs.Common.{◌≡◌, map}
 use Rattle.std.specs.List.{range_with_len}
-use Rattle.ownership_chains.specs.Facts.{value_of}
+use Rattle.ownership_marks.specs.ownership_chains.Facts.{value_of}
 use Rattle.memory_accesses.specs.Locations.{location_of}
 use Rattle.memory_accesses.proofs.locating.locations_of.Given as goal
 

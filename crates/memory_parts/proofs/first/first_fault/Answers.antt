@@ -1,6 +1,6 @@
 use Rattle.std.proofs.Common.{List, take, None, sym, ◌∙◌, subst}
 use Rattle.std.proofs.lemmas.Result.{IfOk-weaker}
-use Rattle.ownership_chains.specs.Facts.{known_or}
+use Rattle.ownership_marks.specs.ownership_chains.Facts.{known_or}
 use Rattle.ownership_marks.specs.Known.{facts_of}
 use Rattle.sil_rules.specs.Order.{IsFirst}
 use Rattle.memory_parts.specs.inner.Batches.{AreRising, IsFirstAmong}

@@ -3,7 +3,7 @@ use Rattle.std.proofs.lemmas.Bool.{cases_eq, cases_lt}
 use Rattle.std.proofs.lemmas.List.Elements.{All-nil}
 use Rattle.sil_ast.specs.declared.place.ValueId.{ValueId}
 use Rattle.path_patterns.specs.inner.Reads.{accesses_at}
-use Rattle.path_checks.proofs.Accesses.{accesses_there, accesses_past}
+use Rattle.memory_accesses.proofs.path_checks.Accesses.{accesses_there, accesses_past}
 use Rattle.memory_accesses.specs.declared.access.Access.{Access}
 use Rattle.memory_accesses.specs.declared.access.Access.TheVariants.{Deallocates}
 use Rattle.memory_slots.specs.inner.Trust.{IsTrusted}

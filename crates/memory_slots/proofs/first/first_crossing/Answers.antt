@@ -1,6 +1,7 @@
-use Rattle.std.proofs.Common.{◌≡◌, ◌<◌, ◌==◌, ◌∙◌, List, [], ◌∷◌, get_or, refl, sym, subst, true, arith}
+use Rattle.std.proofs.Common.{◌≡◌, ◌<◌, ◌==◌, ◌∙◌, List, [], ◌∷◌, get_or, sym, subst, true, arith}
 use Rattle.std.specs.Prelude.{All, AllPairs, length}
-use Rattle.std.proofs.lemmas.List.{take_all}
+use Rattle.std.proofs.lemmas.Bool.{eqb-true}
+use Rattle.std.proofs.lemmas.List.{nil_from_length, take_all}
 use Rattle.std.proofs.lemmas.List.Elements.{All-from_get_or, All-get_or, All-weaker}
 use Rattle.sil_ast.specs.declared.place.ValueId.{ValueId}
 use Rattle.path_patterns.specs.inner.Reads.{accesses_at}
@@ -56,16 +57,12 @@ crossing_in_doubt-requires-clause-never c = λ trusted.
     All-from_get_or (IsUncrossed c.args.g.now (accesses_at c.args.accesses.now) first) slots first
     (λ i lt. never_out c.args.g.now (accesses_at c.args.accesses.now) first (get_or slots i first) (c.in_ok-deallocated.ensures first trusted))
 
-empty_is : (slots : List ValueId) → (length slots == 0) ≡ true → slots ≡ []
-empty_is [] e = refl
-empty_is (slot ∷ slots) e = grind (arith)
-
 pub returns-then-is_empty : goal.returns-then-is_empty
 returns-then-is_empty c =
     let slots = c.as_slice-slots.result.now in
     let are : AreSlots c.args.sources.now (length c.args.sources.now) slots =
     subst (AreSlots c.args.sources.now (length c.args.sources.now)) (sym c.as_slice-slots.ensures.value) c.in_ok-listed.ensures in
-    let empty : slots ≡ [] = empty_is slots (sym c.is_empty.ensures ∙ c.if-is_empty.true) in
+    let empty : slots ≡ [] = nil_from_length slots (eqb-true (length slots) 0 (sym c.is_empty.ensures ∙ c.if-is_empty.true)) in
     let clean : All (λ a. All (IsUncrossed c.args.g.now (accesses_at c.args.accesses.now) a) slots) slots =
     subst (λ (v : List ValueId). All (λ a. All (IsUncrossed c.args.g.now (accesses_at c.args.accesses.now) a) slots) v) (sym empty) (λ k d lt. absurd (omega (arith, lt))) in
     none_first c.args.g.now c.args.f.now c.requires.graph (accesses_at c.args.accesses.now) c.args.sources.now slots are c.args.k.now c.requires.accesses clean

@@ -5,7 +5,7 @@ use Rattle.std.proofs.lemmas.Bool.{cases_eq, cases_lt}
 use Rattle.sil_cfg.proofs.Gets.{length_push}
 use Rattle.path_patterns.specs.inner.Reads.{accesses_at}
 use Rattle.memory_slots.specs.inner.Touched.{IsRising}
-use Rattle.path_checks.proofs.Accesses.{accesses_there, accesses_past, accesses_kept, accesses_last, accesses_more, accesses_each}
+use Rattle.memory_accesses.proofs.path_checks.Accesses.{accesses_there, accesses_past, accesses_kept, accesses_last, accesses_more, accesses_each}
 use Rattle.memory_slots.proofs.Rising.{rising_none}
 use Rattle.memory_accesses.specs.declared.access.Access.{Access}
 use Rattle.memory_slots.specs.inner.Touched.{HasTouched}

@@ -1,5 +1,6 @@
 -- The run of the lowered module, and what is reported of it.
-use Rattle.std.proofs.Common.{◌∙◌, sym, subst}
+use Rattle.std.proofs.Common.{◌≡◌, ◌∙◌, ◌<◌, length, sym, subst}
+use Rattle.std.proofs.lemmas.Option.{get_or_from_slice_get, slice_get_within}
 use Rattle.count_machine.specs.LowRuns.{MayStartAt}
 use Rattle.module_runner.proofs.Entering.{lowered_starts}
 use Rattle.module_runner.proofs.LeftRuns.{as_itself, left_same}
@@ -7,48 +8,61 @@ use Rattle.module_runner.proofs.Reported.{ends_reported, lowered_ends, never_fau
 use Rattle.module_runner.proofs.Stays.{left_enters}
 use Rattle.module_runner.proofs.runner.run_from.Goals as goal
 
+-- TODO: the bound of the index (slice_get_within), and that its element is the entry function
+
 pub run-requires : goal.run-requires
 run-requires c =
-    let made = c.in_ok-module.ensures in
-    let there = left_enters c.args.optimise c.args.c.now made.left c.requires.entry.0 c.args.entry.id c.args.entry.function.now made.optimised c.requires.entry.1 in
+    let made = c.in_ok-lower_if.ensures in
+    let f = c.requires.entry.0 in
+    let there = left_enters c.args.optimise c.args.m made.left c.args.entry.now c.args.start f made.optimised c.requires.entry.1 in
     record {
       runnable = made.runnable;
-      of_it = c.table.ensures.copied ∙ sym made.declares;
-      starts = subst (λ m. MayStartAt m c.args.entry.id) (sym made.lowered) (lowered_starts made.left c.requires.entry.0 c.args.entry.id there.0 there.1);
+      of_it = c.requires.verified.declarations.copied ∙ sym made.declares;
+      starts = subst (λ m. MayStartAt m c.args.start) (sym made.lowered) (lowered_starts made.left c.args.entry.now c.args.start there.0 there.1);
       some_turns = c.requires.some_turns;
     }
 
 pub reported-requires : goal.reported-requires
 reported-requires c =
-    let made = c.in_ok-module.ensures in
-    let same = left_same c.rewriting_keeps_verified.ensures c.lowered_runs_are_same.ensures c.args.optimise c.args.c.now made.left c.requires.entry.0
-    c.args.entry.id c.args.entry.function.now c.args.turns made.optimised c.requires.verified c.requires.entry.1 in
-    no_fault made.left c.in_ok-module.module c.args.entry.id c.args.turns same c.in_ok-events.field-0 made.lowered c.in_ok-events.ensures.outcome
+    let made = c.in_ok-lower_if.ensures in
+    let same = left_same c.rewriting_keeps_verified.ensures c.lowered_runs_are_same.ensures c.args.optimise c.args.m made.left c.args.entry.now
+    c.args.start c.requires.entry.0 c.args.turns made.optimised c.requires.verified.verified c.requires.entry.1 in
+    no_fault made.left c.lower_if.new.m c.args.start c.args.turns same c.in_ok-events.field-0 made.lowered c.in_ok-events.ensures.outcome
 
 pub returns-clause-run : goal.returns-clause-run
 returns-clause-run c =
-    let made = c.in_ok-module.ensures in
-    let same = left_same c.rewriting_keeps_verified.ensures c.lowered_runs_are_same.ensures c.args.optimise c.args.c.now made.left c.requires.entry.0
-    c.args.entry.id c.args.entry.function.now c.args.turns made.optimised c.requires.verified c.requires.entry.1 in
+    let made = c.in_ok-lower_if.ensures in
+    let same = left_same c.rewriting_keeps_verified.ensures c.lowered_runs_are_same.ensures c.args.optimise c.args.m made.left c.args.entry.now
+    c.args.start c.requires.entry.0 c.args.turns made.optimised c.requires.verified.verified c.requires.entry.1 in
     record {
-      left = made.left;
-      optimised = made.optimised;
-      result_type = c.in_ok-result_type.ensures;
-      ends = ends_reported made.left c.in_ok-module.module c.args.entry.id c.args.turns same c.in_ok-events.field-0 made.lowered
-          c.in_ok-events.ensures.outcome c.reported.result c.reported.ensures;
-      ran = made.lowered;
-      lowered_ends = lowered_ends made.left c.in_ok-module.module c.args.entry.id c.args.turns same c.in_ok-events.field-0 made.lowered
-          c.in_ok-events.ensures.outcome c.reported.result c.reported.ensures;
-      never_faults = never_faults made.left c.in_ok-module.module c.args.entry.id c.args.turns same;
+      entry = c.args.start;
+      function = c.requires.entry.0;
+      begins = c.requires.entry.1;
+      tells = record {
+        left = made.left;
+        optimised = made.optimised;
+        result_type = c.in_ok-result_type.ensures;
+        ends = ends_reported made.left c.lower_if.new.m c.args.start c.args.turns same c.in_ok-events.field-0 made.lowered
+            c.in_ok-events.ensures.outcome c.reported.result c.reported.ensures;
+        ran = made.lowered;
+        lowered_ends = lowered_ends made.left c.lower_if.new.m c.args.start c.args.turns same c.in_ok-events.field-0 made.lowered
+            c.in_ok-events.ensures.outcome c.reported.result c.reported.ensures;
+        never_faults = never_faults made.left c.lower_if.new.m c.args.start c.args.turns same;
+      };
     }
 
 pub returns-clause-optimised : goal.returns-clause-optimised
 returns-clause-optimised c =
-    let made = c.in_ok-module.ensures in
-    let same = left_same c.rewriting_keeps_verified.ensures c.lowered_runs_are_same.ensures c.args.optimise c.args.c.now made.left c.requires.entry.0
-    c.args.entry.id c.args.entry.function.now c.args.turns made.optimised c.requires.verified c.requires.entry.1 in
-    let ends = ends_reported made.left c.in_ok-module.module c.args.entry.id c.args.turns same c.in_ok-events.field-0 made.lowered
+    let made = c.in_ok-lower_if.ensures in
+    let same = left_same c.rewriting_keeps_verified.ensures c.lowered_runs_are_same.ensures c.args.optimise c.args.m made.left c.args.entry.now
+    c.args.start c.requires.entry.0 c.args.turns made.optimised c.requires.verified.verified c.requires.entry.1 in
+    let ends = ends_reported made.left c.lower_if.new.m c.args.start c.args.turns same c.in_ok-events.field-0 made.lowered
     c.in_ok-events.ensures.outcome c.reported.result c.reported.ensures in
-    let itself = as_itself c.optimised_outcomes_agree.ensures c.args.optimise c.args.c.now made.left c.args.entry.id c.args.entry.function.now
-    c.args.turns _ made.optimised c.requires.verified c.requires.entry.1.there c.requires.entry.1.starts ends in
-    record { itself = itself.0; ends = itself.1; as_it_did = itself.2 }
+    let itself = as_itself c.optimised_outcomes_agree.ensures c.args.optimise c.args.m made.left c.args.start c.requires.entry.0
+    c.args.turns _ made.optimised c.requires.verified.verified c.requires.entry.1.there c.requires.entry.1.starts ends in
+    record {
+      entry = c.args.start;
+      function = c.requires.entry.0;
+      begins = c.requires.entry.1;
+      tells = record { itself = itself.0; ends = itself.1; as_it_did = itself.2 };
+    }

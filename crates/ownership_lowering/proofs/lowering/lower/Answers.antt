@@ -1,30 +1,21 @@
 use Rattle.std.proofs.Common.{◌∙◌, ap, subst, sym}
-use Rattle.sil_ast.specs.declared.module.Module.{Module}
-use Rattle.function_lowering.specs.inner.Lowerable.{AreLowerable}
-use Rattle.lowering_laws.specs.run_typing.Runnable.{IsRunnable}
 use Rattle.type_definitions.specs.Declarations.{declarations_of}
-use Rattle.ownership_lowering.proofs.Accepted.{all_lowerable}
-use Rattle.ownership_lowering.proofs.Made.{lowered_from}
+use Rattle.sil_verifier.specs.accepted_modules.inner.Checked.{IsVerified}
+use Rattle.lowering_laws.specs.lowering_model.LoweredModules.{lowered}
 use Rattle.ownership_lowering.proofs.lowering.lower.Goals as goal
 
-pub lowered_functions-requires : goal.lowered_functions-requires
-lowered_functions-requires c =
-    subst AreLowerable (sym (c.as_slice.ensures ∙ ap (λ (m : Module). m.functions) c.module-m.ensures.value))
-    (all_lowerable c.args.c.now c.module-m.ensures.verified c.kinds_have_no_rings.ensures c.functions_are_lowerable.ensures)
+-- TODO: the names of the steps
+pub lower_in_place-requires : goal.lower_in_place-requires
+lower_in_place-requires c = record {
+  verified = subst IsVerified (sym (c.in_ok-m.ensures ∙ c.module.ensures.value)) c.module.ensures.verified;
+  declarations = record { copied = c.table.ensures.copied ∙ ap declarations_of (sym (c.in_ok-m.ensures ∙ c.module.ensures.value)) };
+}
 
 pub returns-clause-value : goal.returns-clause-value
-returns-clause-value c =
-    lowered_from c.args.c.now c.module-m.result.now c.table.result.now c.in_ok-decls.decls c.in_ok-functions.functions c.as_slice.result.now c.in_ok-vtables.vtables
-    c.module-m.ensures.value c.table.ensures.copied c.in_ok-decls.ensures c.in_ok-vtables.ensures c.as_slice.ensures c.in_ok-functions.ensures
+returns-clause-value c = c.in_ok-lower_in_place.ensures.value ∙ ap lowered (c.in_ok-m.ensures ∙ c.module.ensures.value)
 
 pub returns-clause-runnable : goal.returns-clause-runnable
-returns-clause-runnable c =
-    let is = lowered_from c.args.c.now c.module-m.result.now c.table.result.now c.in_ok-decls.decls c.in_ok-functions.functions c.as_slice.result.now c.in_ok-vtables.vtables
-    c.module-m.ensures.value c.table.ensures.copied c.in_ok-decls.ensures c.in_ok-vtables.ensures c.as_slice.ensures c.in_ok-functions.ensures in
-    subst IsRunnable (sym is) (c.accepted_lowers_runnable.ensures c.args.c.now c.module-m.ensures.verified).0
+returns-clause-runnable c = c.in_ok-lower_in_place.ensures.runnable
 
 pub returns-clause-declarations : goal.returns-clause-declarations
-returns-clause-declarations c =
-    let is = lowered_from c.args.c.now c.module-m.result.now c.table.result.now c.in_ok-decls.decls c.in_ok-functions.functions c.as_slice.result.now c.in_ok-vtables.vtables
-    c.module-m.ensures.value c.table.ensures.copied c.in_ok-decls.ensures c.in_ok-vtables.ensures c.as_slice.ensures c.in_ok-functions.ensures in
-    ap declarations_of is ∙ (c.accepted_lowers_runnable.ensures c.args.c.now c.module-m.ensures.verified).1
+returns-clause-declarations c = c.in_ok-lower_in_place.ensures.declarations ∙ ap declarations_of (c.in_ok-m.ensures ∙ c.module.ensures.value)

@@ -1,7 +1,7 @@
 use Rattle.std.proofs.Common.{◌≡◌, ◌++◌, arith, ap, length, map, subst, sym, take}
 use Rattle.std.specs.List.{flat_map}
 use Rattle.std.proofs.lemmas.List.{take_all}
-use Rattle.numbered_form.specs.Insts.{insts_of}
+use Rattle.value_tables.specs.numbered_form.Insts.{insts_of}
 use Rattle.value_tables.specs.ValueRows.{rows_from}
 use Rattle.ownership_origins.specs.inner.InOrder.{LeadsOn}
 use Rattle.ownership_origins.specs.Renamings.{arg_renaming, arg_renamings, renamings_of, result_renamings}

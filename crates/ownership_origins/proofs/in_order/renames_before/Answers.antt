@@ -1,6 +1,6 @@
 use Rattle.std.proofs.Common.{◌<◌, ◌∙◌, [], cond, map, subst, sym}
 use Rattle.std.proofs.lemmas.Bool.{OnTrue_at, OnTrue_from}
-use Rattle.numbered_form.specs.Lists.{Each}
+use Rattle.value_tables.specs.numbered_form.Lists.{Each}
 use Rattle.value_tables.specs.FirstValue.{value_of}
 use Rattle.ownership_origins.proofs.Ordered.{each_from_all}
 use Rattle.ownership_origins.proofs.in_order.renames_before.Goals as goal

@@ -1,6 +1,6 @@
 use Rattle.std.proofs.Common.{◌≡◌, take, true}
 use Rattle.std.specs.List.{list_all}
-use Rattle.type_definitions.specs.Measures.{is_trivial}
+use Rattle.ownership_chains.specs.type_definitions.Measures.{is_trivial}
 use Rattle.sil_types.specs.Typing.RowTypes.{types_of}
 use Rattle.ownership_origins.proofs.trivial.are_trivial_operands.Given as goal
 

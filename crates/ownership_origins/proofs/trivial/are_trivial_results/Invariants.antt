@@ -1,7 +1,7 @@
 use Rattle.std.proofs.Common.{◌≡◌, drop}
 use Rattle.std.specs.List.{list_all}
-use Rattle.type_definitions.specs.Measures.{is_trivial}
-use Rattle.type_definitions.specs.Mentions.{direct_types}
+use Rattle.ownership_chains.specs.type_definitions.Measures.{is_trivial}
+use Rattle.ownership_chains.specs.type_definitions.Mentions.{direct_types}
 use Rattle.ownership_origins.proofs.trivial.are_trivial_results.Given as goal
 
 abbrev pub invariant-loop-given : goal.invariant-loop-given

@@ -1,6 +1,6 @@
 use Rattle.std.proofs.Common.{sym, ap, ◌∙◌}
-use Rattle.type_definitions.specs.Measures.{is_trivial}
-use Rattle.type_definitions.specs.Mentions.{direct_types}
+use Rattle.ownership_chains.specs.type_definitions.Measures.{is_trivial}
+use Rattle.ownership_chains.specs.type_definitions.Mentions.{direct_types}
 use Rattle.typing_rows.specs.inner.Views.{view_told}
 use Rattle.typing_rows.specs.declared.view.TypeView.{TypeView}
 use Rattle.ownership_origins.proofs.TrivialTuples.{operands_trivial, together_trivial}

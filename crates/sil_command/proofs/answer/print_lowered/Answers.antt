@@ -2,4 +2,4 @@
 use Rattle.sil_command.proofs.answer.print_lowered.Goals as goal
 
 pub returns : goal.returns
-returns c = rw c.in_ok-lowered.ensures.value at c.print_module-answer.ensures
+returns c = rw c.in_ok-lower_in_place.ensures.value at c.print_module-answer.ensures

@@ -1,4 +1,4 @@
-use Rattle.std.proofs.Common.{◌≡◌, ◌+◌, ◌%◌, ◌^◌, refl, sym, ap, ◌∙◌, arith, length, [], ◌∷◌, ◌++◌, Option, Some, None}
+use Rattle.std.proofs.Common.{◌≡◌, ◌+◌, ◌%◌, ◌^◌, sym, ap, ◌∙◌, arith, length, [], ◌∷◌, ◌++◌, Option, None}
 use Rattle.std.specs.Option.{option_or}
 use Rattle.std.proofs.Common.{ℕ, get_or, map, take}
 use Rattle.typing_values.specs.inner.Given.{given_count}
@@ -7,7 +7,6 @@ use Rattle.sil_ast.specs.declared.inst.Inst.{Inst}
 use Rattle.type_check.proofs.Firsts.{first_behind_all}
 use Rattle.type_check.specs.inner.FirstFault.{fault_of_inst}
 use Rattle.type_check.specs.inner.Firsts.{first_from}
-use Rattle.type_check.specs.declared.fault.TypingFault.{TypingFault}
 use Rattle.type_check.proofs.points.first_in_block.Goals as goal
 
 -- src/points.rt:51:1

@@ -1,8 +1,8 @@
-use Rattle.std.proofs.Common.{◌≡◌, ◌+◌, ◌≤◌, List, length, map, ap, sym, ◌∙◌, ◌++◌, drop, arith, rules}
+use Rattle.std.proofs.Common.{◌≡◌, ◌+◌, ◌≤◌, length, map, ap, sym, ◌∙◌, ◌++◌, drop, arith, rules}
 use Rattle.std.specs.Prelude.{ℕ, Option}
 use Rattle.sil_ast.specs.declared.function.Block.{Block}
 use Rattle.sil_ast.specs.declared.inst.Inst.{Inst}
-use Rattle.numbered_form.specs.Insts.{insts_in, insts_of}
+use Rattle.numbered_form.specs.Insts.{insts_in}
 use Rattle.typing_values.specs.inner.Given.{given_count}
 use Rattle.std.specs.Option.{option_or}
 use Rattle.type_check.specs.inner.FirstFault.{fault_of_block}

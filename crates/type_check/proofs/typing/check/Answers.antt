@@ -1,6 +1,5 @@
-use Rattle.std.proofs.Common.{◌≡◌, sym, ◌∙◌, subst, Option, Some, None}
+use Rattle.std.proofs.Common.{◌≡◌, sym, ◌∙◌, subst, None}
 use Rattle.sil_rules.specs.Order.{IsFirst}
-use Rattle.sil_types.specs.Typing.Typed.{Site, Typed}
 use Rattle.type_check.proofs.FirstFaults.{first_fault}
 use Rattle.type_check.specs.Refusals.{IsBroken, fault_at, fault_key}
 use Rattle.type_check.specs.Refusals.IsBroken.{broken}

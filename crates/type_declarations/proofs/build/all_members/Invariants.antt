@@ -1,6 +1,6 @@
 use Rattle.std.proofs.Common.{◌≡◌, take, drop, map}
-use Rattle.numbered_form.specs.Lists.{Each}
-use Rattle.numbered_form.specs.Names.{member_names, AreMembersOnce}
+use Rattle.type_definitions.specs.numbered_form.Lists.{Each}
+use Rattle.type_definitions.specs.numbered_form.Names.{member_names, AreMembersOnce}
 use Rattle.type_declarations.proofs.build.all_members.Given as goal
 
 abbrev pub invariant-loop-decl : goal.invariant-loop-decl

@@ -1,5 +1,5 @@
 use Rattle.std.proofs.Common.{sym, subst, Contains}
-use Rattle.numbered_form.specs.Names.{case_name}
+use Rattle.type_definitions.specs.numbered_form.Names.{case_name}
 use Rattle.type_declarations.proofs.Names.{once_before}
 use Rattle.type_declarations.proofs.build.case_names.Goals as goal
 

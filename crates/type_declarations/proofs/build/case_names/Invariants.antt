@@ -1,5 +1,5 @@
 use Rattle.std.proofs.Common.{◌≡◌, take, map}
-use Rattle.numbered_form.specs.Names.{case_name}
+use Rattle.type_definitions.specs.numbered_form.Names.{case_name}
 use Rattle.type_declarations.proofs.build.case_names.Given as goal
 
 abbrev pub invariant-loop-case : goal.invariant-loop-case

@@ -1,5 +1,5 @@
 use Rattle.std.proofs.Common.{◌≡◌, take, map}
-use Rattle.numbered_form.specs.Names.{decl_name}
+use Rattle.type_definitions.specs.numbered_form.Names.{decl_name}
 use Rattle.type_declarations.proofs.build.decl_names.Given as goal
 
 abbrev pub invariant-loop-decl : goal.invariant-loop-decl

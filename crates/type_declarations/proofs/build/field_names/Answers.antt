@@ -1,5 +1,5 @@
 use Rattle.std.proofs.Common.{sym, subst, Contains}
-use Rattle.numbered_form.specs.Names.{field_name}
+use Rattle.type_definitions.specs.numbered_form.Names.{field_name}
 use Rattle.type_declarations.proofs.Names.{once_before}
 use Rattle.type_declarations.proofs.build.field_names.Goals as goal
 

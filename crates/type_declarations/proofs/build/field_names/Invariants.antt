@@ -1,5 +1,5 @@
 use Rattle.std.proofs.Common.{◌≡◌, take, map}
-use Rattle.numbered_form.specs.Names.{field_name}
+use Rattle.type_definitions.specs.numbered_form.Names.{field_name}
 use Rattle.type_declarations.proofs.build.field_names.Given as goal
 
 abbrev pub invariant-loop-field : goal.invariant-loop-field

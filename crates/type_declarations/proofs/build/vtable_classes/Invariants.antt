@@ -1,5 +1,5 @@
 use Rattle.std.proofs.Common.{◌≡◌, take, map}
-use Rattle.numbered_form.specs.Names.{class_name}
+use Rattle.type_definitions.specs.numbered_form.Names.{class_name}
 use Rattle.type_declarations.proofs.build.vtable_classes.Given as goal
 
 abbrev pub invariant-loop-vtable : goal.invariant-loop-vtable

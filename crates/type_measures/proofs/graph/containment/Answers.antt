@@ -1,6 +1,6 @@
 use Rattle.std.proofs.Common.{sym, ap, ◌∙◌, ◌≤◌, subst, map, length}
 use Rattle.std.proofs.lemmas.List.{take_all}
-use Rattle.containment.specs.Chains.{IsInRange}
+use Rattle.type_definitions.specs.containment.Chains.{IsInRange}
 use Rattle.type_definitions.specs.Contained.{lower_places}
 use Rattle.type_definitions.specs.Declarations.{all_decls}
 use Rattle.type_measures.proofs.Placing.{graph_in_range}

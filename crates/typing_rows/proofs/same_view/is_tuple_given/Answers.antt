@@ -1,7 +1,7 @@
 use Rattle.std.proofs.Common.{sym, ap, ◌∙◌}
 use Rattle.sil_ast.specs.declared.type_name.TypeName.TheVariants.{Tuple}
 use Rattle.sil_types.specs.Typing.Same.{are_same_types, is_same_type}
-use Rattle.type_definitions.specs.Mentions.{direct_types}
+use Rattle.sil_types.specs.type_definitions.Mentions.{direct_types}
 use Rattle.typing_rows.proofs.Pairing.{same-Tuple}
 use Rattle.typing_rows.proofs.same_view.is_tuple_given.Goals as goal
 

@@ -1,5 +1,5 @@
 use Rattle.std.proofs.Common.{◌≡◌, ap, ◌∙◌, length, arith}
-use Rattle.numbered_form.specs.Numbering.{values_of}
+use Rattle.value_tables.specs.numbered_form.Numbering.{values_of}
 use Rattle.memory_accesses.specs.inner.Kept.{locations_of}
 use Rattle.memory_accesses.proofs.SourceCount.{sources_count}
 use Rattle.memory_accesses.proofs.memory.Memory.of.Goals as goal

@@ -4,7 +4,7 @@ use Rattle.std.specs.List.Sorted.{IsStrictlyIncreasing}
 use Rattle.std.specs.declared.alloc.Global.{Global}
 use Rattle.std.specs.declared.vec.Vec.{Vec}
 use Rattle.path_patterns.specs.inner.Reads.{accesses_at}
-use Rattle.path_checks.proofs.Accesses.{accesses_there}
+use Rattle.memory_accesses.proofs.path_checks.Accesses.{accesses_there}
 use Rattle.memory_accesses.specs.declared.access.Access.{Access}
 use Rattle.memory_slots.specs.inner.Touched.{has_slot}
 use Rattle.memory_slots.proofs.SlotsTouched.{quiet_pair, not_in}

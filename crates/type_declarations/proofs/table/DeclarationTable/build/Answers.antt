@@ -1,8 +1,7 @@
 use Rattle.std.proofs.Common.{sym, subst, ap, ◌∙◌, ◌++◌, map}
-use Rattle.numbered_form.specs.Lists.{Each}
-use Rattle.numbered_form.specs.Names.{AreOnce, AreMembersOnce, decl_name}
+use Rattle.type_definitions.specs.numbered_form.Names.{AreOnce, decl_name}
 use Rattle.type_definitions.specs.Declarations.{swift_structs}
-use Rattle.type_declarations.proofs.Names.{names_once, members_once}
+use Rattle.type_declarations.proofs.Names.{names_once}
 use Rattle.type_declarations.proofs.table.DeclarationTable.build.Goals as goal
 
 pub decl_names-requires : goal.decl_names-requires

@@ -1,0 +1,38 @@
+use Rattle.std.proofs.Common.{◌≡◌, ◌<◌, ◌^◌, ◌∙◌, List, ap, arith, length, refl}
+use Rattle.std.proofs.lemmas.Result.{on_ok_weaker}
+use Rattle.sil_ast.proofs.Refilled.{refilled}
+use Rattle.sil_ast.specs.declared.function.Block.{Block}
+use Rattle.sil_ast.specs.declared.function.Function.{Function}
+use Rattle.numbered_form.specs.Insts.{insts_in}
+use Rattle.ownership_origins.specs.Renamings.{renamings_of}
+use Rattle.lowering_model.specs.LoweredBlocks.{blocks_become}
+use Rattle.lowering_model.specs.Numbers.{renumbered}
+use Rattle.value_renumbering.specs.inner.NewNumbers.{number_in}
+use Rattle.function_lowering.proofs.FewValues.{few_values}
+use Rattle.function_lowering.proofs.Numbering.{own_become, renumbered_so}
+use Rattle.function_lowering.proofs.functions.lower_code.Goals as goal
+
+-- TODO: the names of the steps; `overflow_cast` as in new_numbers
+abbrev with_blocks : Function → List Block → Function
+with_blocks f blocks = record f { blocks = blocks }
+
+pub lower_blocks-requires : goal.lower_blocks-requires
+lower_blocks-requires c =
+    let few = few_values c.args.table.now c.args.f.now c.requires.lowerable.limits in
+    let same : length c.args.renamings.now ≡ length (renamings_of c.args.f.now) = ap length c.requires.renamings in
+    let blocks : length (insts_in c.as_mut_slice.result.now) ≡ length (insts_in c.args.f.now.blocks) = ap (λ bs. length (insts_in bs)) c.as_mut_slice.ensures.value in
+    omega arith
+
+pub returns : goal.returns
+returns c =
+    let d = c.args.table.now in
+    let f = c.args.f.now in
+    let r = c.args.renamings.now in
+    let number = number_in c.in_ok-numbers.numbers in
+    on_ok_weaker c.lower_blocks.result (λ made.
+        ap (with_blocks f)
+        (refilled f.blocks c.lower_blocks.new.blocks (c.lower_blocks.auto.blocks ∙ ap length c.as_mut_slice.ensures.value)
+        ∙ made
+        ∙ ap (λ bs. renumbered number (blocks_become d r (length r) bs)) c.as_mut_slice.ensures.value
+        ∙ renumbered_so d f (blocks_become d r (length r) f.blocks) c.in_ok-numbers.numbers (own_become d f r f.blocks refl c.requires.renamings) c.in_ok-numbers.ensures))
+    c.lower_blocks.ensures
