@@ -1,6 +1,6 @@
 -- What is left of a module that is optimised: its declarations, and its entry functions.
 use Rattle.std.proofs.Common.{◌≡◌, ◌∙◌, ◌⊎◌, inl, inr, ℕ, true, false, not, ◌&&◌, refl, sym, ap, List, [], ◌∷◌, map, Some, slice_get, true≢false, zero, suc}
-use Rattle.std.specs.Prelude.{Bool, IfOk, Result, Ok, Err}
+use Rattle.std.specs.Prelude.{Bool, OnOk, Result, Ok, Err}
 use Rattle.argument_conventions.specs.Arguments.{arguments_of}
 use Rattle.copy_pairing.proofs.Shapes.{rewritten_declares}
 use Rattle.copy_removal.specs.Optimised.{IsOptimised, Rewrites, done, lends, more, moves}
@@ -39,18 +39,18 @@ left_declares true m k left = optimised_declares m k left
 left_declares false m k left = ap declarations_of left
 
 -- what is lowered of the module that is left
-pub lowered_left : {E : Type 0} (optimises : Bool) (m k : Module) (r : Result Module E) → optimises ≡ true → IsOptimisedIf true m k
-    → IfOk r (λ made. made ≡ lowered k) → IfOk r (λ made. IsRunnable made) → IfOk r (λ made. declarations_of made ≡ declarations_of k)
-    → IfOk r (λ made. IsLoweredIf optimises m made)
-lowered_left false m k r asked left value runnable declares = absurd (true≢false (sym asked))
-lowered_left true m k (Ok made) asked left value runnable declares = record {
+pub lowered_left : {T E : Type 0} (optimises : Bool) (m k made : Module) (r : Result T E) → optimises ≡ true → IsOptimisedIf true m k
+    → OnOk r (made ≡ lowered k) → OnOk r (IsRunnable made) → OnOk r (declarations_of made ≡ declarations_of k)
+    → OnOk r (IsLoweredIf optimises m made)
+lowered_left false m k made r asked left value runnable declares = absurd (true≢false (sym asked))
+lowered_left true m k made (Ok _) asked left value runnable declares = record {
   left = k;
   optimised = left;
   lowered = value;
   runnable = runnable;
   declares = declares ∙ optimised_declares m k left;
 }
-lowered_left true m k (Err e) asked left value runnable declares = tt
+lowered_left true m k made (Err e) asked left value runnable declares = tt
 
 -- entry functions
 

@@ -1,12 +1,14 @@
 //! The module that is lowered and run: the accepted one, or the optimised one.
 
-ghost use Rattle.std.specs.Prelude.{IfOk};
+ghost use Rattle.std.specs.Prelude.{IfOk, OnOk};
 ghost use Rattle.module_runner.specs.Optimising.{IsOptimisedIf};
 ghost use Rattle.module_runner.specs.inner.RunReports.{IsLoweredIf};
+ghost use Rattle.sil_verifier.specs.accepted_modules.inner.Checked.{IsVerifiedWith};
 
 use copy_pairing::{optimize, optimize_in_place};
 use ownership_lowering::lower_in_place;
 use sil_ast::{Exhausted, Module};
+use sil_types::TypeTable;
 use sil_verifier::Checked;
 use std::alloc::Global;
 
@@ -33,8 +35,9 @@ pub(crate) fn lower_if(
     requires { IsVerifiedWith m.old table.now }
     ensures { OnOk result (IsLoweredIf optimise m.old m.new) }
 {
-    if optimise {
-        optimize_in_place(alloc, table, m)?;
+    if !optimise {
+        return lower_in_place(alloc, table, m);
     }
+    optimize_in_place(alloc, table, m)?;
     lower_in_place(alloc, table, m)
 }

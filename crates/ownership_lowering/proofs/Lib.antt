@@ -1,2 +1,3 @@
 mod Accepted
+mod InPlace
 mod Runnable

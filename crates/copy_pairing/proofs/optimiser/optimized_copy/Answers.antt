@@ -1,25 +1,26 @@
 use Rattle.std.proofs.Common.{sym, ap, ◌∙◌, subst}
 use Rattle.type_definitions.specs.Declarations.{declarations_of}
-use Rattle.sil_verifier.specs.accepted_modules.inner.Checked.{IsVerified}
-use Rattle.copy_pairing.proofs.Passed.{optimised_copy}
+use Rattle.copy_removal.specs.Optimised.{IsOptimised}
+use Rattle.sil_verifier.specs.accepted_modules.inner.Checked.{IsVerifiedWith}
+use Rattle.optimised_runs.specs.lockstep_runs.inner.Agreeing.{RunsAsItDid}
 use Rattle.copy_pairing.proofs.optimiser.optimized_copy.Goals as goal
 
-pub pass_module-requires-clause-verified : goal.pass_module-requires-clause-verified
-pass_module-requires-clause-verified c = subst IsVerified (sym (c.in_ok-m.ensures ∙ c.module.ensures.value)) c.module.ensures.verified
-
-pub pass_module-requires-clause-types : goal.pass_module-requires-clause-types
-pass_module-requires-clause-types c = c.table.ensures.copied ∙ ap declarations_of (sym (c.in_ok-m.ensures ∙ c.module.ensures.value))
+pub optimize_in_place-requires : goal.optimize_in_place-requires
+optimize_in_place-requires c =
+    subst (λ m. IsVerifiedWith m c.table.result.now) (sym (c.in_ok-m.ensures ∙ c.module.ensures.value))
+    (record { verified = c.module.ensures.verified; declarations = c.table.ensures })
 
 pub returns-clause-optimised : goal.returns-clause-optimised
-returns-clause-optimised c = optimised_copy c.args.c.now c.in_ok-m.m c.pass_module.new.m (c.in_ok-m.ensures ∙ c.module.ensures.value) c.in_ok-pass_module.ensures
+returns-clause-optimised c =
+    subst (λ m. IsOptimised m c.optimize_in_place.new.m) (c.in_ok-m.ensures ∙ c.module.ensures.value) c.in_ok-optimize_in_place.ensures.optimised
 
 pub returns-clause-runs : goal.returns-clause-runs
 returns-clause-runs c =
-    c.optimised_runs_as_it_did.ensures c.args.c.now c.pass_module.new.m c.module.ensures.verified
-    (optimised_copy c.args.c.now c.in_ok-m.m c.pass_module.new.m (c.in_ok-m.ensures ∙ c.module.ensures.value) c.in_ok-pass_module.ensures)
+    subst (λ m. RunsAsItDid m c.optimize_in_place.new.m) (c.in_ok-m.ensures ∙ c.module.ensures.value) c.in_ok-optimize_in_place.ensures.runs
 
 pub returns-clause-verified : goal.returns-clause-verified
-returns-clause-verified c = c.in_ok-pass_module.ensures.verified
+returns-clause-verified c = c.in_ok-optimize_in_place.ensures.verified.verified
 
 pub returns-clause-declarations : goal.returns-clause-declarations
-returns-clause-declarations c = c.in_ok-pass_module.ensures.declarations ∙ ap declarations_of (c.in_ok-m.ensures ∙ c.module.ensures.value)
+returns-clause-declarations c =
+    sym c.in_ok-optimize_in_place.ensures.verified.declarations.copied ∙ c.table.ensures.copied

@@ -12,9 +12,14 @@ use Rattle.function_lowering.proofs.FewValues.{few_values}
 use Rattle.function_lowering.proofs.Numbering.{own_become, renumbered_so}
 use Rattle.function_lowering.proofs.functions.lower_code.Goals as goal
 
--- TODO: the names of the steps; `overflow_cast` as in new_numbers
 abbrev with_blocks : Function → List Block → Function
 with_blocks f blocks = record f { blocks = blocks }
+
+pub overflow_cast-renamings : goal.overflow_cast-renamings
+overflow_cast-renamings c =
+    let few = few_values c.args.table.now c.args.f.now c.requires.lowerable.limits in
+    let same : length c.args.renamings.now ≡ length (renamings_of c.args.f.now) = ap length c.requires.renamings in
+    omega arith
 
 pub lower_blocks-requires : goal.lower_blocks-requires
 lower_blocks-requires c =

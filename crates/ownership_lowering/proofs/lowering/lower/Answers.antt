@@ -1,15 +1,13 @@
 use Rattle.std.proofs.Common.{◌∙◌, ap, subst, sym}
 use Rattle.type_definitions.specs.Declarations.{declarations_of}
-use Rattle.sil_verifier.specs.accepted_modules.inner.Checked.{IsVerified}
+use Rattle.sil_verifier.specs.accepted_modules.inner.Checked.{IsVerifiedWith}
 use Rattle.lowering_laws.specs.lowering_model.LoweredModules.{lowered}
 use Rattle.ownership_lowering.proofs.lowering.lower.Goals as goal
 
--- TODO: the names of the steps
 pub lower_in_place-requires : goal.lower_in_place-requires
-lower_in_place-requires c = record {
-  verified = subst IsVerified (sym (c.in_ok-m.ensures ∙ c.module.ensures.value)) c.module.ensures.verified;
-  declarations = record { copied = c.table.ensures.copied ∙ ap declarations_of (sym (c.in_ok-m.ensures ∙ c.module.ensures.value)) };
-}
+lower_in_place-requires c =
+    subst (λ m. IsVerifiedWith m c.table.result.now) (sym (c.in_ok-m.ensures ∙ c.module.ensures.value))
+    (record { verified = c.module.ensures.verified; declarations = c.table.ensures })
 
 pub returns-clause-value : goal.returns-clause-value
 returns-clause-value c = c.in_ok-lower_in_place.ensures.value ∙ ap lowered (c.in_ok-m.ensures ∙ c.module.ensures.value)
