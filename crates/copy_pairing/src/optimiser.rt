@@ -20,11 +20,7 @@ pub struct Unfinished {
 }
 
 /// Optimises a module where it stands, by its table, as `optimize` does. Fails where memory runs out, and then parts of it are lost.
-pub fn optimize_in_place(
-    alloc: Global,
-    table: &TypeTable,
-    m: &mut Module,
-) -> Result<(), Exhausted>
+pub fn optimize_in_place(alloc: Global, table: &TypeTable, m: &mut Module) -> Result<(), Exhausted>
     requires { IsVerifiedWith m.old table.now }
     ensures optimised { OnOk result (IsOptimised m.old m.new) }
     ensures runs { OnOk result (RunsAsItDid m.old m.new) }

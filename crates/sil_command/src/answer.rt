@@ -146,8 +146,8 @@ fn write_optimised(alloc: Global, checked: Checked) -> Result<Answer, Exhausted>
 }
 
 fn print_lowered(alloc: Global, table: &TypeTable, module: Module) -> Result<Answer, Exhausted>
-    requires { IsVerifiedWith module table.now }
-    ensures { IfOk result (λ a. Writes (canonical_text (lowered module)) a.text.items (code_of a.status)) }
+    requires { IsVerifiedWith «module» table.now }
+    ensures { IfOk result (λ a. Writes (canonical_text (lowered «module»)) a.text.items (code_of a.status)) }
 {
     let mut lowered = module;
     lower_in_place(alloc, table, &mut lowered)?;

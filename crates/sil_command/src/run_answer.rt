@@ -24,9 +24,9 @@ pub(crate) fn answer_run(
     turns: u32,
     optimise: bool,
 ) -> Result<Answer, Exhausted>
-    requires verified { IsVerifiedWith module table.now }
+    requires verified { IsVerifiedWith «module» table.now }
     requires some_turns { 1 ≤ turns }
-    ensures { IfOk result (λ a. AnswersRun module entry.now turns optimise a.text.items (code_of a.status)) }
+    ensures { IfOk result (λ a. AnswersRun «module» entry.now turns optimise a.text.items (code_of a.status)) }
 {
     match run_owned(alloc, module, table, entry, turns, optimise) {
         Ok(report) => {

@@ -17,13 +17,13 @@ returns-clause-optimised c =
 pub returns-clause-runs : goal.returns-clause-runs
 returns-clause-runs c =
     on_ok_weaker c.pass_module.result (λ passed.
-        c.optimised_runs_as_it_did.ensures c.args.m.now c.pass_module.new.m c.requires.verified
-        (optimised_copy c.args.m.now c.args.m.now c.pass_module.new.m refl passed))
+    c.optimised_runs_as_it_did.ensures c.args.m.now c.pass_module.new.m c.requires.verified
+    (optimised_copy c.args.m.now c.args.m.now c.pass_module.new.m refl passed))
     c.pass_module.ensures
 
 pub returns-clause-verified : goal.returns-clause-verified
 returns-clause-verified c =
     on_ok_weaker c.pass_module.result (λ passed. record {
-        verified = passed.verified;
-        declarations = declared_again c.args.m.now c.pass_module.new.m c.args.table.now passed.verified passed.declarations c.requires.declarations.copied;
+      verified = passed.verified;
+      declarations = declared_again c.args.m.now c.pass_module.new.m c.args.table.now passed.verified passed.declarations c.requires.declarations.copied;
     }) c.pass_module.ensures

@@ -35,9 +35,9 @@ returns c =
     let r = c.args.renamings.now in
     let number = number_in c.in_ok-numbers.numbers in
     on_ok_weaker c.lower_blocks.result (λ made.
-        ap (with_blocks f)
-        (refilled f.blocks c.lower_blocks.new.blocks (c.lower_blocks.auto.blocks ∙ ap length c.as_mut_slice.ensures.value)
-        ∙ made
-        ∙ ap (λ bs. renumbered number (blocks_become d r (length r) bs)) c.as_mut_slice.ensures.value
-        ∙ renumbered_so d f (blocks_become d r (length r) f.blocks) c.in_ok-numbers.numbers (own_become d f r f.blocks refl c.requires.renamings) c.in_ok-numbers.ensures))
+    ap (with_blocks f)
+    (refilled f.blocks c.lower_blocks.new.blocks (c.lower_blocks.auto.blocks ∙ ap length c.as_mut_slice.ensures.value)
+    ∙ made
+    ∙ ap (λ bs. renumbered number (blocks_become d r (length r) bs)) c.as_mut_slice.ensures.value
+    ∙ renumbered_so d f (blocks_become d r (length r) f.blocks) c.in_ok-numbers.numbers (own_become d f r f.blocks refl c.requires.renamings) c.in_ok-numbers.ensures))
     c.lower_blocks.ensures

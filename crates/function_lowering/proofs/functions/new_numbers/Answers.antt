@@ -40,8 +40,8 @@ returns c =
     let defined : c.as_slice-2.result.now ≡ values_of (lowered_blocks d f) =
     c.as_slice-2.ensures ∙ c.in_ok-defined.ensures ∙ ap values_of (own_become d f c.args.renamings.now c.as_slice.result.now c.as_slice.ensures c.requires.renamings) in
     IfOk-weaker c.numbers_of_names.result _ _ (λ numbers named v.
-        named v
-        ∙ ap (λ rs. place_in places (stands_for rs v)) c.requires.renamings
-        ∙ c.in_ok-places.ensures (stands_for (renamings_of f) v)
-        ∙ ap (λ vs. place_among vs (stands_for (renamings_of f) v)) defined)
+    named v
+    ∙ ap (λ rs. place_in places (stands_for rs v)) c.requires.renamings
+    ∙ c.in_ok-places.ensures (stands_for (renamings_of f) v)
+    ∙ ap (λ vs. place_among vs (stands_for (renamings_of f) v)) defined)
     c.numbers_of_names.ensures

@@ -21,15 +21,15 @@ returns-clause-value c =
 pub returns-clause-runnable : goal.returns-clause-runnable
 returns-clause-runnable c =
     on_ok_weaker c.lower_functions.result (λ made.
-        subst IsRunnable
-        (sym (lowered_there c.args.m.now c.args.table.now c.as_mut_slice.result.now c.lower_functions.new.functions c.requires.declarations.copied c.as_mut_slice.ensures.value made))
-        (c.accepted_lowers_runnable.ensures c.args.m.now c.requires.verified).0)
+    subst IsRunnable
+    (sym (lowered_there c.args.m.now c.args.table.now c.as_mut_slice.result.now c.lower_functions.new.functions c.requires.declarations.copied c.as_mut_slice.ensures.value made))
+    (c.accepted_lowers_runnable.ensures c.args.m.now c.requires.verified).0)
     c.lower_functions.ensures
 
 pub returns-clause-declarations : goal.returns-clause-declarations
 returns-clause-declarations c =
     on_ok_weaker c.lower_functions.result (λ made.
-        ap declarations_of
-        (lowered_there c.args.m.now c.args.table.now c.as_mut_slice.result.now c.lower_functions.new.functions c.requires.declarations.copied c.as_mut_slice.ensures.value made)
-        ∙ (c.accepted_lowers_runnable.ensures c.args.m.now c.requires.verified).1)
+    ap declarations_of
+    (lowered_there c.args.m.now c.args.table.now c.as_mut_slice.result.now c.lower_functions.new.functions c.requires.declarations.copied c.as_mut_slice.ensures.value made)
+    ∙ (c.accepted_lowers_runnable.ensures c.args.m.now c.requires.verified).1)
     c.lower_functions.ensures
