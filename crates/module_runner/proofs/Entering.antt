@@ -27,6 +27,7 @@ use Rattle.sil_ast.specs.declared.place.FuncId.{FuncId}
 use Rattle.sil_ast.specs.declared.place.ValueId.{ValueId}
 use Rattle.sil_verifier.specs.accepted_modules.inner.Checked.{IsVerified}
 use Rattle.type_definitions.specs.Declarations.{Declarations, declarations_of}
+use Rattle.type_definitions.specs.Mentions.{given_type}
 use Rattle.module_runner.specs.Entries.{HasEntry, IsEntry}
 use Rattle.module_runner.specs.inner.Entries.{is_entry}
 
@@ -62,6 +63,12 @@ module _ (m : Module) (name : Name) where
         named = (bytes_eq-Decides f.name name).0 parts.0;
         starts = parts.1;
       }
+
+-- the function with its number gives what the entry function gives
+pub entry_gives : (m : Module) (name : Name) (e : FuncId) (f other : Function) (functions : List Function) → functions ≡ m.functions → IsEntry m name e f
+    → given_type (get_or functions e.0 other).signature ≡ given_type f.signature
+entry_gives m name e f other functions all entry =
+    ap (λ (g : Function). given_type g.signature) (ap (λ fs. get_or fs e.0 other) all ∙ get_or_from_slice_get m.functions e.0 f other entry.there)
 
 -- in the lowered module
 

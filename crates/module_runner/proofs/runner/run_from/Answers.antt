@@ -1,14 +1,11 @@
 -- The run of the lowered module, and what is reported of it.
-use Rattle.std.proofs.Common.{◌≡◌, ◌∙◌, ◌<◌, length, sym, subst}
-use Rattle.std.proofs.lemmas.Option.{get_or_from_slice_get, slice_get_within}
+use Rattle.std.proofs.Common.{◌∙◌, sym, subst}
 use Rattle.count_machine.specs.LowRuns.{MayStartAt}
-use Rattle.module_runner.proofs.Entering.{lowered_starts}
+use Rattle.module_runner.proofs.Entering.{entry_gives, lowered_starts}
 use Rattle.module_runner.proofs.LeftRuns.{as_itself, left_same}
 use Rattle.module_runner.proofs.Reported.{ends_reported, lowered_ends, never_faults, no_fault}
 use Rattle.module_runner.proofs.Stays.{left_enters}
 use Rattle.module_runner.proofs.runner.run_from.Goals as goal
-
--- TODO: the bound of the index (slice_get_within), and that its element is the entry function
 
 pub run-requires : goal.run-requires
 run-requires c =
@@ -41,7 +38,8 @@ returns-clause-run c =
       tells = record {
         left = made.left;
         optimised = made.optimised;
-        result_type = c.in_ok-result_type.ensures;
+        result_type = c.in_ok-result_type.ensures
+            ∙ entry_gives c.args.m c.args.entry.now c.args.start c.requires.entry.0 c.index-as_slice-start.result c.as_slice.result.now c.as_slice.ensures c.requires.entry.1;
         ends = ends_reported made.left c.lower_if.new.m c.args.start c.args.turns same c.in_ok-events.field-0 made.lowered
             c.in_ok-events.ensures.outcome c.reported.result c.reported.ensures;
         ran = made.lowered;
