@@ -111,7 +111,9 @@ module _ (m : Module) (r : IsWellTyped m) (n : ℕ) (f : Function) (is_function 
         written = typed_parts.1;
         asked = typed_parts.2;
         operands = inside.parts.operands;
-        no_result = λ e. ap (forms_of (declarations_of m) f) (nil_from_length i.results (eqb-true (length i.results) 0 (subst (λ x. is_count_by x given (length i.results) ≡ true) e number_of_results)));
+        no_result = λ e.
+            let none = eqb-true (length i.results) 0 (subst (λ x. is_count_by x given (length i.results) ≡ true) e number_of_results) in
+            ap (forms_of (declarations_of m) f) (nil_from_length i.results none);
         one_result = λ e.
             let it = single i.results (subst (λ x. is_count_by x given (length i.results) ≡ true) e number_of_results) in
             one_form (declarations_of m) f (counted m r n f is_function) p.block.0 p.index i spot it.0 it.1;
