@@ -173,9 +173,18 @@ module _ (d : Declarations) (renamings : List Definition) where
       omega arith
 
 -- with a spare value for each instruction they are few enough for numbers
-pub few_values : (d : Declarations) (f : Function) → IsFunctionInLimits f → length (renamings_of f) + length (insts_in f.blocks) < 2 ^ 32
+few_values : (d : Declarations) (f : Function) → IsFunctionInLimits f → length (renamings_of f) + length (insts_in f.blocks) < 2 ^ 32
 few_values d f limits =
     let all = (are_of_values d f).1 in
     let insts = limits.insts in
     let values = limits.values in
+    omega arith
+
+-- so they are where the renamings and the blocks are given as lists of their own
+pub room_for_spares : (d : Declarations) (f : Function) (renamings : List Definition) (blocks : List Block) → IsFunctionInLimits f → renamings ≡ renamings_of f → blocks ≡ f.blocks
+    → length renamings + length (insts_in blocks) < 2 ^ 32
+room_for_spares d f renamings blocks limits named same =
+    let few = few_values d f limits in
+    let names : length renamings ≡ length (renamings_of f) = ap length named in
+    let insts : length (insts_in blocks) ≡ length (insts_in f.blocks) = ap (λ bs. length (insts_in bs)) same in
     omega arith

@@ -1,14 +1,12 @@
-use Rattle.std.proofs.Common.{◌≡◌, ◌<◌, ◌^◌, ◌∙◌, List, ap, arith, length, refl}
+use Rattle.std.proofs.Common.{◌∙◌, List, ap, arith, length, refl}
 use Rattle.std.proofs.lemmas.Result.{on_ok_weaker}
 use Rattle.sil_ast.proofs.Refilled.{refilled}
 use Rattle.sil_ast.specs.declared.function.Block.{Block}
 use Rattle.sil_ast.specs.declared.function.Function.{Function}
-use Rattle.numbered_form.specs.Insts.{insts_in}
-use Rattle.ownership_origins.specs.Renamings.{renamings_of}
 use Rattle.lowering_model.specs.LoweredBlocks.{blocks_become}
 use Rattle.lowering_model.specs.Numbers.{renumbered}
 use Rattle.value_renumbering.specs.inner.NewNumbers.{number_in}
-use Rattle.function_lowering.proofs.FewValues.{few_values}
+use Rattle.function_lowering.proofs.FewValues.{room_for_spares}
 use Rattle.function_lowering.proofs.Numbering.{own_become, renumbered_so}
 use Rattle.function_lowering.proofs.functions.lower_code.Goals as goal
 
@@ -16,17 +14,11 @@ abbrev with_blocks : Function → List Block → Function
 with_blocks f blocks = record f { blocks = blocks }
 
 pub overflow_cast-renamings : goal.overflow_cast-renamings
-overflow_cast-renamings c =
-    let few = few_values c.args.table.now c.args.f.now c.requires.lowerable.limits in
-    let same : length c.args.renamings.now ≡ length (renamings_of c.args.f.now) = ap length c.requires.renamings in
-    omega arith
+overflow_cast-renamings c = omega (arith, room_for_spares c.args.table.now c.args.f.now c.args.renamings.now c.args.f.now.blocks c.requires.lowerable.limits c.requires.renamings refl)
 
 pub lower_blocks-requires : goal.lower_blocks-requires
 lower_blocks-requires c =
-    let few = few_values c.args.table.now c.args.f.now c.requires.lowerable.limits in
-    let same : length c.args.renamings.now ≡ length (renamings_of c.args.f.now) = ap length c.requires.renamings in
-    let blocks : length (insts_in c.as_mut_slice.result.now) ≡ length (insts_in c.args.f.now.blocks) = ap (λ bs. length (insts_in bs)) c.as_mut_slice.ensures.value in
-    omega arith
+    room_for_spares c.args.table.now c.args.f.now c.args.renamings.now c.as_mut_slice.result.now c.requires.lowerable.limits c.requires.renamings c.as_mut_slice.ensures.value
 
 pub returns : goal.returns
 returns c =

@@ -1,28 +1,21 @@
-use Rattle.std.proofs.Common.{◌≡◌, ◌<◌, ◌^◌, ◌∙◌, ap, arith, length, subst, sym}
+use Rattle.std.proofs.Common.{◌≡◌, ◌<◌, ◌^◌, ◌∙◌, ap, arith, length, refl, subst, sym}
 use Rattle.std.proofs.lemmas.Result.{IfOk-weaker}
-use Rattle.numbered_form.specs.Insts.{insts_in}
 use Rattle.numbered_form.specs.Numbering.{values_of}
 use Rattle.ownership_origins.specs.Renamings.{renamings_of}
 use Rattle.lowering_model.specs.LoweredBlocks.{lowered_blocks}
 use Rattle.lowering_model.specs.Names.{stands_for}
 use Rattle.lowering_model.specs.Numbers.{place_among}
 use Rattle.value_renumbering.specs.inner.NewNumbers.{place_in}
-use Rattle.function_lowering.proofs.FewValues.{few_defined, few_values}
+use Rattle.function_lowering.proofs.FewValues.{few_defined, room_for_spares}
 use Rattle.function_lowering.proofs.Numbering.{own_become}
 use Rattle.function_lowering.proofs.functions.new_numbers.Goals as goal
 
 pub overflow_cast-spare : goal.overflow_cast-spare
-overflow_cast-spare c =
-    let few = few_values c.args.table.now c.args.f.now c.requires.lowerable.limits in
-    let same : length c.args.renamings.now ≡ length (renamings_of c.args.f.now) = ap length c.requires.renamings in
-    omega arith
+overflow_cast-spare c = omega (arith, room_for_spares c.args.table.now c.args.f.now c.args.renamings.now c.args.f.now.blocks c.requires.lowerable.limits c.requires.renamings refl)
 
 pub defined_values-requires : goal.defined_values-requires
 defined_values-requires c =
-    let few = few_values c.args.table.now c.args.f.now c.requires.lowerable.limits in
-    let same : length c.args.renamings.now ≡ length (renamings_of c.args.f.now) = ap length c.requires.renamings in
-    let blocks : length (insts_in c.as_slice.result.now) ≡ length (insts_in c.args.f.now.blocks) = ap (λ bs. length (insts_in bs)) c.as_slice.ensures in
-    omega arith
+    room_for_spares c.args.table.now c.args.f.now c.args.renamings.now c.as_slice.result.now c.requires.lowerable.limits c.requires.renamings c.as_slice.ensures
 
 pub numbers_by_place-requires : goal.numbers_by_place-requires
 numbers_by_place-requires c =
