@@ -1,11 +1,11 @@
 #!/usr/bin/env python3
 """Compares the runs and the lowering of a built program with those of the model, on random modules.
 
-    bench/model/compare_runs.py PATH-TO-SIL [--optimize] [--from A] [--accepted N] [--processes P] [--modules FOLDER]
+    bench/model/compare_runs.py PATH-TO-SIL [--optimize] [--from A] [--accepted N] [--processes P] [--modules FOLDER..]
     bench/model/compare_runs.py [--optimize] --show NUMBER
 
-Each number from A on stands for one module, which `--show` writes: every fourth an example below FOLDER with one to four changes
-(`changes.py`), each other one a random program (`programs.py`), half of them with a change or two. The program's `check` says which of them
+Each number from A on stands for one module, which `--show` writes: every fourth a case or an example below FOLDER with one to four
+changes (`changes.py`), each other one a random program (`programs.py`), half of them with a change or two. The program's `check` says which of them
 are accepted; it goes on until so many are. Of an accepted module `run` with five bounds on turns (the number of turns that the whole run
 takes, up to 2,000, those beside it, one, and one between) and `lower` have to answer as the model does, whose two runs have to be the same.
 Of a refused one `run` and `lower` have to answer as `check` does. Each answer that differs is printed. The last lines count the modules, and
@@ -32,18 +32,21 @@ import programs
 import run
 import text
 
-MODULES = pathlib.Path(__file__).resolve().parent.parent.parent / 'crates' / 'run_examples' / 'modules'
+CRATES = pathlib.Path(__file__).resolve().parent.parent.parent / 'crates'
+MODULES = [CRATES / 'cases' / 'data' / 'running', CRATES / 'run_examples' / 'modules']
 TURNS, BATCH, SECONDS = 2000, 100, 60
 
 
-def examples(folder):
-    """The examples of the ownership form, each with its entry."""
+def examples(folders):
+    """The cases of runs and the examples of the ownership form, each with its entry."""
     found = []
-    for file in sorted(pathlib.Path(folder).rglob('*.sil')):
-        source = file.read_text()
-        module = text.read(source)
-        if all(f.form() != 'Lowered' for f in module.functions):
-            found.append((module, run.Head(source).entry))
+    for file in sorted(file for folder in folders for file in pathlib.Path(folder).rglob('*.sil')):
+        source = file.read_bytes().decode(errors='replace')
+        entry = run.run_told(source)
+        if entry is not None:
+            module = text.read(source)
+            if all(f.form() != 'Lowered' for f in module.functions):
+                found.append((module, entry))
     return found
 
 
@@ -129,10 +132,10 @@ def ended(ending):
     return ' '.join(ending[:2]) if ending[0] in ('trap', 'fault') else ending[0]
 
 
-def begin(program, folder, is_optimising):
+def begin(program, folders, is_optimising):
     """Makes a process ready to compare: the examples are read in each of them."""
     global comparison
-    comparison = Comparison(program, examples(folder), is_optimising)
+    comparison = Comparison(program, examples(folders), is_optimising)
 
 
 def compare(number):
@@ -145,7 +148,7 @@ def main():
     words.add_argument('--from', dest='first', type=int, default=0)
     words.add_argument('--accepted', type=int, default=1000)
     words.add_argument('--processes', type=int, default=1)
-    words.add_argument('--modules', default=str(MODULES))
+    words.add_argument('--modules', nargs='+', default=MODULES)
     words.add_argument('--show', type=int)
     words.add_argument('--optimize', action='store_true')
     words = words.parse_args()

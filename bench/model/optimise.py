@@ -2,9 +2,9 @@
 """Which copies of an accepted module can go, and the module without them, from the description alone.
 
     bench/model/optimise.py removals < FILE
-    bench/model/optimise.py check [--from A] [--count N] [--modules FOLDER]
+    bench/model/optimise.py check [--from A] [--count N] [--modules FOLDER..]
 
-`removals` writes of each copy how it can go. `check` makes random modules, by `functions.py` and by changes of the examples of runs, and asks of
+`removals` writes of each copy how it can go. `check` makes random modules, by `functions.py` and by changes of cases and examples of runs, and asks of
 each one that is accepted and has a copy to go: the module without the copy is accepted by `model.py`; the other copies can go as
 [docs/OPTIMISER.md](../../docs/OPTIMISER.md) says, so that one pass in text order is enough; and the runs of the optimised module are those of the
 module, with no more retains and releases.
@@ -12,7 +12,6 @@ module, with no more retains and releases.
 import argparse
 import collections
 import copy
-import pathlib
 import random
 import sys
 
@@ -201,13 +200,7 @@ def unlike(module, entries, counts):
 
 def check(words):
     import compare_runs
-    import run
-    examples = []
-    for file in sorted(pathlib.Path(words.modules).rglob('*.sil')):
-        source = file.read_text()
-        module = text.read(source)
-        if all(f.form() != 'Lowered' for f in module.functions):
-            examples.append((module, run.Head(source).entry))
+    examples = compare_runs.examples(words.modules or compare_runs.MODULES)
     counts, wrong = collections.Counter(), 0
     for number in range(words.first, words.first + words.count):
         try:
@@ -281,7 +274,7 @@ def main():
     words.add_argument('mode', choices=['check'])
     words.add_argument('--from', dest='first', type=int, default=0)
     words.add_argument('--count', type=int, default=1000)
-    words.add_argument('--modules', default=str(pathlib.Path(__file__).resolve().parent.parent.parent / 'crates' / 'run_examples' / 'modules'))
+    words.add_argument('--modules', nargs='+')
     return check(words.parse_args())
 
 

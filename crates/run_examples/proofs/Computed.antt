@@ -17,7 +17,7 @@ use Rattle.lowered_run.specs.LowOutcomes.{low_outcome_with, low_outcome_within}
 use Rattle.lowered_run.specs.declared.low_fault.LowFault.{LowFault}
 use Rattle.sil_ast.specs.declared.function.Function.{Function}
 use Rattle.run_examples.specs.Parts.{shapes_with, facts_with}
-use Rattle.run_examples.specs.inner.Reported.{HasReport, HasFault, ReportsByHolders, ReportsLowered, ReportsWhenLowered, FaultsByHolders, FaultsLowered, ending_in, returned_shape}
+use Rattle.run_examples.specs.inner.Reported.{HasReport, HasFault, ReportsLowered, ReportsWhenLowered, FaultsByHolders, FaultsLowered, ending_in, returned_shape}
 
 pub both : {A : Type 0} {x y : A} {xs ys : List A} → x ≡ y → xs ≡ ys → x ∷ xs ≡ y ∷ ys
 both e es = ap₂ (λ x xs. x ∷ xs) e es
@@ -34,10 +34,6 @@ pub facts_told : (m : Module) {s : ModuleShapes} {fs : List (List (Option Facts)
 facts_told m s f = ap₂ facts_with s f
 
 -- the reports, of runs that are given what is told
-
-pub by_holders : (m : Module) (e : FuncId) (bound steps : ℕ) (answer : List (List ℕ)) {s : Shape} {told : ModuleFacts} → returned_shape m e ≡ s → facts_of m ≡ told
-    → HasReport m s (outcome_with m told e bound steps) answer → ReportsByHolders m e bound steps answer
-by_holders m e bound steps answer shape told c = ap₂ (λ s told. option_map (report m s) (outcome_with m told e bound steps)) shape told ∙ c
 
 pub of_lowered_text : (m : Module) (e : FuncId) (bound steps : ℕ) (answer : List (List ℕ)) {s : Shape} {told : ModuleShapes} → returned_shape m e ≡ s
     → shapes_of m ≡ told → HasReport m s (low_outcome_with m told e bound steps) answer → ReportsLowered m e bound steps answer

@@ -34,21 +34,13 @@ ending_in outcome = outcome.ending
 abbrev pub HasFault : {X : Type 0} → Option (Outcome X) → X → Type 0
 HasFault outcome fault = option_map ending_in outcome ≡ Some (Faulted fault)
 
--- the run by holders ends in as many steps, for this bound on turns, with this report
-abbrev pub ReportsByHolders : Module → FuncId → ℕ → ℕ → List (List ℕ) → Type 0
-ReportsByHolders m e bound steps answer = HasReport m (returned_shape m e) (outcome_within m e bound steps) answer
-
--- so does the run of a module of lowered text
+-- the run of a module of lowered text ends in as many steps, for this bound on turns, with this report
 abbrev pub ReportsLowered : Module → FuncId → ℕ → ℕ → List (List ℕ) → Type 0
 ReportsLowered m e bound steps answer = HasReport m (returned_shape m e) (low_outcome_within m e bound steps) answer
 
 -- so does the run of the lowered module by stored numbers
 abbrev pub ReportsWhenLowered : Module → FuncId → ℕ → ℕ → List (List ℕ) → Type 0
 ReportsWhenLowered m e bound steps answer = HasReport m (returned_shape m e) (low_outcome_within (lowered m) e bound steps) answer
-
--- both runs of a module in ownership form have this report
-abbrev pub ReportsBothWays : Module → FuncId → ℕ → ℕ → ℕ → List (List ℕ) → Type 0
-ReportsBothWays m e bound steps low_steps answer = ReportsByHolders m e bound steps answer × ReportsWhenLowered m e bound low_steps answer
 
 -- the run by holders of a module that isn't accepted ends in this fault
 abbrev pub FaultsByHolders : Module → FuncId → ℕ → ℕ → HolderFault → Type 0

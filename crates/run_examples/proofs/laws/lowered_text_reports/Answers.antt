@@ -1,12 +1,10 @@
 -- For the law `lowered_text_reports`.
-use Rattle.run_examples.proofs.LoweredCopyInsideItsSource.{lowered_copy_inside_its_source_proved}
 use Rattle.run_examples.proofs.LoweredRetainedWithoutARelease.{lowered_retained_without_a_release_proved}
 use Rattle.run_examples.proofs.LoweredUnwrittenFieldIsSkipped.{lowered_unwritten_field_is_skipped_proved}
 use Rattle.run_examples.proofs.laws.lowered_text_reports.Goals as goal
 
 pub returns : goal.returns
 returns c = record {
-  lowered_copy_inside_its_source = lowered_copy_inside_its_source_proved;
   lowered_retained_without_a_release = lowered_retained_without_a_release_proved;
   lowered_unwritten_field_is_skipped = lowered_unwritten_field_is_skipped_proved;
 }
