@@ -42,7 +42,3 @@ left_as_turned (m ∷ ms) on behind e =
     by_turn : (b : Bool) → finds m.needs on ≡ b → (x : Bool) → switched_by m on ≡ Some x → x ≡ unwrap_or m.turns on
     by_turn true is x so = let here : switched_by m on ≡ Some (unwrap_or m.turns on) = rw is in sym (same_Some (unwrap_or m.turns on) x (sym here ∙ so))
     by_turn false is x so = let none : switched_by m on ≡ None = rw is in absurd (none-some x (sym none ∙ so))
-
-pub turned_append : (xs ys : List Mark) (on : Bool) → turned_over (xs ++ ys) on ≡ turned_over ys (turned_over xs on)
-turned_append [] ys on = refl
-turned_append (m ∷ xs) ys on = turned_append xs ys (unwrap_or m.turns on)

@@ -88,22 +88,6 @@ none_handed_by_row access.Stores q row e = stores_none q row (same_Some (store_o
 none_handed_by_row access.Destroys q row e = cc
 none_handed_by_row _ q row e = none-some (Handed row) e
 
-no_operation : (k : AccessKind) → operates k ≡ false → (q : Qualifier) → operation_by k q ≡ None
-no_operation access.NoAccess e q = refl
-no_operation access.AllocatesSlot e q = refl
-no_operation access.AllocatesObject e q = refl
-no_operation access.DeallocatesSlot e q = refl
-no_operation access.LendsValue e q = refl
-no_operation access.Upcasts e q = refl
-no_operation access.LendsLocation e q = absurd (true≢false e)
-no_operation access.NamesField e q = refl
-no_operation access.NamesMember e q = refl
-no_operation access.NamesElement e q = refl
-no_operation access.Loads e q = absurd (true≢false e)
-no_operation access.Stores e q = absurd (true≢false e)
-no_operation access.Destroys e q = absurd (true≢false e)
-no_operation access.Passes e q = refl
-
 -- ---- what is handed over
 
 -- the row of one of the conventions

@@ -78,9 +78,6 @@ module _ (sources : List Source) (object : ValueId) (k : ℕ) where
   abbrev pub cell : Cell
   cell = record { subject = object; field = Some k }
 
-  empties : Bool → Bool → Operation → Type 0
-  empties trivial part o = (operation_mark trivial part o).turns ≡ Some false
-
   -- a root of another sort has another cell
   other_cell : (root : ValueId) → same_cell (record { subject = root; field = None }) cell ≡ false
   other_cell root = never_both (is_same root object)

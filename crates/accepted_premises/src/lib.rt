@@ -1,7 +1,3 @@
 //! Laws: what the laws of trails and of entries ask of values holds in each function with a body of an accepted module.
 //! It has no code that runs. It knows of no run.
 #![tactic(auto)]
-
-mod laws;
-
-pub use laws::{bases_are_of_taken, ends_may_end, values_are_made_at_stops};

@@ -30,7 +30,7 @@ use Rattle.accepted_runs.proofs.Loans.Kept.{loans_kept}
 use Rattle.accepted_runs.proofs.GuardedRuns.{guarded_kept}
 use Rattle.accepted_runs.proofs.PlacesServe.{places_serve}
 use Rattle.accepted_runs.specs.inner.Kept.{IsKept}
-use Rattle.accepted_runs.specs.inner.Laws.{AreStatesRight, AreStepsRight, NoOutcomeFaults, NoRunFaults}
+use Rattle.accepted_runs.specs.inner.Laws.{AreStatesRight, NoOutcomeFaults, NoRunFaults}
 use Rattle.accepted_runs.specs.inner.RightStates.{IsRightState}
 use Rattle.accepted_runs.proofs.KeptOnRuns.{And, Nothing, both_kept, outcomes_exclude, runs_exclude, states_hold}
 
@@ -150,9 +150,6 @@ right_kept = record {
 
 pub states_are_right : AreStatesRight
 states_are_right = states_hold IsRightState by_parts right_kept
-
-pub steps_stay_right : AreStepsRight
-steps_stay_right m bound s next v is by = right_kept.goes m bound s next v tt tt is by
 
 pub no_run_faults : NoRunFaults
 no_run_faults m e f bound v there may steps s x is = each_excluded x (runs_exclude IsRightState by_parts right_kept m e f bound v there may steps s x is)

@@ -1,10 +1,3 @@
 //! What acceptance says of the trails of a function: values are defined where they are operands, Owned values are held and scopes open
 //! where they are used, and what a scope borrows from stays as it is. It has no code that runs. It knows of no memory.
 #![tactic(auto)]
-
-mod laws;
-
-pub use laws::{
-    bases_are_as_made, bases_are_kept, borrowed_values_stay, functions_are_accepted,
-    lives_are_passed, operands_are_defined, scopes_are_passed,
-};

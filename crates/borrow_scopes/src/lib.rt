@@ -10,4 +10,4 @@ mod others;
 mod scopes;
 
 pub use borrows::check;
-pub use laws::{rules_are_on_scopes, scopes_are_runs};
+pub use laws::scopes_are_runs;

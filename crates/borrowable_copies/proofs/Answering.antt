@@ -1,5 +1,5 @@
 -- What is known of copies.
-use Rattle.std.proofs.Common.{◌≡◌, ◌≢◌, ◌⊎◌, inl, inr, ℕ, zero, suc, ◌+◌, ◌<◌, ◌≤◌, get_or, set, List, [], ◌∷◌, length, refl, sym, ap, ◌∙◌, subst, Bool, true, false, Option, Some, None, arith}
+use Rattle.std.proofs.Common.{◌≡◌, ◌≢◌, ◌⊎◌, inl, inr, ℕ, zero, suc, ◌+◌, ◌<◌, ◌≤◌, set, List, length, refl, sym, ap, ◌∙◌, subst, Bool, true, false, Option, Some, None, arith}
 use Rattle.std.specs.Prelude.{IfSome, IsSome, IsSomeAnd, replicate}
 use Rattle.std.proofs.lemmas.Bool.{cases_eq, cases_lt}
 use Rattle.std.proofs.lemmas.List.{get_or-set_other, get_or-set_same, length-set, set_past}
@@ -10,7 +10,7 @@ use Rattle.sil_ast.specs.declared.place.ValueId.{ValueId}
 use Rattle.ownership_chains.specs.declared.facts.Facts.{Facts}
 use Rattle.copy_removal.specs.Copies.{IsCopy}
 use Rattle.borrowable_copies.specs.declared.answers.Answer.{Answer}
-use Rattle.borrowable_copies.specs.inner.Answers.{AreAnswered, AreAnswers, AreKept, AreSpared, AreToldBefore, IsDoubtful, IsToldOf, answer_in, noted, noted_of}
+use Rattle.borrowable_copies.specs.inner.Answers.{AreAnswered, AreAnswers, AreToldBefore, IsDoubtful, IsToldOf, answer_in, noted, noted_of}
 use Rattle.borrowable_copies.specs.inner.Together.{AreCopies, operand_in}
 use Rattle.borrowable_copies.proofs.FoundTogether.{operand_below}
 
@@ -26,9 +26,6 @@ none_in (suc n) (suc i) = none_in n i
 
 pub none_known : (facts : ValueId → Option Facts) (f : Function) (n : ℕ) → AreAnswers facts f (replicate n None)
 none_known facts f n c x known = absurd (let wrong : None ≡ Some x = sym (none_in n c.0) ∙ known in cc)
-
-pub none_at_all : (facts : ValueId → Option Facts) (f : Function) → AreAnswers facts f []
-none_at_all facts f c x known = absurd (let wrong : None ≡ Some x = known in cc)
 
 -- one answer more
 
@@ -108,52 +105,6 @@ all_answered f count copied answers copies each told q c v copy low lt = by_oper
 abbrev pub AreSparedBefore : ValueId → ℕ → List (Option Answer) → List (Option Answer) → Type 0
 AreSparedBefore v n old new = (c : ValueId) (x : Answer) → answer_in new c.0 ≡ Some x → (answer_in old c.0 ≡ Some x) × (c.0 < n → IsDoubtful v c.0 x → ⊥)
 
-pub kept_more : (v : ValueId) (old now : List (Option Answer)) (n : ℕ) → n < length now → IsSomeAnd (answer_in now n) (IsDoubtful v n) → AreSparedBefore v n old now → AreKept v old now
-    → AreKept v old (set now n None)
-kept_more v old now n room doubt before kept c x known sure = at (cases_eq c.0 n)
-  where
-    still : answer_in now c.0 ≡ Some x
-    still = kept c x known sure
-
-    at : (c.0 ≡ n) ⊎ (c.0 ≢ n) → answer_in (set now n None) c.0 ≡ Some x
-    at (inl same) =
-        absurd (sure (subst (λ k. IsDoubtful v k x) (sym same)
-        (subst (λ o. IsSomeAnd o (IsDoubtful v n)) (ap (answer_in now) (sym same) ∙ still) doubt)))
-    at (inr other) = get_or-set_other now n c.0 None None other ∙ still
-
-module _ (v : ValueId) (old now : List (Option Answer)) (n : ℕ) (before : AreSparedBefore v n old now) where
-  pub spared_kept : (IsSomeAnd (answer_in now n) (IsDoubtful v n) → ⊥) → AreSparedBefore v (n + 1) old now
-  spared_kept none c x known = ((before c x known).0, λ under. at under (cases_lt c.0 n))
-    where
-      at : c.0 < n + 1 → (c.0 < n) ⊎ (n ≤ c.0) → IsDoubtful v c.0 x → ⊥
-      at under (inl lt) doubt = (before c x known).1 lt doubt
-      at under (inr le) doubt =
-          let same : c.0 ≡ n = omega arith in
-          none (subst (λ k. IsSomeAnd (answer_in now k) (IsDoubtful v k)) same (subst (λ o. IsSomeAnd o (IsDoubtful v c.0)) (sym known) doubt))
-
-  pub spared_forgotten : n < length now → AreSparedBefore v (n + 1) old (set now n None)
-  spared_forgotten room c x known = at (cases_eq c.0 n)
-    where
-      at : (c.0 ≡ n) ⊎ (c.0 ≢ n) → (answer_in old c.0 ≡ Some x) × (c.0 < n + 1 → IsDoubtful v c.0 x → ⊥)
-      at (inl same) =
-          absurd (let wrong : None ≡ Some x = sym (get_or-set_same now n None None room) ∙ ap (answer_in (set now n None)) (sym same) ∙ known in cc)
-      at (inr other) =
-          let was = before c x (sym (get_or-set_other now n c.0 None None other) ∙ known) in
-          (was.0, λ under doubt. let lt : c.0 < n = omega arith in was.1 lt doubt)
-
-pub spared_all : (v : ValueId) (old new : List (Option Answer)) (n : ℕ) → length new ≤ n → AreSparedBefore v n old new → AreSpared v old new
-spared_all v old new n most h c x known = ((h c x known).0, λ doubt. at (cases_lt c.0 n) doubt)
-  where
-    at : (c.0 < n) ⊎ (n ≤ c.0) → IsDoubtful v c.0 x → ⊥
-    at (inl lt) doubt = (h c x known).1 lt doubt
-    at (inr le) doubt =
-        absurd (let wrong : None ≡ Some x = sym (past new c.0 (omega arith)) ∙ known in cc)
-      where
-        past : (xs : List (Option Answer)) (k : ℕ) → length xs ≤ k → get_or xs k None ≡ None
-        past [] k le = refl
-        past (y ∷ xs) zero le = absurd (omega arith)
-        past (y ∷ xs) (suc k) le = past xs k (omega arith)
-
 -- an answer of the same operand
 
 pub answer_told : (facts : ValueId → Option Facts) (f : Function) (answers : List (Option Answer)) (c v : ValueId) (x : Answer) → answer_in answers c.0 ≡ Some x → x.operand.0 ≡ v.0
@@ -165,12 +116,6 @@ pub answer_known : (answers : List (Option Answer)) (c v : ValueId) (x : Answer)
 answer_known answers c v x b known other =
     let same : x ≡ record { operand = v; borrowable = b } = same_Some x (record { operand = v; borrowable = b }) (sym known ∙ other) in
     (ap (λ (y : Answer). y.operand.0) same, ap (λ (y : Answer). y.borrowable) same)
-
-pub none_to_know : (answers : List (Option Answer)) (c v : ValueId) (o : Option Bool) (b : Bool) → answer_in answers c.0 ≡ None
-    → answer_in answers c.0 ≡ Some (record { operand = v; borrowable = b }) → o ≡ Some b
-none_to_know answers c v o b none other =
-    let made : Answer = record { operand = v; borrowable = b } in
-    absurd (let wrong : None ≡ Some made = sym none ∙ other in cc)
 
 pub told_some : (answers : List (Option Answer)) (c v : ValueId) (o : Option Bool) (b : Bool) → o ≡ Some b
     → IfSome o (λ k. (facts : ValueId → Option Facts) (f : Function) → AreAnswers facts f answers → IsToldOf facts f c v k)

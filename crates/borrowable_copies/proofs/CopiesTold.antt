@@ -1,6 +1,6 @@
 -- What is told to be a copy is one, and each copy of a function is told.
-use Rattle.std.proofs.Common.{◌≡◌, ◌≢◌, ◌⊎◌, inl, inr, ℕ, zero, suc, ◌+◌, ◌<◌, ◌≤◌, set, List, [], ◌∷◌, length, refl, sym, ap, ◌∙◌, subst, Option, Some, None, arith}
-use Rattle.std.specs.Prelude.{IfNone, IfSome, IsSome, IsSomeAnd, is_some, replicate}
+use Rattle.std.proofs.Common.{◌≡◌, ◌≢◌, ◌⊎◌, inl, inr, ℕ, ◌+◌, ◌<◌, ◌≤◌, set, List, [], ◌∷◌, length, refl, sym, ap, ◌∙◌, subst, Option, Some, None, arith}
+use Rattle.std.specs.Prelude.{IfNone, IfSome, IsSome, IsSomeAnd, is_some}
 use Rattle.std.specs.List.{slice_get}
 use Rattle.std.proofs.lemmas.Bool.{cases_eq, cases_lt}
 use Rattle.std.proofs.lemmas.List.{get_or-set_other, get_or-set_same, length-set, set_past}
@@ -63,16 +63,6 @@ standing f p i (Some block) there e = slice_get_within block.insts p.index i e
 
 copy_item : (f : Function) (p : PointId) (c v : ValueId) → IsCopy f p c v → IsItem f (Inst p)
 copy_item f p c v h = standing f p h.inst (slice_get f.blocks p.block.0) refl h.stands
-
--- at first none is told
-
-none_in : (n i : ℕ) → operand_in (replicate n None) i ≡ None
-none_in zero i = refl
-none_in (suc n) zero = refl
-none_in (suc n) (suc i) = none_in n i
-
-pub none_copied : (f : Function) (n : ℕ) → AreCopies f (replicate n None)
-none_copied f n c w told = absurd (let wrong : None ≡ Some w = sym (none_in n c.0) ∙ told in cc)
 
 -- one copy more
 

@@ -1,7 +1,6 @@
 -- What an instruction and what stands at a point say of copies and destroys.
-use Rattle.std.proofs.Common.{◌≡◌, ℕ, [], ◌∷◌, refl, sym, ap, ◌∙◌, subst, Bool, true, false, Option, Some, None, eq-eqb}
-use Rattle.std.specs.Prelude.{◌==◌, ◌↔◌, IfNone, IfSome, IsTrue}
-use Rattle.std.proofs.lemmas.Bool.{eqb-true}
+use Rattle.std.proofs.Common.{◌≡◌, [], ◌∷◌, refl, sym, ◌∙◌, subst, Bool, true, false, Option, Some, None}
+use Rattle.std.specs.Prelude.{◌↔◌, IfNone, IfSome, IsTrue}
 use Rattle.std.proofs.lemmas.Option.{same_Some}
 use Rattle.instruction_table.specs.declared.op.Op.TheVariants as op
 use Rattle.sil_ast.specs.declared.function.Function.{Function}
@@ -13,19 +12,7 @@ use Rattle.item_operands.specs.Parts.{inst_at}
 use Rattle.copy_removal.specs.Copies.{Copies, Destroys, IsCopy, IsDestroy, is_op}
 use Rattle.borrowable_copies.specs.declared.copies.Copied.{Copied}
 
-same_value : (a b : ValueId) → a.0 ≡ b.0 → a ≡ b
-same_value a b e = ap (λ (n : ℕ). let v : ValueId = record { 0 = n } in v) e
-
 -- copies
-
-pub no_copy : (i : Inst) → is_op op.CopyValue i ≡ false → (c v : ValueId) → Copies i c v → ⊥
-no_copy i not_so c v h = let wrong : true ≡ false = sym h.copies ∙ not_so in cc
-
-pub no_result : (i : Inst) → ((v : ValueId) → i.results ≡ v ∷ [] → ⊥) → (c v : ValueId) → Copies i c v → ⊥
-no_result i none c v h = none c h.result
-
-pub no_operand : (i : Inst) → ((o : Operand) → i.operands ≡ o ∷ [] → ⊥) → (c v : ValueId) → Copies i c v → ⊥
-no_operand i none c v h = none h.operand h.operands
 
 pub copies : (i : Inst) (c : ValueId) (o : Operand) → is_op op.CopyValue i ≡ true → i.results ≡ c ∷ [] → i.operands ≡ o ∷ [] → Copies i c o.value
 copies i c o so result operands = record { copies = so; result = result; operand = o; operands = operands; copied = refl }
@@ -47,18 +34,6 @@ pub not_destroy : (i : Inst) (v : ValueId) → is_op op.DestroyValue i ≡ false
 not_destroy i v not_so = (
   λ t. absurd (let wrong : false ≡ true = t in cc),
   λ h. absurd (let wrong : true ≡ false = sym h.destroys ∙ not_so in cc),
-)
-
-pub without_operand : (i : Inst) (v : ValueId) → ((o : Operand) → i.operands ≡ o ∷ [] → ⊥) → IsTrue false ↔ Destroys i v
-without_operand i v none = (λ t. absurd (let wrong : false ≡ true = t in cc), λ h. absurd (none h.operand h.operands))
-
-pub destroys_if : (i : Inst) (v : ValueId) (o : Operand) → is_op op.DestroyValue i ≡ true → i.operands ≡ o ∷ [] → IsTrue (o.value.0 == v.0) ↔ Destroys i v
-destroys_if i v o so operands = (
-  λ t. record { destroys = so; operand = o; operands = operands; destroyed = same_value o.value v (eqb-true o.value.0 v.0 t) },
-  λ h.
-      let lists : h.operand ∷ [] ≡ o ∷ [] = sym h.operands ∙ operands in
-      let same : h.operand ≡ o = cc in
-      eq-eqb o.value.0 v.0 (ap (λ (x : Operand). x.value.0) (sym same) ∙ ap (λ (x : ValueId). x.0) h.destroyed),
 )
 
 pub destroyed_at : (f : Function) (p : PointId) (v : ValueId) (i : Inst) (r : Bool) → Some i ≡ inst_at f p → IsTrue r ↔ Destroys i v → IsTrue r ↔ IsDestroy f p v

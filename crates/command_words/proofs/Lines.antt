@@ -105,12 +105,6 @@ module _ (words : List Text) where
   abbrev pub end : Walk
   end = fold (walked rules []) start words
 
-  fault_is : fault_of declared_app words ≡ or_else (walk_fault top [] start words) (checks end.held end.stopped)
-  fault_is = refl
-
-  matches_are : matches_of declared_app words ≡ finished rules end.held
-  matches_are = refl
-
   -- what the words give where nothing is wrong
   pub record SaidBy : Type 0 where
     pub given : List Given

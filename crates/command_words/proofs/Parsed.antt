@@ -4,7 +4,7 @@ use Rattle.std.proofs.lemmas.List.{map-append}
 use Rattle.std.specs.Str.{bytes_eq}
 use Rattle.clap.specs.Faults.{settle_fault, use_fault}
 use Rattle.clap.specs.Kinds.{Kinds, or_else}
-use Rattle.clap.specs.Simple.{Shape, built, is_simple, new_rule}
+use Rattle.clap.specs.Simple.{Shape, is_simple, new_rule}
 use Rattle.clap.specs.Faults.{is_simple_and_free}
 use Rattle.clap.specs.Walk.{Held, Row, Rule, Text, arg_by_long, at_row, has_row, more_values, settled, used}
 use Rattle.clap.specs.Values.{reading_of}
@@ -65,9 +65,6 @@ option_takes_word optimize opt = absurd (true≢false (sym opt))
 
 abbrev pub top : Shape
 top = record bare_app.top { rules = rules; is_built = true; disable_help_subcommand = true }
-
-pub built_is : built declared_app ≡ record { top = top; subs = [] }
-built_is = refl
 
 pub is_simple_command : is_simple_and_free declared_app ≡ true
 is_simple_command = refl

@@ -54,6 +54,3 @@ module _ (graph : Graph) (marks : List Bool) (order : List ℕ) (v : ℕ) (insid
     count = (let fewer : suc (count_by not (set marks v true)) ≡ count_by not marks = count_set marks v within off in let longer : length (order ++ v ∷ []) ≡ length order + 1 = length_push order v in
         let count : count_by not marks + length order ≡ length graph = s.count in omega arith);
   }
-
-  pub fewer_left : count_by not (set marks v true) < count_by not marks
-  fewer_left = let fewer : suc (count_by not (set marks v true)) ≡ count_by not marks = count_set marks v within off in omega arith

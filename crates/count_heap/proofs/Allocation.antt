@@ -47,11 +47,6 @@ module _ (d : Declarations) (t : Numbers) (records : List SlotRecord) (sides : L
   -- an object whose slot and piece are as before
   module _ (n u : ℕ) (named : slot_in t n ≡ Some u) (side : sides_at sides' u ≡ sides_at sides u)
       (piece : IsAlive records u → piece_in pieces' (record_at records u).piece ≡ piece_in pieces (record_at records u).piece) where
-    same_object : object_at d records' sides' pieces' u ≡ object_at d records sides pieces u
-    same_object =
-        ap (λ r. object_of d r (sides_at sides' u) pieces') (kept u) ∙ ap (λ x. object_of d (record_at records u) x pieces') side
-        ∙ ap (λ fs. record (object_of d (record_at records u) (sides_at sides u) pieces) { fields = fs }) (same_fields d (record_at records u) pieces' pieces piece)
-
     same_kept : length sides ≤ length sides' → IsKept d records' sides' pieces' u
     same_kept longer =
         let old = heap.kept n u named in
@@ -193,9 +188,6 @@ module _ (d : Declarations) (t : Numbers) (records : List SlotRecord) (sides : L
       by (inl was_u) (inr is_v) = absurd (other_piece n u was_u (old_alive n u was_u alive_u) (sym (old_piece n u was_u) ∙ equal ∙ new_piece v is_v))
       by (inr is_u) (inl was_v) = absurd (other_piece m v was_v (old_alive m v was_v alive_v) (sym (old_piece m v was_v) ∙ sym equal ∙ new_piece u is_u))
       by (inr is_u) (inr is_v) = is_u ∙ sym is_v
-
-  as_one : Option ℕ → ℕ
-  as_one x = cond (is_some x) 1 0
 
   one_more_place : count_by is_some (t'.places ++ Some s ∷ []) ≡ count_by is_some t.places + 1
   one_more_place = ap (λ ps. count_by is_some (ps ++ Some s ∷ [])) places ∙ sum_by-append (λ x. cond (is_some x) 1 0) t.places (Some s ∷ [])

@@ -47,14 +47,6 @@ module _ (d : Declarations) (t : Numbers) (records : List SlotRecord) (sides : L
       by None e = ap is_some e ∙ sym (ap is_some (no_object_seen e))
       by (Some s) e = ap is_some e ∙ sym (ap is_some (object_seen s e))
 
-  -- an object that is seen has a slot
-  pub seen_slot : is_some (object_in heap o) ≡ true → is_some (slot_in t o.0) ≡ true
-  seen_slot some = by (slot_in t o.0) refl
-    where
-      by : (x : Option ℕ) → slot_in t o.0 ≡ x → is_some x ≡ true
-      by None e = sym (ap is_some (no_object_seen e)) ∙ some
-      by (Some s) e = refl
-
 -- what was read of a slot's record
 pub read_slot : (d : Declarations) (t : Numbers) (records : List SlotRecord) (sides : List SlotSides) (pieces : Pieces) → IsHeap d t records sides pieces
     → (n s : ℕ) → slot_in t n ≡ Some s → (now : SlotRecord) → now ≡ slice_index_or records s now → now ≡ record_at records s

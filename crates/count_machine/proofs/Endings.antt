@@ -36,24 +36,6 @@ module _ (m : Module) (s : Shape) (st : MachineView) where
       ap (λ t. end.Trap (trap.CondFail t))
       (same ∙ ap (λ x. text_in (option_and_then (λ f. inst_at f p) x)) there ∙ ap text_in at ∙ ap (λ t. unwrap_or t []) has)
 
-  pub unreachable_told : IsToldAs m s st stop.Unreachable (end.Trap trap.Unreachable)
-  unreachable_told _ unreachable = refl
-
-  pub unowned_told : IsToldAs m s st stop.Unowned (end.Trap trap.Unowned)
-  unowned_told _ unowned = refl
-
-  pub escaped_told : IsToldAs m s st stop.Escaped (end.Trap trap.Escaped)
-  escaped_told _ escaped = refl
-
-  pub depth_told : IsToldAs m s st stop.Depth (end.Trap trap.Depth)
-  depth_told _ depth = refl
-
-  pub bound_told : IsToldAs m s st stop.OutOfTurns end.OutOfTurns
-  bound_told _ out_of_turns = refl
-
-  pub fault_told : (x : LowFault) → IsToldAs m s st (stop.Fault x) (end.Fault x)
-  fault_told x _ (fault _) = refl
-
   -- none is left but after a return
   left_told : (h : HeapView) (end : RunEnd) (x : Ending LowFault) → IsEnding m s st end x → st.heap ≡ h → left_after h (ending_told x) ≡ stopped.left_after st end
   left_told h _ _ (returned l x has) same = ap all_left (sym same)

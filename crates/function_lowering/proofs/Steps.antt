@@ -1,6 +1,6 @@
 -- A loop over a list that keeps what is made so far before what becomes of the rest.
-use Rattle.std.proofs.Common.{◌≡◌, ℕ, ◌+◌, ◌<◌, ◌≤◌, List, [], ◌∷◌, ◌++◌, length, get_or, drop, take, sym, ap, ◌∙◌, append_assoc}
-use Rattle.std.proofs.lemmas.List.{append-nil, drop_all, drop_more, take_more}
+use Rattle.std.proofs.Common.{◌≡◌, ℕ, ◌+◌, ◌<◌, ◌≤◌, List, [], ◌∷◌, ◌++◌, length, get_or, drop, sym, ap, ◌∙◌, append_assoc}
+use Rattle.std.proofs.lemmas.List.{append-nil, drop_all, drop_more}
 
 module _ {X A : Type 0} where
   -- one element more: the rest of a list that begins with it is what it becomes, before another rest
@@ -17,8 +17,3 @@ module _ {X A : Type 0} where
   pub drop_done : (rest : List X → List A) (xs : List X) (k : ℕ) (old all : List A) → length xs ≤ k → rest [] ≡ [] → old ++ rest (drop k xs) ≡ all → old ≡ all
   drop_done rest xs k old all le none before =
       sym (append-nil old) ∙ ap (λ r. old ++ r) (sym none) ∙ ap (λ ys. old ++ rest ys) (sym (drop_all k xs le)) ∙ before
-
-  -- of a function that goes through a list: one element more
-  pub take_next : (f : List X → List A) → ((xs ys : List X) → f (xs ++ ys) ≡ f xs ++ f ys) → (xs : List X) (k : ℕ) (x : X) → k < length xs → x ≡ get_or xs k x
-      → f (take (k + 1) xs) ≡ f (take k xs) ++ f (x ∷ [])
-  take_next f splits xs k x lt is = ap f (take_more xs k x lt ∙ ap (λ y. take k xs ++ y ∷ []) (sym is)) ∙ splits (take k xs) (x ∷ [])

@@ -10,7 +10,7 @@ use Rattle.leaf_pool.specs.Pieces.{IsChanged, piece_in, put_leaves}
 use Rattle.leaf_pool.specs.declared.piece.Piece.{Piece}
 use Rattle.leaf_pool.specs.inner.Layout.{AreLaidOut, depth_at, first_at, given_out, held_by, leaves_of, no_piece, pieces_in, size_at}
 use Rattle.leaf_pool.proofs.Freed.{all_same, at_other, at_same, first_of, piece_at, size_of}
-use Rattle.leaf_pool.proofs.ListParts.{length_put, new_part, part_after, part_before, part_inside, part_of_longer}
+use Rattle.leaf_pool.proofs.ListParts.{new_part, part_after, part_before, part_inside, part_of_longer}
 use Rattle.std.proofs.Math.Path.{fun_ext}
 
 mapped : {X Y : Type 0} (f : X → Y) (xs : List X) (i : ℕ) (d : X) (e : Y) → i < length xs → get_or (map f xs) i e ≡ f (get_or xs i d)
@@ -76,9 +76,6 @@ module _ (leaves : List Leaf) (pieces : List Piece) (laid : AreLaidOut (length p
     abbrev put_then : List Leaf
     put_then = put_leaves (first_at pieces p + from) ys leaves
 
-    pub put_length : length put_then ≡ length leaves
-    put_length = length_put (first_at pieces p + from) ys leaves (let h : first_at pieces p + from + length ys ≤ length leaves = omega (arith, laid.within p lt) in h)
-
     put_other : (q : ℕ) → (q ≡ p → ⊥) → q < length pieces → leaves_of put_then (piece_at pieces q) ≡ leaves_of leaves (piece_at pieces q)
     put_other q differs within =
         let inside : first_at pieces p + from ≤ length leaves = omega (arith, laid.within p lt) in
@@ -100,9 +97,6 @@ module _ (leaves : List Leaf) (pieces : List Piece) (laid : AreLaidOut (length p
         changed_at leaves pieces put_then pieces p (option_map (put_leaves from ys) (piece_in (pieces_in leaves pieces) p)) lt refl
         (held_out put_then pieces (piece_at pieces p) out ∙ ap Some put_here ∙ sym (ap (option_map (put_leaves from ys)) (seen_out leaves pieces p lt out)))
         held_other
-
-    pub put_laid : AreLaidOut (length pieces) (length put_then) (first_at pieces) (size_at pieces)
-    put_laid = subst (λ n. AreLaidOut (length pieces) n (first_at pieces) (size_at pieces)) (sym put_length) laid
 
   -- how many leaves a piece has
   pub size_is : (p : ℕ) → p < length pieces → length (leaves_of leaves (piece_at pieces p)) ≡ size_at pieces p
@@ -143,9 +137,6 @@ module _ (leaves : List Leaf) (pieces : List Piece) (laid : AreLaidOut (length p
 
     at_first : first_at pieces p + 0 ≡ first_at pieces p
     at_first = omega arith
-
-    pub blank_length : length (put_leaves (first_at pieces p) blank leaves) ≡ length leaves
-    blank_length = ap (λ n. length (put_leaves n blank leaves)) (sym at_first) ∙ put_length p 0 blank lt blank_fits
 
     whole : put_leaves 0 blank (leaves_of leaves (piece_at pieces p)) ≡ blank
     whole =

@@ -86,6 +86,3 @@ module _ (c : ValueId) (f : Function) (lent_marks marks : Item → List Mark) (s
         shows = subst (λ (ms : Item → List Mark). Shows (flow_of f) ms IsInPlace code_of walk (index_of rule) item) (λ i x. same x i)
             (subst (λ g. Shows g lent_marks IsInPlace code_of walk (index_of rule) item) (flow_lent c f) h.shows);
       })
-
-  pub kept_lent : IsKept (flow_of f) lent_marks IsInPlace → IsKept (flow_of (lent c f)) lent_marks IsInPlace
-  kept_lent all = subst (λ g. IsKept g lent_marks IsInPlace) (sym (flow_lent c f)) all

@@ -26,17 +26,6 @@ module _ {A : Type 0} where
   each_weaker P Q weaker [] h = tt
   each_weaker P Q weaker (x ∷ xs) h = (weaker x h.0, each_weaker P Q weaker xs h.1)
 
-  -- what holds at each split holds of each
-  splits_from : (P : A → Type 0) (before xs : List A) → ((front rest : List A) (x : A) → before ++ xs ≡ front ++ x ∷ rest → P x) → Each P xs
-  splits_from P before [] h = tt
-  splits_from P before (x ∷ xs) h = (
-    h before xs x refl,
-    splits_from P (before ++ x ∷ []) xs (λ front rest y e. h front rest y (sym (append_assoc before (x ∷ []) xs) ∙ e)),
-  )
-
-  pub each_split : (P : A → Type 0) (xs : List A) → ((front rest : List A) (x : A) → xs ≡ front ++ x ∷ rest → P x) → Each P xs
-  each_split P xs h = splits_from P [] xs h
-
   contains_later : (x y : A) (xs : List A) → Contains xs y → Contains (x ∷ xs) y
   contains_later x y xs c = (suc c.0, omega (arith, c.1), c.2)
 

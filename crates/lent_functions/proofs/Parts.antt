@@ -31,9 +31,6 @@ module _ (c : ValueId) where
   pub inst_results : (i : inst.Inst) → (lent_inst c i).results ≡ i.results
   inst_results i = part_kept (λ j. j.results) (λ o j. refl) c i
 
-  pub inst_edges : (i : inst.Inst) → (lent_inst c i).edges ≡ i.edges
-  inst_edges i = part_kept (λ j. j.edges) (λ o j. refl) c i
-
   -- an instruction that ends a block stays
   no_terminator : (i j : inst.Inst) → IsTrue (is_terminator i.op) → Becomes c i j → j ≡ i
   no_terminator i _ h (borrows e m) = absurd (let wrong : false ≡ true = sym (ap is_terminator e) ∙ h in cc)

@@ -70,9 +70,6 @@ argument_not d f zero k = at (slice_get (arguments_of f.signature) k)
 argument_not d f (suc b) k = refl
 
 module _ (m : Module) (n : ℕ) (f : Function) (a : IsAcceptedBody m n f) where
-  abbrev sources : List Source
-  sources = sources_of (declarations_of m) f
-
   -- a result that the value is, of an instruction
   pub record IsResultOf (w : ValueId) : Type 0 where
     pub point : PointId

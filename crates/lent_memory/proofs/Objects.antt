@@ -170,9 +170,6 @@ module _ (m : Module) (n : ℕ) (f : Function) (a : IsAcceptedBody m n f) (p : P
   abbrev facts : ValueId → Option Facts
   facts = facts_in (declarations_of m) f
 
-  abbrev S : List Source
-  S = sources_of (declarations_of m) f
-
   c_facts : facts_in (declarations_of m) f c ≡ Some (facts_with kind.Owned (c ∷ []))
   c_facts = copy_facts m n f a p c v copy
 

@@ -135,18 +135,9 @@ module _ (S T : List Source) (c v : ValueId) (h : AreLentSources S T c v) where
 
   -- ---- the copy
 
-  below_copied : (n : ℕ) → below S n c ≡ c
-  below_copied zero = refl
-  below_copied (suc n) = ap (λ s. below_by (below S n) c s) h.copied
-
   below_borrowed : (n : ℕ) → below T n c ≡ c
   below_borrowed zero = refl
   below_borrowed (suc n) = ap (λ s. below_by (below T n) c s) h.borrowed
-
-  -- it builds nothing
-  pub copy_unbuilt : object_built S c ≡ None
-  unfolding upcast_from
-  copy_unbuilt = ap (λ u. object_lent S (source_at S u)) (below_copied (length S)) ∙ ap (object_lent S) h.copied
 
   -- and as a borrow v, where that is a new object
   pub copy_built : object_built T c ≡ cond (is_object (source_at S v)) (Some v) None

@@ -7,5 +7,5 @@ mod laws;
 mod lifetimes;
 mod lives;
 
-pub use laws::{lives_are_runs, rules_are_on_lifetimes};
+pub use laws::lives_are_runs;
 pub use lifetimes::check;

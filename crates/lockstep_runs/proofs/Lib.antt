@@ -6,7 +6,6 @@ pub mod Drained
 pub mod FrameSteps
 pub mod FrameParts
 pub mod Unchanged
-pub mod SameFunctions
 pub mod Again
 pub mod AsTheyDid
 pub use Rattle.holder_laws.proofs as holder_laws

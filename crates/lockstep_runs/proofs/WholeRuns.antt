@@ -37,9 +37,6 @@ module _ (m m' : Module) (told told' : ModuleFacts) (bound : ℕ) (First Second 
   arrived : (h r later : HolderState) → run (step m told bound) 0 h ≡ Goes later → AreTogether Like Alone later r → AreTogether Like Alone h r
   arrived h r later comes together = let same : later ≡ h = cc in subst (λ s. AreTogether Like Alone s r) same together
 
-  in_step : (ahead : ℕ) (h r later : HolderState) → run (step m told bound) ahead h ≡ Goes later → AreTogether Like Alone later r → InStep h r
-  in_step ahead h r later comes together = record { ahead = ahead; later = later; comes = comes; together = together }
-
   -- ---- where the first run ends
 
   record Forth (x : Ending HolderFault) (h r : HolderState) : Type 0 where

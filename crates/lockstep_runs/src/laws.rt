@@ -1,11 +1,6 @@
 //! Runs that agree, each law on a call that does nothing. The lemmas behind them are in `proofs/`.
 
-ghost use Rattle.lockstep_runs.specs.inner.Laws.{AreOutcomesInLockstep, IsAsItDidAgain, UnchangedRunAsTheyDid};
-
-/// Modules with the same functions and declarations run as each other: the theorem on lockstep, where no function is rewritten.
-pub fn unchanged_run_as_they_did()
-    ensures { UnchangedRunAsTheyDid }
-{}
+ghost use Rattle.lockstep_runs.specs.inner.Laws.{AreOutcomesInLockstep, IsAsItDidAgain};
 
 /// Where runs agree, what is told of them does.
 pub fn outcomes_are_in_lockstep()

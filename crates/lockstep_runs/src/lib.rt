@@ -4,4 +4,4 @@
 
 mod laws;
 
-pub use laws::{outcomes_are_in_lockstep, rewritten_again, unchanged_run_as_they_did};
+pub use laws::{outcomes_are_in_lockstep, rewritten_again};

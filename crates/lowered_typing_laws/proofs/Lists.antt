@@ -22,11 +22,6 @@ mapped_at f xs k x e = slice_get-map f xs k ∙ ap (option_map f) e
 pub from_mapped : {A B : Type 0} (f : A → B) (xs : List A) (k : ℕ) (y : B) → slice_get (map f xs) k ≡ Some y → (x : A) × (slice_get xs k ≡ Some x) × (f x ≡ y)
 from_mapped f xs k y e = mapped_from f (slice_get xs k) y (sym (slice_get-map f xs k) ∙ e)
 
-pub get_front : {A : Type 0} (xs ys : List A) (k : ℕ) (x : A) → slice_get xs k ≡ Some x → slice_get (xs ++ ys) k ≡ Some x
-get_front [] ys k x e = cc
-get_front (y ∷ xs) ys zero x e = e
-get_front (y ∷ xs) ys (suc k) x e = get_front xs ys k x e
-
 pub get_behind : {A : Type 0} (xs ys : List A) (k n : ℕ) → length xs + k ≡ n → slice_get (xs ++ ys) n ≡ slice_get ys k
 get_behind [] ys k n e = let same : n ≡ k = omega arith in ap (slice_get ys) same
 get_behind (x ∷ xs) ys k zero e = absurd (omega arith)

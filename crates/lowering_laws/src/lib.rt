@@ -3,7 +3,4 @@
 
 mod laws;
 
-pub use laws::{
-    defined_are_placed, functions_are_lowerable, kinds_have_no_rings, names_end,
-    new_values_are_counted, old_are_placed,
-};
+pub use laws::{functions_are_lowerable, kinds_have_no_rings};

@@ -1,14 +1,13 @@
 -- How a step goes on behind a test or a turn that went well.
-use Rattle.std.proofs.Common.{◌≡◌, ℕ, ◌+◌, Bool, true, false, cond, List, Some, None, sym, ap}
+use Rattle.std.proofs.Common.{◌≡◌, ℕ, ◌+◌, Bool, true, false, cond, List, None, sym, ap}
 use Rattle.std.specs.Prelude.{find, nat_lt}
-use Rattle.lowered_run.specs.declared.low_fault.LowFault.TheVariants as fault
 use Rattle.sil_ast.specs.declared.place.ValueId.{ValueId}
 use Rattle.machine_steps.specs.declared.frame.Frame.{Frame}
 use Rattle.machine_steps.specs.declared.run_end.RunEnd.{RunEnd}
 use Rattle.machine_steps.specs.declared.run_end.RunEnd.TheVariants as end
 use Rattle.holder_model.specs.declared.limits.TheConstants.{FRAMES}
 use Rattle.machine_steps.specs.Calling.{enter}
-use Rattle.machine_steps.specs.Operands.{faults, is_missing, unless_missing, with_all}
+use Rattle.machine_steps.specs.Operands.{is_missing, unless_missing, with_all}
 use Rattle.machine_steps.specs.Turning.{frames_in, turn}
 use Rattle.machine_steps.specs.Views.{Goes, MachineView, Stops, Went}
 
@@ -20,14 +19,6 @@ cond-goes false st st1 x at go e = cc
 pub turn-on : (bound : ℕ) (st after : MachineView) (go : MachineView → Went) → turn bound st Goes ≡ Goes after → turn bound st go ≡ go after
 turn-on bound st after go e = cond-goes (nat_lt st.turns bound) after (record st { turns = st.turns + 1 }) end.OutOfTurns st go e
 
-cond-stops : (b : Bool) (st1 : MachineView) (x y : RunEnd) (at st : MachineView) (go : MachineView → Went) → cond b (Goes st1) (Stops x at) ≡ Stops y st → cond b (go st1) (Stops x at) ≡ Stops y st
-cond-stops true st1 x y at st go e = cc
-cond-stops false st1 x y at st go e = e
-
--- a turn that stopped
-pub turn-stopped : (bound : ℕ) (st after : MachineView) (x : RunEnd) (go : MachineView → Went) → turn bound st Goes ≡ Stops x after → turn bound st go ≡ Stops x after
-turn-stopped bound st after x go e = cond-stops (nat_lt st.turns bound) (record st { turns = st.turns + 1 }) end.OutOfTurns x st after go e
-
 cond-taken : (b : Bool) (st st1 : MachineView) (x : RunEnd) (at : MachineView) → cond b (Goes st1) (Stops x at) ≡ Goes st → st1 ≡ st
 cond-taken true st st1 x at e = cc
 cond-taken false st st1 x at e = cc
@@ -38,10 +29,6 @@ turn-taken bound st after e = sym (cond-taken (nat_lt st.turns bound) after (rec
 -- values that are there
 pub with_all-on : (st : MachineView) (fr : Frame) (vs : List ValueId) (w : Went) → find (is_missing st fr) vs ≡ None → with_all st fr vs w ≡ w
 with_all-on st fr vs w e = ap (λ v. unless_missing v st w) e
-
--- a value that isn't
-pub with_all-missing : (st : MachineView) (fr : Frame) (vs : List ValueId) (w : Went) (v : ValueId) → find (is_missing st fr) vs ≡ Some v → with_all st fr vs w ≡ faults (fault.Missing v) st
-with_all-missing st fr vs w v e = ap (λ v. unless_missing v st w) e
 
 cond-entered : (b : Bool) (bound : ℕ) (st after : MachineView) (go : MachineView → Went) →
     cond b (turn bound st Goes) (Stops end.Depth st) ≡ Goes after → cond b (turn bound st go) (Stops end.Depth st) ≡ go after

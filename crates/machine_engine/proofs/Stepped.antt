@@ -1,26 +1,17 @@
 -- What the code does for the task that goes on is a step.
-use Rattle.std.proofs.Common.{◌≡◌, ℕ, List, [], ◌∷◌, Option, Some, None, drop, sym, ap, subst}
+use Rattle.std.proofs.Common.{◌≡◌, ℕ, List, [], ◌∷◌, Some, drop, sym, ap, subst}
 use Rattle.std.specs.Prelude.{slice_get}
 use Rattle.std.specs.declared.result.Result.{Result}
 use Rattle.ready_code.specs.declared.function.ReadyModule.{ReadyModule}
-use Rattle.machine_steps.specs.declared.frame.Frame.{Frame}
 use Rattle.machine_steps.specs.declared.frame.Task.{Task}
-use Rattle.machine_steps.specs.declared.frame.Task.TheVariants.{Drops, Finishes, Runs}
 use Rattle.machine_steps.specs.Steps.{machine_step, task_step}
 use Rattle.machine_steps.specs.Views.{MachineView}
-use Rattle.machine_state.specs.GoingOn.{frame_of}
 use Rattle.machine_state.specs.Went.{HasGone}
 use Rattle.machine_state.specs.declared.stop.Stop.{Stop}
 
 pub top-is : {A : Type 0} (xs : List A) (x : A) → Some x ≡ slice_get xs 0 → xs ≡ x ∷ drop 1 xs
 top-is [] x e = cc
 top-is (y ∷ ys) x e = let same : y ≡ x = cc in ap (λ z. z ∷ ys) same
-
-pub runs-is : (t : Option Task) (fr : Frame) → Some fr ≡ frame_of t → t ≡ Some (Runs fr)
-runs-is None fr e = cc
-runs-is (Some (Runs x)) fr e = cc
-runs-is (Some (Drops from)) fr e = cc
-runs-is (Some (Finishes o called)) fr e = cc
 
 pub stepped : (result : Result (Unit {0}) Stop) (new : MachineView) (ready : ReadyModule) (bound : ℕ) (st : MachineView) (t : Task) → Some t ≡ slice_get st.tasks 0 →
     ((rest : List Task) → st.tasks ≡ t ∷ rest → HasGone (task_step ready bound st (t ∷ rest)) result new) → HasGone (machine_step ready bound st) result new

@@ -2,7 +2,7 @@
 use Rattle.std.proofs.Common.{◌≡◌, ◌≤◌, ◌<◌, ◌+◌, ◌++◌, ◌⊎◌, inl, inr, ℕ, List, [], ◌∷◌, true, Some, length, map, refl, sym, ap, ◌∙◌, arith}
 use Rattle.std.specs.Prelude.{set, slice_get, take, unwrap_or}
 use Rattle.std.proofs.lemmas.Bool.{cases_eq, false≢true}
-use Rattle.std.proofs.lemmas.List.{length-set, length_push, take-append-le}
+use Rattle.std.proofs.lemmas.List.{length-set}
 use Rattle.std.proofs.lemmas.Option.{same_Some, slice_get_within}
 use Rattle.machine_steps.specs.declared.address.OpenSlot.{OpenSlot}
 use Rattle.run_values.specs.Memory.{Memory, Object, no_object, object_at, with_object}
@@ -10,7 +10,7 @@ use Rattle.sil_ast.specs.declared.module.Module.{Module}
 use Rattle.sil_ast.specs.declared.place.ObjectId.{ObjectId}
 use Rattle.sil_cfg.proofs.Gets.{kept_get}
 use Rattle.machine_laws.proofs.Grows.{Grows, StaysMade, WereMade}
-use Rattle.machine_laws.proofs.LayoutsLists.{at_others, at_set, at_taken, get_others, get_set, get_take, mapped_at, there_below}
+use Rattle.machine_laws.proofs.LayoutsLists.{at_others, at_set, get_others, get_set, get_take, mapped_at}
 use Rattle.machine_laws.proofs.Slots.{Content, Gone, Made, is_open, is_open_content, made_shape}
 
 abbrev pub serial_of : OpenSlot → ℕ
@@ -40,16 +40,6 @@ object_changed mem o x same = record {
         ∙ same ∙ ap (λ n. (unwrap_or (slice_get mem.objects n) no_object).class) (sym e)
     by_place p lt (inr ne) = ap (λ y. y.class) (at_others mem.objects o.0 p.0 x no_object ne)
 
--- an object is made
-pub object_added : (mem mem' : Memory) (x : Object) → mem'.objects ≡ mem.objects ++ x ∷ [] → ObjectsStay mem mem'
-object_added mem mem' x e = record {
-  objects = let count : length mem'.objects ≡ length mem.objects + 1 = ap length e ∙ length_push mem.objects x in omega (arith, count);
-  classes = λ o lt.
-      let front : take (length mem.objects) mem'.objects ≡ take (length mem.objects) mem.objects =
-      ap (take (length mem.objects)) e ∙ take-append-le (length mem.objects) mem.objects (x ∷ []) (omega arith) in
-      ap (λ y. y.class) (at_taken mem'.objects mem.objects (length mem.objects) o.0 no_object front lt);
-}
-
 -- a slot that keeps its shape is opened by nothing that leaves it closed
 set_stays : (made : List Made) (k : ℕ) (x : Made) (c : Content) → slice_get made k ≡ Some x → (is_open_content c ≡ true → is_open x ≡ true)
     → StaysMade made (set made k (record x { content = c }))
@@ -65,26 +55,6 @@ set_stays made k x c there opens j y is = by_place (cases_eq j k)
     by_place (inr ne) = (y, get_others made k j new ne ∙ is, refl, λ now. now)
 
 module _ {m : Module} where
-  pub grows_then : {made made' made'' : List Made} {mem mem' mem'' : Memory} {slots slots' slots'' : List OpenSlot}
-      → Grows m made mem slots made' mem' slots' → Grows m made' mem' slots' made'' mem'' slots'' → Grows m made mem slots made'' mem'' slots''
-  grows_then {made = made} {made'' = made''} first then = record {
-    objects = omega (arith, first.objects, then.objects);
-    classes = λ o lt. then.classes o (omega (arith, lt, first.objects)) ∙ first.classes o lt;
-    were_made = first.were_made;
-    stays = λ k x there.
-        let y = first.stays k x there in
-        let z = then.stays k y.0 y.1 in
-        (z.0, z.1, z.2 ∙ y.2, λ open_. y.3 (z.3 open_));
-    indexes = λ j slot z there is open_.
-        let x = there_below made slot.serial (first.were_made j slot there) in
-        let y = first.stays slot.serial x.0 x.1 in
-        let z' = then.stays slot.serial y.0 y.1 in
-        let now : is_open z'.0 ≡ true = ap is_open (same_Some z'.0 z (sym z'.1 ∙ is)) ∙ open_ in
-        let next = first.indexes j slot y.0 there y.1 (z'.3 now) in
-        let last = then.indexes j next.0 z next.1 (ap (slice_get made'') next.2 ∙ is) open_ in
-        (last.0, last.1, last.2 ∙ next.2);
-  }
-
   module _ {made : List Made} {slots : List OpenSlot} (were : WereMade made slots) where
     -- no slot is made or goes, and none is opened
     pub grows_objects : {mem mem' : Memory} {slots' : List OpenSlot} → ObjectsStay mem mem' → map serial_of slots' ≡ map serial_of slots → Grows m made mem slots made mem' slots'

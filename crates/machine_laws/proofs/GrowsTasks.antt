@@ -56,15 +56,6 @@ PhasesStay mem mem' ts = (o : ObjectId) → is_finishing o ts ≡ true → (obje
 pub at_most_itself : (ends : Ends) → AtMost ends ends
 at_most_itself ends = record { values = omega arith; leaves = omega arith; addresses = omega arith; slots = omega arith; waiting = omega arith }
 
-pub at_most_then : {a b c : Ends} → AtMost a b → AtMost b c → AtMost a c
-at_most_then ab bc = record {
-  values = omega (arith, ab.values, bc.values);
-  leaves = omega (arith, ab.leaves, bc.leaves);
-  addresses = omega (arith, ab.addresses, bc.addresses);
-  slots = omega (arith, ab.slots, bc.slots);
-  waiting = omega (arith, ab.waiting, bc.waiting);
-}
-
 waits_more : (ends : Ends) (n : ℕ) → AtMost ends (record ends { waiting = ends.waiting + n })
 waits_more ends n = record { values = omega arith; leaves = omega arith; addresses = omega arith; slots = omega arith; waiting = omega arith }
 

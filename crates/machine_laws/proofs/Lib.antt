@@ -41,7 +41,6 @@ pub mod Named
 pub mod NamedValues
 pub mod PhasesWider
 pub mod Phases
-pub mod PhasesSteps
 pub mod FinishedClass
 pub mod FinishedFields
 pub mod Finished

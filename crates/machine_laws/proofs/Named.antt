@@ -11,7 +11,7 @@ use Rattle.machine_steps.specs.Operands.{first_leaf, object_in_leaf}
 use Rattle.machine_steps.specs.Views.{MachineView}
 use Rattle.run_values.specs.Cells as cells
 use Rattle.run_values.specs.Cells.{Cell, in_cells}
-use Rattle.run_values.specs.Fits.{is_name}
+use Rattle.run_values.specs.inner.Fits.{is_name}
 use Rattle.run_values.specs.Leaves.{leaves_of, name_leaf}
 use Rattle.run_values.specs.Memory.{Memory, is_dead}
 use Rattle.run_values.specs.Shapes.{Shape, Stored}

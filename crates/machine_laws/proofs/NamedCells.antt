@@ -8,7 +8,7 @@ use Rattle.std.proofs.lemmas.List.Concat.{flat_map-append}
 use Rattle.machine_steps.specs.holder_model.Holders.{kept_references, same_storage}
 use Rattle.run_values.specs.Cells as cells
 use Rattle.run_values.specs.Cells.{Cell, InCells, cells_each, cells_layer, in_cells}
-use Rattle.run_values.specs.Fits.{are_members, fit_each, fits, fits_layer}
+use Rattle.run_values.specs.inner.Fits.{are_members, fit_each, fits, fits_layer}
 use Rattle.run_values.specs.Shapes.{Shape, Shapes, NoMember, Member, each_by_layers, listed}
 use Rattle.run_values.specs.Shapes.{Integer, Reference, Struct, Tuple, Enum, Stored, Unknown}
 use Rattle.run_values.specs.Trivial.{itself}

@@ -1,13 +1,12 @@
 -- The values that weak and unowned storage keeps, by their leaves in storage and outside of it.
 use Rattle.std.proofs.Common.{◌≡◌, zero, suc, [], ◌∷◌, true, refl}
 use Rattle.std.proofs.lemmas.Bool.{false≢true}
-use Rattle.machine_steps.specs.Naming.{name_of, none_leaves, some_leaves}
+use Rattle.machine_steps.specs.Naming.{name_of}
 use Rattle.numbered_form.specs.Names.{Name}
 use Rattle.machine_steps.specs.run_typing.StorageForms.{IsNamed}
 use Rattle.run_values.specs.Leaves.{leaves_of}
 use Rattle.run_values.specs.Shapes.{Enum, FullCase, NoCase, PlainCase, Reference, Shape, Stored}
 use Rattle.run_values.specs.Values.{Case, Full, Object, Value}
-use Rattle.run_values.specs.declared.leaf.Leaf.TheVariants as leaf
 use Rattle.sil_ast.specs.declared.decl.Storage.{Storage}
 use Rattle.sil_ast.specs.declared.decl.Storage.TheVariants as storage
 use Rattle.sil_ast.specs.declared.place.ObjectId.{ObjectId}
@@ -54,25 +53,8 @@ module _ (test : ClassTest) where
   name_suits _ _ _ (weakly name first second class o h) = h
   name_suits _ _ _ (unowned class o h) = h
 
-  -- and what storage gives suits what is stored
-  pub name_suits_inner : (w : Storage) (s : Shape) (x : Value) → NameIs test w s x → suits test s x ≡ true
-  name_suits_inner _ _ _ (nothing name first second class) = refl
-  name_suits_inner _ _ _ (weakly name first second class o h) = h
-  name_suits_inner _ _ _ (unowned class o h) = h
-
   -- the leaf that storage keeps of a value
   pub name_leaf_is : (w : Storage) (s : Shape) (x : Value) → NameIs test w s x → leaves_of (Stored w s) x ≡ name_of w (leaves_of s x) ∷ []
   name_leaf_is _ _ _ (nothing name first second class) = refl
   name_leaf_is _ _ _ (weakly name first second class o h) = refl
   name_leaf_is _ _ _ (unowned class o h) = refl
-
--- the leaves of what storage gives
-
-pub nothing_leaves : (name first second class : Name) → leaves_of (optional_shape name first second class) (Case 0) ≡ none_leaves
-nothing_leaves name first second class = refl
-
-pub weakly_leaves : (name first second class : Name) (o : ObjectId) → leaves_of (optional_shape name first second class) (Full 1 (Object o)) ≡ some_leaves o
-weakly_leaves name first second class o = refl
-
-pub unowned_leaves : (class : Name) (o : ObjectId) → leaves_of (Reference class) (Object o) ≡ leaf.Object o ∷ []
-unowned_leaves class o = refl

@@ -1,5 +1,5 @@
 -- What the heap tells of an object is what the run has of it.
-use Rattle.std.proofs.Common.{◌≡◌, ◌<◌, ◌==◌, ◌&&◌, List, [], false, Option, Some, None, length, refl, sym, ap, ◌∙◌, subst}
+use Rattle.std.proofs.Common.{◌≡◌, ◌<◌, ◌==◌, ◌&&◌, List, [], false, Option, Some, None, length, refl, sym, ap, ◌∙◌}
 use Rattle.std.specs.Prelude.{slice_get, unwrap_or}
 use Rattle.std.proofs.lemmas.Bool.{cond-true, eq-eqb, true≢false}
 use Rattle.std.proofs.lemmas.Option.{slice_get_within}
@@ -19,7 +19,7 @@ use Rattle.value_parts.specs.inner.Suits.{ClassTest}
 use Rattle.machine_laws.proofs.Memories.{MemoryAgrees}
 use Rattle.machine_laws.proofs.NumbersPut.{Found, found, missing, there}
 use Rattle.machine_laws.proofs.Objects.{ObjectAgrees, ObjectsAgree, freed, is_of_class, kept}
-use Rattle.machine_laws.proofs.Slots.{Made, SlotsAgree}
+use Rattle.machine_laws.proofs.Slots.{Made}
 
 -- one object
 
@@ -127,15 +127,4 @@ heap_changed m made mem numbers more st h a same objects = record {
   slots = a.slots;
   objects = objects;
   declared = same ∙ a.declared;
-}
-
--- a machine with the same slots and heap
-pub memory_same : {m : Module} {made : List Made} {mem : Memory} {numbers : List Numbers} (st st' : MachineView) → st'.serials ≡ st.serials → st'.slots ≡ st.slots
-    → st'.slot_leaves ≡ st.slot_leaves → st'.heap ≡ st.heap → MemoryAgrees m made mem numbers st → MemoryAgrees m made mem numbers st'
-memory_same {m = m} {made = made} {mem = mem} {numbers = numbers} st st' serials slots leaves heap a = record {
-  stack = a.stack;
-  serials = serials ∙ a.serials;
-  slots = subst (λ xs. SlotsAgree (is_of_class m mem) made xs st'.slot_leaves) (sym slots) (subst (λ ls. SlotsAgree (is_of_class m mem) made st.slots ls) (sym leaves) a.slots);
-  objects = subst (λ h. ObjectsAgree m (is_of_class m mem) mem.objects numbers h.objects) (sym heap) a.objects;
-  declared = ap (λ h. h.declarations) heap ∙ a.declared;
 }

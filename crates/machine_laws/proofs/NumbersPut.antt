@@ -27,14 +27,6 @@ get_put_same [] k y z e = absurd (none-some z e)
 get_put_same (x ∷ xs) zero y z e = same_Some y z e
 get_put_same (x ∷ xs) (suc k) y z e = get_put_same xs k y z e
 
--- where one is put, another was
-pub get_put_there : {A : Type 0} (xs : List A) (k j : ℕ) (y z : A) → slice_get (set xs k y) j ≡ Some z → (x : A) × (slice_get xs j ≡ Some x)
-get_put_there [] k j y z e = absurd (none-some z e)
-get_put_there (x ∷ xs) zero zero y z e = (x, refl)
-get_put_there (x ∷ xs) zero (suc j) y z e = (z, e)
-get_put_there (x ∷ xs) (suc k) zero y z e = (x, refl)
-get_put_there (x ∷ xs) (suc k) (suc j) y z e = get_put_there xs k j y z e
-
 -- lists of the same length have elements at the same places
 
 also_there : {A B : Type 0} (xs : List A) (ys : List B) (k : ℕ) (x : A) → length ys ≡ length xs → slice_get xs k ≡ Some x → (y : B) × (slice_get ys k ≡ Some y)

@@ -110,9 +110,6 @@ module _ (m : Module) (made : List Made) (mem : Memory) (st : MachineView) where
   abbrev ValueRead : Shape → Datum → List Leaf → Type 0
   ValueRead s x ls = (v : Value) × (x ≡ ValueOf v) × (suits (is_of_class m mem) s v ≡ true) × (ls ≡ leaves_of s v)
 
-  abbrev PlaceRead : Shape → Datum → Address → Type 0
-  PlaceRead s x a = (p : Place) × (x ≡ AddressOf p) × (p.shape ≡ s) × NamesPlace m made st.slots mem a p
-
 pub read_value : {m : Module} {made : List Made} {mem : Memory} {st : MachineView} {form : Form} {x : Datum} {ls : List Leaf} {a : Address}
     → EntryAgrees m made mem st form (Some x) true ls a → (s : Shape) → form ≡ OfValue s
     → (v : Value) × (x ≡ ValueOf v) × (suits (is_of_class m mem) s v ≡ true) × (ls ≡ leaves_of s v)

@@ -1,5 +1,5 @@
 -- What agrees by one test of references agrees by each that lets through more. A memory in which an object of the same class stands in place of another.
-use Rattle.std.proofs.Common.{◌≡◌, ◌<◌, ◌&&◌, ℕ, zero, suc, List, [], ◌∷◌, true, Option, length, nat_lt, refl, ap, ◌∙◌, arith}
+use Rattle.std.proofs.Common.{◌≡◌, ◌&&◌, ℕ, zero, suc, List, [], ◌∷◌, true, Option, length, nat_lt, refl, ap, ◌∙◌}
 use Rattle.std.specs.Prelude.{set, slice_get, unwrap_or}
 use Rattle.std.proofs.lemmas.List.{length-set}
 use Rattle.machine_steps.specs.heap_model.HeapViews.{HeapObject, HeapView}
@@ -18,7 +18,6 @@ use Rattle.type_definitions.specs.Declarations.{declarations_of}
 use Rattle.value_parts.proofs.Suiting.{suits_wider}
 use Rattle.value_parts.specs.inner.Suits.{ClassTest}
 use Rattle.machine_laws.proofs.Memories.{MemoryAgrees}
-use Rattle.machine_laws.proofs.NumbersPut.{get_put_other}
 use Rattle.machine_laws.proofs.Objects.{FieldHolds, FieldsHold, ObjectAgrees, ObjectsAgree, freed, is_of_class, kept, more, none, unwritten, written}
 use Rattle.machine_laws.proofs.Slots.{Made, SlotsAgree}
 
@@ -74,24 +73,6 @@ class_put (y ∷ xs) (suc k) zero x e = refl
 class_put (y ∷ xs) (suc k) (suc j) x e = class_put xs k j x e
 
 -- what stands in the places of objects
-
-pub put_keeps_length : (mem : Memory) (o : ObjectId) (x : Object) → length (with_object mem o x).objects ≡ length mem.objects
-put_keeps_length mem o x = length-set mem.objects o.0 x
-
-pub put_keeps_class : (mem : Memory) (o : ObjectId) (x : Object) → x.class ≡ (object_at mem o).class → (p : ObjectId)
-    → (object_at (with_object mem o x) p).class ≡ (object_at mem p).class
-put_keeps_class mem o x same p = class_put mem.objects o.0 p.0 x same
-
-pub put_keeps_others : (mem : Memory) (o : ObjectId) (x : Object) (p : ObjectId) → (o.0 ≡ p.0 → ⊥) → object_at (with_object mem o x) p ≡ object_at mem p
-put_keeps_others mem o x p other = ap (λ y. unwrap_or y no_object) (get_put_other mem.objects o.0 p.0 x other)
-
-put_itself : (xs : List Object) (k : ℕ) (x : Object) → k < length xs → unwrap_or (slice_get (set xs k x) k) no_object ≡ x
-put_itself [] k x lt = absurd (omega arith)
-put_itself (y ∷ xs) zero x lt = refl
-put_itself (y ∷ xs) (suc k) x lt = put_itself xs k x (omega arith)
-
-pub put_is_there : (mem : Memory) (o : ObjectId) (x : Object) → o.0 < length mem.objects → object_at (with_object mem o x) o ≡ x
-put_is_there mem o x made = put_itself mem.objects o.0 x made
 
 module _ (m : Module) (mem : Memory) (o : ObjectId) (x : Object) (same : x.class ≡ (object_at mem o).class) where
   pub test_stays : (class : Name) (p : ObjectId) → is_of_class m (with_object mem o x) class p ≡ is_of_class m mem class p

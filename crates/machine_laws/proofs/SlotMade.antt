@@ -60,9 +60,6 @@ module _ (m : Module) {made : List Made} {mem : Memory} {numbers : List Numbers}
   abbrev made' : List Made
   made' = made ++ new ∷ []
 
-  abbrev st' : MachineView
-  st' = with_slot st fr rest (size_of s)
-
   abbrev mem' : Memory
   mem' = with_slot_at_end mem s
 

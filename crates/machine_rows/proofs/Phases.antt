@@ -1,7 +1,7 @@
 -- Names and fields may change: the phases of objects don't.
-use Rattle.std.proofs.Common.{◌≡◌, ℕ, zero, suc, ◌==◌, Bool, true, false, not, ◌&&◌, cond, List, [], ◌∷◌, Option, Some, None, set, refl, ap, ◌∙◌}
+use Rattle.std.proofs.Common.{◌≡◌, ℕ, zero, suc, ◌==◌, Bool, true, false, not, ◌&&◌, cond, List, [], ◌∷◌, Option, Some, None, set, refl, ◌∙◌}
 use Rattle.std.specs.Prelude.{option_and_then, option_map, slice_get, unwrap_or}
-use Rattle.machine_steps.specs.heap_model.HeapCalls.{changed, changed_or_freed, is_left, less_unowned, less_weak, more_unowned, more_weak, unless_freed, unowned_unnamed, weakly_unnamed, with_field_of}
+use Rattle.machine_steps.specs.heap_model.HeapCalls.{changed, changed_or_freed, is_left, less_unowned, less_weak, unless_freed, unowned_unnamed, weakly_unnamed, with_field_of}
 use Rattle.machine_steps.specs.heap_model.HeapViews.{HeapObject, HeapView, phase_in, phase_told, unowned_in, weak_in}
 use Rattle.run_values.specs.Memory.{is_dead_phase}
 use Rattle.run_values.specs.declared.leaf.Leaf.{Leaf}
@@ -11,11 +11,8 @@ use Rattle.sil_ast.specs.declared.decl.Storage.{Storage}
 use Rattle.sil_ast.specs.declared.decl.Storage.TheVariants as storage
 use Rattle.sil_ast.specs.declared.place.ObjectId.{ObjectId}
 use Rattle.machine_steps.specs.Held.{without_field}
-use Rattle.machine_steps.specs.Naming.{all_named, all_unnamed, leaf_named, leaf_unnamed, less_named, more_named}
+use Rattle.machine_steps.specs.Naming.{all_unnamed, leaf_unnamed, less_named}
 use Rattle.machine_steps.specs.Operands.{object_in_leaf}
-use Rattle.machine_steps.specs.declared.address.Home.{Home}
-use Rattle.machine_steps.specs.declared.address.Home.TheVariants as home
-use Rattle.machine_state.specs.inner.NameHeld.{LiesAlive}
 
 -- the phase at a place of a list, where a place is set to what a function makes of what it had
 set-phase : (xs : List (Option HeapObject)) (i j : ℕ) (f : Option HeapObject → Option HeapObject) →
@@ -32,11 +29,6 @@ set-phase (x ∷ xs) (suc i) (suc j) f h = set-phase xs i j f h
 mapped : (f : HeapObject → HeapObject) → ((x : HeapObject) → (f x).phase ≡ x.phase) → (x : Option HeapObject) → phase_told (option_map f x) ≡ phase_told x
 mapped f h None = refl
 mapped f h (Some x) = h x
-
-dead_is : (p : Phase) → is_dead_phase p ≡ true → phase.Dead ≡ p
-dead_is phase.Live e = cc
-dead_is phase.Deiniting e = cc
-dead_is phase.Dead e = refl
 
 freed_by : (p : Phase) (u w : Bool) (x : HeapObject) → x.phase ≡ p → (left : Bool) → not (is_dead_phase p && u && w) ≡ left → phase_told (cond left (Some x) None) ≡ p
 freed_by p u w x e true f = e
@@ -64,11 +56,6 @@ module _ (o : ObjectId) where
   pub without_field-phase : (h : HeapView) (x : ObjectId) (k : ℕ) → phase_in (without_field h x k) o ≡ phase_in h o
   without_field-phase h x k = changed-phase (with_field_of k None) (λ _. refl) h x
 
-  more_named-phase : (w : Storage) (h : HeapView) (x : ObjectId) → phase_in (more_named w h x) o ≡ phase_in h o
-  more_named-phase storage.Strong h x = refl
-  more_named-phase storage.Weak h x = changed-phase more_weak (λ _. refl) h x
-  more_named-phase storage.Unowned h x = changed-phase more_unowned (λ _. refl) h x
-
   unless-zero : (b : Bool) (h k : HeapView) → phase_in k o ≡ phase_in h o → phase_in (cond b h k) o ≡ phase_in h o
   unless-zero true h k e = refl
   unless-zero false h k e = e
@@ -78,22 +65,9 @@ module _ (o : ObjectId) where
   less_named-phase storage.Weak h x = unless-zero (weak_in h x == 0) h (weakly_unnamed h x) (changed_or_freed-phase less_weak (λ _. refl) h x)
   less_named-phase storage.Unowned h x = unless-zero (unowned_in h x == 0) h (unowned_unnamed h x) (changed_or_freed-phase less_unowned (λ _. refl) h x)
 
-  all_named-phase : (w : Storage) (os : List ObjectId) (h : HeapView) → phase_in (all_named w os h) o ≡ phase_in h o
-  all_named-phase w [] h = refl
-  all_named-phase w (x ∷ xs) h = all_named-phase w xs (more_named w h x) ∙ more_named-phase w h x
-
   all_unnamed-phase : (w : Storage) (os : List ObjectId) (h : HeapView) → phase_in (all_unnamed w os h) o ≡ phase_in h o
   all_unnamed-phase w [] h = refl
   all_unnamed-phase w (x ∷ xs) h = all_unnamed-phase w xs (less_named w h x) ∙ less_named-phase w h x
 
-  pub leaf_named-phase : (w : Storage) (l : Leaf) (h : HeapView) → phase_in (leaf_named w l h) o ≡ phase_in h o
-  leaf_named-phase w l h = all_named-phase w (object_in_leaf l) h
-
   pub leaf_unnamed-phase : (w : Storage) (l : Leaf) (h : HeapView) → phase_in (leaf_unnamed w l h) o ≡ phase_in h o
   leaf_unnamed-phase w l h = all_unnamed-phase w (object_in_leaf l) h
-
--- places stay those of objects that aren't dead
-
-pub lies_along : (h k : HeapView) (at : Home) → ((o : ObjectId) → phase_in k o ≡ phase_in h o) → LiesAlive h at → LiesAlive k at
-lies_along h k (home.Slot index serial) e l = tt
-lies_along h k (home.Field o i) e l = ap is_dead_phase (e o) ∙ l

@@ -1,5 +1,5 @@
 -- The stack of tasks, which the code keeps the other way round.
-use Rattle.std.proofs.Common.{◌≡◌, ◌+◌, ◌≤◌, List, [], ◌∷◌, ◌++◌, length, ap, arith}
+use Rattle.std.proofs.Common.{◌≡◌, ◌+◌, ◌≤◌, List, [], ◌∷◌, ◌++◌, length, arith}
 use Rattle.std.specs.Prelude.{reverse}
 use Rattle.std.proofs.lemmas.List.{length-reverse, reverse-append}
 use Rattle.machine_steps.specs.declared.frame.Task.{Task}
@@ -21,6 +21,3 @@ frames_in-bound (t ∷ ts) = omega (arith, is_frame-bound t, frames_in-bound ts)
 -- there are no more frames than tasks
 pub frames_in-reverse : (ts : List Task) → frames_in (reverse ts) ≤ length ts
 frames_in-reverse ts = omega (arith, frames_in-bound (reverse ts), length-reverse ts)
-
-pub frames_in-push : (ts : List Task) (t : Task) → frames_in (reverse (ts ++ t ∷ [])) ≡ is_frame t + frames_in (reverse ts)
-frames_in-push ts t = ap frames_in (reverse-push ts t)

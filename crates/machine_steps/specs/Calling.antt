@@ -6,7 +6,6 @@ use Rattle.run_values.specs.declared.leaf.Leaf.TheVariants as leaf
 use Rattle.ready_code.specs.declared.function.ReadyFunction.{ReadyFunction}
 use Rattle.ready_code.specs.declared.local.Carry.{Carry}
 use Rattle.ready_code.specs.declared.local.CarryAddress.{CarryAddress}
-use Rattle.ready_code.specs.declared.local.Local.{Local}
 use Rattle.sil_ast.specs.declared.place.FuncId.{FuncId}
 use Rattle.machine_steps.specs.declared.frame.Frame.{Frame}
 use Rattle.machine_steps.specs.declared.frame.Task.{Task}
@@ -43,9 +42,6 @@ abbrev pub put_all : MachineView → Frame → List Carry → List (List Leaf) �
 put_all st to [] lss = st
 put_all st to (c ∷ cs) [] = st
 put_all st to (c ∷ cs) (ls ∷ lss) = put_all (put st to c.to ls) to cs lss
-
-abbrev pub source_of : Carry → Local
-source_of c = c.from
 
 abbrev pub carried : MachineView → Frame → Frame → List Carry → MachineView
 carried st from to cs = put_all st to cs (map (λ c. contents st from c.from) cs)

@@ -1,6 +1,6 @@
 -- What the machine does at places, to storage, and with the parts of values.
 use Rattle.std.specs.Prelude.{ℕ, ◌+◌, ◌==◌, List, [], ◌∷◌, ◌++◌, Bool, true, false, ◌&&◌, cond, Option, Some, None}
-use Rattle.std.specs.Prelude.{find, length, map, nat_le, replicate, take, ◌-◌}
+use Rattle.std.specs.Prelude.{find, length, nat_le, replicate, take, ◌-◌}
 use Rattle.std.specs.List.{flat_map}
 use Rattle.builtin_names.specs.declared.names.Operation.TheVariants as o
 use Rattle.heap_model.specs.HeapCalls.{retained}
@@ -16,7 +16,6 @@ use Rattle.run_values.specs.declared.leaf.Leaf.TheVariants as leaf
 use Rattle.sil_ast.specs.declared.decl.Storage.{Storage}
 use Rattle.sil_ast.specs.declared.decl.Storage.TheVariants as storage
 use Rattle.sil_ast.specs.declared.place.ObjectId.{ObjectId}
-use Rattle.sil_ast.specs.declared.place.ValueId.{ValueId}
 use Rattle.machine_steps.specs.declared.address.Address.{Address}
 use Rattle.machine_steps.specs.declared.address.Home.{Home}
 use Rattle.machine_steps.specs.declared.address.Home.TheVariants as home
@@ -147,9 +146,6 @@ module _ (st : MachineView) (fr : Frame) (rest : List Task) where
 
   abbrev pub all_contents : List Local → List Leaf
   all_contents ls = flat_map (contents st fr) ls
-
-  abbrev pub locals_values : List Local → List ValueId
-  locals_values ls = map (λ l. l.value) ls
 
   abbrev pub payload_contents : Option Local → List Leaf
   payload_contents None = []

@@ -58,9 +58,6 @@ row_set rows row x y n lt is new r = at (cases_eq row r)
         ∙ ap (λ i. accesses_at rows i ++ n ∷ []) e ∙ ap (λ q. accesses_at rows r ++ cond q (n ∷ []) []) (sym (eq-eqb row r e))
     at (inr ne) = set_other rows row r y ne ∙ sym (append-nil (accesses_at rows r)) ∙ ap (λ q. accesses_at rows r ++ cond q (n ∷ []) []) (sym (ne_eqb row r ne))
 
-pub no_rows : (rows : List (Vec ℕ Global)) (n : ℕ) → HasRows rows rows [] n
-no_rows rows n = record { kept = λ r i c. c; there = λ k d lt. absurd (omega arith) }
-
 -- one key more
 pub rows_more : (old before new : List (Vec ℕ Global)) (keys : List Key) (i : ℕ) (d : Key) (n : ℕ) → i < length keys → HasRows old before (take i keys) n →
     ((r : ℕ) → accesses_at new r ≡ accesses_at before r ++ cond (row_of (get_or keys i d) == r) (n ∷ []) []) → HasRows old new (take (i + 1) keys) n

@@ -12,7 +12,6 @@ mod entries;
 mod first;
 mod index;
 mod key;
-mod laws;
 mod loans;
 mod meaning;
 mod others;
@@ -23,5 +22,4 @@ mod single;
 mod switch;
 
 pub use first::first_fault;
-pub use laws::rules_are_on_memory;
 pub use part::Part;

@@ -1,10 +1,10 @@
 -- The slots among the values so far.
-use Rattle.std.proofs.Common.{◌≡◌, ◌≢◌, ℕ, ◌+◌, ◌<◌, ◌≤◌, List, [], ◌∷◌, ◌++◌, length, take, get_or, refl, sym, ap, ◌∙◌, subst, ◌⊎◌, inl, inr, true, false, arith}
+use Rattle.std.proofs.Common.{◌≡◌, ◌≢◌, ℕ, ◌+◌, ◌<◌, ◌≤◌, List, [], ◌∷◌, ◌++◌, length, take, get_or, sym, ap, ◌∙◌, subst, ◌⊎◌, inl, inr, true, false, arith}
 use Rattle.std.specs.Prelude.{Contains, AllPairs, unwrap_or}
 use Rattle.std.specs.List.{slice_get}
 use Rattle.std.proofs.lemmas.Bool.{cases_eq, cases_lt}
 use Rattle.std.proofs.lemmas.List.{get_or-take, length-take}
-use Rattle.std.proofs.lemmas.List.Elements.{All-nil, All-push, All-weaker, All-contains, All-from_get_or, All-get_or, Contains-push, Contains-append_left, Contains-get_or}
+use Rattle.std.proofs.lemmas.List.Elements.{All-push, All-weaker, All-contains, All-from_get_or, All-get_or, Contains-push, Contains-append_left, Contains-get_or}
 use Rattle.std.proofs.lemmas.List.Quantifiers.{all_pairs_push}
 use Rattle.std.proofs.lemmas.Option.{slice_get_past}
 use Rattle.sil_ast.specs.declared.place.ValueId.{ValueId}
@@ -19,14 +19,6 @@ same_value a b e = ap (λ (n : ℕ). let v : ValueId = record { 0 = n } in v) e
 
 true_not_false : true ≡ false → ⊥
 true_not_false h = cc
-
-pub no_slots : (sources : List Source) → AreSlots sources 0 []
-no_slots sources = record {
-  each = All-nil (IsSlot sources);
-  all = λ v lt is. absurd (omega arith);
-  below = All-nil (λ (v : ValueId). v.0 < 0);
-  ascending = λ i j d lt within. absurd (let none : length {A = ValueId} [] ≡ 0 = refl in omega arith);
-}
 
 pub slots_put : (sources : List Source) (n : ℕ) (slots : List ValueId) (s : ValueId) → s.0 ≡ n → IsSlot sources s → AreSlots sources n slots → AreSlots sources (n + 1) (slots ++ s ∷ [])
 slots_put sources n slots s place is h = record {

@@ -72,14 +72,6 @@ touched_none slots places u d lu none k e lt = absurd (let n : length {A = Acces
 
 -- where a search for a number ends in ascending slots
 module _ (slots : List ValueId) (value : ℕ) (ascending : AllPairs (λ a b. a.0 < b.0) slots) where
-  pub one_place : (place : ℕ) → place < length slots → ((d : ValueId) → (get_or slots place d).0 ≡ value) → (k : ℕ) (d : ValueId) → k < length slots → (get_or slots k d).0 ≡ value → k ≡ place
-  one_place place lt here k d within e = at (cases_lt k place) (cases_lt place k)
-    where
-      at : (k < place) ⊎ (place ≤ k) → (place < k) ⊎ (k ≤ place) → k ≡ place
-      at (inl l) m = absurd (let less : (get_or slots k d).0 < (get_or slots place d).0 = ascending k place d l lt in let there = here d in omega arith)
-      at (inr l) (inl m) = absurd (let less : (get_or slots place d).0 < (get_or slots k d).0 = ascending place k d m within in let there = here d in omega arith)
-      at (inr l) (inr m) = omega arith
-
   pub no_place : (place : ℕ) → ((k : ℕ) (d : ValueId) → k < place → (get_or slots k d).0 < value) → (place < length slots → (d : ValueId) → value < (get_or slots place d).0) → (k : ℕ) (d : ValueId)
       → k < length slots → (get_or slots k d).0 ≢ value
   no_place place low high k d within e = at (cases_lt k place) (cases_lt place k)

@@ -1,11 +1,9 @@
 -- Slots that go on and off a stack whose ranks rise.
-use Rattle.std.proofs.Common.{◌≡◌, ◌≢◌, ℕ, ◌+◌, ◌-◌, ◌<◌, ◌≤◌, List, [], ◌∷◌, ◌++◌, length, get_or, take, length-append, refl, sym, ap, ◌∙◌, subst, ◌⊎◌, inl, inr, All, Some, None, arith}
+use Rattle.std.proofs.Common.{◌≡◌, ◌≢◌, ℕ, ◌+◌, ◌-◌, ◌<◌, ◌≤◌, List, [], ◌∷◌, ◌++◌, length, get_or, take, length-append, refl, sym, ap, ◌∙◌, subst, ◌⊎◌, inl, inr, All, Some, arith}
 use Rattle.std.specs.Prelude.{Contains, unwrap_or, remove}
 use Rattle.std.specs.List.{slice_get}
 use Rattle.std.proofs.Math.ListN.{get_or-append}
 use Rattle.std.proofs.lemmas.Bool.{cases_eq, cases_lt}
-use Rattle.std.proofs.lemmas.Grind.{take_at_read}
-use Rattle.std.proofs.lemmas.List.{take_all}
 use Rattle.std.proofs.lemmas.List.Edits.{get_or-remove_below, get_or-remove_above, length-remove}
 use Rattle.std.proofs.lemmas.List.Elements.{Contains-append_left, Contains-push, Contains-push_cases}
 use Rattle.std.proofs.lemmas.List.Quantifiers.{all_pairs_push, all_pairs_remove}
@@ -15,13 +13,11 @@ use Rattle.memory_accesses.specs.declared.access.Access.{Access}
 use Rattle.memory_accesses.specs.declared.access.Access.TheVariants.{Allocates, Deallocates}
 use Rattle.memory_accesses.specs.declared.source.Source.{Source}
 use Rattle.memory_slots.specs.declared.doubts.Doubts.{Doubts}
-use Rattle.memory_slots.specs.Marks.{pair_mark}
-use Rattle.memory_slots.specs.Pairs.{IsSlot}
 use Rattle.memory_slots.specs.inner.Trust.{IsTrusted, Keeps}
 use Rattle.memory_slots.specs.inner.Nesting.{rank_at, AreRising}
 use Rattle.memory_slots.specs.inner.Followed.{AreFollowed, ArePassed, IsTop, StandsAt}
 use Rattle.memory_slots.proofs.SlotsListed.{same_value}
-use Rattle.memory_slots.proofs.StacksFollowed.{quiet, not_entered, entered, left, more_followed, more_passed, item_passed, below_top, top_highest}
+use Rattle.memory_slots.proofs.StacksFollowed.{entered, left, more_followed, more_passed, item_passed, below_top, top_highest}
 
 top_there : (stack : List ValueId) (top : ValueId) → Some top ≡ slice_get stack (length stack - 1) → (length stack - 1 < length stack) × ((d : ValueId) → get_or stack (length stack - 1) d ≡ top)
 top_there stack top e = at (cases_lt (length stack - 1) (length stack))
@@ -29,13 +25,6 @@ top_there stack top e = at (cases_lt (length stack - 1) (length stack))
     at : (length stack - 1 < length stack) ⊎ (length stack ≤ length stack - 1) → (length stack - 1 < length stack) × ((d : ValueId) → get_or stack (length stack - 1) d ≡ top)
     at (inl lt) = (lt, λ d. sym (unwrap_or-slice_get stack (length stack - 1) d) ∙ ap (λ o. unwrap_or o d) (sym e))
     at (inr le) = absurd (none-some top (sym (slice_get_past stack (length stack - 1) le) ∙ sym e))
-
-pub is_top_there : (stack : List ValueId) (top slot : ValueId) → Some top ≡ slice_get stack (length stack - 1) → top.0 ≡ slot.0 → IsTop stack slot
-is_top_there stack top slot e same =
-    let there = top_there stack top e in
-    let more : length stack - 1 + 1 ≡ length stack = (let lt = there.0 in omega arith) in
-    sym (take_all (length stack - 1 + 1) stack (omega arith)) ∙ (take_at_read stack (length stack - 1) top there.0).1
-    ∙ ap (λ v. take (length stack - 1) stack ++ v ∷ []) (there.1 top ∙ same_value top slot same)
 
 module _ (ranks : List ℕ) where
   pub above_all : (stack : List ValueId) (top slot : ValueId) → Some top ≡ slice_get stack (length stack - 1) → rank_at ranks top < rank_at ranks slot → AreRising ranks stack
@@ -75,16 +64,6 @@ removed_stays old slot place stands u other there = at (cases_lt there.0 place) 
         (there.0 - 1, (let within = there.1 in omega (arith, size)), get_or-remove_above old place u (there.0 - 1) (omega arith) stands.0 ∙ ap (λ n. get_or old n u) back ∙ there.2)
 
 module _ (sources : List Source) (ranks : List ℕ) where
-  pub none_kept : (stack : List ValueId) (d : Doubts) → AreFollowed sources ranks stack [] stack d d
-  none_kept stack d = record { keeps = λ v t. t; rising = λ r. r; follows = λ r a t sa b sb s h. h }
-
-  pub quiet_kept : (x : Access) (stack : List ValueId) (d : Doubts) → ((a : ValueId) → IsSlot sources a → (b : ValueId) → IsSlot sources b → pair_mark a b x ≡ None)
-      → AreFollowed sources ranks stack (x ∷ []) stack d d
-  quiet_kept x stack d none = record { keeps = λ v t. t; rising = λ r. r; follows = λ r a t. quiet ranks sources x stack a (none a) }
-
-  pub not_entered_kept : (v : ValueId) (stack : List ValueId) (d : Doubts) → (IsSlot sources v → ⊥) → AreFollowed sources ranks stack (Allocates v ∷ []) stack d d
-  not_entered_kept v stack d outside = record { keeps = λ v t. t; rising = λ r. r; follows = λ r a t. not_entered ranks sources v stack a outside }
-
   -- a slot that is on top already
   pub top_entered : (v : ValueId) (stack : List ValueId) (d : Doubts) → IsTop stack v → AreFollowed sources ranks stack (Allocates v ∷ []) stack d d
   top_entered v stack d top = record {
@@ -164,9 +143,6 @@ module _ (sources : List Source) (ranks : List ℕ) where
   }
 
   module _ (accesses : ℕ → List Access) where
-    pub passed_none : (stack : List ValueId) (d : Doubts) → ArePassed sources ranks accesses stack [] stack d d
-    passed_none stack d = record { keeps = λ v t. t; rising = λ r. r; passes = λ r a t sa b sb s h. h }
-
     pub passed_item : (old new : List ValueId) (i : ℕ) (was is : Doubts) → AreFollowed sources ranks old (accesses i) new was is → ArePassed sources ranks accesses old (i ∷ []) new was is
     passed_item old new i was is h = record { keeps = h.keeps; rising = h.rising; passes = λ r a t. item_passed ranks sources accesses old new i a (h.follows r a t) }
 

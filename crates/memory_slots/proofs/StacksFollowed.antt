@@ -17,7 +17,6 @@ use Rattle.memory_accesses.specs.declared.source.Source.{Source}
 use Rattle.memory_slots.specs.inner.Automaton.{order_step}
 use Rattle.memory_slots.specs.Marks.{pair_mark}
 use Rattle.memory_slots.specs.inner.Automaton.{pair_step}
-use Rattle.memory_slots.specs.Pairs.{IsSlot}
 use Rattle.memory_slots.specs.inner.Nesting.{rank_at, AreRising, Covers, GoesTo, Follows, Passes}
 use Rattle.memory_slots.specs.declared.mark.SlotMark.TheVariants.{FirstIn, FirstOut, SecondIn, SecondOut}
 use Rattle.memory_slots.proofs.SlotsListed.{same_value}
@@ -45,17 +44,6 @@ module _ (ranks : List ℕ) where
   covers_more old new a b fst snd (suc (suc (suc (suc s)))) h = fst h
 
   module _ (sources : List Source) where
-    pub quiet : (x : Access) (stack : List ValueId) (a : ValueId) → (IsSlot sources a → (b : ValueId) → IsSlot sources b → pair_mark a b x ≡ None) → Follows sources ranks stack (x ∷ []) stack a
-    quiet x stack a none sa b sb s h = subst (λ o. GoesTo (Covers ranks stack a b) (step_in order_step s o)) (sym (none sa b sb)) h
-
-    pub not_entered : (v : ValueId) (stack : List ValueId) (a : ValueId) → (IsSlot sources v → ⊥) → Follows sources ranks stack (Allocates v ∷ []) stack a
-    not_entered v stack a outside = quiet (Allocates v) stack a (λ sa b sb. at sa b sb (v.0 == a.0) (v.0 == b.0) refl refl)
-      where
-        at : IsSlot sources a → (b : ValueId) → IsSlot sources b → (t u : Bool) → (v.0 == a.0) ≡ t → (v.0 == b.0) ≡ u → cond t (Some FirstIn) (cond u (Some SecondIn) None) ≡ None
-        at sa b sb true u ea eb = absurd (outside (subst (IsSlot sources) (sym (same_value v a (eqb-true v.0 a.0 ea))) sa))
-        at sa b sb false true ea eb = absurd (outside (subst (IsSlot sources) (sym (same_value v b (eqb-true v.0 b.0 eb))) sb))
-        at sa b sb false false ea eb = refl
-
     -- a slot goes in, above the first one
     pub entered : (v : ValueId) (old new : List ValueId) (a : ValueId) → Contains new v → (Contains old a → (u : ValueId) → Contains old u → Contains new u) →
         (Contains old a → a.0 ≢ v.0 → rank_at ranks a < rank_at ranks v) →
@@ -125,9 +113,6 @@ module _ (ranks : List ℕ) where
         at false true ea eb (suc (suc (suc zero))) h = stays a (differs a ea) h.0
         at false true ea eb (suc (suc (suc (suc s)))) h = stays a (differs a ea) h
         at false false ea eb s h = covers_more old new a b (stays a (differs a ea)) (λ c. stays b (differs b eb)) s h
-
-    pub none_followed : (stack : List ValueId) (a : ValueId) → Follows sources ranks stack [] stack a
-    none_followed stack a sa b sb s h = h
 
     pub more_followed : (old mid new : List ValueId) (xs ys : List Access) (a : ValueId) → Follows sources ranks old xs mid a → Follows sources ranks mid ys new a
         → Follows sources ranks old (xs ++ ys) new a

@@ -1,5 +1,4 @@
 pub mod Automaton
-pub mod Laws
 pub mod Searches
 pub mod Trust
 pub mod Nesting

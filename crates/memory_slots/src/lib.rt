@@ -8,7 +8,6 @@ mod deallocated;
 mod doubts;
 mod first;
 mod guess;
-mod laws;
 mod mark;
 mod nearest;
 mod nested;
@@ -22,5 +21,4 @@ mod walk_order;
 
 pub use crossing::Crossing;
 pub use first::first_crossing;
-pub use laws::order_is_decided;
 pub use mark::SlotMark;

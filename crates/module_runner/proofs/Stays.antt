@@ -34,10 +34,6 @@ optimised_declares m _ (done _ none) = refl
 optimised_declares m k (more _ next _ first rest) =
     optimised_declares next k rest ∙ rewritten_declares m first.function first.point next first.rewrites
 
-pub left_declares : (optimises : Bool) (m k : Module) → IsOptimisedIf optimises m k → declarations_of k ≡ declarations_of m
-left_declares true m k left = optimised_declares m k left
-left_declares false m k left = ap declarations_of left
-
 -- what is lowered of the module that is left
 pub lowered_left : {T E : Type 0} (optimises : Bool) (m k made : Module) (r : Result T E) → optimises ≡ true → IsOptimisedIf true m k
     → OnOk r (made ≡ lowered k) → OnOk r (IsRunnable made) → OnOk r (declarations_of made ≡ declarations_of k)

@@ -16,5 +16,5 @@ pub use ownership_lowering::{lower, lower_in_place};
 pub use report::{RunReport, report_text};
 pub use report_writing::Ending;
 pub use runner::{RunEnd, run_checked, run_owned};
-pub use same_runs::{lowered_runs_are_same, numbers_are_counts, totals_are_held, totals_are_told};
+pub use same_runs::{lowered_runs_are_same, numbers_are_counts};
 pub use sil_types::TypeTable;

@@ -83,9 +83,6 @@ module _ (m : Module) (n : ℕ) (f : Function) (verified : IsVerified m) (in_mod
   pub switch_same : (k : ℕ) → switch_to (after s) k ≡ switch_to f k
   switch_same k = ap (λ xs. slice_get xs 0) (told_alike (moved_block p.index last) (switches_from k) p.block.0 f.blocks s.block s.there refl)
 
-  none_told : {A : Type 0} (h : ValueId → A) → map h s.destroy.results ≡ []
-  none_told h = ap (map h) destroy_makes_none
-
   pub definitions_are : definitions_of d (after s) ≡ definitions_of d f
   definitions_are =
       rows_same s (arg_definitions d f) (arg_definitions d (after s)) (result_definitions d)

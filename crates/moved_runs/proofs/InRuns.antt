@@ -1,5 +1,5 @@
 -- A module in which a copy became a move runs as it did: the parts of the lockstep together.
-use Rattle.std.proofs.Common.{◌≡◌, ◌⊎◌, inl, inr, ℕ, zero, suc, ◌<◌, List, [], ◌∷◌, refl, sym, ap, ◌∙◌, subst, true, false, Option, Some}
+use Rattle.std.proofs.Common.{◌≡◌, ◌⊎◌, inl, inr, ℕ, zero, suc, ◌<◌, List, [], ◌∷◌, refl, sym, ap, ◌∙◌, subst, true, false, Some}
 use Rattle.std.specs.Prelude.{option_map, slice_get}
 use Rattle.std.specs.List.{list_any}
 use Rattle.std.proofs.lemmas.Bool.{cases_eq}
@@ -67,10 +67,6 @@ module _ (m : Module) (n : ℕ) (f : Function) (verified : IsVerified m) (in_mod
   changed_function : (g : FuncId) (k : Function) → g.0 ≡ n → slice_get m.functions g.0 ≡ Some k → slice_get m'.functions g.0 ≡ Some (moved p last k)
   changed_function g k e there =
       ap (slice_get m'.functions) e ∙ changed_there (moved p last) n m.functions ∙ ap (option_map (moved p last)) (ap (slice_get m.functions) (sym e) ∙ there)
-
-  changed_back : (o : Option Function) (k' : Function) → option_map (moved p last) o ≡ Some k' → (k : Function) × (o ≡ Some k)
-  changed_back Option.None k' e = absurd (cc)
-  changed_back (Some k) k' e = (k, refl)
 
   has_functions : HasFunctions m m'
   has_functions = record {

@@ -80,9 +80,6 @@ module _ (mask : ℕ) (entries : List Entry) (table : IsTable mask entries) (slo
     abbrev without_both : List Entry
     without_both = set without_link slot (record { key = 0; next = next_at without_link slot })
 
-    b : ℕ
-    b = bit_and mask (key_at entries slot)
-
     below : IsBelow mask (bit_and mask) (key_at entries) (bit_and mask (key_at entries slot)) (key_at entries p) (next_at entries p)
     below = table.chains.links (bit_and mask (key_at entries slot)) p chain
 

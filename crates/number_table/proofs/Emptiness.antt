@@ -4,9 +4,7 @@ use Rattle.std.specs.Prelude.{bit_and}
 use Rattle.std.proofs.lemmas.List.{length-replicate}
 use Rattle.number_table.specs.declared.entry.Entry.{Entry}
 use Rattle.number_table.specs.inner.Chains.{AreChains, IsBelow, IsInChain, IsTaken, TOP}
-use Rattle.number_table.specs.inner.Entries.{AreGiven, IsTable, empty_head, key_at, next_at, no_entry, numbers_in, slot_entries}
-use Rattle.number_table.proofs.Found.{slot_count}
-use Rattle.number_table.proofs.Views.{places_same}
+use Rattle.number_table.specs.inner.Entries.{AreGiven, IsTable, empty_head, key_at, next_at, no_entry}
 use Rattle.std.proofs.Math.Path.{fun_ext}
 
 -- in free slots
@@ -117,9 +115,3 @@ module _ (mask : ℕ) (entries : List Entry) where
 
   pub more_given : (given : ℕ) → AreGiven mask entries given → AreGiven mask (entries ++ no_entry ∷ []) given
   more_given given are s behind = subst (λ k. k ≤ given) (sym (key_more entries s)) (are s behind)
-
-  pub more_slots : IsTable mask entries → length (slot_entries mask (entries ++ no_entry ∷ [])) ≡ length (slot_entries mask entries) + 1
-  more_slots table = omega (arith, slot_count mask entries, slot_count mask (entries ++ no_entry ∷ []), length-append entries (no_entry ∷ []), table.heads)
-
-  pub more_places : IsTable mask entries → length entries < 2 ^ 32 → (given : ℕ) → (numbers_in mask (entries ++ no_entry ∷ []) given).places ≡ (numbers_in mask entries given).places
-  more_places table few given = places_same mask entries table mask (entries ++ no_entry ∷ []) (more_is_table table few) given (λ i. key_more entries (mask + 2 + i))

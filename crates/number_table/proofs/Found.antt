@@ -13,9 +13,6 @@ use Rattle.number_table.proofs.Walking.{has_place}
 -- ---- in a list of slots
 
 module _ (slots : List Entry) (n : ℕ) where
-  first : ℕ
-  first = position_or_len (has_key (n + 1)) slots
-
   pub found : (i : ℕ) → i < length slots → key_at slots i ≡ n + 1 → ((j : ℕ) → key_at slots j ≡ n + 1 → j ≡ i) → slot_with slots n ≡ Some i
   found i there is only =
       elim (cases_lt i (position_or_len (has_key (n + 1)) slots)) [
@@ -35,9 +32,6 @@ module _ (slots : List Entry) (n : ℕ) where
 
   pub found_key : (i : ℕ) → slot_with slots n ≡ Some i → key_at slots i ≡ n + 1
   found_key i is = eqb-true _ _ (position-Some (has_key (n + 1)) slots i no_entry is).1
-
-  pub found_there : (i : ℕ) → slot_with slots n ≡ Some i → i < length slots
-  found_there i is = (position-Some (has_key (n + 1)) slots i no_entry is).0
 
 -- ---- in a table
 
@@ -66,9 +60,6 @@ module _ (mask : ℕ) (entries : List Entry) where
 
   pub key_of_slot : (n i : ℕ) → slot_with (slot_entries mask entries) n ≡ Some i → key_at entries (mask + 2 + i) ≡ n + 1
   key_of_slot n i is = sym (slot_key i) ∙ found_key (slot_entries mask entries) n i is
-
-  pub slot_there : (n i : ℕ) → slot_with (slot_entries mask entries) n ≡ Some i → i < length (slot_entries mask entries)
-  slot_there n i is = found_there (slot_entries mask entries) n i is
 
   pub is_present : (n i : ℕ) → slot_with (slot_entries mask entries) n ≡ Some i → IsAbsent mask (key_at entries) (n + 1) → ⊥
   is_present n i is absent = absent (mask + 2 + i) (omega arith) (key_of_slot n i is)

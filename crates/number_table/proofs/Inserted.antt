@@ -13,9 +13,6 @@ module _ (mask : ℕ) (bucket key next : ℕ → ℕ) (are : AreChains mask buck
     taken_before : (u : ℕ) → (u ≡ s → ⊥) → IsTaken mask key' u → IsTaken mask key u
     taken_before u other h = (h.0, subst (λ n. 1 ≤ n) (key-other u other) h.1)
 
-    p_not_s : p ≡ s → ⊥
-    p_not_s is = let same : key p ≡ 0 = ap key is ∙ free in omega arith
-
     -- a link that stays
     kept : (b above t : ℕ) → IsBelow mask bucket key b above t → (bucket k ≡ b → k < above → k ≤ key t) → IsBelow mask bucket key' b above t
     kept b above t below passes =

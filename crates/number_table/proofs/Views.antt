@@ -9,7 +9,7 @@ use Rattle.number_table.specs.Numbers.{AreApart, IsFree, slot_in, with_next, wit
 use Rattle.number_table.specs.declared.entry.Entry.{Entry}
 use Rattle.number_table.specs.inner.Chains.{IsAbsent}
 use Rattle.number_table.specs.inner.Entries.{AreGiven, IsTable, key_at, numbers_in, slot_entries, slot_with}
-use Rattle.number_table.proofs.Found.{is_present, key_of_slot, slot_count, slot_is, slot_none, slot_same, slot_there}
+use Rattle.number_table.proofs.Found.{is_present, key_of_slot, slot_count, slot_is, slot_none, slot_same}
 
 pub same_each : {X : Type 0} (f g : ℕ → X) (a n : ℕ) → ((k : ℕ) → a ≤ k → k < a + n → f k ≡ g k) → map f (range_with_len a n) ≡ map g (range_with_len a n)
 same_each f g a zero h = refl
@@ -63,9 +63,6 @@ module _ (mask : ℕ) (entries : List Entry) (given : ℕ) where
           | inr le ↦ slot_past n le
         ]
 
-    pub slot_within : (n slot : ℕ) → slot_in (numbers_in mask entries given) n ≡ Some slot → slot < (numbers_in mask entries given).slots
-    slot_within n slot is = slot_there mask entries n slot (slot_told n slot is).1
-
     -- ---- the next number is given
 
     module _ (are : AreGiven mask entries given) (slot : ℕ) (free : IsFree (numbers_in mask entries given) slot) where
@@ -80,9 +77,6 @@ module _ (mask : ℕ) (entries : List Entry) (given : ℕ) where
               let key : key_at entries (mask + 2 + slot) ≡ n + 1 = omega arith in
               let back : mask + 2 + slot - (mask + 2) ≡ slot = omega arith in
               absurd (free n (slot_found n (mask + 2 + slot) (omega arith) (omega arith) key ∙ ap Some back))
-
-      pub next_absent : IsAbsent mask (key_at entries) (given + 1)
-      next_absent s behind is = let low : key_at entries s ≤ given = are s behind in omega arith
 
       module _ (after : List Entry) (then : IsTable mask after) (kept : length after ≡ length entries)
           (keys : (e : ℕ) → key_at after e ≡ cond (eqb e (mask + 2 + slot)) (given + 1) (key_at entries e)) where

@@ -54,13 +54,6 @@ module _ (mask : ℕ) (entries : List Entry) (table : IsTable mask entries) wher
         (λ s there is. let low : key_at entries s < TOP = table.chains.below_heads s there in omega (arith, head_key key))
 
     module _ (at : ℕ) (so_far : Reaches mask entries key at) where
-      pub reached_there : at < length entries
-      reached_there =
-          elim (cases_eq (key_at entries at) 0) [
-            | inl none ↦ let end : at ≡ 0 = so_far.ends none in omega (arith, table.heads)
-            | inr other ↦ has_place entries at (let h : 1 ≤ key_at entries at = omega arith in h)
-          ]
-
       link : key < key_at entries at → IsBelow mask (bit_and mask) (key_at entries) (bit_and mask key) (key_at entries at) (next_at entries at)
       link less =
           let inside = so_far.inside (let h : 1 ≤ key_at entries at = omega arith in h) in

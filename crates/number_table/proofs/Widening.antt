@@ -1,10 +1,9 @@
 -- Slots that are copied into wider entries, one after another.
 use Rattle.std.proofs.Common.{◌≡◌, ℕ, ◌+◌, ◌-◌, ◌<◌, ◌≤◌, List, cond, eqb, inl, inr, length, refl, sym, ap, ◌∙◌, arith}
 use Rattle.std.proofs.lemmas.Bool.{cases_eq, cases_lt, eq-eqb, ne_eqb}
-use Rattle.std.proofs.lemmas.List.{get_or_past}
 use Rattle.number_table.specs.declared.entry.Entry.{Entry}
 use Rattle.number_table.specs.inner.Chains.{IsAbsent, IsTaken}
-use Rattle.number_table.specs.inner.Entries.{IsTable, key_at, no_entry}
+use Rattle.number_table.specs.inner.Entries.{IsTable, key_at}
 
 pub record IsCopied (mask : ℕ) (entries : List Entry) (wide : ℕ) (wider : List Entry) (count : ℕ) : Type 0 where
   pub table : IsTable wide wider
@@ -62,11 +61,3 @@ module _ (mask : ℕ) (entries : List Entry) (table : IsTable mask entries) (wid
     ];
     free = λ i le. so_far.free i (omega arith);
   }
-
-  -- all are copied
-  pub all_copied : s + (mask + 2) ≡ length entries → (i : ℕ) → key_at wider (wide + 2 + i) ≡ key_at entries (mask + 2 + i)
-  all_copied all i =
-      elim (cases_lt i s) [
-        | inl lt ↦ so_far.copied i lt
-        | inr le ↦ so_far.free i le ∙ sym (ap (λ (x : Entry). x.key) (get_or_past entries (mask + 2 + i) no_entry (omega arith)))
-      ]

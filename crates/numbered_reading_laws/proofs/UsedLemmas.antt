@@ -43,17 +43,9 @@ pub Each-split : {A : Type 0} (P : A → Type 0) (xs ys : List A) → Each P (xs
 Each-split P [] ys e = (tt, e)
 Each-split P (x ∷ xs) ys e = let rest = Each-split P xs ys e.1 in ((e.0, rest.0), rest.1)
 
-Each-unmap : {A B : Type 0} (f : A → B) (Q : B → Type 0) (xs : List A) → Each Q (map f xs) → Each (λ x. Q (f x)) xs
-Each-unmap f Q [] e = tt
-Each-unmap f Q (x ∷ xs) e = (e.0, Each-unmap f Q xs e.1)
-
 Each-unflat : {A B : Type 0} (f : A → List B) (Q : B → Type 0) (xs : List A) → Each Q (flat_map f xs) → Each (λ x. Each Q (f x)) xs
 Each-unflat f Q [] e = tt
 Each-unflat f Q (x ∷ xs) e = let parts = Each-split Q (f x) (flat_map f xs) e in (parts.0, Each-unflat f Q xs parts.1)
-
-Each-both : {A : Type 0} (P Q : A → Type 0) (xs : List A) → Each P xs → Each Q xs → Each (λ x. P x × Q x) xs
-Each-both P Q [] e f = tt
-Each-both P Q (x ∷ xs) e f = ((e.0, f.0), Each-both P Q xs e.1 f.1)
 
 -- a name that is found stands somewhere
 

@@ -11,10 +11,10 @@ use Rattle.sil_ast.specs.declared.place.FuncId.{FuncId}
 use Rattle.sil_ast.specs.declared.place.ObjectId.{ObjectId}
 use Rattle.std.specs.Prelude.{ℕ}
 use Rattle.item_operands.specs.Items.{arg_value}
-use Rattle.item_operands.specs.Roles.{by_convention, consumed, taken_each}
+use Rattle.item_operands.specs.Roles.{by_convention, taken_each}
 use Rattle.type_definitions.specs.Declarations.{Declarations, declarations_of}
 use Rattle.accepted_runs.specs.accepted_values.accepted_modules.ownership_kinds.Facts.{facts_in}
-use Rattle.accepted_runs.specs.accepted_values.inner.Handed.{IsHanded, IsToldOf, TakesOver}
+use Rattle.accepted_runs.specs.accepted_values.inner.Handed.{IsHanded, IsToldOf}
 use Rattle.accepted_runs.specs.accepted_values.inner.Known.{IsAcceptedBody, type_in}
 use Rattle.accepted_runs.specs.accepted_values.run_typing.EndForms.{value_in}
 use Rattle.stored_counts.specs.holder_laws.holder_model.Calling.{as_argument}
@@ -28,15 +28,6 @@ use Rattle.owned_counts.proofs.Taken.{IsTakenAs}
 
 abbrev pub HasItsType : Declarations → Function → BlockArg → Type 0
 HasItsType d f a = type_in d f a.value ≡ Some a.ty
-
--- along an edge of `br` or `cond_br`
-abbrev pub AreEdgesHanded : Type 0
-AreEdgesHanded = (m : Module) (g : FuncId) (f : Function) → IsAcceptedBody m g.0 f → (w : World) (entries : List Entry)
-    (os : List Operand) (args : List BlockArg) (xs : List Datum)
-    → AllZip (TakesOver (declarations_of m) f) os args → Each (HasItsType (declarations_of m) f) args
-    → AllZip (IsTakenAs (facts_in (declarations_of m) f) entries) (map consumed os) xs → FitEach m w f (map value_in os) xs
-    → (weight : ObjectId → ℕ) → of_references weight (references_ended (facts_in (declarations_of m) f) entries (map consumed os))
-    ≡ of_references weight (references_begun (facts_in (declarations_of m) f) (map arg_value args) xs)
 
 -- to a callee, by its signature
 abbrev pub AreArgumentsHanded : Type 0

@@ -14,7 +14,7 @@ use Rattle.sil_ast.specs.declared.place.ObjectId.{ObjectId}
 use Rattle.sil_ast.specs.declared.place.ValueId.{ValueId}
 use Rattle.sil_ast.specs.declared.type_name.TypeName.{TypeName}
 use Rattle.item_operands.specs.Items.{arg_value}
-use Rattle.item_operands.specs.Roles.{by_convention, consumed, taken_as, taken_each}
+use Rattle.item_operands.specs.Roles.{by_convention, taken_as, taken_each}
 use Rattle.item_operands.specs.declared.taken.Taken.{Taken}
 use Rattle.ownership_chains.specs.declared.facts.Facts.{Facts}
 use Rattle.ownership_marks.specs.Marks.{ends_owned}
@@ -23,9 +23,8 @@ use Rattle.type_definitions.specs.declared.kind.Kind.TheVariants as kind
 use Rattle.run_values.specs.Shapes.{shape_of}
 use Rattle.accepted_runs.specs.accepted_values.accepted_modules.ownership_kinds.Facts.{facts_in}
 use Rattle.accepted_runs.specs.accepted_values.accepted_modules.sil_types.Typing.Shapes.{target}
-use Rattle.accepted_runs.specs.accepted_values.inner.Handed.{Becomes, Hands, IsHanded, IsToldOf, TakesOver, kind_told}
+use Rattle.accepted_runs.specs.accepted_values.inner.Handed.{Hands, IsHanded, IsToldOf, kind_told}
 use Rattle.accepted_runs.specs.accepted_values.inner.Known.{IsAcceptedBody, kind_at, type_in}
-use Rattle.accepted_runs.specs.accepted_values.inner.Operands.{MayEnd}
 use Rattle.accepted_runs.specs.accepted_values.run_typing.EndForms.{value_in}
 use Rattle.accepted_runs.specs.accepted_values.run_typing.Forms.{OfValue, form_by, form_of, form_with}
 use Rattle.accepted_runs.specs.accepted_values.accepted_modules.sil_types.Typing.Values.{function_at, value_functions}
@@ -40,7 +39,7 @@ use Rattle.stored_counts.proofs.holder_laws.Counts.Sums.{total_append}
 use Rattle.accepted_runs.specs.typed_memory.inner.Worlds.{World}
 use Rattle.accepted_runs.proofs.tracked_frames.Typed.Data.{IsBare, read_value}
 use Rattle.accepted_runs.proofs.tracked_frames.Typed.Entries.{FitEach, Fits}
-use Rattle.owned_counts.proofs.HandedOver.{AreArgumentsHanded, AreEdgesHanded, HasItsType}
+use Rattle.owned_counts.proofs.HandedOver.{AreArgumentsHanded, HasItsType}
 use Rattle.owned_counts.proofs.Taken.{IsTakenAs}
 use Rattle.owned_counts.proofs.TakenOwned.{ends_kind, keeps_one, taken_total}
 
@@ -69,45 +68,6 @@ module _ (m : Module) (g : FuncId) (f : Function) (w : World) (entries : List En
         let bare : IsBare (ValueOf is.0) = subst IsBare is.1 (fit.bare plain) in
         ap (in_datum weight) is.1 ∙ ap (of_references weight) bare
 
-    -- ---- edges
-
-    over_one : IsAcceptedBody m g.0 f → (o : Operand) (a : BlockArg) (x : Datum) → TakesOver d f o a → HasItsType d f a → IsTakenAs facts entries (consumed o) x → Fits m w f o.value x
-        → of_references weight (references_ended_by facts entries (consumed o)) ≡ of_references weight (owned_references (kind_at d f a.value) x)
-    over_one accepted o a x h typed taken fit = at h.ends h.becomes
-      where
-        at : MayEnd d f o.value → Becomes (kind_at d f o.value) (kind_at d f a.value)
-            → of_references weight (references_ended_by facts entries (consumed o)) ≡ of_references weight (owned_references (kind_at d f a.value) x)
-        at (inl is) (inl same) =
-            taken_total facts entries weight (consumed o) x taken
-            ∙ ap (λ k. cond (ends_kind k (consumed o).role) (of_references weight (owned_references k x)) 0) is
-            ∙ ap (λ k. of_references weight (owned_references k x)) (sym is ∙ same)
-        at (inl is) (inr plain) = let two : kind.Owned ≡ kind.Plain = sym is ∙ plain.0 in absurd (cc)
-        at (inr is) (inl same) =
-            keeps_one facts entries weight (consumed o) x taken (inr (λ e. let two : kind.Plain ≡ kind.Owned = sym is ∙ e in cc))
-            ∙ ap (λ k. of_references weight (owned_references k x)) (sym is ∙ same)
-        at (inr is) (inr plain) =
-            keeps_one facts entries weight (consumed o) x taken (inr (λ e. let two : kind.Plain ≡ kind.Owned = sym is ∙ e in cc))
-            ∙ sym (bare_none o.value a.ty x is h.typed (no_target m g.0 f accepted a.value a.ty plain.1 typed) fit)
-            ∙ ap (λ k. of_references weight (owned_references k x)) (sym plain.1)
-
-    edges : IsAcceptedBody m g.0 f → (os : List Operand) (args : List BlockArg) (xs : List Datum) → AllZip (TakesOver d f) os args → Each (HasItsType d f) args
-        → AllZip (IsTakenAs facts entries) (map consumed os) xs → FitEach m w f (map value_in os) xs
-        → of_references weight (references_ended facts entries (map consumed os)) ≡ of_references weight (references_begun facts (map arg_value args) xs)
-    edges accepted [] [] xs over typed taken fits = refl
-    edges accepted [] (a ∷ args) xs over typed taken fits = absurd over
-    edges accepted (o ∷ os) [] xs over typed taken fits = absurd over
-    edges accepted (o ∷ os) (a ∷ args) [] over typed taken fits = absurd taken
-    edges accepted (o ∷ os) (a ∷ args) (x ∷ xs) over typed taken (FitEach.more _ _ _ _ fit fits) =
-        let ended : of_references weight (references_ended facts entries (map consumed (o ∷ os)))
-        ≡ of_references weight (references_ended_by facts entries (consumed o)) + of_references weight (references_ended facts entries (map consumed os)) =
-        total_append weight (references_ended_by facts entries (consumed o)) (references_ended facts entries (map consumed os)) in
-        let begun : of_references weight (references_begun facts (map arg_value (a ∷ args)) (x ∷ xs))
-        ≡ of_references weight (owned_references (kind_at d f a.value) x) + of_references weight (references_begun facts (map arg_value args) xs) =
-        total_append weight (owned_references (kind_at d f a.value) x) (references_begun facts (map arg_value args) xs) in
-        let first = over_one accepted o a x over.0 typed.0 taken.0 fit in
-        let rest = edges accepted os args xs over.1 typed.1 taken.1 fits in
-        omega (arith, ended, begun, first, rest)
-
     -- ---- calls
 
     argument_names : (x : Datum) → in_datum weight (as_argument x) ≡ in_datum weight x
@@ -116,9 +76,6 @@ module _ (m : Module) (g : FuncId) (f : Function) (w : World) (entries : List En
     argument_names (FunctionOf h) = refl
 
     module _ (h : FuncId) (callee : Function) (accepted : IsAcceptedBody m h.0 callee) where
-      taken_by_told : Operand → Told → Taken
-      taken_by_told o told = taken_as o (by_convention told.convention)
-
       handed_one : (told : Told) (o : Operand) (a : BlockArg) (x : Datum) → IsHanded d f told o → IsToldOf d callee told a → HasItsType d callee a
           → IsTakenAs facts entries (taken_as o (by_convention told.convention)) x → Fits m w f o.value x
           → of_references weight (references_ended_by facts entries (taken_as o (by_convention told.convention))) ≡ of_references weight (owned_references (kind_at d callee a.value) (as_argument x))
@@ -168,9 +125,6 @@ module _ (m : Module) (g : FuncId) (f : Function) (w : World) (entries : List En
           let first = handed_one told o a x hands.0 is.0 typed.0 taken.0 fit in
           let rest = calls tolds os args xs hands.1 is.1 typed.1 taken.1 fits in
           omega (arith, ended, begun, first, rest)
-
-pub edges_handed : AreEdgesHanded
-edges_handed m g f accepted w entries os args xs over typed taken fits weight = edges m g f w entries weight accepted os args xs over typed taken fits
 
 pub arguments_handed : AreArgumentsHanded
 arguments_handed m g h f callee accepted w entries tolds os args xs hands is typed taken fits weight =

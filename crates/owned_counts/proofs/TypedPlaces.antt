@@ -13,7 +13,7 @@ use Rattle.run_values.specs.Cells as cells
 use Rattle.run_values.specs.Memory.{Memory, object_at}
 use Rattle.run_values.specs.Places.{Place, cells_at, home_cells}
 use Rattle.run_values.specs.Shapes.{Shape}
-use Rattle.run_values.specs.Values.{Value, references_of}
+use Rattle.run_values.specs.Values.{Value}
 use Rattle.stored_counts.specs.holder_laws.holder_model.Outcomes.{Numbers}
 use Rattle.stored_counts.specs.holder_laws.inner.Counts.Keeping.{IsAliveAt, IsWithin}
 use Rattle.stored_counts.specs.inner.Numbers.{AreNamesStored, IsStoredOf}
@@ -21,7 +21,7 @@ use Rattle.accepted_runs.specs.typed_memory.inner.Worlds.{CellIs, CellsAre, IsIn
 use Rattle.accepted_runs.proofs.typed_memory.CellShapes.{place_within, shape_count}
 use Rattle.accepted_runs.proofs.typed_memory.CellsTyped.{cells_typed}
 use Rattle.accepted_runs.proofs.typed_memory.Homes.{object_is}
-use Rattle.accepted_runs.proofs.typed_memory.Referring.{WasMade, cells_made, object_references_made, place_references_made, references_made}
+use Rattle.accepted_runs.proofs.typed_memory.Referring.{WasMade, cells_made, object_references_made, place_references_made}
 use Rattle.accepted_runs.proofs.typed_memory.Zips.{Within}
 
 each_weaker : {A : Type 0} (P Q : A → Type 0) → ((x : A) → P x → Q x) → (xs : List A) → Each P xs → Each Q xs
@@ -63,9 +63,6 @@ module _ (m : Module) (w : World) (memory : Memory) (typed : MemoryIs m w memory
 
     pub all_stored : (os : List ObjectId) → Each (WasMade w) os → Each (IsStoredOf stored) os
     all_stored os made = each_weaker (WasMade w) (IsStoredOf stored) made_stored os made
-
-    pub value_stored : (s : Shape) (x : Value) → Suits m w s x → Each (IsStoredOf stored) (references_of x)
-    value_stored s x good = all_stored (references_of x) (references_made m w s x good)
 
     -- what a place names
     pub place_stored : (p : Place) → PlaceIs m w p → AreNamesStored stored (cells_at memory p)

@@ -1,6 +1,2 @@
 //! Laws: in accepted modules, what the operands of an item hold that end is what its results hold. It has no code that runs.
 #![tactic(auto)]
-
-mod laws;
-
-pub use laws::{insts_are_counted, returns_are_counted, rows_are_owned};

@@ -5,5 +5,4 @@ mod Settled
 mod NumberLemmas
 pub mod FactLemmas
 pub mod RingLemmas
-mod OwnBases
 pub mod Enough

@@ -79,18 +79,6 @@ has_from p a (suc n) z ge lt = by (cases_eq a z) (p a) refl (λ g. has_from p (a
     by (inr s) true e rest = ap (λ v. has v z) (keep p a n e) ∙ ap (λ b. b || has (listed_from (a + 1) n p) z) (other a z s) ∙ rest (omega arith)
     by (inr s) false e rest = ap (λ v. has v z) (skip p a n e) ∙ rest (omega arith)
 
-has_test : (p : ℕ → Bool) (a n z : ℕ) → has (listed_from a n p) z ≡ true → p z ≡ true
-has_test p a zero z h = absurd (cc)
-has_test p a (suc n) z h = by (cases_eq a z) (p a) refl (has_test p (a + 1) n z)
-  where
-    by : (a ≡ z) ⊎ (a ≢ z) → (b : Bool) → p a ≡ b → (has (listed_from (a + 1) n p) z ≡ true → p z ≡ true) → p z ≡ true
-    by (inl s) true e rest = sym (ap p s) ∙ e
-    by (inr s) true e rest = rest (sym (ap (λ b. b || has (listed_from (a + 1) n p) z) (other a z s)) ∙ sym (ap (λ v. has v z) (keep p a n e)) ∙ h)
-    by o false e rest = rest (sym (ap (λ v. has v z) (skip p a n e)) ∙ h)
-
-pub has_listed : (p : ℕ → Bool) (count z : ℕ) → has (listed count p) z ≡ true → p z ≡ true
-has_listed p count z h = has_test p 0 count z h
-
 -- what is listed by a test is listed by what it has
 pub listed_listed : (p : ℕ → Bool) (count : ℕ) → IsListed count (listed count p)
 listed_listed p count = listed_same p (has (listed count p)) count (λ z lt. sym (has_from p 0 count z (omega arith) (omega arith)))
@@ -200,9 +188,6 @@ pub record Merges (count : ℕ) (p q : ℕ → Bool) (one : List ValueId) (i : �
   pub one_left : drop i one ≡ listed_from from len p
   pub other_left : drop j other ≡ listed_from from len q
   pub all_left : listed count (λ b. p b || q b) ≡ all ++ listed_from from len (λ b. p b || q b)
-
-pub merges_begun : (count : ℕ) (p q : ℕ → Bool) (one other : List ValueId) → one ≡ listed count p → other ≡ listed count q → Merges count p q one 0 other 0 []
-merges_begun count p q one other h k = record { from = 0; len = count; one_left = h; other_left = k; all_left = refl }
 
 pub merges_over : (count : ℕ) (p q : ℕ → Bool) (one : List ValueId) (i : ℕ) (other : List ValueId) (j : ℕ) (all : List ValueId) → length one ≤ i → length other ≤ j → Merges count p q one i other j all
     → all ≡ listed count (λ b. p b || q b)

@@ -1,8 +1,8 @@
 -- What a look at one value, or at all, leaves of a table of facts.
 use Rattle.std.proofs.Common.{◌++◌, take, drop, ◌≡◌, ◌≢◌, ℕ, zero, suc, ◌+◌, ◌<◌, ◌≤◌, List, [], ◌∷◌, length, get_or, set, replicate}
-use Rattle.std.proofs.Common.{refl, sym, ap, ◌∙◌, subst, arith, Bool, true, false, cond, ◌⊎◌, inl, inr, Option, Some, None}
+use Rattle.std.proofs.Common.{refl, sym, ap, ◌∙◌, subst, arith, false, cond, ◌⊎◌, inl, inr, Option, Some, None}
 use Rattle.std.specs.Prelude.{is_none, is_some, slice_get, unwrap_or}
-use Rattle.std.proofs.lemmas.Option.{none-some, same_Some}
+use Rattle.std.proofs.lemmas.Option.{same_Some}
 use Rattle.std.proofs.lemmas.Bool.{cases_eq}
 use Rattle.std.proofs.Math.Seq.{drop-length}
 use Rattle.std.proofs.lemmas.List.{append-nil, take_all}
@@ -12,7 +12,7 @@ use Rattle.ownership_chains.specs.declared.definition.Definition.{Definition}
 use Rattle.ownership_chains.specs.declared.facts.Facts.{Facts}
 use Rattle.ownership_chains.specs.Facts.{AreFactsOf, told_at, value_of}
 use Rattle.ownership_chains.specs.Steps.{told_from}
-use Rattle.ownership_chains.specs.inner.Settling.{IsSound, IsStuck, Settles, Sweeps, unknown}
+use Rattle.ownership_chains.specs.inner.Settling.{IsSound, unknown}
 use Rattle.ownership_chains.proofs.Depths.{from_sound}
 
 abbrev entry : List (Option Facts) → ℕ → Option Facts
@@ -54,27 +54,6 @@ module _ (defs : List Definition) (table : List (Option Facts)) (v : ValueId) (f
           subst (λ n. AreFactsOf defs (value_of n) g) (sym e) (subst (AreFactsOf defs v) (same_Some f g (sym (set_same table v.0 f inside) ∙ same)) here)
       at w g h (inr n) = s w g (sym (set_other table v.0 w.0 f n) ∙ h)
 
--- one value more was looked at
-sweeps_yes : (defs : List Definition) (a b c : List (Option Facts)) (n : ℕ) (moved : Bool) → Sweeps defs a b n moved → unknown c < unknown b → unknown c < unknown a
-sweeps_yes defs a b c n true g h = let one : unknown b < unknown a = g in omega arith
-sweeps_yes defs a b c n false g h = subst (λ t. unknown c < unknown t) g.0 h
-
-sweeps_no : (defs : List Definition) (a b c : List (Option Facts)) (n : ℕ) (moved : Bool) → Sweeps defs a b n moved → Settles defs b c (value_of n) false → Sweeps defs a c (n + 1) moved
-sweeps_no defs a b c n true g h = subst (λ t. unknown t < unknown a) (sym h.0) g
-sweeps_no defs a b c n false g h = (h.0 ∙ g.0, λ v lt. at v lt (cases_eq v.0 n))
-  where
-    at : (v : ValueId) → v.0 < n + 1 → (v.0 ≡ n) ⊎ (v.0 ≢ n) → IsStuck defs (told_at a) v
-    at v lt (inl e) = subst (λ k. IsStuck defs (told_at a) (value_of k)) (sym e) (subst (λ t. IsStuck defs (told_at t) (value_of n)) g.0 h.1)
-    at v lt (inr m) = g.1 v (omega arith)
-
-pub sweeps_none : (defs : List Definition) (a : List (Option Facts)) → Sweeps defs a a 0 false
-sweeps_none defs a = (refl, λ v lt. absurd (omega arith))
-
-pub sweeps_more : (defs : List Definition) (a b c : List (Option Facts)) (n : ℕ) (moved now next : Bool) → Sweeps defs a b n moved → Settles defs b c (value_of n) now →
-    ((now ≡ true) × (next ≡ true)) ⊎ ((now ≡ false) × (next ≡ moved)) → Sweeps defs a c (n + 1) next
-sweeps_more defs a b c n moved now next g h (inl p) = subst (Sweeps defs a c (n + 1)) (sym p.1) (sweeps_yes defs a b c n moved g (subst (Settles defs b c (value_of n)) p.0 h))
-sweeps_more defs a b c n moved now next g h (inr p) = subst (Sweeps defs a c (n + 1)) (sym p.1) (sweeps_no defs a b c n moved g (subst (Settles defs b c (value_of n)) p.0 h))
-
 pub unknown_none : (o : Option Facts) → is_some o ≡ false → o ≡ None
 unknown_none None h = refl
 unknown_none (Some f) h = absurd (cc)
@@ -84,9 +63,6 @@ nothing_at zero zero = refl
 nothing_at zero (suc k) = refl
 nothing_at (suc n) zero = refl
 nothing_at (suc n) (suc k) = nothing_at n k
-
-pub nothing_sound : (defs : List Definition) (table : List (Option Facts)) → ((v : ValueId) → told_at table v ≡ None) → IsSound defs (told_at table)
-nothing_sound defs table none v f h = absurd (none-some f (sym (none v) ∙ h))
 
 -- a slice written back over a whole list
 pub written_back : {A : Type 0} (len : ℕ) (new old : List A) → length new ≡ length old → len ≡ length old → take len (new ++ drop (length new) old) ≡ new

@@ -15,8 +15,6 @@ mod settle;
 
 pub use definition::{Definition, Origin};
 pub use facts::{Facts, bases_of, kind_of};
-pub use laws::{
-    facts_are_told_in_time, facts_are_unique, facts_end_at_rings, lenders_are_own_bases,
-};
+pub use laws::{facts_are_told_in_time, facts_are_unique};
 pub use outcome::{Outcome, kinds_of};
 pub use rings::first_cyclic;

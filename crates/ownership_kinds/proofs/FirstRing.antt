@@ -1,12 +1,11 @@
 -- What the table of facts tells, and the first value on a ring of either kind of chain.
-use Rattle.std.proofs.Common.{◌≡◌, ℕ, zero, suc, ◌<◌, ◌≤◌, List, [], ◌∷◌, length, refl, sym, ap, ◌∙◌, subst, arith, inl, inr, Bool, true, false, Option, Some, None}
-use Rattle.std.specs.Prelude.{IfSome, IfNone, nat_lt, slice_get, unwrap_or, if◌then◌else◌}
+use Rattle.std.proofs.Common.{◌≡◌, ℕ, zero, suc, ◌<◌, ◌≤◌, List, [], ◌∷◌, length, refl, sym, ap, ◌∙◌, subst, arith, Bool, true, false, Option, None}
+use Rattle.std.specs.Prelude.{nat_lt, slice_get, unwrap_or, if◌then◌else◌}
 use Rattle.std.proofs.lemmas.Bool.Decides.{nat_tests}
 use Rattle.sil_ast.specs.declared.function.Function.{Function}
 use Rattle.sil_ast.specs.declared.place.ValueId.{ValueId}
 use Rattle.sil_cfg.specs.Layout.{Layout}
 use Rattle.value_tables.specs.numbered_form.Numbering.{values_of}
-use Rattle.ownership_chains.specs.Chains.{HasNoRing, IsFirstCyclic}
 use Rattle.ownership_chains.specs.Facts.{told_at}
 use Rattle.ownership_chains.specs.Steps.{told_in}
 use Rattle.ownership_chains.specs.inner.Outcome.{IsTold}
@@ -14,12 +13,9 @@ use Rattle.ownership_chains.specs.declared.definition.Definition.{Definition}
 use Rattle.ownership_chains.specs.declared.facts.Facts.{Facts}
 use Rattle.type_definitions.specs.Declarations.{Declarations}
 use Rattle.ownership_origins.specs.Origins.{definitions_of}
-use Rattle.ownership_origins.specs.Renamings.{renamings_of}
 use Rattle.ownership_marks.specs.Known.{AreKindsBy}
 use Rattle.ownership_marks.specs.Known as marks
 use Rattle.ownership_kinds.specs.Facts.{facts_by, facts_in}
-use Rattle.ownership_kinds.specs.inner.Known.{IsFirstOnRing, IsRingOf, first_of}
-use Rattle.ownership_kinds.specs.Statics.{IsOnRing}
 
 beyond : (table : List (Option Facts)) (n : ℕ) → length table ≤ n → unwrap_or (slice_get table n) None ≡ None
 beyond [] n le = refl
@@ -41,45 +37,6 @@ told_everywhere defs table size told v = by (nat_lt v.0 (length defs)) refl
 pub kinds_by : (count : ℕ) (one other : ValueId → Option Facts) (f : Function) (g : Layout) (k : marks.Known) →
     ((v : ValueId) → one v ≡ other v) → AreKindsBy count one f g k → AreKindsBy count other f g k
 kinds_by count one other f g k e h = subst (λ facts. AreKindsBy count facts f g k) (λ i v. e v i) h
-
-module _ (d : Declarations) (f : Function) (defined_each : length (definitions_of d f) ≡ length (values_of f.blocks)) (renamed_each : length (renamings_of f) ≡ length (values_of f.blocks)) where
-  -- this is the first value on a ring of either kind
-  pub ring_of : (one other : Option ValueId) → IfSome one (IsFirstCyclic (definitions_of d f)) → IfNone one (HasNoRing (definitions_of d f)) → IfSome other (IsFirstCyclic (renamings_of f)) →
-      IfNone other (HasNoRing (renamings_of f)) → IsRingOf d f (first_of one other)
-  ring_of None None a none b nothing = λ v on. neither v on
-    where
-      neither : (v : ValueId) → IsOnRing d f v → ⊥
-      neither v (inl c) = none v c
-      neither v (inr c) = nothing v c
-  ring_of (Some v) None a none b nothing = record { inside = subst (λ n. v.0 < n) defined_each a.inside; on_ring = inl a.cyclic; first = before }
-    where
-      before : (w : ValueId) → w.0 < v.0 → IsOnRing d f w → ⊥
-      before w lt (inl c) = a.first w lt c
-      before w lt (inr c) = nothing w c
-  ring_of None (Some v) a none b nothing = record { inside = subst (λ n. v.0 < n) renamed_each b.inside; on_ring = inr b.cyclic; first = before }
-    where
-      before : (w : ValueId) → w.0 < v.0 → IsOnRing d f w → ⊥
-      before w lt (inl c) = none w c
-      before w lt (inr c) = b.first w lt c
-  ring_of (Some v) (Some w) a none b nothing = by (nat_lt w.0 v.0) refl
-    where
-      earlier : w.0 < v.0 → IsFirstOnRing d f w
-      earlier lt = record { inside = subst (λ n. w.0 < n) renamed_each b.inside; on_ring = inr b.cyclic; first = λ u less on. before lt u less on }
-        where
-          before : w.0 < v.0 → (u : ValueId) → u.0 < w.0 → IsOnRing d f u → ⊥
-          before lt u less (inl c) = a.first u (omega arith) c
-          before lt u less (inr c) = b.first u less c
-
-      later : v.0 ≤ w.0 → IsFirstOnRing d f v
-      later le = record { inside = subst (λ n. v.0 < n) defined_each a.inside; on_ring = inl a.cyclic; first = λ u less on. before le u less on }
-        where
-          before : v.0 ≤ w.0 → (u : ValueId) → u.0 < v.0 → IsOnRing d f u → ⊥
-          before le u less (inl c) = a.first u less c
-          before le u less (inr c) = b.first u (omega arith) c
-
-      by : (t : Bool) → nat_lt w.0 v.0 ≡ t → IsRingOf d f (if nat_lt w.0 v.0 then Some w else Some v)
-      by true e = subst (λ t. IsRingOf d f (if t then Some w else Some v)) (sym e) (earlier (let lt : w.0 < v.0 = grind (arith, nat_tests) in lt))
-      by false e = subst (λ t. IsRingOf d f (if t then Some w else Some v)) (sym e) (later (let le : v.0 ≤ w.0 = grind (arith, nat_tests) in le))
 
 -- what is known by a table of what is told is known by the function
 pub kinds_told : (d : Declarations) (f : Function) (g : Layout) (k : marks.Known) (defs : List Definition) (table : List (Option Facts)) →

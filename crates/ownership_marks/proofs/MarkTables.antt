@@ -1,17 +1,15 @@
 -- Marks by facts that say the same.
-use Rattle.std.proofs.Common.{◌≡◌, ℕ, List, [], ◌∷◌, ◌++◌, refl, sym, ap, ap₂, ◌∙◌, Option, Some, None}
+use Rattle.std.proofs.Common.{◌≡◌, List, [], ◌∷◌, ◌++◌, refl, sym, ap, ap₂, ◌∙◌, Option, Some, None}
 use Rattle.std.specs.Prelude.{unwrap_or}
 use Rattle.std.specs.List.{flat_map}
 use Rattle.sil_ast.specs.declared.function.Function.{Function}
 use Rattle.sil_ast.specs.declared.place.ValueId.{ValueId}
-use Rattle.sil_cfg.specs.Layout.{Layout}
 use Rattle.sil_cfg.specs.declared.item.Item.{Item}
 use Rattle.item_operands.specs.Items.{item_defined, item_taken}
 use Rattle.item_operands.specs.declared.taken.Taken.{Taken}
 use Rattle.ownership_chains.specs.Facts.{facts_with, known_or}
 use Rattle.ownership_chains.specs.declared.facts.Facts.{Facts}
 use Rattle.type_definitions.specs.declared.kind.Kind.TheVariants as kind
-use Rattle.ownership_marks.specs.Known.{AreKindsBy, Known}
 use Rattle.ownership_marks.specs.Marks.{begun, begun_with, ended, ended_with, marks_of, used, used_with}
 
 pub flat_map_same : {X A : Type 0} (p q : X → List A) → ((x : X) → p x ≡ q x) → (xs : List X) → flat_map p xs ≡ flat_map q xs
@@ -45,7 +43,3 @@ module _ (a b : ValueId → Option Facts) (same : (v : ValueId) → known_or a v
       ap₂ (λ x y. x ++ y)
       (ap₂ (λ x y. x ++ y) (flat_map_same (ended a) (ended b) same_ended (item_taken f item)) (flat_map_same (used a) (used b) same_used (item_taken f item)))
       (flat_map_same (begun a) (begun b) same_begun (item_defined f item))
-
-  -- kinds by facts are those by any facts that tell the same
-  pub same_kinds : (count : ℕ) (f : Function) (g : Layout) (k : Known) → AreKindsBy count a f g k → AreKindsBy count b f g k
-  same_kinds count f g k by = record { size = by.size; facts_are = λ v. by.facts_are v ∙ same v; marks_are = λ i item e. by.marks_are i item e ∙ same_marks f item }

@@ -5,4 +5,3 @@ mod TrivialTuples
 pub mod Counts
 pub mod Ranges
 mod Ordered
-mod Lenders

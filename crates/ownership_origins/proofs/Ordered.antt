@@ -1,10 +1,9 @@
 -- Definitions that go on only to values before them have no ring.
-use Rattle.std.proofs.Common.{◌≡◌, ℕ, zero, suc, ◌+◌, ◌<◌, ◌≤◌, List, [], ◌∷◌, ◌++◌, map, length, replicate, get_or, take, ap, sym, ◌∙◌, subst, arith, append_assoc}
+use Rattle.std.proofs.Common.{◌≡◌, ℕ, zero, suc, ◌+◌, ◌<◌, ◌≤◌, List, [], ◌∷◌, ◌++◌, map, length, replicate, sym, subst, arith, append_assoc}
 use Rattle.std.specs.Prelude.{All, slice_get, unwrap_or, Option}
-use Rattle.std.specs.List.{AllByRecursion as ByRecursion, flat_map}
-use Rattle.std.proofs.lemmas.List.{append-nil, take_more}
+use Rattle.std.specs.List.{AllByRecursion as ByRecursion}
+use Rattle.std.proofs.lemmas.List.{append-nil}
 use Rattle.std.proofs.lemmas.List.Elements.{recursion_from_All}
-use Rattle.std.proofs.lemmas.Grind.{flat_map-append}
 use Rattle.sil_ast.specs.declared.function.BlockArg.{BlockArg}
 use Rattle.sil_ast.specs.declared.operands.Operand.{Operand}
 use Rattle.sil_ast.specs.declared.place.ValueId.{ValueId}
@@ -34,9 +33,6 @@ from_greater : (m n : ℕ) → m ≤ n → (ds : List Definition) → AreInOrder
 from_greater m n le [] h = tt
 from_greater m n le (d ∷ ds) h = (each_below m n le d.operands h.0, from_greater (m + 1) (n + 1) (omega arith) ds h.1)
 
-pub leads_nowhere : (n : ℕ) → LeadsOn n [] n
-leads_nowhere n rest h = h
-
 pub leads_along : (n m k : ℕ) (xs ys : List Definition) → LeadsOn n xs m → LeadsOn m ys k → LeadsOn n (xs ++ ys) k
 leads_along n m k xs ys g h rest r = subst (AreInOrder n) (sym (append_assoc xs ys rest)) (g (ys ++ rest) (h rest r))
 
@@ -47,14 +43,6 @@ leads_times (suc count) d n m le h rest r = (h, leads_times count d (n + 1) m (o
 pub leads_args : (s : Option Switched) (args : List BlockArg) (n m : ℕ) → m ≤ n + length args → Each (λ (w : ValueId). w.0 < n) (default_operand s) → LeadsOn n (map (arg_renaming s) args) m
 leads_args s [] n m le h rest r = from_greater m n (omega arith) rest r
 leads_args s (a ∷ args) n m le h rest r = (h, leads_args s args (n + 1) m (omega arith) (each_below n (n + 1) (omega arith) (default_operand s) h) rest r)
-
--- one element more
-pub leads_more : {A : Type 0} (f : A → List Definition) (xs : List A) (i : ℕ) (x : A) (n m k : ℕ) → i < length xs → x ≡ get_or xs i x → LeadsOn n (flat_map f (take i xs)) m → LeadsOn m (f x) k
-    → LeadsOn n (flat_map f (take (i + 1) xs)) k
-leads_more f xs i x n m k lt is g h =
-    let one : flat_map f (take (i + 1) xs) ≡ flat_map f (take i xs) ++ f x =
-    ap (flat_map f) (take_more xs i x lt ∙ ap (λ y. take i xs ++ y ∷ []) (sym is)) ∙ flat_map-append f (take i xs) (x ∷ []) ∙ ap (λ ds. flat_map f (take i xs) ++ ds) (append-nil (f x)) in
-    subst (λ ds. LeadsOn n ds k) (sym one) (leads_along n m k (flat_map f (take i xs)) (f x) g h)
 
 before_at : (n : ℕ) (ds : List Definition) → AreInOrder n ds → (k : ℕ) → Each (λ (w : ValueId). w.0 < n + k) (unwrap_or (slice_get (map (λ (d : Definition). d.operands) ds) k) [])
 before_at n [] h zero = tt

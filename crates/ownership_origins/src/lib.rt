@@ -5,7 +5,6 @@
 mod args;
 mod defining;
 mod in_order;
-mod laws;
 mod operands;
 mod renamed;
 mod renaming;
@@ -16,7 +15,6 @@ mod trivial;
 
 pub use defining::definitions;
 pub use in_order::are_renamed_in_order;
-pub use laws::{definitions_are_in_range, definitions_are_of_values, lenders_are_borrows};
 pub use renamed::renamings;
 pub use switched::Switched;
 pub use switching::{switch_of, switches};

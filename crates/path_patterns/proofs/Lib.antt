@@ -2,7 +2,6 @@ pub mod PushedMarks
 pub mod PatternsDecided
 pub mod MarksRead
 pub mod SwitchDecided
-pub mod SwitchTurned
 pub mod GraphPatterns
 pub mod RunsAreLawful
 pub mod SameMarks

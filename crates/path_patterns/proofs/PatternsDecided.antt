@@ -1,20 +1,16 @@
 -- An automaton that decides a pattern breaks on a walk exactly where the pattern does, first with the same code.
 use Rattle.std.proofs.Common.{◌≡◌, ℕ, ◌+◌, ◌<◌, get_or, take, drop, take-append-drop, List, [], ◌∷◌, ◌++◌, length, refl, sym, ap, ◌∙◌, subst, append_assoc}
 use Rattle.std.specs.Prelude.{flat_map}
-use Rattle.std.proofs.lemmas.List.{append-nil, drop_more}
-use Rattle.std.proofs.lemmas.Grind.{flat_map-append}
+use Rattle.std.proofs.lemmas.List.{drop_more}
 use Rattle.reach_engine.specs.sil_ast.declared.place.EdgeId.{EdgeId}
 use Rattle.reach_engine.specs.sil_cfg.Flow.{Flow}
-use Rattle.reach_engine.specs.sil_cfg.Walk.{IsTrail}
-use Rattle.reach_engine.proofs.sil_cfg.Paths.{Trail-front, some_pushed}
 use Rattle.reach_engine.specs.declared.scan.Step.{Step}
 use Rattle.reach_engine.specs.declared.scan.Step.TheVariants.{Go, Bad}
 use Rattle.reach_engine.specs.inner.Run.{run}
 use Rattle.reach_engine.specs.inner.Reach.{ReachesFirst}
-use Rattle.reach_engine.specs.inner.Search.{IsClean}
 use Rattle.reach_engine.proofs.Runs.{run-append, run_split, run_join, run_breaks, bad_at}
 use Rattle.path_patterns.specs.Lawful.{AreLawful, FirstBreak}
-use Rattle.path_patterns.specs.Along.{IsKept, Shows}
+use Rattle.path_patterns.specs.Along.{Shows}
 use Rattle.path_patterns.specs.inner.Decides.{Judges, Decides}
 
 module _ {M : Type 0} (step : ℕ → M → Step) (InPlace : List M → M → Type 0) (code_of : M → ℕ) (decides : Decides step InPlace code_of) where
@@ -106,27 +102,6 @@ module _ {M : Type 0} (step : ℕ → M → Step) (InPlace : List M → M → Ty
             clean = trail_marks (Go 0) h.before ∙ read.1;
             breaks = reads read.0 item ∙ break_complete (flat_map marks h.before) (marks item) read.0 c read.1 h.breaks;
           }
-
-      -- where the search is clean each trail keeps the pattern
-      pub clean_kept : IsClean g steps → IsKept g marks InPlace
-      clean_kept clean w t trail = at (run steps (Go 0) t) refl
-        where
-          at : (x : Step) → run steps (Go 0) t ≡ x → AreLawful InPlace (flat_map marks t)
-          at (Go s) e = read_lawful (flat_map marks t) s (sym (trail_marks (Go 0) t) ∙ e)
-          at (Bad c) e =
-              let b = bad_at steps 0 t c e in
-              let parts : t ≡ (b.front ++ b.here ∷ []) ++ b.rest = b.parts ∙ sym (append_assoc b.front (b.here ∷ []) b.rest) in
-              let front = Trail-front g w (b.front ++ b.here ∷ []) b.rest (some_pushed b.front b.here) (subst (IsTrail g w) parts trail) in
-              absurd (clean front.0 c b.here (record { before = b.front; state = b.state; trail = front.1; clean = b.clean; breaks = b.breaks }))
-
-      -- and where a walk shows a break, some trail doesn't
-      pub shown_unkept : (w : List EdgeId) (c item : ℕ) → Shows g marks InPlace code_of w c item → IsKept g marks InPlace → ⊥
-      shown_unkept w c item h all =
-          let b = h.breaks in
-          let parts : flat_map marks (h.before ++ item ∷ []) ≡ (flat_map marks h.before ++ b.front) ++ b.mark ∷ b.rest =
-          flat_map-append marks h.before (item ∷ []) ∙ ap (λ v. flat_map marks h.before ++ v) (append-nil (marks item) ∙ b.parts)
-          ∙ sym (append_assoc (flat_map marks h.before) b.front (b.mark ∷ b.rest)) in
-          b.out_of_place (all w (h.before ++ item ∷ []) h.trail (flat_map marks h.before ++ b.front) b.rest b.mark parts)
 
 -- the accesses read up to one that is bad
 pub bad_access : {M : Type 0} (step : ℕ → M → Step) (xs : List M) (i : ℕ) (d : M) (s t c : ℕ) → i < length xs → step t (get_or xs i d) ≡ Bad c →

@@ -59,11 +59,6 @@ map_among {A} g y (x ∷ xs) (inr h) = further (map_among g y xs h)
 
 -- at a place
 
-pub among_at : {A : Type 0} (x : A) (xs : List A) (k : ℕ) → slice_get xs k ≡ Some x → Among x xs
-among_at x [] k h = absurd cc
-among_at x (z ∷ xs) zero h = inl (let e : z ≡ x = cc in sym e)
-among_at x (z ∷ xs) (suc k) h = inr (among_at x xs k h)
-
 pub place_among : {A : Type 0} (x : A) (xs : List A) → Among x xs → (k : ℕ) × (slice_get xs k ≡ Some x)
 place_among x [] h = absurd h
 place_among x (z ∷ xs) (inl e) = (0, ap Some (sym e))

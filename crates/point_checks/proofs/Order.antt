@@ -32,9 +32,6 @@ before_told x y a b c d e f =
     let two = by_head a d (b ∷ c ∷ []) (e ∷ f ∷ []) three.0 three.1 (a == d) refl in
     by_head x y (a ∷ b ∷ c ∷ []) (d ∷ e ∷ f ∷ []) two.0 two.1 (x == y) refl
 
-abbrev NotBehind : PointFault → PointFault → Type 0
-NotBehind a b = NotAfter (key_of a) (key_of b)
-
 -- the lesser of two is one of them, and comes before both
 pub record IsLesser (a x r : PointFault) : Type 0 where
   pub one : (r ≡ a) ⊎ (r ≡ x)

@@ -13,9 +13,6 @@ use Rattle.reach_engine.specs.inner.Columns.{Has}
 use Rattle.reach_engine.specs.inner.Reached.{RowHas, EdgeTaken, BlockTaken, MarksGains, IsSoFar, IsBlockDone, IsSettled, IsClosed, is_dirty, work_left, cap_of, DirtyTaken, Swept}
 use Rattle.reach_engine.proofs.RowsAreSound.{so_far_more}
 
-pub marks_none : (states subjects width : ℕ) (rows : List ℕ) (dirty : List Bool) → MarksGains states subjects width rows rows dirty dirty false
-marks_none states subjects width rows dirty = record { stays = λ c t u lt lu m x. x; kept = λ c m. m; none = λ e. refl }
-
 -- one edge more: its target is marked if it gained a subject
 pub marks_more : (g : Flow ℕ) (f : ℕ → ℕ → ℕ → Step) (states subjects width : ℕ) (e : EdgeId) (bundle old now new before bad : List ℕ) (first dirty next : List Bool) (is_new here then : Bool) →
     edge_to g e < length dirty →
@@ -118,18 +115,6 @@ dirty_taken g f states subjects width b old new bad after dirty cleaned marked i
     done_at c lc clean (inr n) =
         let old_clean : is_dirty dirty c ≡ false = sym (get_or-set_other dirty b c false false n) ∙ ap (λ d. get_or d c false) (sym cleaned_is) ∙ m.kept c clean in
         stays_done g f states subjects width old new bad after c (λ s u ls lu x. m.stays c s u ls lu clean x) t.kept t.grows (h.done c lc old_clean)
-
--- a block that isn't dirty is passed over
-pub dirty_passed : (g : Flow ℕ) (f : ℕ → ℕ → ℕ → Step) (states subjects width b : ℕ) (rows bad : List ℕ) (dirty : List Bool) → IsSettled g f states subjects width rows bad dirty →
-    is_dirty dirty b ≡ false →
-    DirtyTaken g f states subjects width b rows rows bad dirty dirty false
-dirty_passed g f states subjects width b rows bad dirty h clean = record {
-  settled = h;
-  rows_same = λ e. refl;
-  dirty_same = λ e. refl;
-  clean = λ e. clean;
-  less = λ e. absurd (let x : false ≡ true = e in cc);
-}
 
 pub swept_none : (g : Flow ℕ) (f : ℕ → ℕ → ℕ → Step) (states subjects width : ℕ) (rows bad : List ℕ) (dirty : List Bool) → IsSettled g f states subjects width rows bad dirty
     → Swept g f states subjects width rows rows bad dirty dirty 0 false

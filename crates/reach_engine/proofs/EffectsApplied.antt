@@ -54,16 +54,6 @@ add_more states width row words mask from first rows next i start n row_size sta
     added_at t v lt lv (inl e) = subst (λ k. bit_in next (cell width k v) ≡ max (bit_in first (cell width k v)) (min (bit_in row v) (bit_in words (64 * from + cell width k v)))) (sym e) (here v lv)
     added_at t v lt lv (inr ne) = other t v ne lv ∙ h.added t v (omega arith) lv
 
-pub bad_added : (states width : ℕ) (row words mask : List ℕ) (from : ℕ) (before after : List ℕ) (start n : ℕ) → length row ≡ width → start ≡ from + states * width → width ≤ n →
-    mask ≡ take n (drop start words) →
-    ((k : ℕ) → k < 64 * length row → bit_in after (64 * 0 + k) ≡ max (bit_in before (64 * 0 + k)) (min (bit_in row k) (bit_in mask k))) →
-    BadAdded states width row words from before after
-bad_added states width row words mask from before after start n row_size start_is wide mask_is inside v lv =
-    let place : 64 * start + v ≡ 64 * from + cell width states v = omega arith in
-    let same : 64 * 0 + v ≡ v = omega arith in
-    ap (bit_in after) (sym same) ∙ inside v (omega (arith, row_size))
-    ∙ ap₂ max (ap (bit_in before) same) (ap (min (bit_in row v)) (ap (λ ws. bit_in ws v) mask_is ∙ bit_in_part words start n v (omega arith) ∙ ap (bit_in words) place))
-
 bit_below : (words : List ℕ) (k : ℕ) → bit_in words k < 2
 bit_below words k = bit_at-lt (get_or words (k / 64) 0) (k % 64)
 

@@ -1,5 +1,5 @@
 -- Effects are found from bundles of all subjects in one state, and say what each bundle becomes.
-use Rattle.std.proofs.Common.{◌≡◌, ◌≢◌, ℕ, zero, suc, ◌+◌, ◌*◌, ◌/◌, ◌%◌, ◌<◌, ◌≤◌, List, ◌++◌, length, get_or, append_assoc, refl, sym, ap, ap₂, ◌∙◌, subst, arith, ◌⊎◌, inl, inr}
+use Rattle.std.proofs.Common.{◌≡◌, ◌≢◌, ℕ, zero, suc, ◌+◌, ◌*◌, ◌/◌, ◌%◌, ◌<◌, ◌≤◌, List, ◌++◌, length, get_or, refl, sym, ap, ap₂, ◌∙◌, subst, arith, ◌⊎◌, inl, inr}
 use Rattle.std.specs.Int.{bit_at}
 use Rattle.std.proofs.lemmas.Bool.{cases_eq, cases_lt}
 use Rattle.std.proofs.lemmas.List.{get_or_append_left, get_or-append-add, length-append}
@@ -46,9 +46,6 @@ rows_before j i n width t lt lr =
 
     rows : (a b w : ℕ) → a + 1 ≤ b → a * w + w ≤ b * w
     rows a b w le = grind arith
-
-pub effects_none : (g : Flow ℕ) (f : ℕ → ℕ → ℕ → Step) (states subjects width : ℕ) (words : List ℕ) → AreEffects g f states subjects width words 0
-effects_none g f states subjects width words j lt = absurd (omega arith)
 
 -- one effect more
 pub effects_more : (g : Flow ℕ) (f : ℕ → ℕ → ℕ → Step) (states subjects width : ℕ) (old new items : List ℕ) (i : ℕ) → subjects ≤ 64 * width → length old ≡ i * (effect_rows states * width) →
@@ -141,17 +138,6 @@ basis_moved f states subjects width s items basis bundle before bad fits ls size
         → (code : ℕ) × (run (f u) (Go s) items ≡ Bad code)
     breaks_at u lu (inl x) = absurd (zero_one (sym (clear u) ∙ x))
     breaks_at u lu (inr p) = let e : p.0 ≡ s = basis_is.only p.0 u (omega arith) p.3 in (p.1, subst (λ k. run (f u) (Go k) items ≡ Bad p.1) e p.4)
-
--- two parts added are one
-pub effect_added : (f : ℕ → ℕ → ℕ → Step) (states subjects width s : ℕ) (items old bundle bad mid new : List ℕ) → length bundle ≡ states * width → length bad ≡ width →
-    mid ≡ old ++ bundle → new ≡ mid ++ bad →
-    IsEffect f states subjects width s items (bundle ++ bad) 0 → EffectAdded f states subjects width s items old new
-effect_added f states subjects width s items old bundle bad mid new size bad_size mid_is new_is effect = record {
-  words = bundle ++ bad;
-  size = let long : length (bundle ++ bad) ≡ length bundle + length bad = length-append bundle bad in omega arith;
-  parts = new_is ∙ ap (λ xs. xs ++ bad) mid_is ∙ append_assoc old bundle bad;
-  effect = effect;
-}
 
 -- a bundle that was moved by the effects of its states
 pub applied_moved : (f : ℕ → ℕ → ℕ → Step) (states subjects width : ℕ) (items words : List ℕ) (from first : ℕ) (old new before after : List ℕ) → subjects ≤ 64 * width → from ≡ first * width →

@@ -36,10 +36,6 @@ written_bit first words offset i k new_at h lt =
     let bit : (64 * offset + k) % 64 ≡ k % 64 = omega arith in
     ap₂ (λ n m. bit_at (get_or words n 0) m) place bit ∙ ap (λ x. bit_at x (k % 64)) (h.done (k / 64) (omega arith))
 
--- bits of the other words
-pub bits_below : (first words : List ℕ) (offset i k : ℕ) (new_at : ℕ → ℕ) → Writing first words offset i new_at → k < 64 * offset → bit_in words k ≡ bit_in first k
-bits_below first words offset i k new_at h lt = ap (λ x. bit_at x (k % 64)) (h.below (k / 64) (omega arith))
-
 pub bits_above : (first words : List ℕ) (offset i k : ℕ) (new_at : ℕ → ℕ) → Writing first words offset i new_at → 64 * (offset + i) ≤ k → bit_in words k ≡ bit_in first k
 bits_above first words offset i k new_at h le = ap (λ x. bit_at x (k % 64)) (h.above (k / 64) (omega arith))
 

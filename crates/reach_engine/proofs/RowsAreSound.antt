@@ -12,7 +12,7 @@ use Rattle.reach_engine.specs.inner.Reach.{Enters, ReachesFirst}
 use Rattle.reach_engine.proofs.Runs.{run_join, bad_at}
 use Rattle.reach_engine.proofs.EveryWalk.{walk_push, end_push, passed_push}
 use Rattle.reach_engine.specs.inner.Bits.{bit_in}
-use Rattle.reach_engine.specs.inner.Reached.{RowHas, Gains, BreaksIn, BlockTaken, IsSoFar, IsBlockDone}
+use Rattle.reach_engine.specs.inner.Reached.{RowHas, Gains, BreaksIn, BlockTaken, IsSoFar}
 
 -- one edge more
 pub enters_edge : (g : Flow ℕ) (f : ℕ → ℕ → Step) (w : List EdgeId) (e : EdgeId) (b s t : ℕ) → Enters g f w b s → IsEdge g e → e.block.0 ≡ b → run f (Go s) (items_at g b ++ edge_item g e ∷ []) ≡ Go t
@@ -61,19 +61,6 @@ reaches_edge g f w e b s m code h is from runs bad = record {
   clean = run_join f (Go 0) (passed g w) (items_at g b) s (Go m) h.runs runs;
   breaks = bad;
 }
-
-pub done_more : (g : Flow ℕ) (f : ℕ → ℕ → ℕ → Step) (states subjects width : ℕ) (first old now new bad after : List ℕ) (b : ℕ) →
-    ((k : ℕ) → bit_in first k ≡ 1 → bit_in old k ≡ 1) → ((k : ℕ) → bit_in now k ≡ 1 → bit_in new k ≡ 1) → ((u : ℕ) → u < subjects → bit_in bad u ≡ 1 → bit_in after u ≡ 1) →
-    IsBlockDone g f states subjects width old now bad b → IsBlockDone g f states subjects width first new after b
-done_more g f states subjects width first old now new bad after b back up kept h = record {
-  block = λ s code u ls lu x r. kept u lu (h.block s code u ls lu (back _ x) r);
-  goes = λ e s t u is from ls lu x r. let p = h.goes e s t u is from ls lu (back _ x) r in (p.0, up _ p.1);
-  breaks = λ e s m code u is from ls lu x r y. kept u lu (h.breaks e s m code u is from ls lu (back _ x) r y);
-}
-
-block_done : (g : Flow ℕ) (f : ℕ → ℕ → ℕ → Step) (states subjects width b : ℕ) (old new before after : List ℕ) (is_new : Bool) → BlockTaken g f states subjects width b old new before after is_new
-    → IsBlockDone g f states subjects width old new after b
-block_done g f states subjects width b old new before after is_new h = record { block = h.block; goes = h.goes; breaks = h.breaks }
 
 -- what a block adds is so
 pub so_far_more : (g : Flow ℕ) (f : ℕ → ℕ → ℕ → Step) (states subjects width b : ℕ) (old new before after : List ℕ) (is_new : Bool) → subjects ≤ 64 * width → length new ≡ length old →

@@ -132,19 +132,6 @@ edge_taken g f states subjects width e bundle moved old new before after offset 
     unused_at c t v lt le lv (inl x) = inl x
     unused_at c t v lt le lv (inr x) = inr (sym (all.unused t v lt le lv) ∙ x.1)
 
-pub edges_none : (g : Flow ℕ) (f : ℕ → ℕ → ℕ → Step) (states subjects width b : ℕ) (bundle old before : List ℕ) → EdgesTaken g f states subjects width b bundle old old before before 0 false
-edges_none g f states subjects width b bundle old before = record {
-  grows = λ k h. h;
-  sound = λ c t u lt lu h. inl h;
-  unused = λ c t v lt le lv h. inl h;
-  goes = λ j m t u lj. absurd (omega arith);
-  kept = λ u lu h. h;
-  blamed = λ u lu h. inl h;
-  breaks = λ j m code u lj. absurd (omega arith);
-  none = λ h. refl;
-  some = λ h. absurd (let e : false ≡ true = h in cc);
-}
-
 pub edges_more : (g : Flow ℕ) (f : ℕ → ℕ → ℕ → Step) (states subjects width b : ℕ) (bundle old now new before bad after : List ℕ) (i : ℕ) (is_new here then : Bool) →
     i < edge_count g b →
     EdgesTaken g f states subjects width b bundle old now before bad i is_new → EdgeTaken g f states subjects width (edge_id b i) bundle now new bad after here →

@@ -1,11 +1,10 @@
-use Rattle.std.proofs.Common.{◌≡◌, ◌≢◌, ℕ, ◌+◌, ◌*◌, ◌<◌, ◌≤◌, List, [], ◌∷◌, length, refl, sym, ap, ◌∙◌, subst, arith, ◌⊎◌, inl, inr}
+use Rattle.std.proofs.Common.{◌≡◌, ◌≢◌, ℕ, ◌+◌, ◌*◌, ◌<◌, List, length, refl, sym, ap, ◌∙◌, subst, arith, ◌⊎◌, inl, inr}
 use Rattle.std.proofs.lemmas.Bool.{cases_eq}
 use Rattle.reach_engine.specs.declared.scan.Step.{Step}
 use Rattle.reach_engine.specs.declared.scan.Step.TheVariants.{Go, Bad}
-use Rattle.reach_engine.specs.inner.Run.{run}
 use Rattle.reach_engine.proofs.Runs.{go-bad, same_Go}
 use Rattle.reach_engine.specs.inner.Bits.{bit_in}
-use Rattle.reach_engine.specs.inner.Columns.{cell, Has, Moved, Blamed, OthersStay, Put}
+use Rattle.reach_engine.specs.inner.Columns.{cell, Has, OthersStay, Put}
 use Rattle.reach_engine.proofs.ColumnTaken.{cell_apart}
 
 -- what is kept while a subject is put back, from the rows below i
@@ -21,24 +20,6 @@ pub record Turning (f : ℕ → ℕ → Step) (states width u item : ℕ) (first
   pub innocent : (v : ℕ) → v ≢ u → bit_in bad v ≡ bit_in before v
 
 module _ (f : ℕ → ℕ → Step) (states width u item : ℕ) (lu : u < 64 * width) where
-  -- at first no row has the subject
-  pub turn_none : (first bundle before : List ℕ) → length bundle ≡ length first → ((s : ℕ) → s < states → bit_in bundle (cell width s u) ≡ 0) → OthersStay states width u first bundle →
-      Turning f states width u item first bundle before before 0
-  turn_none first bundle before size clear others = record {
-    size = size;
-    bad_size = refl;
-    from = λ t lt h. absurd (zero_one (sym (clear t lt) ∙ h));
-    to = λ s t ls. absurd (omega arith);
-    others = others;
-    bad_from = λ h. inl h;
-    bad_kept = λ h. h;
-    bad_to = λ s c ls. absurd (omega arith);
-    innocent = λ v n. refl;
-  }
-    where
-      zero_one : ◌≡◌ {A = ℕ} 0 1 → ⊥
-      zero_one h = omega arith
-
   -- row i doesn't have the subject
   pub turn_skip : (first bundle before bad : List ℕ) (i : ℕ) → Turning f states width u item first bundle before bad i → (Has first width i u → ⊥)
       → Turning f states width u item first bundle before bad (i + 1)
@@ -117,23 +98,3 @@ module _ (f : ℕ → ℕ → Step) (states width u item : ℕ) (lu : u < 64 * w
           to_at : (s x : ℕ) → s < i + 1 → Has first width s u → f s item ≡ Go x → (s ≡ i) ⊎ (s ≢ i) → Has next width x u
           to_at s x ls y z (inl q) = absurd (go-bad x d (sym z ∙ ap (λ k. f k item) q ∙ e))
           to_at s x ls y z (inr n) = ap (λ w. bit_in w (cell width x u)) p.0 ∙ h.to s x (omega arith) y z
-
-  -- all rows are done
-  pub turned_moved : (first bundle before bad : List ℕ) (i : ℕ) → Turning f states width u item first bundle before bad i → i ≤ states → states ≤ i → Moved f states width u (item ∷ []) first bundle
-  turned_moved first bundle before bad i h le ge = record {
-    from = λ t lt x. let o = h.from t lt x in (o.0, (let l : o.0 < i = o.1 in omega arith), o.2, o.3);
-    to = λ s t ls x y. h.to s t (omega arith) x y;
-  }
-
-  pub turned_blamed : (first bundle before bad : List ℕ) (i : ℕ) → Turning f states width u item first bundle before bad i → i ≤ states → states ≤ i
-      → Blamed f states width u (item ∷ []) first before bad
-  turned_blamed first bundle before bad i h le ge = record {
-    from = λ x. at (h.bad_from x);
-    kept = h.bad_kept;
-    to = λ s c ls x y. h.bad_to s c (omega arith) x y;
-  }
-    where
-      at : (bit_in before u ≡ 1) ⊎ ((s : ℕ) × (code : ℕ) × (s < i) × Has first width s u × (f s item ≡ Bad code))
-          → (bit_in before u ≡ 1) ⊎ ((s : ℕ) × (code : ℕ) × (s < states) × Has first width s u × (run f (Go s) (item ∷ []) ≡ Bad code))
-      at (inl e) = inl e
-      at (inr o) = inr (o.0, o.1, (let l : o.0 < i = o.2 in omega arith), o.3, o.4)

@@ -29,7 +29,7 @@ use Rattle.lowered_steps.specs.lowered_run.Stored.{changed, new_numbers, numbers
 use Rattle.lowered_steps.specs.inner.LowWays.{Acts, Enters, Falls, FinishesOne, GoesBehind, Performs, Reaches, ReleasesOne, StepsBy, TakesEdge}
 use Rattle.lowered_steps.specs.inner.LowWays.{deinitialising, released, retained}
 use Rattle.lowered_steps.proofs.LowTold.{low_told}
-use Rattle.reference_totals.specs.inner.Totals.{AreTotalsKept, AreTotalsOf, AreTotalsStored, BeginWithTotals, come_to}
+use Rattle.reference_totals.specs.inner.Totals.{AreTotalsOf, AreTotalsStored, BeginWithTotals, come_to}
 use Rattle.reference_totals.proofs.Grown.{Grown, GrownBy, effect_grown, stays}
 use Rattle.reference_totals.proofs.Objects.{alive_within, dead_at, pushed_alive, set_alive, set_any}
 use Rattle.reference_totals.proofs.Strongs.{changed_strongs, insts_left, joined_strongs, push_sum, pushed, set_sum, strong_at, strongs, strongs_length, strongs_sum, unnamed_left}
@@ -295,9 +295,6 @@ module _ (m : Module) (told : ModuleShapes) (bound : ℕ) where
           → AreTotalsOf (come_to (step_on (run (low_step m told bound) k) n))
       at (Goes t) g on = on t g
       at (Ends e t) g on = g
-
-pub totals_kept : AreTotalsKept
-totals_kept m told bound l h = kept m told bound l h
 
 pub begin_with_totals : BeginWithTotals
 begin_with_totals e f = record { size = refl; even = refl; dead = λ o is. refl }

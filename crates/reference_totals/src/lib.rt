@@ -3,4 +3,4 @@
 
 mod laws;
 
-pub use laws::{runs_begin_with_totals, totals_are_kept, totals_are_left, totals_are_stored};
+pub use laws::totals_are_left;

@@ -1,52 +1,35 @@
 -- The texts of values by the form of their type.
-use Rattle.std.proofs.Common.{◌≡◌, ◌∙◌, ℕ, List, [], ◌∷◌, ◌++◌, None, Option, Some, map, length, refl, sym, ap, ap₂, subst, codes}
+use Rattle.std.proofs.Common.{◌≡◌, ◌∙◌, ℕ, List, [], ◌∷◌, ◌++◌, None, Option, Some, map, length, refl, sym, ap, ap₂, subst}
 use Rattle.std.specs.Prelude.{option_map}
 use Rattle.holder_model.specs.declared.left_object.LeftObject.{LeftObject}
 use Rattle.numbered_form.specs.Names.{Name}
 use Rattle.run_report.specs.ReportLines.{class_among}
-use Rattle.run_report.specs.ValueTexts.{Writer, chosen_words, grouped, if_integer, if_object, text_layer, value_text}
+use Rattle.run_report.specs.ValueTexts.{Writer, chosen_words, grouped, if_object, text_layer, value_text}
 use Rattle.run_typing_laws.proofs.ListFacts.{map_twice}
-use Rattle.run_typing_laws.proofs.Opened.{fold-Address, fold-Int, fold-Optional, fold-Tuple, fold-Unowned, fold-Weak}
+use Rattle.run_typing_laws.proofs.Opened.{fold-Tuple}
 use Rattle.run_typing_laws.proofs.Whole.{no_ring, told_named}
 use Rattle.run_values.specs.Layers.{CaseLayer, Layer, case_with, decl_with, field_with, named_within, over}
-use Rattle.run_values.specs.Shapes.{CaseShapes, Enum, FullCase, Integer, NoCase, PlainCase, Shape, Stored, Tuple, Unknown}
+use Rattle.run_values.specs.Shapes.{CaseShapes, Enum, Shape, Tuple}
 use Rattle.run_values.specs.Shapes.{by_layers, cases_by_layers, cases_of, each_by_layers, members_of, shape_of, shape_with, with_case}
-use Rattle.run_values.specs.Values.{Value, integer_of, object_of}
+use Rattle.run_values.specs.Values.{Value, object_of}
 use Rattle.run_values.specs.Values as value
 use Rattle.sil_ast.specs.declared.decl.Case.{Case}
 use Rattle.sil_ast.specs.declared.decl.Decl.{Decl}
 use Rattle.sil_ast.specs.declared.decl.Decl.TheVariants as decl
 use Rattle.sil_ast.specs.declared.decl.Field.{Field}
-use Rattle.sil_ast.specs.declared.decl.Storage.TheVariants as storage
 use Rattle.sil_ast.specs.declared.type_name.TypeName.{TypeName}
 use Rattle.sil_ast.specs.declared.type_name.TypeName.TheVariants as type
 use Rattle.type_definitions.specs.Contained.{field_type}
 use Rattle.type_definitions.specs.Declarations.{Declarations, all_decls, decl_of, declarations_of}
-use Rattle.report_writing.specs.inner.Layers.{declared_cases, named_case, optional_cases}
+use Rattle.report_writing.specs.inner.Layers.{declared_cases, named_case}
 use Rattle.report_writing.specs.inner.Texts.{AreOfRunnable, case_text, case_writer, group_text, text_of}
 
 -- the shape of a name, as it is looked up
 abbrev names : Declarations → Name → Shape
 names d = named_within shape_with d (length (all_decls d))
 
-integer_is : (d : Declarations) (w : ℕ) → shape_of d (type.Int w) ≡ Integer w
-integer_is d w = fold-Int Shape (over shape_with (names d)) w
-
 tuple_is : (d : Declarations) (ts : List TypeName) → shape_of d (type.Tuple ts) ≡ Tuple (members_of (map (shape_of d) ts))
 tuple_is d ts = fold-Tuple Shape (over shape_with (names d)) ts
-
-optional_is : (d : Declarations) (t : TypeName) → shape_of d (type.Optional t)
-    ≡ Enum (codes "Optional") (PlainCase (codes "none") (FullCase (codes "some") (shape_of d t) NoCase))
-optional_is d t = fold-Optional Shape (over shape_with (names d)) t
-
-weak_is : (d : Declarations) (t : TypeName) → shape_of d (type.Weak t) ≡ Stored storage.Weak (shape_of d t)
-weak_is d t = fold-Weak Shape (over shape_with (names d)) t
-
-unowned_is : (d : Declarations) (t : TypeName) → shape_of d (type.Unowned t) ≡ Stored storage.Unowned (shape_of d t)
-unowned_is d t = fold-Unowned Shape (over shape_with (names d)) t
-
-address_is : (d : Declarations) (t : TypeName) → shape_of d (type.Address t) ≡ Unknown
-address_is d t = fold-Address Shape (over shape_with (names d)) t
 
 -- the shape of a name is that of what it finds
 declared_is : (d : Declarations) → AreOfRunnable d → (name : Name) (x : Option Decl) → x ≡ decl_of d name
@@ -98,9 +81,6 @@ module _ (d : Declarations) (t : TypeName) (left : List LeftObject) (v : Value) 
   by_shape : (u : TypeName) (s : Shape) → t ≡ u → shape_of d u ≡ s → text_of d left t v ≡ of_shape s
   by_shape u s is shaped = ap of_shape (ap (shape_of d) is ∙ shaped)
 
-  pub integer_text : (w : ℕ) → t ≡ type.Int w → text_of d left t v ≡ if_integer (integer_of v)
-  integer_text w is = by_shape (type.Int w) _ is (integer_is d w)
-
   grouped_text : (ts : List TypeName) → grouped (each_by_layers (text_layer (class_among left)) (members_of (map (shape_of d) ts))) (value.members_of v)
       ≡ group_text d left ts v
   grouped_text ts = ap (λ ws. grouped ws (value.members_of v)) (each_of_types (text_layer (class_among left)) d ts)
@@ -108,19 +88,6 @@ module _ (d : Declarations) (t : TypeName) (left : List LeftObject) (v : Value) 
   pub tuple_text : (ts elements : List TypeName) → t ≡ type.Tuple ts → elements ≡ ts → text_of d left t v ≡ group_text d left elements v
   tuple_text ts elements is same =
       by_shape (type.Tuple ts) _ is (tuple_is d ts) ∙ grouped_text ts ∙ ap (λ us. group_text d left us v) (sym same)
-
-  pub optional_text : (u target : TypeName) → t ≡ type.Optional u → target ≡ u → text_of d left t v ≡ codes "Optional" ++ case_text d left (optional_cases target) v
-  optional_text u target is same =
-      by_shape (type.Optional u) _ is (optional_is d u) ∙ ap (λ x. codes "Optional" ++ case_text d left (optional_cases x) v) (sym same)
-
-  pub weak_text : (u stored : TypeName) → t ≡ type.Weak u → stored ≡ u → text_of d left t v ≡ text_of d left stored v
-  weak_text u stored is same = by_shape (type.Weak u) _ is (weak_is d u) ∙ ap (λ x. text_of d left x v) (sym same)
-
-  pub unowned_text : (u stored : TypeName) → t ≡ type.Unowned u → stored ≡ u → text_of d left t v ≡ text_of d left stored v
-  unowned_text u stored is same = by_shape (type.Unowned u) _ is (unowned_is d u) ∙ ap (λ x. text_of d left x v) (sym same)
-
-  pub address_text : (u : TypeName) → t ≡ type.Address u → text_of d left t v ≡ []
-  address_text u is = by_shape (type.Address u) _ is (address_is d u)
 
 -- by what a name finds
 

@@ -8,9 +8,8 @@ use Rattle.sil_ast.specs.declared.place.PointId.{PointId}
 use Rattle.sil_ast.specs.declared.place.ValueId.{ValueId}
 use Rattle.type_definitions.specs.Declarations.{declarations_of}
 use Rattle.lent_functions.proofs.Clean.{lent_ready}
-use Rattle.lent_functions.proofs.Facts.{bases_lent}
 use Rattle.lent_functions.proofs.Ready.{Ready}
-use Rattle.rewriting_order.specs.inner.Laws.{IsVerifiedIn, LendingKeepsBases, LendingKeepsBorrowable, LendingMakesNoCopy}
+use Rattle.rewriting_order.specs.inner.Laws.{IsVerifiedIn, LendingKeepsBorrowable, LendingMakesNoCopy}
 use Rattle.rewriting_order.proofs.LentBack.{copy_back}
 use Rattle.rewriting_order.proofs.LentForth.{borrowable_alike}
 
@@ -19,9 +18,6 @@ ready m f p c v in_module copy b = lent_ready m in_module.number f p c v in_modu
 
 pub keeps_borrowable : LendingKeepsBorrowable
 keeps_borrowable m f p q c v e w in_module copy b here = borrowable_alike (declarations_of m) f p c v (ready m f p c v in_module copy b) q e w here
-
-pub keeps_bases : LendingKeepsBases
-keeps_bases m f p c v w in_module copy b = bases_lent (declarations_of m) f p c v (ready m f p c v in_module copy b) w
 
 pub makes_no_copy : LendingMakesNoCopy
 makes_no_copy f q c e w here = copy_back c f q e w here

@@ -2,7 +2,6 @@
 
 ghost use Rattle.rewriting_order.specs.inner.Laws.{
   LaterOnesAreLeft,
-  LendingKeepsBases,
   LendingKeepsBorrowable,
   LendingMakesNoCopy,
   MovingKeepsBorrowable,
@@ -19,11 +18,6 @@ pub fn later_ones_are_left()
 /// A borrow changes for no other copy whether it can be a borrow.
 pub fn lending_keeps_borrowable()
     ensures { LendingKeepsBorrowable }
-{}
-
-/// All values keep their bases where a copy is lent.
-pub fn lending_keeps_bases()
-    ensures { LendingKeepsBases }
 {}
 
 /// A move of a copy of `v` changes that at most for `v` itself and for the other copies of `v`.

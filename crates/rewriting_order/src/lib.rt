@@ -4,6 +4,6 @@
 mod laws;
 
 pub use laws::{
-    later_ones_are_left, lending_keeps_bases, lending_keeps_borrowable, lending_makes_no_copy,
-    moving_keeps_borrowable, moving_keeps_values, moving_lets_none_borrow, moving_makes_no_copy,
+    later_ones_are_left, lending_keeps_borrowable, lending_makes_no_copy, moving_keeps_borrowable,
+    moving_keeps_values, moving_lets_none_borrow, moving_makes_no_copy,
 };

@@ -22,9 +22,6 @@ use Rattle.rewritten_typing_laws.proofs.Alike.{Alike, Blocks, Functions, Rest, a
 use Rattle.rewritten_typing_laws.proofs.Alike.{each_in_blocks, each_inst, goes, keeps, mapped_alike, no_block, nothing, same, same_of_both, told_of_insts}
 use Rattle.rewritten_typing_laws.proofs.Rows.{new_inside, new_literals}
 
-sum_below : (a b x y w n m : ℕ) → n ≡ w + a → m ≡ w + b → a ≤ b → n ≤ m
-sum_below a b x y w n m e h le = omega arith
-
 module _ (d : Declarations) where
   -- ---- what holds of an instruction
 

@@ -1,9 +1,3 @@
 //! Trails as the frames of a run have them, the newest item first, and what a walk that shows nothing says of them.
 //! It has no code that runs. It knows of marks and of no rule.
 #![tactic(auto)]
-
-mod laws;
-
-pub use laws::{
-    entry_is_entered_once, run_trails_are_spliced, run_trails_are_trails, switches_are_followed,
-};

@@ -52,10 +52,6 @@ module _ (d : Declarations) where
     unfolding ancestors_of
     same_ancestors n class e = same_chain n DEPTH (superclass_of d class) e (one_further (DEPTH - 1) (superclass_of d class) (ends class))
 
-    pub with_superclass : (class above : Name) → superclass_of d class ≡ Some above → ancestors_of d class ≡ line_of d above
-    unfolding ancestors_of
-    with_superclass class above e = ap (chain d DEPTH) e ∙ ap (λ cs. above ∷ cs) (same_ancestors (DEPTH - 1) above (ends above))
-
     -- an ancestor stands in a chain with its own ancestors behind it
     split_at : (n : ℕ) (at : Option Name) (other : Name) → is_longer d n at ≡ false → list_any (bytes_eq other) (chain d n at) ≡ true
         → (front : List Name) × (chain d n at ≡ front ++ line_of d other)

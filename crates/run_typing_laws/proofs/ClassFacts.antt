@@ -14,7 +14,7 @@ use Rattle.run_typing_laws.proofs.ClassChains.{fields_first, is_a_passes}
 use Rattle.run_typing_laws.proofs.Found.{same_name}
 use Rattle.run_typing_laws.proofs.TextClasses.{chains_end, class_placed, class_placed_once, names_once}
 pub use Rattle.run_typing_laws.proofs.FieldShapes.{field_shapes_are}
-pub use Rattle.run_typing_laws.proofs.FieldFacts.{each_field, field_at_is, field_shape_at, fields_are_typed}
+pub use Rattle.run_typing_laws.proofs.FieldFacts.{each_field, fields_are_typed}
 pub use Rattle.run_typing_laws.proofs.TextClasses.{ancestor_is_class, placed_is_class}
 
 pub is_a_itself : (d : Declarations) (class : Name) → is_a d class class ≡ true

@@ -1,8 +1,7 @@
 -- The fields of classes: a weak one is storage of an Optional of a class, an unowned one of a class, and no storage stands in any other.
-use Rattle.std.proofs.Common.{◌≡◌, ℕ, List, [], ◌∷◌, ◌++◌, Bool, true, false, Option, Some, None, map, refl, sym, ap, ◌∙◌, subst}
-use Rattle.std.specs.Prelude.{codes, option_map, slice_get}
+use Rattle.std.proofs.Common.{◌≡◌, List, [], ◌∷◌, ◌++◌, Bool, true, false, map, refl, sym, ap, ◌∙◌, subst}
+use Rattle.std.specs.Prelude.{codes}
 use Rattle.std.specs.List.{list_any}
-use Rattle.std.proofs.lemmas.Option.{slice_get-map}
 use Rattle.sil_ast.specs.declared.decl.Decl.TheVariants.{Class}
 use Rattle.sil_ast.specs.declared.decl.Field.{Field}
 use Rattle.sil_ast.specs.declared.decl.Storage.{Storage}
@@ -12,7 +11,7 @@ use Rattle.sil_ast.specs.declared.type_name.TypeName.{TypeName, TypeName-F, out-
 use Rattle.numbered_form.specs.Lists.{Each}
 use Rattle.numbered_form.specs.Names.{Name}
 use Rattle.numbered_form.specs.inner.Types.{HasDeclTypes, HasFieldType, is_plain_type}
-use Rattle.run_typing.specs.holder_model.ModuleShapes.{field_shape, field_shapes, shapes_of}
+use Rattle.run_typing.specs.holder_model.ModuleShapes.{field_shape}
 use Rattle.run_values.specs.Shapes.{Enum, FullCase, NoCase, PlainCase, Shape, shape_of}
 use Rattle.run_values.specs.inner.Laws.{has_no_address, has_no_address_over}
 use Rattle.run_typing.specs.sil_types.Typing.Shapes.{stored_as}
@@ -112,25 +111,9 @@ module _ (m : Module) (r : IsWellTyped m) where
   pub each_field : (class : Name) → is_class d class ≡ true → Each (λ f. FieldShapeIs f.storage (field_shape d f)) (fields_of d class)
   each_field class h = chain_each IsRight own_right (line_of d class) (line_of_classes m r class h)
 
-  pub field_at_is : (class : Name) → is_class d class ≡ true → (k : ℕ) (f : Field) → slice_get (fields_of d class) k ≡ Some f → FieldShapeIs f.storage (field_shape d f)
-  field_at_is class h k f e = each_at IsRight (fields_of d class) k f (each_field class h) e
-
   pub fields_are_typed : AreFieldsTyped m
   fields_are_typed class h = record {
     listed = field_shapes_are m r class h;
     each = each_field class h;
     measured = chain_each IsMeasured own_measured (line_of d class) (line_of_classes m r class h);
   }
-
-  -- a place of an object, by the field that stands there
-  pub field_shape_at : (class : Name) → is_class d class ≡ true → (k : ℕ) (s : Shape) → slice_get (field_shapes (shapes_of m) class) k ≡ Some s
-      → (f : Field) × (slice_get (fields_of d class) k ≡ Some f) × (s ≡ field_shape d f) × FieldShapeIs f.storage s
-  field_shape_at class h k s e = at (slice_get (fields_of d class) k) refl
-      (sym (slice_get-map (field_shape d) (fields_of d class) k) ∙ ap (λ ss. slice_get ss k) (sym (field_shapes_are m r class h)) ∙ e)
-    where
-      at : (o : Option Field) → slice_get (fields_of d class) k ≡ o → option_map (field_shape d) o ≡ Some s
-          → (f : Field) × (slice_get (fields_of d class) k ≡ Some f) × (s ≡ field_shape d f) × FieldShapeIs f.storage s
-      at None is e = cc
-      at (Some f) is e =
-          let same : s ≡ field_shape d f = cc in
-          (f, is, same, subst (FieldShapeIs f.storage) (sym same) (field_at_is class h k f is))

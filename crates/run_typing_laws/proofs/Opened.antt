@@ -4,23 +4,11 @@ use Rattle.sil_ast.specs.declared.type_name.TypeName.{TypeName, TypeName-F, fold
 use Rattle.sil_ast.specs.declared.type_name.TypeName.TheVariants as type
 use Rattle.sil_ast.specs.declared.type_name.TypeName.TheVariants.{rolls-Int, rolls-Named, rolls-Optional, rolls-Tuple, rolls-Weak, rolls-Unowned, rolls-Address}
 
-pub out-Int : (n : ℕ) → out-TypeName (type.Int n) ≡ TypeName-F.Int n
-out-Int n = ap out-TypeName (sym (rolls-Int n)) ∙ out-roll-TypeName (TypeName-F.Int n)
-
 pub out-Named : (name : List ℕ) → out-TypeName (type.Named name) ≡ TypeName-F.Named name
 out-Named name = ap out-TypeName (sym (rolls-Named name)) ∙ out-roll-TypeName (TypeName-F.Named name)
 
-pub out-Optional : (t : TypeName) → out-TypeName (type.Optional t) ≡ TypeName-F.Optional t
-out-Optional t = ap out-TypeName (sym (rolls-Optional t)) ∙ out-roll-TypeName (TypeName-F.Optional t)
-
 pub out-Tuple : (ts : List TypeName) → out-TypeName (type.Tuple ts) ≡ TypeName-F.Tuple ts
 out-Tuple ts = ap out-TypeName (sym (rolls-Tuple ts)) ∙ out-roll-TypeName (TypeName-F.Tuple ts)
-
-pub out-Weak : (t : TypeName) → out-TypeName (type.Weak t) ≡ TypeName-F.Weak t
-out-Weak t = ap out-TypeName (sym (rolls-Weak t)) ∙ out-roll-TypeName (TypeName-F.Weak t)
-
-pub out-Unowned : (t : TypeName) → out-TypeName (type.Unowned t) ≡ TypeName-F.Unowned t
-out-Unowned t = ap out-TypeName (sym (rolls-Unowned t)) ∙ out-roll-TypeName (TypeName-F.Unowned t)
 
 pub out-Address : (t : TypeName) → out-TypeName (type.Address t) ≡ TypeName-F.Address t
 out-Address t = ap out-TypeName (sym (rolls-Address t)) ∙ out-roll-TypeName (TypeName-F.Address t)

@@ -16,7 +16,7 @@ use Rattle.run_values.specs.declared.leaf.Leaf.TheVariants as leaf
 use Rattle.run_values.specs.Layers.{CaseLayer, Layer}
 use Rattle.run_values.specs.Leaves.{InLeaves, case_value, chosen_at, chosen_leaves, filled_up, integer_at, integer_leaf, leaves_each, leaves_layer, longest_payload, name_leaf, named_value}
 use Rattle.run_values.specs.Leaves.{object_at, object_leaf, payload_leaves, payload_of, payload_sizes, payload_value, size_of, values_each, with_more}
-use Rattle.run_values.specs.Fits.{Test, are_members, fit_each, fits_case, fits_layer, fits_payload, fits_width, is_case, is_name}
+use Rattle.run_values.specs.inner.Fits.{Test, are_members, fit_each, fits_case, fits_layer, fits_payload, fits_width, is_case, is_name}
 use Rattle.run_values.specs.Values.{ChosenCase, Value, Int, Object, Group, Case, Full, chosen, grouped, case_of, integer_of, members_of, object_of, references_of}
 use Rattle.run_values.specs.inner.Laws.{LeavesComeBack}
 use Rattle.run_values.proofs.Forms.{is_integer, is_object, is_group, is_chosen}

@@ -1,7 +1,6 @@
 pub mod Layers
 pub mod Shapes
 pub mod Values
-pub mod Fits
 pub mod Trivial
 pub mod Leaves
 pub mod Cells

@@ -31,4 +31,3 @@ pub mod RowsRight
 pub mod CallsCountedPlaces
 pub mod CallsCountedArguments
 pub mod CallsCounted
-pub mod BetweenTurns

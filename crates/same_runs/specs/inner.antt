@@ -1,4 +1,3 @@
 pub mod Followed
 pub mod InRightStates
 pub mod Laws
-pub mod BetweenTurns

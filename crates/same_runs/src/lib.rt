@@ -3,7 +3,4 @@
 
 mod laws;
 
-pub use laws::{
-    calls_are_counted, lowered_runs_are_same, numbers_are_counts, rows_find_what_they_need,
-    runs_begin_along, steps_are_followed, totals_are_held, totals_are_told,
-};
+pub use laws::{lowered_runs_are_same, numbers_are_counts};

@@ -4,7 +4,7 @@ use Rattle.std.specs.Prelude.{IsSomeAnd, unwrap_or, option_map}
 use Rattle.std.specs.List.{slice_get}
 use Rattle.std.proofs.lemmas.Bool.{cases_eq, cases_lt}
 use Rattle.std.proofs.lemmas.List.{length-map, length-append}
-use Rattle.std.proofs.lemmas.List.Elements.{All-append, All-nil, All-weaker, All-map}
+use Rattle.std.proofs.lemmas.List.Elements.{All-append, All-weaker, All-map}
 use Rattle.std.proofs.lemmas.Option.{slice_get-get_or, slice_get_within, slice_get_past, get_or_from_slice_get, slice_get-map, same_Some}
 use Rattle.sil_ast.specs.declared.place.EdgeId.{EdgeId}
 use Rattle.sil_ast.specs.declared.inst.Edge as edge
@@ -47,10 +47,6 @@ IsLaid-more kinds more b block x h = record {
   edges = record { targets = h.edges.targets; items = λ j y e. kept_get kinds more y.item (Edge (edge_id b j)) (h.edges.items j y e) };
   last = h.last;
 }
-
--- no block is laid out yet
-pub laid_none : (f : Function) → AreLaid f [] [] 0
-laid_none f = record { size = refl; blocks_laid = λ b block lt e. absurd (omega arith); known = All-nil (IsItem f) }
 
 -- one block more
 pub laid_more : (f : Function) (kinds new : List Item) (blocks : List BlockLayout) (n : ℕ) (block : Block) (x : BlockLayout) → AreLaid f kinds blocks n → slice_get f.blocks n ≡ Some block →

@@ -1,4 +1,3 @@
 pub mod Build
 pub mod Splice
 pub mod Laying
-pub mod Laws

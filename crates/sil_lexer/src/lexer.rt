@@ -3,7 +3,7 @@
 ghost use Rattle.std.specs.Prelude.{◌≡◌, [], ◌∷◌, ◌++◌, IfOk, OnOk};
 ghost use Rattle.sil_lexer.specs.declared.lexer.LexStop.TheVariants.{Memory};
 ghost use Rattle.sil_lexer.specs.Places.{IsInLimit};
-ghost use Rattle.sil_lexer.specs.inner.Lexing.{IsLexedInOrder, IsLexedOneWay, IsLexingOf, IsLongestTaken};
+ghost use Rattle.sil_lexer.specs.inner.Lexing.{IsLexingOf, IsLongestTaken};
 
 use crate::place::{START, ahead};
 use crate::scan::token_at;
@@ -61,17 +61,7 @@ fn push(tokens: &mut Vec<Token>, token: Token) -> Result<(), Exhausted>
     Ok(())
 }
 
-/// A text has one list of tokens and one stop.
-pub fn lexed_one_way()
-    ensures { IsLexedOneWay }
-{}
-
 /// No spelling of any kind is longer than the one that is taken.
 pub fn longest_taken()
     ensures { IsLongestTaken }
-{}
-
-/// Tokens are in order and don't overlap, and the place where they end is behind them.
-pub fn lexed_in_order()
-    ensures { IsLexedInOrder }
 {}

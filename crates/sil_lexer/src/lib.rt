@@ -12,7 +12,7 @@ mod starts;
 mod token;
 mod tokens;
 
-pub use lexer::{LexStop, lex, lexed_in_order, lexed_one_way, longest_taken};
+pub use lexer::{LexStop, lex, longest_taken};
 pub use place::{end_place, place_at};
 pub use spelling::{without_quotes, without_sigil};
 pub use token::{LexRefusal, TokenKind};

@@ -1,8 +1,7 @@
 -- The first of what is shown: of two kinds of refusals, and in terms of another key.
-use Rattle.std.proofs.Common.{◌≡◌, ℕ, List, sym, subst, ◌⊎◌, inl, inr, Option, Some, None}
-use Rattle.std.specs.Option.{option_map}
+use Rattle.std.proofs.Common.{ℕ, List, sym, subst, ◌⊎◌, inl, inr, Option, Some, None}
 use Rattle.sil_rules.specs.Order.{NotAfter, IsLeast, IsFirst, Either, IsEarlier}
-use Rattle.sil_rules.proofs.Keys.{not_after_trans, not_after_antisym}
+use Rattle.sil_rules.proofs.Keys.{not_after_trans}
 
 module _ {A : Type 0} (key : A → List ℕ) where
   -- what one is first of, another shows too, and all that the other shows comes behind: it is first of either
@@ -47,21 +46,6 @@ module _ {A : Type 0} (key : A → List ℕ) where
   first_earlier One Other (Some a) (Some b) r first second (inr e) =
       subst (IsFirst key (Either One Other)) (sym e.0)
       (least_swap Other One b (least_of_either Other One b second (λ c one. not_after_trans (key b) (key a) (key c) e.1 (first.first c one))))
-
-  -- two that are first have the same key
-  pub least_unique : (Shown : A → Type 0) (a b : A) → IsLeast key Shown a → IsLeast key Shown b → key a ≡ key b
-  least_unique Shown a b one other = not_after_antisym (key a) (key b) (one.first b other.shown) (other.first a one.shown)
-
-module _ {A B : Type 0} (key : A → List ℕ) (further : B → List ℕ) (f : A → B) where
-  -- refusals seen in another way, all of what is shown and in the same order, have the same first
-  pub first_map : (Shown : A → Type 0) (ShownAs : B → Type 0) (r : Option A) → ((a : A) → Shown a → ShownAs (f a))
-      → ((b : B) → ShownAs b → (a : A) × Shown a × (f a ≡ b)) → ((a b : A) → NotAfter (key a) (key b) → NotAfter (further (f a)) (further (f b)))
-      → IsFirst key Shown r → IsFirst further ShownAs (option_map f r)
-  first_map Shown ShownAs None to from keeps none = λ b shown. let source : (a : A) × Shown a × (f a ≡ b) = from b shown in none source.0 source.1
-  first_map Shown ShownAs (Some a) to from keeps least = record { shown = to a least.shown; first = λ b shown. all b (from b shown) }
-    where
-      all : (b : B) → (other : A) × Shown other × (f other ≡ b) → NotAfter (further (f a)) (further b)
-      all b source = subst (λ c. NotAfter (further (f a)) (further c)) source.2 (keeps a source.0 (least.first source.0 source.1))
 
 module _ {A : Type 0} (key : A → List ℕ) (One Other : A → Type 0) (to : (a : A) → One a → Other a) (back : (a : A) → Other a → One a) where
   -- what is shown in other words has the same first

@@ -1,5 +1,5 @@
 -- Lists of numbers are in one order.
-use Rattle.std.proofs.Common.{◌≡◌, ◌≢◌, ℕ, ◌<◌, List, [], ◌∷◌, ◌++◌, arith, refl, sym, ap, ◌⊎◌, inl, inr, ◌∙◌}
+use Rattle.std.proofs.Common.{◌≡◌, ◌≢◌, ℕ, ◌<◌, List, [], ◌∷◌, arith, refl, sym, ap, ◌⊎◌, inl, inr, ◌∙◌}
 use Rattle.std.proofs.lemmas.Bool.{cases_eq}
 use Rattle.sil_rules.specs.Order.{NotAfter}
 
@@ -46,17 +46,3 @@ not_after_antisym (x ∷ xs) (y ∷ ys) (inl lt) (inl gt) = absurd (omega arith)
 not_after_antisym (x ∷ xs) (y ∷ ys) (inl lt) (inr e) = absurd (let same : y ≡ x = e.0 in omega arith)
 not_after_antisym (x ∷ xs) (y ∷ ys) (inr e) (inl gt) = absurd (let same : x ≡ y = e.0 in omega arith)
 not_after_antisym (x ∷ xs) (y ∷ ys) (inr e) (inr d) = ap (λ n. n ∷ xs) e.0 ∙ ap (λ l. y ∷ l) (not_after_antisym xs ys e.1 d.1)
-
--- what stands in front of two keys alike makes no difference
-pub not_after_append : (front xs ys : List ℕ) → NotAfter xs ys → NotAfter (front ++ xs) (front ++ ys)
-not_after_append [] xs ys a = a
-not_after_append (n ∷ front) xs ys a = inr (refl, not_after_append front xs ys a)
-
--- where no lesser number is there, and the same one has no earlier key, the key comes first
-pub not_after_cons : (x y : ℕ) (xs ys : List ℕ) → ¬ (y < x) → (x ≡ y → NotAfter xs ys) → NotAfter (x ∷ xs) (y ∷ ys)
-not_after_cons x y xs ys none more = at (compared x y)
-  where
-    at : ((x < y) ⊎ (y < x)) ⊎ (x ≡ y) → NotAfter (x ∷ xs) (y ∷ ys)
-    at (inl (inl lt)) = inl lt
-    at (inl (inr gt)) = absurd (none gt)
-    at (inr e) = inr (e, more e)

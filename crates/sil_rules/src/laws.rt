@@ -1,7 +1,7 @@
 //! The laws of the rules and of the order of refusals, on calls that do nothing.
 //! The lemmas for the checks above are in `proofs/`.
 
-ghost use Rattle.sil_rules.specs.inner.Laws.{AreInPlace, AreOrdered};
+ghost use Rattle.sil_rules.specs.inner.Laws.{AreOrdered};
 ghost use Rattle.sil_rules.specs.declared.rule.TheConstants.{NUMBERS};
 ghost use Rattle.std.specs.List.Sorted.{IsStrictlyIncreasing};
 
@@ -13,9 +13,4 @@ pub fn keys_are_ordered()
 /// Rules stand in the order of their numbers.
 pub fn numbers_go_up()
     ensures { IsStrictlyIncreasing NUMBERS }
-{}
-
-/// Each rule is the one at its index.
-pub fn rules_are_in_place()
-    ensures { AreInPlace }
 {}

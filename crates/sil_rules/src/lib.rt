@@ -10,7 +10,7 @@ mod rule;
 mod status;
 
 pub use group::Group;
-pub use laws::{keys_are_ordered, numbers_go_up, rules_are_in_place};
+pub use laws::{keys_are_ordered, numbers_go_up};
 pub use limit_word::LimitWord;
 pub use rule::Rule;
 pub use status::Status;

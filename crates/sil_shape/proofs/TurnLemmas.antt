@@ -8,11 +8,10 @@ use Rattle.grammar_tables.specs.declared.grammar.Symbol.{Symbol}
 use Rattle.grammar_tables.specs.declared.grammar.Symbol.TheVariants.{Read, Part}
 use Rattle.grammar_tables.specs.declared.grammar.Production.{Production}
 use Rattle.sil_shape.specs.declared.steps.Step.{Step}
-use Rattle.sil_shape.specs.declared.steps.Step.TheVariants.{Take}
 use Rattle.grammar_tables.specs.Grammar.{written, body}
 use Rattle.sil_shape.specs.inner.Choice.{choose}
 use Rattle.sil_shape.specs.Derivation.{Accepts}
-use Rattle.sil_shape.specs.inner.Turns.{Turns, turn, Pops, Expands, IsSettled, Settles, IsAccepted, IsStuck, Takes, Refuses}
+use Rattle.sil_shape.specs.inner.Turns.{Turns, turn, Pops, Expands, IsSettled, Settles, IsAccepted, IsStuck, Refuses}
 use Rattle.sil_shape.proofs.Sets.{weight}
 use Rattle.sil_shape.proofs.Computed.{lead, weight_one, if_vanishes, vanishes, vanishes_one, computed_weight}
 use Rattle.sil_shape.proofs.NextClasses.{choose-way, vanishes_part}
@@ -80,17 +79,6 @@ refused_numbered k j l shown {stack = stack} {last = last} {steps = steps} {more
     let settles : Settles (Some k) stack steps last more = subst (λ x. Settles x stack steps last more) (look ∙ ap Some same) s in
     let fits : IsTrue suits ↔ IsAccepted k last = subst (λ x. IsTrue suits ↔ IsAccepted x last) same (subst (λ x. IsTrue suits ↔ IsAccepted j x) items accepts) in
     refused_token settles (λ a. false≢true (sym stays ∙ fits.1 a))
-
-pub took : {k : Class} {stack mid rest : List Symbol} {steps before new_steps : List Step} (popped : Option Symbol)
-    → Settles (Some k) stack steps mid before → IsAccepted k mid → Pops mid popped rest → new_steps ≡ before ++ Take ∷ [] → Takes k stack steps rest new_steps
-took {k = k} None s a pops is = absurd (subst (IsAccepted k) pops.0 a)
-took {k = k} {stack = stack} {steps = steps} {before = before} (Some symbol) s a pops is = record {
-  symbol = symbol;
-  before = before;
-  turns = subst (λ ss. Turns (Some k) stack steps ss before) pops s.turns;
-  accepted = subst (IsAccepted k) pops a;
-  steps_are = is;
-}
 
 pub rest_popped : (popped : Option Symbol) (stack rest : List Symbol) → Pops stack popped rest → rest ≡ drop 1 stack
 rest_popped None stack rest pops = pops.1 ∙ sym (ap (drop 1) pops.0)

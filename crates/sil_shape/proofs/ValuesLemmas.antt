@@ -1,6 +1,6 @@
 -- A derivation has a value for each symbol: replayed from its last step to its first, it never lacks one.
 -- A replay that stands before step `i` has replayed `drop i steps`.
-use Rattle.std.proofs.Common.{◌≡◌, ℕ, zero, suc, ◌+◌, List, [], ◌∷◌, ◌++◌, length, take, drop, refl, arith, add-one, length-append}
+use Rattle.std.proofs.Common.{◌≡◌, ℕ, zero, suc, ◌+◌, List, [], ◌∷◌, ◌++◌, length, drop, refl, arith, length-append}
 use Rattle.token_classes.specs.declared.classes.Class.{Class}
 use Rattle.grammar_tables.specs.declared.grammar.Symbol.{Symbol}
 use Rattle.sil_shape.specs.declared.steps.Step.{Step}
@@ -34,14 +34,3 @@ IsEnough-drop zero steps h = h
 IsEnough-drop (suc i) [] h = h
 IsEnough-drop (suc i) (Take ∷ steps) h = IsEnough-drop i steps h
 IsEnough-drop (suc i) (Expand p ∷ steps) h = IsEnough-drop i steps h.1
-
--- from any place on, the steps derive the rest of the classes from what is on the stack there
-pub record Rest (ks : List Class) (steps : List Step) (i : ℕ) : Type 0 where
-  pub stack : List Symbol
-  pub derives : Derives stack (drop (takes_of (take i steps)) ks) (drop i steps)
-
-pub Derives-drop : (i : ℕ) {ss : List Symbol} {ks : List Class} {steps : List Step} → Derives ss ks steps → Rest ks steps i
-Derives-drop zero {ss = ss} d = record { stack = ss; derives = d }
-Derives-drop (suc i) nothing = record { stack = []; derives = nothing }
-Derives-drop (suc i) (token a d) = let r = Derives-drop i d in record { stack = r.stack; derives = rw add-one r.derives }
-Derives-drop (suc i) (rule p d) = let r = Derives-drop i d in record { stack = r.stack; derives = r.derives }

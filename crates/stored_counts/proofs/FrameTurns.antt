@@ -16,14 +16,14 @@ use Rattle.lowered_run.specs.holder_model.Holders.{of_references, one_object}
 use Rattle.lowered_run.specs.holder_model.ModuleFacts.{ModuleFacts, facts_told}
 use Rattle.lowered_run.specs.holder_model.Outcomes.{returned_holders}
 use Rattle.lowered_run.specs.holder_model.StepParts.{new_frame}
-use Rattle.lowered_run.specs.holder_model.States.{Finishes, Runs, Task}
+use Rattle.lowered_run.specs.holder_model.States.{Runs, Task}
 use Rattle.holder_laws.specs.inner.Counts.Moving.{in_tasks}
 use Rattle.holder_laws.specs.inner.Counts.Taking.{in_entries}
 use Rattle.holder_laws.proofs.Counts.Entries.{ends_counted}
 use Rattle.holder_laws.proofs.Counts.Moves.{entries_counted, first_task, moves_counted, operands_are}
 use Rattle.holder_laws.proofs.Counts.Sums.{total_cons}
-use Rattle.stored_counts.specs.inner.FrameTurns.{AreCallsStored, AreDeinitCallsStored, AreDeinitReturnsStored, AreHandedStored, AreLeftStored, AreReturnsStored, LeavesNothing, Reads, ended_in}
-use Rattle.stored_counts.proofs.Turns.{kept_stored, same_numbers, tasks_stored}
+use Rattle.stored_counts.specs.inner.FrameTurns.{AreCallsStored, AreLeftStored, AreReturnsStored, LeavesNothing, Reads, ended_in}
+use Rattle.stored_counts.proofs.Turns.{kept_stored, same_numbers}
 
 -- entries of which none is held hold nothing
 none_held : (weight : ObjectId → ℕ) (entries : List Entry) → holds_something entries ≡ false → in_entries weight entries ≡ 0
@@ -61,19 +61,6 @@ module _ (m : Module) (told : ModuleFacts) (bound : ℕ) where
       → in_tasks (one_object o) s.tasks ≡ in_task (one_object o) t + in_tasks (one_object o) rest
   tasks_are s t rest at o = ap (in_tasks (one_object o)) at ∙ first_task (one_object o) t rest
 
-  pub handed_stored : AreHandedStored m told bound
-  handed_stored s rest frame f i ops xs slots entries stored h counts =
-      kept_stored s _ stored (record {
-        size = refl;
-        strongly = λ o.
-            let move = moves_counted m told bound (one_object o) s rest (record frame { entries = ops.left }) f i (record (unchanged s.memory) { results = xs }) slots entries h.put h.each in
-            let left = left_counted s rest frame f i ops h.reads o in
-            let same = h.same o in
-            let before = tasks_are s (Runs frame) rest h.reads.at o in
-            omega (arith, move, left, same, before);
-        named = λ how o. refl;
-      }) counts
-
   pub calls_stored : AreCallsStored m told bound
   calls_stored s rest frame f i ops lent g callee args entries stored h counts =
       kept_stored s _ stored (record {
@@ -89,19 +76,6 @@ module _ (m : Module) (told : ModuleFacts) (bound : ℕ) where
             let before = tasks_are s (Runs frame) rest h.reads.at o in
             omega (arith, enters, first, second, left, same, memory, before);
         named = h.hands.named;
-      }) counts
-
-  pub deinit_calls_stored : AreDeinitCallsStored m told bound
-  deinit_calls_stored s h' g gs o rest callee args entries stored at h counts =
-      kept_stored s _ stored (record {
-        size = refl;
-        strongly = λ q.
-            let enters = entries_counted m told bound (one_object q) s (Finishes gs o ∷ rest) g callee args entries h.put h.each in
-            let first = first_task (one_object q) (Finishes gs o) rest in
-            let none = h.none q in
-            let before = tasks_are s (Finishes (h' ∷ gs) o) rest at q in
-            omega (arith, enters, first, none, before);
-        named = λ how q. refl;
       }) counts
 
   -- what the frame held that returns
@@ -125,13 +99,6 @@ module _ (m : Module) (told : ModuleFacts) (bound : ℕ) where
             omega (arith, move, total, below, same);
         named = λ how o. refl;
       }) counts
-
-  pub deinit_returns_stored : AreDeinitReturnsStored m told bound
-  deinit_returns_stored s rest callee body i ops stored h none counts =
-      tasks_stored s rest stored (λ o.
-      let total = returned_total s rest callee body i ops h o in
-      let nothing = none o in
-      omega (arith, total, nothing)) counts
 
   pub left_stored : AreLeftStored m told bound
   left_stored s callee body i ops x stored h same counts o =

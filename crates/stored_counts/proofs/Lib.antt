@@ -6,5 +6,4 @@ pub mod RowsMade
 pub mod QuietRows
 pub mod RowBalance
 pub mod FrameTurns
-pub mod Alike
 pub use Rattle.holder_laws.proofs as holder_laws

@@ -3,4 +3,3 @@ pub mod Turns
 pub mod Items
 pub mod Rows
 pub mod FrameTurns
-pub mod Alike

@@ -1,6 +1,6 @@
 -- Rows that are lowered to themselves: the lowered run does what the run by holders does.
 use Rattle.std.proofs.Common.{◌≡◌, ℕ, List, [], ◌∷◌, ◌++◌, length, map, refl, sym, ap, ◌∙◌, subst, Bool, true, false, cond, Option, Some, None}
-use Rattle.std.specs.Prelude.{◌||◌, not, find, is_some, option_and_then}
+use Rattle.std.specs.Prelude.{◌||◌, find, option_and_then}
 use Rattle.std.specs.List.{flat_map, list_any}
 use Rattle.std.proofs.lemmas.Bool.{true≢false}
 use Rattle.std.proofs.lemmas.Option.{none-some}
@@ -17,13 +17,13 @@ use Rattle.numbered_form.specs.Names.{Name}
 use Rattle.type_definitions.specs.Declarations.{Declarations}
 use Rattle.run_values.specs.declared.phase.Phase.TheVariants.{Live}
 use Rattle.run_values.specs.Memory.{Memory, is_dead}
-use Rattle.run_values.specs.Places.{OnStack, Place, empty_fields, empty_slot, is_there_at, value_at}
+use Rattle.run_values.specs.Places.{OnStack, empty_fields, empty_slot}
 use Rattle.run_values.specs.Places as places
 use Rattle.run_values.specs.Shapes.{Shape, class_in}
 use Rattle.run_values.specs.Values as value
 use Rattle.run_values.specs.Values.{Value, grouped, integer_of, members_of, object_of}
 use Rattle.lowered_steps.specs.lowered_run.holder_model.Builtins.{builtin_value, is_set}
-use Rattle.lowered_steps.specs.lowered_run.holder_model.Data.{AddressOf, Datum, FunctionOf, ValueOf, all_of, as_function, as_place, as_value, home_references, values_of}
+use Rattle.lowered_steps.specs.lowered_run.holder_model.Data.{AddressOf, Datum, FunctionOf, ValueOf, all_of, as_function, as_place, as_value, values_of}
 use Rattle.lowered_steps.specs.lowered_run.holder_model.Effects as effects
 use Rattle.lowered_steps.specs.lowered_run.holder_model.Effects.{Effect, OpensSlot, effect_by, gives, gives_value, only, part_number, part_number_by, unchanged, with_some}
 use Rattle.lowered_steps.specs.lowered_run.holder_model.Faults.{HolderFault}
@@ -31,12 +31,10 @@ use Rattle.lowered_steps.specs.lowered_run.holder_model.ModuleShapes.{ModuleShap
 use Rattle.lowered_steps.specs.lowered_run.holder_model.declared.row_effect.RowEffect.{RowEffect}
 use Rattle.lowered_steps.specs.lowered_run.holder_model.declared.row_effect.RowEffect.TheVariants as row
 use Rattle.lowered_steps.specs.lowered_run.declared.low_fault.LowFault.{LowFault}
-use Rattle.lowered_steps.specs.lowered_run.declared.low_fault.LowFault.TheVariants as fault
-use Rattle.lowered_steps.specs.lowered_run.LowEffects as low_effects
 use Rattle.lowered_numbering_laws.specs.lowering_laws.lowering_model.Numbers.{renumbered_inst}
 use Rattle.stored_runs.specs.inner.EffectsFor.{IsEffectFor}
 use Rattle.stored_runs.specs.inner.Memories.{IsMemoryFor, IsObjectFor, IsCellFor}
-use Rattle.stored_runs.proofs.MemoriesFor.{dead_for, object_added, place_there, slot_added}
+use Rattle.stored_runs.proofs.MemoriesFor.{dead_for, object_added, slot_added}
 
 -- where there is something to go on with, both go on with it
 pub some_for : {A : Type 0} (go : A → Effect HolderFault) (low : A → Effect LowFault) (o p : Option A) → p ≡ o → ((x : A) → IsEffectFor (go x) (low x))
@@ -219,20 +217,3 @@ module _ (d : Declarations) (shapes low_shapes : ModuleShapes) (values low_value
         (λ q. subst (λ k. IsEffectFor (effects.names_field_of d shapes values m i i.member (part_number d i) q)
         (effects.names_field_of d low_shapes low_values low (renumbered_inst number i) i.member k q)) (sym part_same) (field_for i.member (part_number d i) q)))
     row_for row.CallsFunction xs place = calls_for xs
-
-  -- ---- at places
-
-  -- the place that an operation is at: the address's object is alive
-  abbrev pub IsAliveAt : Place → Type 0
-  IsAliveAt p = list_any (is_dead m) (home_references p.home) ≡ false
-
-  -- an access to a place that is there, and full where it has to be
-  pub accessed_for : (p : Place) (os : List ObjectId) (full : Bool) (e : Effect LowFault) → is_there_at m p ≡ true → find (is_dead low) os ≡ None → IsAliveAt p
-      → (not full || is_some (value_at low p)) ≡ true
-      → low_effects.accessed d low_shapes low_values low (renumbered_inst number i) p os full e ≡ e
-  accessed_for p os full e there alive home ok =
-      ap (λ b. cond b (low_effects.unless_dead d low_shapes low_values low (renumbered_inst number i) (os ++ home_references p.home)
-      (cond (not full || is_some (value_at low p)) e (effects.Faults fault.Empty))) (effects.Faults fault.Slot)) (place_there m low h p there)
-      ∙ ap (low_effects.dead_or d low_shapes low_values low (renumbered_inst number i) (cond (not full || is_some (value_at low p)) e (effects.Faults fault.Empty)))
-      (none_in_both low os (home_references p.home) alive (none_dead m low h (home_references p.home) home))
-      ∙ ap (λ b. cond b e (effects.Faults fault.Empty)) ok

@@ -13,7 +13,7 @@ use Rattle.sil_ast.specs.declared.place.FuncId.{FuncId}
 use Rattle.sil_ast.specs.declared.place.PointId.{PointId}
 use Rattle.sil_ast.specs.declared.place.ValueId.{ValueId}
 use Rattle.sil_cfg.specs.declared.item.Item.TheVariants as item
-use Rattle.item_operands.specs.Items.{item_defined, item_taken}
+use Rattle.item_operands.specs.Items.{item_taken}
 use Rattle.item_operands.specs.declared.taken.Taken.{Taken}
 use Rattle.ownership_chains.specs.declared.facts.Facts.{Facts}
 use Rattle.type_definitions.specs.Declarations.{Declarations, declarations_of}
@@ -29,12 +29,11 @@ use Rattle.lowered_steps.specs.lowered_run.holder_model.Standing.{stands_at}
 use Rattle.lowered_steps.specs.lowered_run.holder_model.States.{Task}
 use Rattle.lowered_steps.specs.lowered_run.LowFrames as low_frames
 use Rattle.lowered_steps.specs.lowered_run.LowStepParts.{LowState, taken_value}
-use Rattle.lowered_numbering_laws.specs.lowering_laws.ownership_origins.Renamings.{renames}
 use Rattle.stored_runs.specs.inner.Frames.{IsNoAddress, AreGivenPartsFull, IsDatumFor, IsFrameAt}
-use Rattle.stored_runs.specs.inner.Lowering.{IsOwnName, IsTakenOld}
+use Rattle.stored_runs.specs.inner.Lowering.{IsTakenOld}
 use Rattle.stored_runs.specs.inner.Names.{IsOld, lowered_number}
 use Rattle.stored_runs.specs.inner.PlaceRows.{StandsAt, operand_value}
-use Rattle.stored_runs.proofs.Reading.{AreReadAs, AreReadSo, defines_there, like_exact, taken_exact, taken_read}
+use Rattle.stored_runs.proofs.Reading.{AreReadAs, AreReadSo, like_exact, taken_exact, taken_read}
 use Rattle.stored_runs.proofs.SameRows.{none_dead}
 use Rattle.stored_runs.proofs.ValuesFor.{AreTakenSo, IsGivenAlive, operands_given}
 
@@ -224,8 +223,3 @@ module _ (m : Module) (s : HolderState) (l : LowState) (frame : Frame) (rest : L
   -- the same is read where no address is
   pub exact_read : Each IsNoAddress ops.given → reads.ys ≡ ops.given
   exact_read none = taken_exact d f x.lowers.named x.low.values (item_taken f (item.Inst p)) ops.given reads.ys reads.like none
-
-  -- ---- results
-
-  pub own : renames i.op ≡ false → Each (IsOwnName f) (item_defined f (item.Inst p))
-  own keeps = subst (Each (IsOwnName f)) (sym (defines_there f p i x.here)) (x.lowers.results p i x.here keeps)

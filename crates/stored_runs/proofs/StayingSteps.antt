@@ -1,9 +1,7 @@
 -- The step of an instruction that is lowered to itself.
-use Rattle.std.proofs.Common.{◌≡◌, ℕ, suc, ◌+◌, ◌<◌, List, [], ◌∷◌, map, length, arith, refl, sym, ap, ◌∙◌, subst, Bool, true, false, cond, Option, Some, None, Ok, Err}
+use Rattle.std.proofs.Common.{◌≡◌, ℕ, suc, ◌+◌, List, [], ◌∷◌, length, arith, refl, ap, ◌∙◌, subst, Bool, true, false, cond, Option, Some, None, Ok, Err}
 use Rattle.std.specs.Prelude.{find, slice_get}
-use Rattle.std.specs.List.{AllZip, flat_map, list_any}
-use Rattle.std.proofs.lemmas.Option.{same_Some}
-use Rattle.numbered_form.specs.Lists.{Each}
+use Rattle.std.specs.List.{AllZip, flat_map}
 use Rattle.sil_ast.specs.declared.function.Form.TheVariants as form
 use Rattle.sil_ast.specs.declared.function.Function.{Function}
 use Rattle.sil_ast.specs.declared.inst.Inst.{Inst}
@@ -13,7 +11,6 @@ use Rattle.sil_ast.specs.declared.place.PointId.{PointId}
 use Rattle.sil_ast.specs.declared.place.ValueId.{ValueId}
 use Rattle.sil_cfg.specs.Items.{IsItem}
 use Rattle.sil_cfg.specs.declared.item.Item.TheVariants as item
-use Rattle.item_operands.specs.Items.{item_defined, item_taken}
 use Rattle.item_operands.specs.Parts.{inst_at}
 use Rattle.item_operands.specs.declared.taken.Taken.{Taken}
 use Rattle.ownership_chains.specs.declared.facts.Facts.{Facts}
@@ -22,47 +19,36 @@ use Rattle.run_values.specs.Memory.{Memory, is_dead}
 use Rattle.run_values.specs.Places.{Place}
 use Rattle.run_values.specs.Shapes.{Shape}
 use Rattle.lowered_steps.specs.lowered_run.holder_model.Data.{Datum, references_in}
-use Rattle.lowered_steps.specs.lowered_run.holder_model.Effects as effects
-use Rattle.lowered_steps.specs.lowered_run.holder_model.Effects.{Change, ClosesSlot, Makes, OpensSlot, SameSlots, SlotChange, effect_by, effect_of}
+use Rattle.lowered_steps.specs.lowered_run.holder_model.Effects.{ClosesSlot, OpensSlot, SameSlots, SlotChange}
 use Rattle.lowered_steps.specs.lowered_run.holder_model.Faults.{NotLastSlot}
-use Rattle.lowered_steps.specs.lowered_run.holder_model.Frames.{Entry, Frame, Operands, operands_of, results_put}
+use Rattle.lowered_steps.specs.lowered_run.holder_model.Frames.{Entry, Frame}
 use Rattle.lowered_steps.specs.lowered_run.holder_model.HolderStates.{HolderState}
-use Rattle.lowered_steps.specs.lowered_run.holder_model.MemoryEffects as holder
 use Rattle.lowered_steps.specs.lowered_run.holder_model.ModuleFacts.{facts_of, facts_told}
-use Rattle.lowered_steps.specs.lowered_run.holder_model.ModuleShapes.{ModuleShapes, shapes_in, shapes_of}
+use Rattle.lowered_steps.specs.lowered_run.holder_model.ModuleShapes.{ModuleShapes, shapes_of}
 use Rattle.lowered_steps.specs.lowered_run.holder_model.Outcomes.{Numbers}
-use Rattle.lowered_steps.specs.lowered_run.holder_model.Standing.{is_slot, point_behind, stands_at}
+use Rattle.lowered_steps.specs.lowered_run.holder_model.Standing.{is_slot, stands_at}
 use Rattle.lowered_steps.specs.lowered_run.holder_model.StepParts as parts
 use Rattle.lowered_steps.specs.lowered_run.holder_model.States.{Goes, Runs, Task, dropping}
 use Rattle.lowered_steps.specs.lowered_run.holder_model.declared.row_effect.RowEffect.{RowEffect}
 use Rattle.lowered_steps.specs.lowered_run.holder_model.declared.row_effect.RowEffect.TheVariants as row
 use Rattle.lowered_steps.specs.lowered_run.declared.low_fault.LowFault.TheVariants as fault
 use Rattle.lowered_steps.specs.lowered_run.LowEffects as low_effects
-use Rattle.lowered_steps.specs.lowered_run.LowEffects.{low_effect, stored_behind}
-use Rattle.lowered_steps.specs.lowered_run.LowFrames.{LowFrame, put_all, read_all}
-use Rattle.lowered_steps.specs.lowered_run.LowStepParts.{LowState, numbers_for, slots_behind, taken_value, values_taken}
+use Rattle.lowered_steps.specs.lowered_run.LowFrames.{LowFrame}
+use Rattle.lowered_steps.specs.lowered_run.LowStepParts.{LowState, numbers_for, slots_behind}
 use Rattle.lowered_steps.specs.lowered_run.LowSteps as steps
 use Rattle.lowered_steps.specs.lowered_run.Stored.{changed, each_changed, one_more}
-use Rattle.lowered_numbering_laws.proofs.lowering_laws.Lists.{each_weaker}
 use Rattle.lowered_numbering_laws.specs.lowering_laws.lowering_model.LoweredInsts.{lowering_of}
 use Rattle.lowered_numbering_laws.specs.lowering_laws.lowering_model.LoweredModules.{lowered, lowered_body, lowered_by, lowered_function}
-use Rattle.lowered_numbering_laws.specs.lowering_laws.lowering_model.Numbers.{renumbered_inst}
 use Rattle.lowered_numbering_laws.specs.lowering_laws.lowering_model.declared.lowering.Lowering.TheVariants as lowering
 use Rattle.lowered_numbering_laws.specs.lowering_laws.ownership_origins.Renamings.{renames}
 use Rattle.owned_counts.specs.accepted_trails.run_trails.inner.RunTrails.{IsTurnedTrail}
-use Rattle.lowered_steps.specs.inner.LowWays.{Acts, GoesBehind, Performs, StepsBy, effect_in, moved, retained}
-use Rattle.lowered_steps.proofs.LowTaken.{told_taken}
-use Rattle.stored_runs.specs.inner.EffectsFor.{IsChangeFor, IsEffectFor}
-use Rattle.stored_runs.specs.inner.Frames.{AreTasksFor, IsFrameAt, IsFrameFor, IsTaskFor}
-use Rattle.stored_runs.specs.inner.Lowering.{IsOwnName, LowersSo}
+use Rattle.lowered_steps.specs.inner.LowWays.{retained}
+use Rattle.stored_runs.specs.inner.Frames.{AreTasksFor, IsFrameFor, IsTaskFor}
+use Rattle.stored_runs.specs.inner.Lowering.{LowersSo}
 use Rattle.stored_runs.specs.inner.Memories.{IsMemoryFor}
-use Rattle.stored_runs.specs.inner.Names.{IsCurrent, IsOld, lowered_number}
 use Rattle.stored_runs.proofs.LoweredCode.{mapped_at}
-use Rattle.stored_runs.proofs.StandsStaying as standing
-use Rattle.stored_runs.proofs.StandsStaying.{behind_at, takes_same}
-use Rattle.stored_runs.proofs.Reading.{Like, behind_current, defines_there, like_itself}
-use Rattle.stored_runs.proofs.SameRows.{none_dead, none_in_both, row_for}
-use Rattle.stored_runs.proofs.ValuesFor.{AreLike, ArePut, AreTakenSo, IsGivenAlive, err-ok, like_same, ok-ok, operands_given, results_shown}
+use Rattle.stored_runs.proofs.SameRows.{none_dead, none_in_both}
+use Rattle.stored_runs.proofs.ValuesFor.{IsGivenAlive, err-ok, ok-ok}
 
 -- ---- parts of steps
 
@@ -164,9 +150,6 @@ module _ (m : Module) (bound : ℕ) where
   abbrev d : Declarations
   d = declarations_of m
 
-  abbrev low_told : ModuleShapes
-  low_told = shapes_of (lowered m)
-
   -- a function of the lowered module
   pub function_there : (g : ℕ) (f : Function) → slice_get m.functions g ≡ Some f → f.form ≡ form.Ossa → slice_get (lowered m).functions g ≡ Some (lowered_body d f)
   function_there g f e is = mapped_at (lowered_function d) m.functions g f e ∙ ap (λ x. Some (lowered_by x d f)) is
@@ -180,131 +163,3 @@ module _ (m : Module) (bound : ℕ) where
 
     abbrev facts : ValueId → Option Facts
     facts v = facts_told (facts_of m) frame.function v
-
-    abbrev number : ValueId → ValueId
-    number v = lowered_number d f v
-
-    abbrev j : Inst
-    j = renumbered_inst number i
-
-    abbrev lf : Function
-    lf = lowered_body d f
-
-    frames : IsFrameAt d f frame top.low
-    frames = subst (λ g. IsFrameAt d g frame top.low) (same_Some top.of.f f (sym top.of.there ∙ there)) top.of.frames
-
-    low_here : inst_at lf top.low.at ≡ Some j
-    low_here = standing.low_here d f p i here stays top.low.at frames.at
-
-    module _ (ops : Operands) (found : operands_of facts s.memory frame.entries (item_taken f (item.Inst p)) ≡ Ok ops)
-        (c : Change) (makes : holder.effect d (shapes_of m) (shapes_in (shapes_of m) frame.function) s.memory i ops.given ≡ Makes c)
-        (place : IsEffectFor (holder.at_places d (shapes_of m) (shapes_in (shapes_of m) frame.function) s.memory i (effect_of i.op) ops.given)
-        (low_effects.at_places d low_told (shapes_in low_told top.low.function) l.memory j (effect_of i.op) ops.given))
-        (shape : effects.result_shape d low_told (shapes_in low_told top.low.function) l.memory j ≡ effects.result_shape d (shapes_of m) (shapes_in (shapes_of m) frame.function) s.memory i)
-        (alive : list_any (is_dead s.memory) c.retained ≡ false)
-        (slots : List Place) (slots_left : parts.slots_behind c.slots frame.slots ≡ Ok slots)
-        (entries : List Entry) (put : results_put facts (item_defined f (item.Inst p)) c.results ops.left ≡ Ok entries)
-        (ys : List Datum) (reads : read_all top.low.values (map number (map taken_value (item_taken f (item.Inst p)))) ≡ Ok ys)
-        (alike : low_effect d low_told (shapes_in low_told top.low.function) l.memory j ys ≡ low_effect d low_told (shapes_in low_told top.low.function) l.memory j ops.given) where
-      taken_so : AreTakenSo facts s.memory frame.entries (item_taken f (item.Inst p)) ops
-      taken_so = operands_given facts s.memory frame.entries (item_taken f (item.Inst p)) ops found
-
-      low_read : read_all top.low.values (values_taken lf (item.Inst top.low.at)) ≡ Ok ys
-      low_read = ap (read_all top.low.values) (takes_same d f p i here stays top.low.at frames.at) ∙ reads
-
-      low_change : IsEffectFor (Makes c) (effect_by d low_told (shapes_in low_told top.low.function) l.memory j
-          (low_effects.at_places d low_told (shapes_in low_told top.low.function) l.memory j) (effect_of i.op) ops.given)
-      low_change =
-          subst (λ e. IsEffectFor e (effect_by d low_told (shapes_in low_told top.low.function) l.memory j
-          (low_effects.at_places d low_told (shapes_in low_told top.low.function) l.memory j) (effect_of i.op) ops.given)) makes
-          (row_for d (shapes_of m) low_told (shapes_in (shapes_of m) frame.function) (shapes_in low_told top.low.function) s.memory l.memory number i memory refl shape
-          (holder.at_places d (shapes_of m) (shapes_in (shapes_of m) frame.function) s.memory i)
-          (low_effects.at_places d low_told (shapes_in low_told top.low.function) l.memory j) (effect_of i.op) ops.given place)
-
-      abbrev c' : Change
-      c' = low_change.0
-
-      so : IsChangeFor c c'
-      so = low_change.2
-
-      low_makes : effect_in (lowered m) low_told bound l top.low j ys ≡ Makes c'
-      low_makes =
-          alike
-          ∙ ap (low_effects.dead_or d low_told (shapes_in low_told top.low.function) l.memory j (effect_by d low_told (shapes_in low_told top.low.function) l.memory j
-          (low_effects.at_places d low_told (shapes_in low_told top.low.function) l.memory j) (effect_of i.op) ops.given))
-          (operated_none d low_told (shapes_in low_told top.low.function) l.memory j ops.given (effect_of i.op)
-          (operated_alive s.memory l.memory memory facts frame.entries (item_taken f (item.Inst p)) ops.given taken_so.given))
-          ∙ low_change.1
-
-      own : Each (IsOwnName f) i.results
-      own = lowers.results p i here keeps
-
-      putting : ArePut number (Like d f lowers.named) facts i.results c'.results entries top.low.values (λ v. IsOld f v × IsCurrent f frame.trail v)
-      putting =
-          results_shown number (Like d f lowers.named) facts i.results c.results c'.results
-          (subst (AreLike number (Like d f lowers.named) i.results c.results) (sym so.results) (like_same number (Like d f lowers.named) (like_itself d f lowers.named) i.results c.results))
-          ops.left entries top.low.values (λ v. IsOld f v × IsCurrent f frame.trail v)
-          (each_weaker (IsOwnName f) (λ r. (number r).0 < length top.low.values)
-          (λ r o. subst (λ n. (number r).0 < n) (sym frames.size) (lowers.named.few r o.0)) i.results own)
-          (ap (λ rs. results_put facts rs c.results ops.left) (sym (defines_there f p i here)) ∙ put)
-          (λ v x e ok. frames.values v x (taken_so.stays v x e) ok)
-
-      abbrev named : LowState
-      named = steps.with_names (lowered m) low_told bound l top.low j ys
-
-      abbrev next : LowState
-      next = moved (lowered m) low_told bound (retained c'.retained named) top.others top.low lf (item.Inst top.low.at) c' slots putting.values'
-
-      goes : GoesBehind (lowered m) low_told bound named top.others top.low lf (item.Inst top.low.at) c' (Goes next)
-      goes =
-          GoesBehind.goes slots putting.values'
-          (ap (slots_behind c'.slots) frames.slots ∙ ap (λ x. slots_behind x frame.slots) so.slots ∙ slots_for c.slots frame.slots slots slots_left)
-          (ap (λ rs. put_all rs c'.results top.low.values) (defines_there lf top.low.at j low_here) ∙ putting.is)
-          (ap (find (is_dead l.memory)) so.retained ∙ none_dead s.memory l.memory memory c.retained alive)
-
-      way : StepsBy (lowered m) low_told bound l (Goes next)
-      way =
-          StepsBy.runs top.low top.others lf (Goes next) top.is_top
-          (ap (λ g. slice_get (lowered m).functions g.0) frames.function ∙ function_there frame.function.0 f there lowers.form)
-          (Acts.does j ys (Goes next) low_here low_read
-          (subst (λ e. Performs (lowered m) low_told bound named top.others top.low lf (item.Inst top.low.at) e (Goes next)) (sym low_makes)
-          (Performs.makes c' (Goes next) goes)))
-
-      frame_for : IsFrameFor m (record frame { trail = item.Inst p ∷ frame.trail; entries = entries; slots = slots; lent = [] })
-          (record top.low { at = point_behind top.low.at; values = putting.values'; slots = slots })
-      frame_for = record {
-        f = f;
-        there = there;
-        frames = record {
-          function = frames.function;
-          at = behind_at d f p i here stays top.low.at frames.at;
-          slots = refl;
-          size = putting.size ∙ frames.size;
-          values = behind_current d f lowers.named frame.trail (item.Inst p) i.results (defines_there f p i here) own entries putting.values' putting.shown;
-        };
-      }
-
-      tasks_so : AreTasksFor m (dropping c.dropped (Runs (record frame { trail = item.Inst p ∷ frame.trail; entries = entries; slots = slots; lent = [] }) ∷ rest)) next.tasks
-      tasks_so =
-          subst (λ os. AreTasksFor m (dropping c.dropped (Runs (record frame { trail = item.Inst p ∷ frame.trail; entries = entries; slots = slots; lent = [] }) ∷ rest))
-          (dropping os (Runs (record top.low { at = point_behind top.low.at; values = putting.values'; slots = slots }) ∷ top.others))) (sym so.dropped)
-          (dropping_for m c.dropped (Runs (record frame { trail = item.Inst p ∷ frame.trail; entries = entries; slots = slots; lent = [] }) ∷ rest)
-          (Runs (record top.low { at = point_behind top.low.at; values = putting.values'; slots = slots }) ∷ top.others) (IsTaskFor.runs _ _ frame_for, top.rest_for))
-
-      same_state : retained c'.retained named ≡ record named { numbers = each_changed one_more c'.retained named.numbers; retains = named.retains + length c'.retained }
-      same_state = retained_so c'.retained named
-
-      -- the lowered step
-      pub staying_step : GoesSo m bound l (dropping c.dropped (Runs (record frame { trail = item.Inst p ∷ frame.trail; entries = entries; slots = slots; lent = [] }) ∷ rest))
-          c.memory c.retained (stored_behind d low_told (shapes_in low_told top.low.function) l.memory j ys l.numbers)
-      staying_step = record {
-        l' = next;
-        step = told_taken (lowered m) low_told bound l (Goes next) way;
-        tasks_for = tasks_so;
-        memory_for = so.memory;
-        numbers = ap (numbers_for c'.memory) (ap (λ (x : LowState). x.numbers) same_state ∙ ap (λ os. each_changed one_more os named.numbers) so.retained);
-        events = ap (λ (x : LowState). x.events) same_state;
-        turns = ap (λ (x : LowState). x.turns) same_state;
-        retains = ap (λ (x : LowState). x.retains) same_state ∙ ap (λ os. l.retains + length os) so.retained;
-        releases = ap (λ (x : LowState). x.releases) same_state;
-      }

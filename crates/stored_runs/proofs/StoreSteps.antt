@@ -43,7 +43,7 @@ use Rattle.lowered_steps.specs.lowered_run.LowStepParts.{LowState, numbers_for, 
 use Rattle.lowered_steps.specs.lowered_run.Stored.{unnamed}
 use Rattle.lowered_numbering_laws.specs.lowering_laws.ownership_origins.Renamings.{renames}
 use Rattle.lowered_numbering_laws.specs.lowering_laws.lowering_model.LoweredBlocks.{value_with}
-use Rattle.lowered_numbering_laws.specs.lowering_laws.lowering_model.LoweredInsts.{becomes_by, lowering_of, plain_store, stores_by}
+use Rattle.lowered_numbering_laws.specs.lowering_laws.lowering_model.LoweredInsts.{plain_store}
 use Rattle.lowered_numbering_laws.specs.lowering_laws.lowering_model.NewInsts.{loaded_from, load, release}
 use Rattle.lowered_numbering_laws.specs.lowering_laws.lowering_model.Numbers.{renumbered_inst}
 use Rattle.owned_counts.specs.holder_laws.inner.Steps.Ways as holder
@@ -167,9 +167,6 @@ module _ (m : Module) (bound : ℕ) (s : HolderState) (l : LowState) (frame : Fr
 
   plain_is : plain_store i ≡ store
   plain_is = ap (λ o. record i { op = o; qualifier = word.Plain }) is_op
-
-  becomes_so : made m bound s l frame rest f i ops x ≡ stores_by d spare i.qualifier i
-  becomes_so = ap (λ z. becomes_by d spare z i) (ap lowering_of is_op)
 
   abbrev first : ℕ
   first = begin m bound s l frame rest f i ops x

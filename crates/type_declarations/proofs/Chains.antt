@@ -1,18 +1,13 @@
 -- Chains of classes, one class at a time.
-use Rattle.std.proofs.Common.{◌≡◌, ℕ, zero, suc, ◌+◌, ◌-◌, ◌*◌, ◌<◌, ◌≤◌, List, [], ◌∷◌, ◌++◌, length, refl, sym, ap, subst, ◌∙◌, arith, length-append, map, Bool, true, false, Option, Some, None}
+use Rattle.std.proofs.Common.{◌≡◌, ℕ, zero, suc, ◌+◌, ◌-◌, ◌*◌, ◌<◌, ◌≤◌, List, [], ◌∷◌, ◌++◌, length, refl, sym, ap, subst, ◌∙◌, arith, length-append, Bool, false, Option, Some, None}
 use Rattle.std.specs.Prelude.{slice_get, ◌||◌}
 use Rattle.std.specs.List.{list_any}
 use Rattle.std.specs.Str.{bytes_eq}
-use Rattle.std.proofs.lemmas.List.{length-map}
-use Rattle.sil_ast.specs.declared.decl.Decl.{Decl}
-use Rattle.sil_ast.specs.declared.decl.Decl.TheVariants.{Struct, Enum, Class}
 use Rattle.sil_ast.specs.declared.decl.Field.{Field}
 use Rattle.sil_rules.specs.declared.limits.TheConstants.{DEPTH, MEMBERS}
-use Rattle.type_definitions.specs.numbered_form.Lists.{Each}
-use Rattle.type_definitions.specs.numbered_form.Names.{Name, field_name}
-use Rattle.type_definitions.specs.numbered_form.inner.Limits.{IsDeclInLimits}
-use Rattle.type_definitions.specs.Declarations.{Declarations, all_decls, all_names, ancestors_of, at_place, chain, is_longer, place_of, superclass_of, swift_structs}
-use Rattle.type_definitions.specs.Lookups.{chain_fields, decl_fields, field_at, own_fields}
+use Rattle.type_definitions.specs.numbered_form.Names.{Name}
+use Rattle.type_definitions.specs.Declarations.{Declarations, ancestors_of, chain, is_longer, superclass_of}
+use Rattle.type_definitions.specs.Lookups.{chain_fields, field_at, own_fields}
 
 swap : (a b c : ℕ) → a + b + c ≡ a + (c + b)
 swap a b c = omega arith
@@ -95,33 +90,6 @@ pub get_before : {X : Type 0} (xs ys : List X) (i : ℕ) → i < length xs → s
 get_before [] ys i lt = absurd (omega arith)
 get_before (x ∷ xs) ys zero lt = refl
 get_before (x ∷ xs) ys (suc i) lt = get_before xs ys i (omega arith)
-
--- ---- no declaration has more fields than the limit
-
-limit_at : (decls : List Decl) (i : ℕ) (x : Decl) → Each IsDeclInLimits decls → slice_get decls i ≡ Some x → IsDeclInLimits x
-limit_at [] i x h e = cc
-limit_at (y ∷ ys) zero x h e = let same : y ≡ x = cc in subst IsDeclInLimits same h.0
-limit_at (y ∷ ys) (suc i) x h e = limit_at ys i x h.1 e
-
-few_fields_at : (decls : List Decl) (found : Option ℕ) → Each IsDeclInLimits decls → length (decl_fields (at_place decls found)) ≤ MEMBERS
-few_fields_at decls None h = omega arith
-few_fields_at decls (Some i) h = at (slice_get decls i) refl
-  where
-    at : (x : Option Decl) → slice_get decls i ≡ x → length (decl_fields x) ≤ MEMBERS
-    at None e = omega arith
-    at (Some (Struct name fields)) e =
-        let within : length (map field_name fields) ≤ MEMBERS = limit_at decls i (Struct name fields) h e in omega (arith, within, length-map fields field_name)
-    at (Some (Enum name cases)) e = omega arith
-    at (Some (Class name superclass fields)) e =
-        let within : length (map field_name fields) ≤ MEMBERS = limit_at decls i (Class name superclass fields) h e in omega (arith, within, length-map fields field_name)
-
-pub few_own : (d : Declarations) (owner : Name) → Each IsDeclInLimits (all_decls d) → length (own_fields d owner) ≤ MEMBERS
-few_own d owner h = few_fields_at (all_decls d) (place_of (all_names d) owner) h
-
--- the structs of `Swift` have one field each
-pub each_all : (swift : Bool) (decls : List Decl) → Each IsDeclInLimits decls → Each IsDeclInLimits (swift_structs swift ++ decls)
-each_all true decls h = (omega arith, (omega arith, h))
-each_all false decls h = h
 
 -- ---- the field at a place
 

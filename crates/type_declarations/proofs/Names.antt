@@ -8,8 +8,7 @@ use Rattle.std.proofs.lemmas.Map.Views.{Contains-from_any}
 use Rattle.indexmap.specs.IndexSet.{insert_key}
 use Rattle.std.specs.Prelude.{codes}
 use Rattle.sil_ast.specs.declared.decl.Decl.{Decl}
-use Rattle.type_definitions.specs.numbered_form.Lists.{Each}
-use Rattle.type_definitions.specs.numbered_form.Names.{Name, AreOnce, AreMembersOnce, decl_name}
+use Rattle.type_definitions.specs.numbered_form.Names.{Name, AreOnce, decl_name}
 use Rattle.sil_ast.specs.Imports.{swift_names}
 use Rattle.type_definitions.specs.Declarations.{swift_structs}
 
@@ -44,13 +43,6 @@ pub names_once : (swift : Bool) (decls : List Decl) → AreOnce ((codes "Builtin
 names_once false decls h = h.1
 names_once true decls h =
     (λ c. h.1.0 (further (codes "Bool") (codes "Optional") (codes "Int") (map decl_name decls) c), (λ c. h.1.1.0 (behind (codes "Optional") (codes "Bool") (map decl_name decls) c), h.1.1.1.1))
-
-alone : (x : Name) → AreOnce (x ∷ [])
-alone x = (λ c. let none : c.0 < 0 = c.1 in absurd (omega arith), tt)
-
-pub members_once : (swift : Bool) (decls : List Decl) → Each AreMembersOnce decls → Each AreMembersOnce (swift_structs swift ++ decls)
-members_once false decls h = h
-members_once true decls h = (alone (codes "_value"), (alone (codes "_value"), h))
 
 pub slice_get_drop : {X : Type 0} (xs : List X) (n i : ℕ) → slice_get (drop n xs) i ≡ slice_get xs (i + n)
 slice_get_drop xs zero i = ap (slice_get xs) (let same : i ≡ i + 0 = omega arith in same)

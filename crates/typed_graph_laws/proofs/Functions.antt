@@ -1,5 +1,5 @@
 -- The law: a typed module's functions are ready for their graphs.
-use Rattle.std.proofs.Common.{◌≡◌, ℕ, zero, suc, ◌<◌, ◌≤◌, List, [], ◌∷◌, length, length-append, refl, subst, arith, true, Some}
+use Rattle.std.proofs.Common.{◌≡◌, ℕ, zero, suc, ◌<◌, ◌≤◌, List, [], ◌∷◌, length, length-append, subst, arith, true, Some}
 use Rattle.std.specs.Prelude.{slice_get}
 use Rattle.sil_ast.specs.declared.function.Block.{Block}
 use Rattle.sil_ast.specs.declared.function.Function.{Function}
@@ -8,7 +8,6 @@ use Rattle.sil_ast.specs.declared.module.Module.{Module}
 use Rattle.sil_cfg.specs.Items.{HasBlocks}
 use Rattle.sil_cfg.specs.inner.Build.{IsBlockLinked}
 use Rattle.sil_rules.specs.declared.rule.Rule.TheVariants as rule
-use Rattle.numbered_form.specs.inner.Functions.{IsFormed}
 use Rattle.numbered_form.specs.Insts.{EachInBlock, insts_in, insts_of}
 use Rattle.numbered_form.specs.inner.Limits.{IsFunctionInLimits}
 use Rattle.numbered_form.specs.inner.NumberedForm.{IsNumbered}
@@ -18,7 +17,7 @@ use Rattle.instruction_table.specs.Forms.{ending_of}
 use Rattle.sil_types.specs.type_definitions.Declarations.{declarations_of}
 use Rattle.sil_types.specs.Typing.Typed.{Typed, at_point, edge_arguments, entry_has_predecessor, point, switch_cases}
 use Rattle.sil_types.specs.point_checks.Points.{IsAt}
-use Rattle.typed_graph_laws.specs.inner.Laws.{IsNotExternal, HaveGraphsWhere}
+use Rattle.typed_graph_laws.specs.inner.Laws.{HaveGraphsWhere}
 use Rattle.typed_graph_laws.specs.inner.Ready.{HasFittingEdges, IsReadyForGraph}
 use Rattle.typed_graph_laws.proofs.Edges.{few_edges_at, fitting_edges}
 use Rattle.typed_graph_laws.proofs.Facts.{all_at, all_of_each, at_end, each_at, each_of}
@@ -78,15 +77,5 @@ module _ (m : Module) (n : ℕ) (f : Function) (numbered : IsNumbered m) (typed 
     edges = all_at (HasFittingEdges f) f.blocks edges_fit;
   }
 
-  has_blocks : IsNotExternal f → HasBlocks f
-  has_blocks other = at f.blocks refl
-    where
-      at : (blocks : List Block) → f.blocks ≡ blocks → 0 < length blocks
-      at [] e = absurd (other ((each_at IsFormed m.functions n f numbered.functions is_there).external.1 e))
-      at (b ∷ bs) e = omega arith
-
 pub graphs_by_blocks : HaveGraphsWhere HasBlocks
 graphs_by_blocks m n f numbered typed is_there body = is_ready m n f numbered typed is_there body
-
-pub graphs_by_form : HaveGraphsWhere IsNotExternal
-graphs_by_form m n f numbered typed is_there other = is_ready m n f numbered typed is_there (has_blocks m n f numbered typed is_there other)

@@ -8,7 +8,7 @@ use Rattle.std.proofs.lemmas.Option.{none-some, same_Some}
 use Rattle.std.proofs.lemmas.Slice.Zip.{AllZip-long}
 use Rattle.sil_ast.specs.declared.module.Module.{Module}
 use Rattle.run_values.specs.Cells.{Cell, InCells, cell_count, cells_each, cells_layer, in_cells, kept, kept_each, kept_first}
-use Rattle.run_values.specs.Fits.{are_members, fit_each}
+use Rattle.run_values.specs.inner.Fits.{are_members, fit_each}
 use Rattle.run_values.specs.Leaves.{with_more}
 use Rattle.run_values.specs.Shapes.{Shape, Shapes, NoMember, Member, Integer, Reference, Struct, Tuple, Enum, Stored, Unknown, each_by_layers, listed}
 use Rattle.run_values.specs.Values.{Value, Group, grouped, members_of}

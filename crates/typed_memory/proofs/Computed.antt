@@ -10,7 +10,7 @@ use Rattle.builtin_names.specs.declared.names.Operation.TheVariants as o
 use Rattle.builtin_names.specs.declared.names.Width.{Width}
 use Rattle.builtin_names.specs.declared.names.Width.TheVariants as width
 use Rattle.numbered_form.specs.inner.Literals.{is_residue}
-use Rattle.run_values.specs.Fits.{fit_each}
+use Rattle.run_values.specs.inner.Fits.{fit_each}
 use Rattle.run_values.specs.Shapes.{Integer}
 use Rattle.run_values.specs.Values.{Value, grouped, integer_of}
 use Rattle.run_values.specs.Values as value

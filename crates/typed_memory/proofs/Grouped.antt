@@ -1,11 +1,8 @@
 -- Structs, tuples and enums, by their members and cases.
-use Rattle.std.proofs.Common.{◌≡◌, ◌++◌, ℕ, zero, suc, List, [], ◌∷◌, Some, true, map, refl, sym, ap, ◌∙◌, subst, append_assoc}
-use Rattle.std.specs.Prelude.{slice_get}
+use Rattle.std.proofs.Common.{◌≡◌, ◌++◌, List, [], ◌∷◌, Some, true, map, refl, ap, ◌∙◌, subst}
 use Rattle.std.specs.List.{flat_map}
-use Rattle.std.proofs.lemmas.Option.{none-some, same_Some}
-use Rattle.sil_ast.specs.declared.place.ObjectId.{ObjectId}
-use Rattle.run_values.specs.Fits.{fit_each}
-use Rattle.run_values.specs.Shapes.{Shape, case_shapes, member_shapes}
+use Rattle.run_values.specs.inner.Fits.{fit_each}
+use Rattle.run_values.specs.Shapes.{Shape, case_shapes}
 use Rattle.run_values.specs.Shapes as shapes
 use Rattle.run_values.specs.Values.{Value, grouped, members_of, references_of}
 use Rattle.value_parts.specs.inner.Choices.{IsChoice}
@@ -13,10 +10,6 @@ use Rattle.value_parts.specs.inner.Suits.{ClassTest, suits}
 use Rattle.value_parts.proofs.Cases.{suits_choice}
 use Rattle.value_parts.proofs.Groups.{members_again, struct_suits, suits_tuple, tuple_suits}
 use Rattle.run_typing.specs.RowForms.{IsEnum, IsGroup}
-
-pub group_members : (s : Shape) (ss : List Shape) → IsGroup s ss → member_shapes s ≡ ss
-group_members _ _ (IsGroup.struct name ss) = members_again ss
-group_members _ _ (IsGroup.tuple ss) = members_again ss
 
 module _ (test : ClassTest) where
   -- members that suit one by one make a group that suits
@@ -48,17 +41,3 @@ module _ (test : ClassTest) where
 pub group_references : (vs : List Value) → references_of (grouped vs) ≡ flat_map references_of vs
 group_references [] = refl
 group_references (v ∷ vs) = ap (λ os. references_of v ++ os) (group_references vs)
-
--- and those of a member are a part of them
-
-among : (vs : List Value) (k : ℕ) (v : Value) → slice_get vs k ≡ Some v
-    → (before : List ObjectId) × (behind : List ObjectId) × (flat_map references_of vs ≡ before ++ (references_of v ++ behind))
-among [] k v e = absurd (none-some v e)
-among (x ∷ vs) zero v e = ([], flat_map references_of vs, ap (λ y. references_of y ++ flat_map references_of vs) (same_Some x v e))
-among (x ∷ vs) (suc k) v e =
-    let others = among vs k v e in
-    (references_of x ++ others.0, others.1, ap (λ os. references_of x ++ os) others.2 ∙ sym (append_assoc (references_of x) others.0 (references_of v ++ others.1)))
-
-pub member_references : (vs : List Value) (k : ℕ) (v : Value) → slice_get vs k ≡ Some v
-    → (before : List ObjectId) × (behind : List ObjectId) × (references_of (grouped vs) ≡ before ++ (references_of v ++ behind))
-member_references vs k v e = let parts = among vs k v e in (parts.0, parts.1, group_references vs ∙ parts.2)

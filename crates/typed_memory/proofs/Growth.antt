@@ -1,5 +1,5 @@
 -- What is typed in a world is typed in a later one.
-use Rattle.std.proofs.Common.{◌≡◌, ◌≤◌, ◌+◌, ◌++◌, ℕ, List, [], Some, true, length, map, sum, sym, ap, ◌∙◌, subst, append_assoc, arith}
+use Rattle.std.proofs.Common.{◌≡◌, ◌≤◌, ◌+◌, ◌++◌, ℕ, List, [], Some, true, length, map, sum, sym, ap, ◌∙◌, subst, arith}
 use Rattle.std.specs.Prelude.{slice_get}
 use Rattle.std.specs.List.{AllZip, flat_map}
 use Rattle.std.proofs.lemmas.List.{append-nil, take-append-le}
@@ -42,14 +42,6 @@ in_front ss more p at =
 
 pub grows_none : (w : World) → Grows w w
 grows_none w = record { new_classes = []; classes = sym (append-nil w.classes); new_slots = []; slots = sym (append-nil w.slots) }
-
-pub grows_on : (u v w : World) → Grows u v → Grows v w → Grows u w
-grows_on u v w first next = record {
-  new_classes = first.new_classes ++ next.new_classes;
-  classes = next.classes ∙ ap (λ cs. cs ++ next.new_classes) first.classes ∙ append_assoc u.classes first.new_classes next.new_classes;
-  new_slots = first.new_slots ++ next.new_slots;
-  slots = next.slots ∙ ap (λ ss. ss ++ next.new_slots) first.slots ∙ append_assoc u.slots first.new_slots next.new_slots;
-}
 
 module _ (m : Module) (w v : World) (grows : Grows w v) where
   pub class_grows : (k : ℕ) (class : Name) → slice_get w.classes k ≡ Some class → slice_get v.classes k ≡ Some class

@@ -3,7 +3,7 @@ use Rattle.std.proofs.Common.{◌≡◌, ◌++◌, ℕ, zero, suc, [], Some, tru
 use Rattle.std.specs.Prelude.{slice_get}
 use Rattle.std.specs.List.{AllByRecursion, list_all}
 use Rattle.std.proofs.lemmas.Bool.{and_parts, false≢true}
-use Rattle.run_values.specs.Fits.{are_members, fit_each, fits_case, is_case}
+use Rattle.run_values.specs.inner.Fits.{are_members, fit_each, fits_case, is_case}
 use Rattle.run_values.specs.Shapes.{CaseShapes, NoCase, PlainCase, FullCase, Shape, Shapes, NoMember, Member, cases_by_layers, each_by_layers, listed, listed_cases}
 use Rattle.run_values.specs.Shapes.{Integer, Reference, Struct, Tuple, Enum, Stored, Unknown}
 use Rattle.run_values.specs.Trivial.{is_trivial, itself, payload_is_trivial, trivial_layer}

@@ -1,11 +1,10 @@
 -- Types are the same part by part.
-use Rattle.std.proofs.Common.{◌≡◌, List, [], ◌∷◌, map, refl, sym, ap, ◌∙◌, Bool, length}
+use Rattle.std.proofs.Common.{◌≡◌, List, [], ◌∷◌, map, refl, sym, ap, ◌∙◌, Bool}
 use Rattle.std.specs.Prelude.{◌&&◌}
 use Rattle.sil_ast.specs.declared.type_name.TypeName.{TypeName, TypeName-F, fold-roll-TypeName, out-roll-TypeName, out-TypeName}
 use Rattle.sil_ast.specs.declared.type_name.TypeName.TheVariants as type
 use Rattle.sil_ast.specs.declared.type_name.TypeName.TheVariants.{rolls-Tuple}
 use Rattle.sil_types.specs.Typing.Same.{all_pairs, applied, are_same_types, is_same_layer, is_same_type}
-use Rattle.sil_types.specs.type_definitions.Mentions.{together}
 
 parts_applied : (parts others : List TypeName) → are_same_types parts others ≡ all_pairs applied (map is_same_type parts) others
 parts_applied [] [] = refl
@@ -27,9 +26,3 @@ same-Tuple parts others =
     ∙ ap (λ test. test (type.Tuple others)) (fold-roll-TypeName (TypeName → Bool) by_layer (TypeName-F.Tuple parts))
     ∙ ap (is_same_layer (TypeName-F.Tuple (map is_same_type parts))) (out-Tuple others)
     ∙ sym (parts_applied parts others)
-
--- where they aren't one, types together are their tuple
-pub together_others : (ts : List TypeName) → (length ts ≡ 1 → ⊥) → together ts ≡ type.Tuple ts
-together_others [] h = refl
-together_others (t ∷ []) h = absurd (h refl)
-together_others (t ∷ u ∷ ts) h = refl

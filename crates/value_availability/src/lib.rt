@@ -4,7 +4,5 @@
 
 mod accesses;
 mod availability;
-mod laws;
 
 pub use availability::check;
-pub use laws::rules_are_on_definitions;

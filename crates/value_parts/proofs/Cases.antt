@@ -1,12 +1,11 @@
 -- The values of enums: which suit, and their leaves.
-use Rattle.std.proofs.Common.{◌≡◌, ◌≤◌, ◌+◌, ◌-◌, ◌++◌, ℕ, zero, suc, List, ◌∷◌, Option, Some, None, true, refl, sym, ap, ◌∙◌, arith}
+use Rattle.std.proofs.Common.{◌≡◌, ◌+◌, ◌-◌, ◌++◌, ℕ, zero, suc, List, ◌∷◌, Option, Some, None, true, refl, sym, ap, ◌∙◌, arith}
 use Rattle.std.specs.Prelude.{length, take, drop, replicate, option_and_then, option_map, slice_get}
 use Rattle.std.proofs.lemmas.Bool.{false≢true}
 use Rattle.std.proofs.lemmas.List.{take_at}
-use Rattle.std.proofs.lemmas.Option.{none-some, same_Some}
 use Rattle.run_values.specs.numbered_form.Names.{Name}
 use Rattle.run_values.specs.declared.leaf.Leaf.TheVariants as leaf
-use Rattle.run_values.specs.Fits.{Test, fits, fits_case, fits_payload, is_case}
+use Rattle.run_values.specs.inner.Fits.{Test, fits, fits_case, fits_payload, is_case}
 use Rattle.run_values.specs.Layers.{CaseLayer, Layer}
 use Rattle.run_values.specs.Leaves.{InLeaves, filled_up, in_leaves, leaves_layer, leaves_of, longest_payload, payload_at, payload_leaves}
 use Rattle.run_values.specs.Leaves as run_leaves
@@ -17,9 +16,6 @@ use Rattle.value_parts.specs.inner.Choices.{IsChoice}
 use Rattle.value_parts.specs.inner.Paths.{leaf_count}
 use Rattle.value_parts.specs.inner.Suits.{ClassTest, suits, suits_layer}
 use Rattle.value_parts.proofs.Leaves.{leaves_length}
-
-abbrev payload_in : CaseLayer Shape → Option Shape
-payload_in c = c.payload
 
 -- what is told of a case by what is told of its payload
 abbrev told_case : {A : Type 0} → (Layer A → A) → CaseLayer Shape → CaseLayer A
@@ -109,19 +105,6 @@ payload_told : (cs : CaseShapes) (k : ℕ) (c : CaseLayer Shape) (o : Option Sha
 payload_told cs k c o e p =
     ap (option_and_then run_leaves.payload_of) (case_told leaves_layer cs k ∙ ap (option_map (told_case leaves_layer)) e) ∙ ap (option_map in_leaves) p
 
-longest_within : (cs : CaseShapes) (k : ℕ) (c : CaseLayer Shape) (t : Shape) → slice_get (listed_cases cs) k ≡ Some c → c.payload ≡ Some t → leaf_count t ≤ longest_payload (told_leaves cs)
-longest_within NoCase k c t e p = cc
-longest_within (PlainCase name others) zero c t e p = absurd (none-some t (ap payload_in (same_Some _ c e) ∙ p))
-longest_within (PlainCase name others) (suc k) c t e p =
-    let behind = longest_within others k c t e p in
-    omega (arith, behind)
-longest_within (FullCase name s others) zero c t e p =
-    let same : leaf_count s ≡ leaf_count t = ap leaf_count (same_Some s t (ap payload_in (same_Some _ c e) ∙ p)) in
-    omega (arith, same)
-longest_within (FullCase name s others) (suc k) c t e p =
-    let behind = longest_within others k c t e p in
-    omega (arith, behind)
-
 plain_leaves : (s : Shape) (k : ℕ) (c : CaseLayer Shape) → HasCase k c s → c.payload ≡ None → leaves_of s (Case k) ≡ leaf.Tag k ∷ replicate (leaf_count s - 1) leaf.Blank
 plain_leaves _ k c (enum name cs e) p =
     let longest = longest_payload (told_leaves cs) in
@@ -151,17 +134,3 @@ pub payload_read : (s : Shape) (k : ℕ) (c : CaseLayer Shape) (t : Shape) (x : 
 payload_read s k c t x e p h =
     ap (λ ls. take (leaf_count t) (drop 1 ls)) (full_leaves s k c t x e p h)
     ∙ take_at (leaves_of t x) (replicate (leaf_count s - 1 - leaf_count t) leaf.Blank) (leaf_count t) (leaves_length t x h)
-
-payload_within : (s : Shape) (k : ℕ) (c : CaseLayer Shape) (t : Shape) → HasCase k c s → c.payload ≡ Some t → 1 + leaf_count t ≤ leaf_count s
-payload_within _ k c t (enum name cs e) p =
-    let within = longest_within cs k c t e p in
-    omega (arith, within)
-
-pub payload_fits : (s : Shape) (k : ℕ) (c : CaseLayer Shape) (t : Shape) → slice_get (case_shapes s) k ≡ Some c → c.payload ≡ Some t → 1 + leaf_count t ≤ leaf_count s
-payload_fits s k c t e p = payload_within s k c t (has_case s k c e) p
-
-tag_within : (s : Shape) (k : ℕ) (c : CaseLayer Shape) → HasCase k c s → 1 ≤ leaf_count s
-tag_within _ k c (enum name cs e) = omega arith
-
-pub tag_fits : (s : Shape) (k : ℕ) (c : CaseLayer Shape) → slice_get (case_shapes s) k ≡ Some c → 1 ≤ leaf_count s
-tag_fits s k c e = tag_within s k c (has_case s k c e)

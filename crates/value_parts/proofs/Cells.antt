@@ -2,11 +2,11 @@
 use Rattle.std.proofs.Common.{◌≡◌, ◌<◌, ◌≤◌, ◌+◌, ◌++◌, ℕ, List, [], ◌∷◌, Some, None, true, false, refl, ap, ◌∙◌, arith}
 use Rattle.std.specs.Prelude.{map, length, drop, sum, option_map, replicate}
 use Rattle.std.specs.List.{AllByRecursion, list_all}
-use Rattle.std.proofs.lemmas.Bool.{and_from, and_left, and_parts, false≢true}
+use Rattle.std.proofs.lemmas.Bool.{and_from, and_parts, false≢true}
 use Rattle.std.proofs.lemmas.List.{drop_at, length-append, take-replicate, take_at}
 use Rattle.std.proofs.lemmas.List.Sums.{sum_by-cons}
-use Rattle.run_values.specs.Cells.{Cell, Gone, Empty, InCells, cell_count, cells_each, cells_layer, in_cells, kept, kept_each, width_of}
-use Rattle.run_values.specs.Fits.{are_members, fit_each, fits, fits_layer}
+use Rattle.run_values.specs.Cells.{Cell, Empty, InCells, cell_count, cells_each, cells_layer, in_cells, kept, kept_each, width_of}
+use Rattle.run_values.specs.inner.Fits.{are_members, fit_each, fits, fits_layer}
 use Rattle.run_values.specs.Leaves.{with_more}
 use Rattle.run_values.specs.Places.{is_empty_cell, is_there}
 use Rattle.run_values.specs.Shapes.{Shape, Shapes, NoMember, Member, Integer, Reference, Struct, Tuple, Enum, Stored, Unknown, each_by_layers, listed}
@@ -125,17 +125,8 @@ full_there : (cs : List Cell) → AllByRecursion IsFull cs → list_all is_there
 full_there [] hs = refl
 full_there (c ∷ cs) hs = and_from (is_there c) (list_all is_there cs) hs.0.0 (full_there cs hs.1)
 
-full_not_empty : (cs : List Cell) → 0 < length cs → AllByRecursion IsFull cs → list_all is_empty_cell cs ≡ false
-full_not_empty [] more hs = absurd (omega arith)
-full_not_empty (c ∷ cs) more hs = and_left (is_empty_cell c) (list_all is_empty_cell cs) hs.0.1
-
 pub cells_there : (s : Shape) (v : Value) → list_all is_there ((in_cells s).cells v) ≡ true
 cells_there s v = full_there ((in_cells s).cells v) (by_parts FillsAll shape_full s v)
-
-pub cells_not_empty : (s : Shape) (v : Value) → fits s v ≡ true → list_all is_empty_cell ((in_cells s).cells v) ≡ false
-cells_not_empty s v h =
-    let count = cells_length s v h in
-    full_not_empty ((in_cells s).cells v) (omega (arith, count, has_cell s)) (by_parts FillsAll shape_full s v)
 
 -- cells that keep nothing are no value
 
@@ -162,6 +153,3 @@ shape_none c e Unknown hs = e
 
 pub empty_is_none : (s : Shape) → (in_cells s).value (replicate (cell_count s) Empty) ≡ None
 empty_is_none = by_parts (KeepsNone Empty) (shape_none Empty refl)
-
-pub gone_is_none : (s : Shape) → (in_cells s).value (replicate (cell_count s) Gone) ≡ None
-gone_is_none = by_parts (KeepsNone Gone) (shape_none Gone refl)

@@ -5,7 +5,7 @@ use Rattle.std.proofs.lemmas.Bool.{and_parts, false≢true}
 use Rattle.std.proofs.lemmas.List.{append-nil, length-append}
 use Rattle.std.proofs.lemmas.List.Sums.{sum_by-cons}
 use Rattle.std.proofs.lemmas.Option.{none-some, same_Some}
-use Rattle.run_values.specs.Fits.{fit_each}
+use Rattle.run_values.specs.inner.Fits.{fit_each}
 use Rattle.run_values.specs.Shapes.{Shape, Unknown, member_shapes}
 use Rattle.run_values.specs.Values.{Value}
 use Rattle.value_parts.specs.inner.Paths.{IsPart, here, inside, all_members, before_along, with_member_at, with_part_at}

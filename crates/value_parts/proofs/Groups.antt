@@ -1,21 +1,17 @@
 -- Structs and tuples: their leaves are those of their members in order, and they suit where each member does.
-use Rattle.std.proofs.Common.{◌≡◌, ◌+◌, ◌++◌, ℕ, zero, suc, List, [], ◌∷◌, Some, true, map, sum, length, take, drop, refl, sym, ap, ◌∙◌, arith}
+use Rattle.std.proofs.Common.{◌≡◌, ◌+◌, ◌++◌, ℕ, suc, List, [], ◌∷◌, Some, true, map, length, take, drop, refl, sym, ap, ◌∙◌, arith}
 use Rattle.std.specs.Prelude.{option_and_then, slice_get}
 use Rattle.std.specs.List.{flat_map}
 use Rattle.std.proofs.lemmas.Bool.{and_parts, false≢true}
-use Rattle.std.proofs.lemmas.Option.{none-some, same_Some}
-use Rattle.run_values.specs.Cells.{cell_count, in_cells}
-use Rattle.run_values.specs.Places.{offset}
 use Rattle.run_values.specs.numbered_form.Names.{Name}
-use Rattle.run_values.specs.Fits.{fit_each}
-use Rattle.run_values.specs.Leaves.{leaves_each, leaves_layer, leaves_of, size_of}
+use Rattle.run_values.specs.inner.Fits.{fit_each}
+use Rattle.run_values.specs.Leaves.{leaves_each, leaves_layer, leaves_of}
 use Rattle.run_values.specs.Shapes.{Shape, Shapes, Struct, Tuple, each_by_layers, listed, member_shapes, members_of}
 use Rattle.run_values.specs.Values.{Value, Group, grouped, values_of}
 use Rattle.run_values.specs.Values as value
 use Rattle.value_parts.specs.inner.LeafLists.{leaf_lists}
 use Rattle.value_parts.specs.inner.Paths.{here, inside, leaf_count, leaf_offset, member_at, part_at}
 use Rattle.value_parts.specs.inner.Suits.{ClassTest, suits, suits_layer}
-use Rattle.value_parts.proofs.CellParts.{cells_read}
 use Rattle.value_parts.proofs.LeafParts.{leaves_read}
 use Rattle.value_parts.proofs.Members.{each_told, group_again, listed_again}
 
@@ -36,22 +32,6 @@ tuple_leaves ss vs = ap (leaves_each (each_by_layers leaves_layer (members_of ss
 pub struct_leaves : (name : Name) (ss : List Shape) (vs : List Value) → leaves_of (Struct name (members_of ss)) (grouped vs) ≡ flat_map (λ ls. ls) (leaf_lists ss vs)
 struct_leaves name ss vs = tuple_leaves ss vs
 
-pub leaf_list_at : (ss : List Shape) (vs : List Value) (k : ℕ) (t : Shape) (x : Value) → slice_get ss k ≡ Some t → slice_get vs k ≡ Some x → slice_get (leaf_lists ss vs) k ≡ Some (leaves_of t x)
-leaf_list_at [] vs k t x e is = absurd (none-some t e)
-leaf_list_at (s ∷ ss) [] k t x e is = absurd (none-some x is)
-leaf_list_at (s ∷ ss) (v ∷ vs) zero t x e is = ap (λ u. Some (leaves_of u v)) (same_Some s t e) ∙ ap (λ w. Some (leaves_of t w)) (same_Some v x is)
-leaf_list_at (s ∷ ss) (v ∷ vs) (suc k) t x e is = leaf_list_at ss vs k t x e is
-
-each_size : (ss : List Shape) → map size_of (each_by_layers leaves_layer (members_of ss)) ≡ map leaf_count ss
-each_size [] = refl
-each_size (s ∷ ss) = ap (λ ns. leaf_count s ∷ ns) (each_size ss)
-
-pub tuple_size : (ss : List Shape) → leaf_count (Tuple (members_of ss)) ≡ sum (map leaf_count ss)
-tuple_size ss = ap sum (each_size ss)
-
-pub struct_size : (name : Name) (ss : List Shape) → leaf_count (Struct name (members_of ss)) ≡ sum (map leaf_count ss)
-struct_size name ss = ap sum (each_size ss)
-
 -- which suit
 
 module _ (test : ClassTest) where
@@ -69,10 +49,6 @@ module _ (test : ClassTest) where
   suits_tuple ss (Group vs) h = (value.listed vs, refl, sym (group_again vs), sym (ap (λ ts. fit_each ts (value.listed vs)) (each_told (suits_layer test) ss)) ∙ h)
   suits_tuple ss v h = absurd (false≢true h)
 
-  pub suits_struct : (name : Name) (ss : Shapes) (v : Value) → suits test (Struct name ss) v ≡ true
-      → (vs : List Value) × (value.members_of v ≡ Some vs) × (v ≡ grouped vs) × (fit_each (map (suits test) (listed ss)) vs ≡ true)
-  suits_struct name ss v h = suits_tuple ss v h
-
   pub each_length : (ss : List Shape) (vs : List Value) → fit_each (map (suits test) ss) vs ≡ true → length vs ≡ length ss
   each_length [] [] h = refl
   each_length [] (v ∷ vs) h = absurd (false≢true h)
@@ -85,10 +61,3 @@ module _ (test : ClassTest) where
   member_leaves s t k v x e h is =
       let first : leaf_offset (member_shapes s) k ≡ leaf_offset (member_shapes s) k + 0 = omega arith in
       ap (λ n. take (leaf_count t) (drop n (leaves_of s v))) first ∙ leaves_read test (inside e here) v x h (ap (option_and_then (λ y. part_at y [])) is)
-
-  -- and its cells
-  pub member_cells : (s t : Shape) (k : ℕ) (v x : Value) → slice_get (member_shapes s) k ≡ Some t → suits test s v ≡ true → member_at v k ≡ Some x
-      → take (cell_count t) (drop (offset (member_shapes s) k) ((in_cells s).cells v)) ≡ (in_cells t).cells x
-  member_cells s t k v x e h is =
-      let first : offset (member_shapes s) k ≡ offset (member_shapes s) k + 0 = omega arith in
-      ap (λ n. take (cell_count t) (drop n ((in_cells s).cells v))) first ∙ cells_read test (inside e here) v x h (ap (option_and_then (λ y. part_at y [])) is)

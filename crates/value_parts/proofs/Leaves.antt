@@ -10,7 +10,7 @@ use Rattle.sil_ast.specs.declared.decl.Storage.TheVariants as storage
 use Rattle.run_values.specs.numbered_form.Names.{Name}
 use Rattle.run_values.specs.declared.leaf.Leaf.{Leaf}
 use Rattle.run_values.specs.declared.leaf.Leaf.TheVariants as leaf
-use Rattle.run_values.specs.Fits.{are_members, fit_each, fits, fits_case, fits_layer, is_case, is_name}
+use Rattle.run_values.specs.inner.Fits.{are_members, fit_each, fits, fits_case, fits_layer, is_case, is_name}
 use Rattle.run_values.specs.Leaves.{InLeaves, filled_up, leaves_each, leaves_layer, leaves_of, longest_payload, name_leaf, payload_at, payload_leaves, size_of}
 use Rattle.run_values.specs.Shapes.{CaseShapes, NoCase, PlainCase, FullCase, Shape, Shapes, NoMember, Member, listed, listed_cases}
 use Rattle.run_values.specs.Shapes.{Integer, Reference, Struct, Tuple, Enum, Stored, Unknown, cases_by_layers, each_by_layers}

@@ -3,7 +3,7 @@ use Rattle.std.proofs.Common.{◌≡◌, ℕ, zero, suc, List, [], ◌∷◌, Op
 use Rattle.std.specs.Prelude.{option_and_then, option_map, set, slice_get, unwrap_or}
 use Rattle.std.proofs.lemmas.Bool.{and_from, and_parts, false≢true}
 use Rattle.std.proofs.lemmas.Option.{none-some, same_Some}
-use Rattle.run_values.specs.Fits.{are_members, fit_each}
+use Rattle.run_values.specs.inner.Fits.{are_members, fit_each}
 use Rattle.run_values.specs.Layers.{Layer}
 use Rattle.run_values.specs.Shapes.{Shape, Shapes, NoMember, Member, by_layers, each_by_layers, listed, member_shapes}
 use Rattle.run_values.specs.Shapes.{Integer, Reference, Struct, Tuple, Enum, Stored, Unknown}
@@ -105,6 +105,3 @@ module _ (test : ClassTest) where
 
   pub members_suit : (s t : Shape) (k : ℕ) (v : Value) → slice_get (member_shapes s) k ≡ Some t → suits test s v ≡ true → fit_each (map (suits test) (member_shapes s)) (all_members v) ≡ true
   members_suit s t k v e h = each_from (member_shapes s) (members_of v) (sym (suits_by_members s t k v e) ∙ h)
-
-pub member_among : (v x : Value) (vs : List Value) (k : ℕ) → members_of v ≡ Some vs → slice_get vs k ≡ Some x → member_at v k ≡ Some x
-member_among v x vs k e is = ap (option_and_then (λ ws. slice_get ws k)) e ∙ is

@@ -1,12 +1,9 @@
 -- What weak and unowned storage keeps, and its one leaf.
-use Rattle.std.proofs.Common.{◌≡◌, ℕ, [], ◌∷◌, Some, Bool, true, false, ◌&&◌, ◌==◌, cond, refl, sym, subst}
-use Rattle.std.proofs.lemmas.Bool.{and_from, and_parts, eqb-true, false≢true}
+use Rattle.std.proofs.Common.{◌≡◌, ℕ, Bool, true, false, ◌&&◌, ◌==◌, cond, refl, sym, subst}
+use Rattle.std.proofs.lemmas.Bool.{and_parts, eqb-true, false≢true}
 use Rattle.sil_ast.specs.declared.decl.Storage.{Storage}
 use Rattle.sil_ast.specs.declared.decl.Storage.TheVariants as storage
-use Rattle.sil_ast.specs.declared.place.ObjectId.{ObjectId}
-use Rattle.run_values.specs.declared.leaf.Leaf.TheVariants as leaf
-use Rattle.run_values.specs.Fits.{is_name}
-use Rattle.run_values.specs.Leaves.{leaves_of, value_of}
+use Rattle.run_values.specs.inner.Fits.{is_name}
 use Rattle.run_values.specs.Shapes.{Shape, Stored}
 use Rattle.run_values.specs.Values.{Value, Int, Object, Group, Case, Full}
 use Rattle.value_parts.specs.inner.StoredNames.{IsUnownedName, IsWeakName}
@@ -47,26 +44,3 @@ module _ (test : ClassTest) (s : Storage) (inner : Shape) (v : Value) where
 
   pub stored_inner : suits test (Stored s inner) v ≡ true → suits test inner v ≡ true
   stored_inner h = (and_parts (is_name s v) (suits test inner v) h).1
-
-  pub stored_suits : is_name s v ≡ true → suits test inner v ≡ true → suits test (Stored s inner) v ≡ true
-  stored_suits = and_from (is_name s v) (suits test inner v)
-
--- the leaf of a name, and back
-
-pub weak_none_leaf : (inner : Shape) → leaves_of (Stored storage.Weak inner) (Case 0) ≡ leaf.Blank ∷ []
-weak_none_leaf inner = refl
-
-pub weak_object_leaf : (inner : Shape) (o : ObjectId) → leaves_of (Stored storage.Weak inner) (Full 1 (Object o)) ≡ leaf.Object o ∷ []
-weak_object_leaf inner o = refl
-
-pub unowned_leaf : (inner : Shape) (o : ObjectId) → leaves_of (Stored storage.Unowned inner) (Object o) ≡ leaf.Object o ∷ []
-unowned_leaf inner o = refl
-
-pub weak_none_back : (inner : Shape) → value_of (Stored storage.Weak inner) (leaf.Blank ∷ []) ≡ Some (Case 0)
-weak_none_back inner = refl
-
-pub weak_object_back : (inner : Shape) (o : ObjectId) → value_of (Stored storage.Weak inner) (leaf.Object o ∷ []) ≡ Some (Full 1 (Object o))
-weak_object_back inner o = refl
-
-pub unowned_back : (inner : Shape) (o : ObjectId) → value_of (Stored storage.Unowned inner) (leaf.Object o ∷ []) ≡ Some (Object o)
-unowned_back inner o = refl

@@ -1,14 +1,12 @@
 -- Paths: where a part begins, that it lies within the whole, and a path behind a path.
-use Rattle.std.proofs.Common.{◌≡◌, ◌≤◌, ◌+◌, ◌++◌, ℕ, zero, suc, List, [], ◌∷◌, Option, Some, None, map, sum, take, refl, sym, ap, ◌∙◌, arith}
-use Rattle.std.specs.Prelude.{option_and_then, slice_get, unwrap_or}
+use Rattle.std.proofs.Common.{◌≡◌, ◌≤◌, ◌+◌, ◌++◌, ℕ, zero, suc, List, [], ◌∷◌, Some, map, sum, take, ap, ◌∙◌, arith}
+use Rattle.std.specs.Prelude.{slice_get, unwrap_or}
 use Rattle.std.proofs.lemmas.List.Sums.{sum_by-cons}
 use Rattle.std.proofs.lemmas.Option.{none-some, same_Some}
 use Rattle.run_values.specs.Cells.{cell_count}
 use Rattle.run_values.specs.Places.{offset}
 use Rattle.run_values.specs.Shapes.{Shape, Unknown, member_shapes}
-use Rattle.run_values.specs.Values.{Value}
-use Rattle.value_parts.specs.inner.Paths.{IsPart, here, inside, before_along, cells_before, leaf_count, leaf_offset, leaves_before, member_at, part_at, with_member_at, with_part_at}
-use Rattle.value_parts.proofs.Parts.{with_inside}
+use Rattle.value_parts.specs.inner.Paths.{IsPart, here, inside, before_along, cells_before, leaf_count, leaf_offset, leaves_before}
 use Rattle.value_parts.proofs.SideBySide.{cells_summed, leaves_summed}
 
 -- the same for cells and for leaves
@@ -57,12 +55,6 @@ part_cells_fit part = part_fits cell_count cells_summed part
 pub part_leaves_fit : {s u : Shape} {path : List ℕ} → IsPart s path u → leaves_before s path + leaf_count u ≤ leaf_count s
 part_leaves_fit part = part_fits leaf_count leaves_summed part
 
-pub member_cells_fit : (ss : List Shape) (k : ℕ) (t : Shape) → slice_get ss k ≡ Some t → offset ss k + cell_count t ≤ sum (map cell_count ss)
-member_cells_fit ss k t e = member_fits cell_count cells_summed ss k t e
-
-pub member_leaves_fit : (ss : List Shape) (k : ℕ) (t : Shape) → slice_get ss k ≡ Some t → leaf_offset ss k + leaf_count t ≤ sum (map leaf_count ss)
-member_leaves_fit ss k t e = member_fits leaf_count leaves_summed ss k t e
-
 -- a part of a part
 
 pub part_of_part : {s t u : Shape} {path behind : List ℕ} → IsPart s path t → IsPart t behind u → IsPart s (path ++ behind) u
@@ -72,34 +64,8 @@ part_of_part (inside e part) deeper = inside e (part_of_part part deeper)
 pub member_of_part : {s t u : Shape} {path : List ℕ} (k : ℕ) → IsPart s path t → slice_get (member_shapes t) k ≡ Some u → IsPart s (path ++ (k ∷ [])) u
 member_of_part k part e = part_of_part part (inside e here)
 
-pub cells_before_part : {s t : Shape} {path : List ℕ} → IsPart s path t → (behind : List ℕ) → cells_before s (path ++ behind) ≡ cells_before s path + cells_before t behind
-cells_before_part = along_within offset
-
-pub leaves_before_part : {s t : Shape} {path : List ℕ} → IsPart s path t → (behind : List ℕ) → leaves_before s (path ++ behind) ≡ leaves_before s path + leaves_before t behind
-leaves_before_part = along_within leaf_offset
-
 pub cells_before_member : {s t : Shape} {path : List ℕ} → IsPart s path t → (k : ℕ) → cells_before s (path ++ (k ∷ [])) ≡ cells_before s path + offset (member_shapes t) k
 cells_before_member part k = along_within offset part (k ∷ []) ∙ omega arith
 
 pub leaves_before_member : {s t : Shape} {path : List ℕ} → IsPart s path t → (k : ℕ) → leaves_before s (path ++ (k ∷ [])) ≡ leaves_before s path + leaf_offset (member_shapes t) k
 leaves_before_member part k = along_within leaf_offset part (k ∷ []) ∙ omega arith
-
-part_behind : (k : ℕ) (path behind : List ℕ) (o : Option Value) → ((x : Value) → part_at x (path ++ behind) ≡ option_and_then (λ w. part_at w behind) (part_at x path))
-    → option_and_then (λ x. part_at x (path ++ behind)) o ≡ option_and_then (λ w. part_at w behind) (option_and_then (λ x. part_at x path) o)
-part_behind k path behind None within = refl
-part_behind k path behind (Some x) within = within x
-
-pub part_at_part : (path behind : List ℕ) (v : Value) → part_at v (path ++ behind) ≡ option_and_then (λ w. part_at w behind) (part_at v path)
-part_at_part [] behind v = refl
-part_at_part (k ∷ path) behind v = part_behind k path behind (member_at v k) (part_at_part path behind)
-
-with_behind : (k : ℕ) (path behind : List ℕ) (v w x : Value) (o : Option Value) → member_at v k ≡ o → option_and_then (λ y. part_at y path) o ≡ Some w
-    → ((y : Value) → part_at y path ≡ Some w → with_part_at y (path ++ behind) x ≡ with_part_at y path (with_part_at w behind x))
-    → with_part_at v (k ∷ (path ++ behind)) x ≡ with_part_at v (k ∷ path) (with_part_at w behind x)
-with_behind k path behind v w x None e h within = absurd (none-some w h)
-with_behind k path behind v w x (Some y) e h within =
-    with_inside v y k (path ++ behind) x e ∙ ap (with_member_at v k) (within y h) ∙ sym (with_inside v y k path (with_part_at w behind x) e)
-
-pub with_part_at_part : (path behind : List ℕ) (v w x : Value) → part_at v path ≡ Some w → with_part_at v (path ++ behind) x ≡ with_part_at v path (with_part_at w behind x)
-with_part_at_part [] behind v w x h = ap (λ y. with_part_at y behind x) (same_Some v w h)
-with_part_at_part (k ∷ path) behind v w x h = with_behind k path behind v w x (member_at v k) refl h (λ y. with_part_at_part path behind y w x)

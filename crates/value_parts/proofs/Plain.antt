@@ -1,15 +1,13 @@
 -- Integers and references: what suits, and the one leaf.
 use Rattle.std.proofs.Common.{◌≡◌, ℕ, ℤ, [], ◌∷◌, true, refl}
 use Rattle.std.proofs.lemmas.Bool.{false≢true}
-use Rattle.sil_ast.specs.declared.decl.Storage.{Storage}
 use Rattle.sil_ast.specs.declared.place.ObjectId.{ObjectId}
 use Rattle.run_values.specs.numbered_form.Names.{Name}
 use Rattle.run_values.specs.numbered_form.inner.Literals.{is_residue}
 use Rattle.run_values.specs.declared.leaf.Leaf.TheVariants as leaf
 use Rattle.run_values.specs.Leaves.{leaves_of}
-use Rattle.run_values.specs.Shapes.{Shape, Integer, Reference, Stored}
+use Rattle.run_values.specs.Shapes.{Integer, Reference}
 use Rattle.run_values.specs.Values.{Value, Int, Object}
-use Rattle.value_parts.specs.inner.Paths.{leaf_count}
 use Rattle.value_parts.specs.inner.Suits.{ClassTest, suits}
 
 module _ (test : ClassTest) where
@@ -29,15 +27,3 @@ module _ (test : ClassTest) where
 
 pub integer_leaf : (width : ℕ) (n : ℤ) → leaves_of (Integer width) (Int n) ≡ leaf.Int n ∷ []
 integer_leaf width n = refl
-
-pub reference_leaf : (class : Name) (o : ObjectId) → leaves_of (Reference class) (Object o) ≡ leaf.Object o ∷ []
-reference_leaf class o = refl
-
-pub integer_size : (width : ℕ) → leaf_count (Integer width) ≡ 1
-integer_size width = refl
-
-pub reference_size : (class : Name) → leaf_count (Reference class) ≡ 1
-reference_size class = refl
-
-pub stored_size : (storage : Storage) (inner : Shape) → leaf_count (Stored storage inner) ≡ 1
-stored_size storage inner = refl

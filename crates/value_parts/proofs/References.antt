@@ -1,18 +1,16 @@
 -- The references of a value that fits a shape are the objects among its leaves.
 use Rattle.std.proofs.Common.{◌≡◌, ◌-◌, ◌++◌, ℕ, zero, suc, List, [], Option, Some, None, true, refl, ap, ◌∙◌}
 use Rattle.std.specs.Prelude.{length, replicate, slice_get}
-use Rattle.std.specs.List.{All, AllByRecursion}
+use Rattle.std.specs.List.{AllByRecursion}
 use Rattle.std.proofs.lemmas.Bool.{and_parts, false≢true}
 use Rattle.std.proofs.lemmas.List.{append-nil}
 use Rattle.std.proofs.lemmas.List.Concat.{flat_map-append}
-use Rattle.std.proofs.lemmas.List.Elements.{All-same}
 use Rattle.sil_ast.specs.declared.decl.Storage.{Storage}
 use Rattle.sil_ast.specs.declared.decl.Storage.TheVariants as storage
-use Rattle.sil_ast.specs.declared.place.ObjectId.{ObjectId}
 use Rattle.run_values.specs.numbered_form.Names.{Name}
 use Rattle.run_values.specs.declared.leaf.Leaf.{Leaf}
 use Rattle.run_values.specs.declared.leaf.Leaf.TheVariants as leaf
-use Rattle.run_values.specs.Fits.{are_members, fit_each, fits, fits_case, fits_layer, is_case, is_name}
+use Rattle.run_values.specs.inner.Fits.{are_members, fit_each, fits, fits_case, fits_layer, is_case, is_name}
 use Rattle.run_values.specs.Leaves.{InLeaves, filled_up, leaves_each, leaves_layer, leaves_of, longest_payload, name_leaf, payload_at, payload_leaves}
 use Rattle.run_values.specs.Shapes.{CaseShapes, NoCase, PlainCase, FullCase, Shape, Shapes, NoMember, Member, listed, listed_cases}
 use Rattle.run_values.specs.Shapes.{Integer, Reference, Struct, Tuple, Enum, Stored, Unknown, cases_by_layers, each_by_layers}
@@ -23,7 +21,7 @@ use Rattle.value_parts.specs.inner.StoredNames.{IsUnownedName, IsWeakName}
 use Rattle.value_parts.specs.inner.Suits.{ClassTest, suits}
 use Rattle.value_parts.proofs.Inductions.{InParts, OfCase, by_parts}
 use Rattle.value_parts.proofs.Names.{is_unowned_name, is_weak_name}
-use Rattle.value_parts.proofs.Suiting.{suits_fits, suits_known}
+use Rattle.value_parts.proofs.Suiting.{suits_fits}
 
 abbrev Shows : Shape → Type 0
 Shows s = (v : Value) → fits s v ≡ true → objects_in (leaves_of s v) ≡ references_of v
@@ -118,8 +116,3 @@ objects_are_references = by_parts Shows shape_shows
 module _ (test : ClassTest) where
   pub suits_objects : (s : Shape) (v : Value) → suits test s v ≡ true → objects_in (leaves_of s v) ≡ references_of v
   suits_objects s v h = objects_are_references s v (suits_fits test s v h)
-
-  -- what holds of each object that the test lets through holds of each object among the leaves
-  pub objects_known : (Known : ObjectId → Type 0) → ((class : Name) (o : ObjectId) → test class o ≡ true → Known o) → (s : Shape) (v : Value) → suits test s v ≡ true
-      → All Known (objects_in (leaves_of s v))
-  objects_known Known lets s v h = All-same Known (objects_in (leaves_of s v)) (references_of v) (suits_objects s v h) (suits_known test Known lets s v h)

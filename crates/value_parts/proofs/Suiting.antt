@@ -6,7 +6,7 @@ use Rattle.std.proofs.lemmas.Bool.{and_parts, and_from, false≢true}
 use Rattle.std.proofs.lemmas.List.Elements.{All-nil, All-cons, All-append}
 use Rattle.sil_ast.specs.declared.place.ObjectId.{ObjectId}
 use Rattle.run_values.specs.numbered_form.Names.{Name}
-use Rattle.run_values.specs.Fits.{Test, are_members, fit_each, fits, fits_case, fits_layer, is_case, is_name}
+use Rattle.run_values.specs.inner.Fits.{Test, are_members, fit_each, fits, fits_case, fits_layer, is_case, is_name}
 use Rattle.run_values.specs.Layers.{Layer}
 use Rattle.run_values.specs.Shapes.{CaseShapes, NoCase, PlainCase, FullCase, Shape, Shapes, NoMember, Member, listed, listed_cases}
 use Rattle.run_values.specs.Shapes.{Integer, Reference, Struct, Tuple, Enum, Stored, Unknown, by_layers, cases_by_layers, each_by_layers}

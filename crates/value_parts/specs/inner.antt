@@ -4,4 +4,3 @@ pub mod LeafLists
 pub mod Storages
 pub mod Choices
 pub mod StoredNames
-pub mod Laws

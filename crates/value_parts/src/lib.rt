@@ -1,7 +1,3 @@
 //! How the parts of a value lie in its cells and in its leaves: definitions and laws over values, shapes and lists.
 //! It knows of no memory and no state, and has no code that runs. The lemmas in `proofs/` are for the crates above.
 #![tactic(auto)]
-
-mod laws;
-
-pub use laws::{leaves_name_references, parts_are_read, parts_are_there, parts_are_written};

@@ -83,19 +83,6 @@ module _ (slots : List SlotSides) (o : ℕ) (new : SlotSides) (lt : o < length s
     count = are.count ∙ sym (count_kept slots o new lt same);
   }
 
-  -- the slot becomes idle
-  pub newly_idle : (idle : List ℕ) → AreIdleSlots slots idle → is_idle_at slots o ≡ false → is_idle new ≡ true → AreIdleSlots (set slots o new) (idle ++ o ∷ [])
-  newly_idle idle are taken now = record {
-    each = λ e. elim (eqb_tells e o) [
-      | inl p ↦
-          let was : as_one (is_idle_at slots e) ≡ 0 = ap as_one (ap (is_idle_at slots) p.1 ∙ taken) in
-          let is : as_one (is_idle_at (set slots o new) e) ≡ 1 = ap as_one (here e p.1 ∙ now) in
-          omega (arith, times_behind e idle o, are.each e, was, is, ap as_one p.0)
-      | inr p ↦ omega (arith, times_behind e idle o, are.each e, ap as_one (there e p.1), ap as_one p.0)
-    ];
-    count = omega (arith, are.count, count_more slots o new lt taken now, length-append idle (o ∷ []));
-  }
-
   -- the slot is idle no longer
   pub idle_no_more : (rest : List ℕ) → AreIdleSlots slots (rest ++ o ∷ []) → is_idle_at slots o ≡ true → is_idle new ≡ false → AreIdleSlots (set slots o new) rest
   idle_no_more rest are idle now = record {

@@ -46,7 +46,7 @@ use Rattle.type_definitions.specs.declared.kind.Kind.{Kind}
 use Rattle.type_definitions.specs.declared.kind.Kind.TheVariants as kind
 use Rattle.type_definitions.specs.Declarations.{Declarations, declarations_of}
 use Rattle.accepted_runs.specs.inner.Built.Said.{IsUnfinishedOn}
-use Rattle.accepted_runs.specs.inner.Built.Laws.{AreEndsOfOthers, LoseOthers}
+use Rattle.accepted_runs.specs.inner.Built.Laws.{LoseOthers}
 use Rattle.accepted_runs.proofs.Built.Steps.{new_field_told, there, told}
 
 -- ---- instructions that take an unfinished object, or a slot, end nothing
@@ -168,9 +168,6 @@ module _ (m : Module) (n : ℕ) (f : Function) (a : IsAcceptedBody m n f) (t : L
         over (y ∷ ys) k =
             ap (λ b. b || list_any (is_end (facts_in d f) object) ys) (k y (contained_among y (y ∷ ys) (inl refl)))
             ∙ over ys (λ z c. k z (contained_among z (y ∷ ys) (inr (among_contained z ys c))))
-
-pub ends_of_others : AreEndsOfOthers
-ends_of_others m n f a t i h object u = none_ended m n f a t i h object u
 
 pub lose_others : LoseOthers
 lose_others m n f a t i h entries left ended = record {

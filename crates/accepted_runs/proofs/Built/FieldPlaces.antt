@@ -55,9 +55,9 @@ use Rattle.tracked_frames.proofs.typed_memory.Growth.{offset_front}
 use Rattle.tracked_frames.proofs.typed_memory.Homes.{object_is}
 use Rattle.tracked_frames.proofs.typed_memory.Naming.{NamedBy, each_at, named_by}
 use Rattle.value_tables.specs.FirstValue.{first_value}
-use Rattle.accepted_runs.specs.inner.Built.FieldPlaces.{AreFieldsPlaced, AreMembersPlaced, AreObjectsCounted}
+use Rattle.accepted_runs.specs.inner.Built.FieldPlaces.{AreFieldsPlaced, AreMembersPlaced}
 use Rattle.accepted_runs.proofs.Built.About.{unlocated}
-use Rattle.accepted_runs.proofs.Built.Classes.{first_by, object_class, sound}
+use Rattle.accepted_runs.proofs.Built.Classes.{first_by, sound}
 use Rattle.accepted_runs.proofs.Built.ObjectRows.{declared, object_row, of_objects}
 use Rattle.accepted_runs.proofs.Built.Reading.{named_datum}
 
@@ -189,10 +189,3 @@ members_placed m n f a p x is effect v among y first l of k address = member_pla
 pub fields_placed : AreFieldsPlaced
 fields_placed m n f a w world memory typed entries entries_typed p x is effect v among y first o held member number s named counted there l of k address =
     field_placed m n f a p x is v among y first l of k address effect member number s named counted there w world memory typed entries entries_typed o held
-
-pub objects_counted : AreObjectsCounted
-objects_counted m n f a object fields class is form =
-    let own = object_class m n f a object fields is in
-    let two : OfValue (Reference own.class) ≡ OfValue (Reference class) = sym own.of ∙ form in
-    let same : own.class ≡ class = cc in
-    is ∙ ap (λ n. source.Object n) (own.count ∙ ap (λ c. length (field_shapes (shapes_of m) c)) same)

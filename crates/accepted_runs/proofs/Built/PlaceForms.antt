@@ -1,7 +1,7 @@
 -- The address of a field, or of what lies in one, has the form of a place: no value is at it.
 use Rattle.std.proofs.Common.{◌≡◌, ℕ, zero, suc, List, [], ◌∷◌, ◌++◌, append-nil, length, refl, sym, ap, ◌∙◌, subst, Bool, true, false, Option, Some, None}
 use Rattle.std.specs.Prelude.{Contains, option_map, slice_get}
-use Rattle.std.proofs.lemmas.Bool.{false≢true, true≢false}
+use Rattle.std.proofs.lemmas.Bool.{false≢true}
 use Rattle.std.proofs.lemmas.Option.{none-some, same_Some, slice_get-map}
 use Rattle.instruction_table.specs.declared.op.Op.{Op}
 use Rattle.instruction_table.specs.declared.op.Op.TheVariants as op
@@ -60,14 +60,6 @@ abbrev pub gives_place : RowEffect → Bool
 gives_place row.AddressesMember = true
 gives_place row.AddressesField = true
 gives_place _ = false
-
-pub others_apart : (o : Op) → is_handing (effect_of o) ≡ false → keeps_apart (access_kind_of o) ≡ true
-others_apart op.Upcast e = absurd (true≢false e)
-others_apart op.BeginBorrow e = absurd (true≢false e)
-others_apart op.RefElementAddr e = absurd (true≢false e)
-others_apart op.StructElementAddr e = absurd (true≢false e)
-others_apart op.TupleElementAddr e = absurd (true≢false e)
-others_apart o e = refl
 
 -- what such a row gives has the form of a place
 one_place : (m : Module) (x : Inst) → gives_place (effect_of x.op) ≡ true → (xs ys : List Form) → OwnedRowForms m x xs ys → OnePlace ys

@@ -8,7 +8,7 @@ use Rattle.tracked_frames.specs.accepted_places.accepted_values.run_typing.RowFo
 use Rattle.tracked_frames.specs.accepted_places.accepted_values.run_typing.RowForms as rows
 use Rattle.tracked_frames.specs.accepted_places.owned_run_typing.inner.OwnedRows.{OwnedRowForms}
 use Rattle.tracked_frames.specs.accepted_places.owned_run_typing.inner.OwnedRows as owned
-use Rattle.run_values.specs.Fits.{fits}
+use Rattle.run_values.specs.inner.Fits.{fits}
 use Rattle.run_values.specs.Shapes.{Reference, Shape, Stored}
 use Rattle.run_values.specs.Values.{Value}
 use Rattle.sil_ast.specs.declared.inst.Inst.{Inst}

@@ -53,7 +53,7 @@ use Rattle.tracked_frames.proofs.accepted_places.owned_run_typing.OwnedInsts.{ow
 use Rattle.ownership_chains.specs.Facts.{value_of}
 use Rattle.ownership_chains.specs.declared.facts.Facts.{Facts}
 use Rattle.point_checks.proofs.Among.{Among, among_contained, contained_among}
-use Rattle.run_values.specs.Fits.{fits}
+use Rattle.run_values.specs.inner.Fits.{fits}
 use Rattle.run_values.specs.Memory.{Memory}
 use Rattle.run_values.specs.Places.{Inside, Place, filled}
 use Rattle.run_values.specs.Shapes.{Shape}

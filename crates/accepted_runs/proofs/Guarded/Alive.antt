@@ -68,9 +68,6 @@ guarded_alive m loans s frame rest o state at g = ⊎_elim (λ dead. absurd (not
 
 -- ---- operands
 
-same_fault : (x y : HolderFault) → ◌≡◌ {A = Result (List Entry) HolderFault} (Err x) (Err y) → x ≡ y
-same_fault x y e = cc
-
 -- no end of an operand fails because something is dead
 ended_alive : (v : ValueId) (entries : List Entry) (e : Entry) → ended_entry v entries e ≡ Err NamesDead → ⊥
 ended_alive v entries Gone h = cc

@@ -16,9 +16,6 @@ use Rattle.accepted_runs.specs.inner.Guarded.Kept.{AreGuardedBehind, AreGuardedL
 use Rattle.accepted_runs.proofs.Guarded.Entries.{made_lent_same, results_either, results_held, results_made, results_others, results_there}
 use Rattle.accepted_runs.proofs.Guarded.Guards.{guard_there, guards_kept}
 
-held_there : (e : Entry) (x : Datum) → e ≡ Held x → IsThere e
-held_there e x h gone = cc
-
 pub lent_there : (e : Entry) (x : Datum) → e ≡ Lent x → IsThere e
 lent_there e x h gone = cc
 

@@ -1,29 +1,24 @@
 -- Tracked entries go along with the trail, and typed ones are of their values' kinds. What is handed on as a whole is a value.
-use Rattle.std.proofs.Common.{◌≡◌, ◌<◌, ◌⊎◌, inl, inr, List, [], ◌∷◌, refl, sym, ap, ◌∙◌, subst, Bool, true, false, Option, Some, None, Ok}
-use Rattle.std.specs.Prelude.{slice_get, unwrap_or}
+use Rattle.std.proofs.Common.{◌≡◌, inl, inr, List, [], ◌∷◌, refl, sym, ap, ◌∙◌, Bool, true, false}
 use Rattle.std.specs.List.{AllZip}
 use Rattle.std.proofs.lemmas.Bool.{false≢true}
-use Rattle.std.proofs.lemmas.Option.{slice_get_within}
 use Rattle.sil_ast.specs.declared.inst.Inst.{Inst}
 use Rattle.sil_ast.specs.declared.module.Module.{Module}
-use Rattle.type_definitions.specs.Declarations.{declarations_of}
 use Rattle.run_values.specs.Shapes.{Shape, Reference}
-use Rattle.tracked_frames.specs.accepted_values.inner.Known.{kind_at}
-use Rattle.tracked_frames.specs.accepted_values.run_typing.Forms.{Form, OfValue, form_of}
+use Rattle.tracked_frames.specs.accepted_values.run_typing.Forms.{Form, OfValue}
 use Rattle.tracked_frames.specs.accepted_values.run_typing.RowForms as lowered
 use Rattle.tracked_frames.specs.accepted_values.run_typing.RowForms.{RowForms}
 use Rattle.tracked_frames.specs.accepted_premises.owned_run_typing.inner.OwnedRows as owned
 use Rattle.tracked_frames.specs.accepted_premises.owned_run_typing.inner.OwnedRows.{OwnedRowForms}
 use Rattle.tracked_frames.specs.typed_memory.inner.Worlds.{DatumIs, World}
-use Rattle.tracked_frames.specs.inner.Typed.TypedStates.{EntryIs}
 use Rattle.tracked_frames.proofs.Typed.Data.{read_value}
 use Rattle.tracked_frames.specs.inner.Tracked.TrackedStates as tracked
 use Rattle.tracked_frames.specs.holder_laws.holder_model.Data.{Datum}
 use Rattle.tracked_frames.specs.holder_laws.holder_model.Effects.{effect_of}
-use Rattle.tracked_frames.specs.holder_laws.holder_model.Frames.{Entry, Gone, Held, Lent, Plain, entry_at, made_entry}
+use Rattle.tracked_frames.specs.holder_laws.holder_model.Frames.{Entry, Gone, Held, Lent, Plain, entry_at}
 use Rattle.tracked_frames.specs.holder_laws.holder_model.declared.row_effect.RowEffect.{RowEffect}
 use Rattle.tracked_frames.specs.holder_laws.holder_model.declared.row_effect.RowEffect.TheVariants as row
-use Rattle.accepted_runs.specs.inner.Guarded.Given.{AreTrackedAlong, AreTypedOfKinds, HandTypedValues}
+use Rattle.accepted_runs.specs.inner.Guarded.Given.{AreTrackedAlong, HandTypedValues}
 use Rattle.accepted_runs.specs.inner.Guarded.Guards.{IsThere}
 use Rattle.accepted_runs.specs.inner.Guarded.Rows.{HandsValues}
 
@@ -41,17 +36,6 @@ tracked_along d f frame along = record {
   others = λ v not_owned not_scope made.
       there (entry_at frame.entries v) (along.others v (record { not_owned = not_owned; not_scope = not_scope }) made);
 }
-
-pub typed_of_kinds : AreTypedOfKinds
-typed_of_kinds m w f entries are v = at (slice_get entries v.0) refl
-  where
-    by : (e : Entry) → EntryIs m w (kind_at (declarations_of m) f v) (form_of (declarations_of m) f v) e → (e ≡ Gone) ⊎ ((x : Datum) × (made_entry (kind_at (declarations_of m) f v) x ≡ Ok e))
-    by _ EntryIs.gone = inl refl
-    by _ (EntryIs.made x e made typed) = inr (x, made)
-
-    at : (o : Option Entry) → slice_get entries v.0 ≡ o → (entry_at entries v ≡ Gone) ⊎ ((x : Datum) × (made_entry (kind_at (declarations_of m) f v) x ≡ Ok (entry_at entries v)))
-    at None is = inl (ap (λ (o : Option Entry). unwrap_or o Gone) is)
-    at (Some e) is = by (entry_at entries v) (are.each v (subst (λ n. v.0 < n) are.size (slice_get_within entries v.0 e is)))
 
 -- ---- operands
 

@@ -57,7 +57,7 @@ use Rattle.tracked_frames.specs.holder_laws.inner.Steps.Ways.{left_with, moved, 
 use Rattle.tracked_frames.specs.holder_laws.inner.Counts.Naming.{in_data, in_datum}
 use Rattle.tracked_frames.proofs.holder_laws.Counts.Sums.{total_cons}
 use Rattle.accepted_runs.specs.inner.Guarded.GuardedStates.{IsGuardedRun, IsGuardedState, Loans}
-use Rattle.accepted_runs.specs.inner.Guarded.Laws.{AreStepsGuarded, AreStepsGuardedWhere, IsEither}
+use Rattle.accepted_runs.specs.inner.Guarded.Laws.{AreStepsGuardedWhere}
 use Rattle.accepted_runs.specs.inner.Guarded.LoansKept.{IsPlacedState, LoansAreKept}
 use Rattle.accepted_runs.specs.inner.Guarded.Stepping.{frame_behind}
 use Rattle.accepted_runs.proofs.Guarded.FramesCurrent.{frames_current}
@@ -285,8 +285,3 @@ pub steps_stay_guarded_where : AreStepsGuardedWhere
 steps_stay_guarded_where m loans Placed bound s next verified kept state placed guarded e =
     subst (GuardedNext m loans Placed) e
     (steps_guarded m loans Placed modules_give kept bound verified s state guarded (steps.step m (facts_of m) bound s) (steps_told m (facts_of m) bound s)) placed
-
-pub steps_stay_guarded : AreStepsGuarded
-steps_stay_guarded m loans bound s next verified kept typed tracked typed_next tracked_next guarded e =
-    steps_stay_guarded_where m loans (IsEither s next) bound s next verified kept (record { typed = typed; tracked = tracked; placed = inl refl })
-    (record { typed = typed_next; tracked = tracked_next; placed = inr refl }) guarded e

@@ -12,7 +12,6 @@ use Rattle.sil_ast.specs.declared.module.Module.{Module}
 use Rattle.sil_ast.specs.declared.place.EdgeId.{EdgeId}
 use Rattle.sil_ast.specs.declared.place.FuncId.{FuncId}
 use Rattle.sil_ast.specs.declared.place.ObjectId.{ObjectId}
-use Rattle.sil_ast.specs.declared.place.PointId.{PointId}
 use Rattle.sil_cfg.specs.declared.item.Item.TheVariants as item
 use Rattle.type_definitions.specs.Declarations.{Declarations, declarations_of}
 use Rattle.run_values.specs.Memory.{is_dead}
@@ -67,9 +66,6 @@ module _ (m : Module) (loans : Loans) (Placed : HolderState → Type 0) (given :
 
   abbrev n : ℕ
   n = frame.function.0
-
-  abbrev p : PointId
-  p = stands_at f frame.trail
 
   -- ---- an edge
 

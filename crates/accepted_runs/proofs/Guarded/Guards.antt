@@ -18,7 +18,7 @@ use Rattle.tracked_frames.specs.holder_laws.inner.Counts.Taking.{in_entries}
 use Rattle.tracked_frames.proofs.holder_laws.Counts.Sums.{total_cons}
 use Rattle.accepted_runs.specs.inner.Guarded.Guards.{Guard, IsArgument, IsThere, Lending, argument, loan, owner, scope}
 use Rattle.accepted_runs.specs.inner.Guarded.GuardedStates.{BelowIsGuarded, IsGuardedIn, KeepsBelow, Loans, finishes_of}
-use Rattle.accepted_runs.specs.inner.Guarded.Kept.{AreGuardsKept, AreOperandsGuarded, HaveGuardedHolders, HaveKeptHolders, IsHeldSomehow, from_argument, here}
+use Rattle.accepted_runs.specs.inner.Guarded.Kept.{AreGuardsKept, AreOperandsGuarded, HaveGuardedHolders, IsHeldSomehow, from_argument, here}
 use Rattle.accepted_runs.proofs.Guarded.Named.{counts_itself, entry_at_most, kept_at_most}
 
 pub guard_there : (d : Declarations) (f : Function) (lends : Lending) (m : Memory) (entries : List Entry) (o : ObjectId) (b : ValueId) → Guard d f lends m entries o b → IsThere (entry_at entries b)
@@ -75,6 +75,3 @@ module _ (m : Module) (loans : Loans) (memory : Memory) where
   kept_holders callee (Finishes deinits p ∷ rest) o below kept =
       let one : one_object o p ≡ 1 = subst (λ (q : ObjectId). one_object o q ≡ 1) kept (counts_itself o) in
       inr (omega (arith, one))
-
-pub have_kept_holders : HaveKeptHolders
-have_kept_holders m loans memory callee rest o below kept = kept_holders m loans memory callee rest o below kept

@@ -1,5 +1,5 @@
 -- Objects among references, and what entries and cells hold of them.
-use Rattle.std.proofs.Common.{◌≡◌, ℕ, zero, suc, ◌+◌, ◌≤◌, List, [], ◌∷◌, ◌++◌, refl, ap, true, cond, ◌⊎◌, inl, inr, ⊎_elim}
+use Rattle.std.proofs.Common.{◌≡◌, ℕ, ◌+◌, ◌≤◌, List, [], ◌∷◌, refl, ap, true, cond, ◌⊎◌, ⊎_elim}
 use Rattle.std.proofs.Common.{Some, arith, eq-eqb}
 use Rattle.std.specs.Prelude.{slice_get, unwrap_or}
 use Rattle.std.proofs.lemmas.Bool.{false≢true, or_cases}
@@ -14,7 +14,7 @@ use Rattle.tracked_frames.specs.holder_laws.holder_model.Holders.{in_cell, in_ce
 use Rattle.tracked_frames.specs.holder_laws.holder_model.HolderStates.{in_entry}
 use Rattle.tracked_frames.specs.holder_laws.inner.Counts.Taking.{in_entries}
 use Rattle.tracked_frames.proofs.holder_laws.Counts.Most.{at_most}
-use Rattle.tracked_frames.proofs.holder_laws.Counts.Sums.{total_append, total_cons}
+use Rattle.tracked_frames.proofs.holder_laws.Counts.Sums.{total_cons}
 use Rattle.accepted_runs.specs.inner.Guarded.Guards.{IsNamed, KeepsAt}
 
 pub counts_itself : (o : ObjectId) → one_object o o ≡ 1
@@ -33,16 +33,6 @@ named_later o p os n =
 
 pub named_nowhere : (o : ObjectId) → IsNamed o [] → ⊥
 named_nowhere o n = omega (arith, n)
-
-pub named_in_either : (o : ObjectId) (xs ys : List ObjectId) → IsNamed o (xs ++ ys) → IsNamed o xs ⊎ IsNamed o ys
-named_in_either o xs ys n = at (of_references (one_object o) xs) refl
-  where
-    both : of_references (one_object o) (xs ++ ys) ≡ of_references (one_object o) xs + of_references (one_object o) ys
-    both = total_append (one_object o) xs ys
-
-    at : (k : ℕ) → of_references (one_object o) xs ≡ k → IsNamed o xs ⊎ IsNamed o ys
-    at zero e = inr (omega (arith, both, e, n))
-    at (suc k) e = inl (omega (arith, e))
 
 -- where one of the references is dead, that object is named
 pub dead_named : (m : Memory) (os : List ObjectId) → any_dead m os ≡ true → (o : ObjectId) × IsNamed o os × (is_dead m o ≡ true)

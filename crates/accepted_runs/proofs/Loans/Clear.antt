@@ -20,7 +20,6 @@ use Rattle.sil_ast.specs.declared.place.ValueId.{ValueId}
 use Rattle.type_definitions.specs.Declarations.{declarations_of}
 use Rattle.tracked_frames.specs.inner.Placed.FramePlaces.{HoldsPlaces, Names}
 use Rattle.tracked_frames.specs.inner.Placed.Roots.{IsThere, is_shared}
-use Rattle.tracked_frames.proofs.Placed.Naming.{names_once}
 use Rattle.tracked_frames.proofs.Placed.Reading.{operand_within}
 use Rattle.accepted_runs.proofs.Loans.LoanAt.{LendsCell}
 use Rattle.accepted_runs.proofs.Loans.Reached.{LiesAt, lies_at, lies_within}
@@ -61,10 +60,6 @@ module _ (m : Module) (f : Function) (memory : Memory) (frame : Frame) (rest : L
   -- the cell is one of the root's
   pub in_root : has_cell x.whole n ≡ true
   in_root = lies_within x.whole x.place x.location.path lies n x.has
-
-  -- and the root's place is on the stack
-  pub root_place : x.whole ≡ (h.named x.location.root x.root.there).place
-  root_place = names_once frame.entries x.location.root x.whole (h.named x.location.root x.root.there).place x.names (h.named x.location.root x.root.there).names
 
   -- a place within that of another root
   pub other_root : (root : ValueId) → IsThere (declarations_of m) f frame.trail root → (root.0 == x.location.root.0) ≡ false

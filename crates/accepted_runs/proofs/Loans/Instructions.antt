@@ -37,7 +37,7 @@ use Rattle.tracked_frames.specs.holder_laws.inner.Cells.Cells.{ChangesAt, IsInsi
 use Rattle.tracked_frames.proofs.holder_laws.Cells.PlaceCells.{not_cell}
 use Rattle.tracked_frames.proofs.holder_laws.Cells.Writes.{removed_changes, slots_new}
 use Rattle.ownership_chains.specs.Facts.{has}
-use Rattle.run_values.specs.Fits.{fits}
+use Rattle.run_values.specs.inner.Fits.{fits}
 use Rattle.run_values.specs.Memory.{Memory}
 use Rattle.run_values.specs.Places.{OnStack, Place, emptied, filled, removed}
 use Rattle.run_values.specs.Shapes.{Shape}

@@ -27,7 +27,7 @@ use Rattle.item_operands.specs.Parts.{inst_at}
 use Rattle.tracked_frames.specs.holder_laws.inner.Cells.Cells.{ChangesAt, cell_at, has_cell}
 use Rattle.tracked_frames.proofs.holder_laws.Cells.PlaceCells.{not_cell}
 use Rattle.tracked_frames.proofs.holder_laws.Cells.Writes.{emptied_changes, filled_changes}
-use Rattle.run_values.specs.Fits.{fits}
+use Rattle.run_values.specs.inner.Fits.{fits}
 use Rattle.run_values.specs.Memory.{Memory}
 use Rattle.run_values.specs.Places.{OnStack, Place, emptied, filled}
 use Rattle.run_values.specs.Values.{Value}

@@ -20,11 +20,6 @@ OnRuns P = (m : Module) (e : FuncId) (f : Function) (bound : ℕ) → IsVerified
 abbrev pub AreStatesRight : Type 0
 AreStatesRight = OnRuns (λ m e f bound. (steps : ℕ) (s : HolderState) → run (step m (facts_of m) bound) steps (begins e f) ≡ Goes s → IsRightState m s)
 
--- a step from a right state leads to a right one
-abbrev pub AreStepsRight : Type 0
-AreStepsRight = (m : Module) (bound : ℕ) (s next : HolderState) → IsVerified m → IsRightState m s → step m (facts_of m) bound s ≡ Goes next
-    → IsRightState m next
-
 -- it ends in no fault
 abbrev pub NoRunFaults : Type 0
 NoRunFaults = OnRuns (λ m e f bound. (steps : ℕ) (s : HolderState) (x : HolderFault)

@@ -15,7 +15,7 @@ use Rattle.holder_laws.proofs.Cells.PlaceCells.{not_cell}
 use Rattle.holder_laws.proofs.Cells.Writes.{filled_changes, filled_full, object_other}
 use Rattle.numbered_form.specs.Names.{Name}
 use Rattle.run_values.specs.Cells.{cell_count, in_cells}
-use Rattle.run_values.specs.Fits.{fits}
+use Rattle.run_values.specs.inner.Fits.{fits}
 use Rattle.run_values.specs.Memory.{Memory, Object, object_at}
 use Rattle.run_values.specs.Places.{Inside, Place, field_in, filled, with_cells}
 use Rattle.run_values.specs.Shapes.{Shape}

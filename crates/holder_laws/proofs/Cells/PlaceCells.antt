@@ -1,17 +1,16 @@
 -- The cells of a place by their numbers in its home.
 use Rattle.std.proofs.Common.{◌≡◌, ◌<◌, ◌≤◌, ◌+◌, ◌-◌, ◌⊎◌, ⊎_elim, inl, inr, ℕ, drop, slice_get, nat_le, nat_lt, Option}
-use Rattle.std.proofs.Common.{Some, Bool, true, false, refl, sym, ap, ◌∙◌, subst, arith, leb-true, leb-false, ltb-true, ltb-false, le-leb, lt-ltb}
+use Rattle.std.proofs.Common.{Some, Bool, true, false, sym, ap, ◌∙◌, subst, arith, leb-true, leb-false, ltb-true, ltb-false, le-leb, lt-ltb}
 use Rattle.std.specs.List.{list_all}
-use Rattle.std.proofs.lemmas.Bool.{and_cases, and_from, and_parts, false_from_ne_true, false≢true}
+use Rattle.std.proofs.lemmas.Bool.{and_cases, and_from, and_parts, false_from_ne_true}
 use Rattle.std.proofs.lemmas.Option.{same_Some}
-use Rattle.run_values.specs.Cells.{Cell, Gone, Empty, Keeps, cell_count}
+use Rattle.run_values.specs.Cells.{Cell, Empty, Keeps, cell_count}
 use Rattle.run_values.specs.Memory.{Memory}
 use Rattle.run_values.specs.Places.{Place, cells_at, home_cells, is_empty_at, is_empty_cell, is_there, is_there_at, value_at}
 use Rattle.run_values.specs.Values.{Value}
-use Rattle.holder_laws.specs.inner.Cells.Cells.{AreCells, IsCell, IsEmptyCell, IsFullCell, IsInside, IsPlace, behind, cell_at, has_cell}
-use Rattle.holder_laws.specs.inner.Cells.Laws.{AreEmptyByCells, AreFullByCells, AreThereByCells}
+use Rattle.holder_laws.specs.inner.Cells.Cells.{AreCells, IsCell, IsFullCell, IsInside, IsPlace, behind, cell_at, has_cell}
 use Rattle.holder_laws.proofs.Cells.Kept.{full_is_kept, kept_is_full}
-use Rattle.holder_laws.proofs.Cells.Lists.{all_at, all_from, element, get_drop, get_take, taken_early}
+use Rattle.holder_laws.proofs.Cells.Lists.{all_from, element, get_drop, get_take, taken_early}
 
 -- ---- numbers
 
@@ -65,9 +64,6 @@ full_cells m p x e = each_cell IsFullCell m p (λ k lt. subst IsFullCell (get_ce
 pub full_value : (m : Memory) (p : Place) → IsPlace true m p → (x : Value) × (value_at m p ≡ Some x)
 full_value m p h = full_is_kept p.shape (cells_at m p) (λ k lt. subst IsFullCell (sym (get_cell m p k lt)) (h (p.first + k) (cell_number p k lt)))
 
-pub full_by_cells : AreFullByCells
-full_by_cells m p = (λ h. full_cells m p h.0 h.1, λ h. full_value m p h)
-
 -- ---- empty, and there
 
 -- of a place that is inside, each cell is there
@@ -75,16 +71,6 @@ pub there_cell : (m : Memory) (p : Place) → IsInside m p → (k : ℕ) → k <
 there_cell m p inside k lt =
     let found = element (home_cells m p.home) (p.first + k) (omega (arith, inside, lt)) in
     (found.0, get_cell m p k lt ∙ found.1)
-
-empty_by_test : (c : Cell) → is_empty_cell c ≡ true → c ≡ Empty
-empty_by_test Gone e = absurd (false≢true e)
-empty_by_test Empty e = refl
-empty_by_test (Keeps how x) e = absurd (false≢true e)
-
-pub empty_cells : (m : Memory) (p : Place) → IsInside m p → is_empty_at m p ≡ true → IsPlace false m p
-empty_cells m p inside h = each_cell IsEmptyCell m p (λ k lt.
-    let c = there_cell m p inside k lt in
-    sym (get_cell m p k lt) ∙ c.1 ∙ ap Some (empty_by_test c.0 (all_at is_empty_cell (cells_at m p) k c.0 h c.1)))
 
 -- a test of the cells of a place, by each of them
 pub tested : (test : Cell → Bool) (m : Memory) (p : Place)
@@ -96,15 +82,9 @@ tested test m p h = all_from test (cells_at m p) (λ k c e.
 pub empty_test : (m : Memory) (p : Place) → IsPlace false m p → is_empty_at m p ≡ true
 empty_test m p h = tested is_empty_cell m p (λ n c has e. ap is_empty_cell (same_Some c Empty (sym e ∙ h n has)))
 
-pub empty_by_cells : AreEmptyByCells
-empty_by_cells m p inside = (λ h. empty_cells m p inside h, λ h. empty_test m p h)
-
 there_by_cell : (on : Bool) (c : Cell) → IsCell on (Some c) → is_there c ≡ true
 there_by_cell true c h = ap is_there (same_Some c (Keeps h.0 h.1) h.2)
 there_by_cell false c h = ap is_there (same_Some c Empty h)
 
 pub there_test : (m : Memory) (p : Place) (on : Bool) → IsPlace on m p → is_there_at m p ≡ true
 there_test m p on h = tested is_there m p (λ n c has e. there_by_cell on c (subst (IsCell on) e (h n has)))
-
-pub there_by_cells : AreThereByCells
-there_by_cells m p inside on h = there_test m p on h

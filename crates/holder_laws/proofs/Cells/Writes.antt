@@ -6,15 +6,15 @@ use Rattle.std.proofs.lemmas.List.{length-append, length-replicate, length-set}
 use Rattle.std.proofs.lemmas.Option.{slice_get_past}
 use Rattle.sil_ast.specs.declared.place.ObjectId.{ObjectId}
 use Rattle.run_values.specs.Cells.{Cell, Gone, Empty, cell_count, in_cells}
-use Rattle.run_values.specs.Fits.{fits}
+use Rattle.run_values.specs.inner.Fits.{fits}
 use Rattle.run_values.specs.Memory.{Memory, Object, no_object, object_at, put_cells, with_object}
 use Rattle.run_values.specs.Places.{Home, Inside, OnStack, Place, emptied, empty_slot, filled, home_cells, removed, with_cells, with_home_cells}
 use Rattle.run_values.specs.Values.{Value}
 use Rattle.value_parts.proofs.Cells.{cells_length}
 use Rattle.value_parts.proofs.Cells as shapes
 use Rattle.value_parts.proofs.Splices.{put_length}
-use Rattle.holder_laws.specs.inner.Cells.Cells.{AreCells, ChangesAt, IsFullCell, IsGoneCell, IsInside, IsPlace, behind, cell_at}
-use Rattle.holder_laws.specs.inner.Cells.Laws.{AreSlotsNew, AreWritesRight}
+use Rattle.holder_laws.specs.inner.Cells.Cells.{AreCells, ChangesAt, IsFullCell, IsInside, IsPlace, behind, cell_at}
+use Rattle.holder_laws.specs.inner.Cells.Laws.{AreSlotsNew}
 use Rattle.holder_laws.proofs.Cells.Kept.{cells_full}
 use Rattle.holder_laws.proofs.Cells.Lists.{get_left, get_replicate, get_right, get_set_other, get_set_same, put_in, put_out}
 use Rattle.holder_laws.proofs.Cells.PlaceCells.{cell_outside, each_cell}
@@ -144,18 +144,8 @@ emptied_empty = one_cell Empty
 pub emptied_changes : (m : Memory) (p : Place) → IsInside m p → ChangesAt p m (emptied m p)
 emptied_changes m p inside = written_place m p (replicate (cell_count p.shape) Empty) inside (length-replicate (cell_count p.shape) Empty)
 
-pub removed_gone : (m : Memory) (p : Place) → IsInside m p → AreCells IsGoneCell (removed m p) p
-removed_gone = one_cell Gone
-
 pub removed_changes : (m : Memory) (p : Place) → IsInside m p → ChangesAt p m (removed m p)
 removed_changes m p inside = written_place m p (replicate (cell_count p.shape) Gone) inside (length-replicate (cell_count p.shape) Gone)
-
-pub writes_right : AreWritesRight
-writes_right m p inside = (
-  λ x h. (filled_full m p x inside h, filled_changes m p x inside h),
-  (emptied_empty m p inside, emptied_changes m p inside),
-  (removed_gone m p inside, removed_changes m p inside),
-)
 
 -- ---- a new slot
 

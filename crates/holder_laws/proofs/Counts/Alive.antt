@@ -164,9 +164,6 @@ module _ (d : Declarations) (shapes : ModuleShapes) (values : List Shape) (m : M
       at false = omega arith
 
   module _ (weight : ObjectId → ℕ) (alive : Each (IsAlive m) xs) (loads : LoadsStrongly m i xs) (none : in_data weight xs ≡ 0) (empty : in_memory weight storage.Strong m ≡ 0) where
-    abbrev Left : Change → Type 0
-    Left c = HoldsNone weight c
-
     nothing_held : (n : ℕ) → n ≤ in_memory weight storage.Strong m → n ≡ 0
     nothing_held n le = omega (arith, le, empty)
 

@@ -77,11 +77,6 @@ place_in (ValueOf y) p h = cc
 place_in (AddressOf q) p h = ap AddressOf (same_Some q p h)
 place_in (FunctionOf g) p h = cc
 
-function_in : (x : Datum) (g : FuncId) → as_function x ≡ Some g → x ≡ FunctionOf g
-function_in (ValueOf y) g h = cc
-function_in (AddressOf q) g h = cc
-function_in (FunctionOf k) g h = ap FunctionOf (same_Some k g h)
-
 one_value : (xs : List Datum) (v : Value) → option_and_then as_value (only xs) ≡ Some v → xs ≡ ValueOf v ∷ []
 one_value xs v h = let x = then_some as_value (only xs) v h in only_one xs x.0 x.1 ∙ ap (λ (y : Datum). y ∷ []) (value_in x.0 v x.2)
 

@@ -18,7 +18,7 @@ use Rattle.type_definitions.specs.Declarations.{declarations_of}
 use Rattle.holder_laws.specs.inner.Whole.Whole.{IsWhole, NameWhole, StayWhole}
 use Rattle.holder_laws.proofs.Whole.Lists.{each_of}
 use Rattle.holder_laws.specs.inner.Held.ObjectStates.{BelowBuild, BuildsNone, FrameBuilds, IsBuilding, TasksBuild}
-use Rattle.holder_laws.specs.inner.Held.Laws.{AreOthersBuilt, StayBelow, WhateverIsSaid}
+use Rattle.holder_laws.specs.inner.Held.Laws.{AreOthersBuilt, WhateverIsSaid}
 
 module _ (m : Module) (said : Function → List Item → Progress) where
   -- an object that a frame is building, by its function
@@ -87,12 +87,6 @@ module _ (m : Module) (said : Function → List Item → Progress) where
       below_other (Runs frame ∷ rest) callee h = (frame_other frame rest h.0, below_other rest frame h.1)
       below_other (Drops os ∷ rest) callee h = absurd h
       below_other (Finishes gs p ∷ rest) callee h = tasks_other rest h.2
-
-pub stay_below : WhateverIsSaid StayBelow
-stay_below m said memory later tasks stays = (
-  tasks_stay m said memory later stays.whole stays.more stays.classes tasks stays.building,
-  below_stays m said memory later stays.whole stays.more stays.classes tasks stays.building,
-)
 
 pub others_built : WhateverIsSaid AreOthersBuilt
 others_built m said memory tasks o other = (

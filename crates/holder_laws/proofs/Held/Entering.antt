@@ -71,9 +71,6 @@ module _ (m : Module) (said : Function → List Item → Progress) where
   gone_entries (suc n) zero = refl
   gone_entries (suc n) (suc k) = gone_entries n k
 
-  no_object_cell : (o : ObjectId) → (object_at (record { stack = []; objects = [] }) o).cells ≡ []
-  no_object_cell o = refl
-
   pub begin_right : BeginRight m said
   begin_right e f is none = record {
     memory = record { there = λ o n gone. absurd (cc); kept = kept };

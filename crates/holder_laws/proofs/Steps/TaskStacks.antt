@@ -35,11 +35,6 @@ module _ (G K : Frame → List (Task Frame) → Type 0) (WG WK : Frame → Frame
     (deinits : (callee : Frame) (o : ObjectId) → DG callee o → DK callee o)
     (dropped : (os : List ObjectId) → RG os → RK os)
     (finished : (gs : List FuncId) (o : ObjectId) → FG gs o → FK gs o) where
-  pub going_over : (tasks : List (Task Frame)) → Going G WG DG RG FG tasks → Going K WK DK RK FK tasks
-  going_over tasks h =
-      going_both G G K WG WG WK DG DG DK RG RG RK FG FG FK (λ frame rest x y. goes frame rest x) (λ callee frame rest x y. waits callee frame rest x)
-      (λ callee o x y. deinits callee o x) (λ os x y. dropped os x) (λ gs o x y. finished gs o x) tasks h h
-
   pub below_over : (tasks : List (Task Frame)) (callee : Frame) → Below G WG DG RG FG callee tasks → Below K WK DK RK FK callee tasks
   below_over tasks callee h =
       below_both G G K WG WG WK DG DG DK RG RG RK FG FG FK (λ frame rest x y. goes frame rest x) (λ callee frame rest x y. waits callee frame rest x)

@@ -79,9 +79,6 @@ module _ (P : ObjectId → Type 0) where
   abbrev Writes : Shape → Type 0
   Writes s = (x : Value) → Each P (references_of x) → Each Names ((in_cells s).cells x)
 
-  one_writes : (s : Storage) (x : Value) → Each P (references_of x) → Each Names (Keeps s x ∷ [])
-  one_writes s x h = (h, tt)
-
   each_writes : (ss : Shapes) → AllByRecursion Writes (listed ss) → (vs : Values) → Each P (references_in_each vs)
       → Each Names (cells_each (told ss) (value.listed vs))
   each_writes NoMember hs NoValue h = tt

@@ -15,7 +15,7 @@ use Rattle.holder_laws.proofs.Cells.Writes.{no_cells, object_other, object_same}
 use Rattle.numbered_form.specs.Lists.{Each}
 use Rattle.numbered_form.specs.Names.{Name}
 use Rattle.run_values.specs.Cells.{Cell, Empty, Gone, Keeps, cell_count, in_cells}
-use Rattle.run_values.specs.Fits.{fits}
+use Rattle.run_values.specs.inner.Fits.{fits}
 use Rattle.run_values.specs.declared.phase.Phase.TheVariants.{Live}
 use Rattle.run_values.specs.Memory.{Memory, Object, no_object, object_at, put_cells, with_object}
 use Rattle.run_values.specs.Places.{Home, Inside, OnStack, Place, cells_at, empty_fields, empty_slot, filled, home_cells, with_cells}

@@ -5,13 +5,10 @@ use Rattle.sil_ast.specs.declared.module.Module.{Module}
 use Rattle.sil_ast.specs.declared.place.FuncId.{FuncId}
 use Rattle.sil_cfg.specs.declared.item.Item.{Item}
 use Rattle.type_definitions.specs.Declarations.{declarations_of}
-use Rattle.holder_laws.specs.holder_model.Faults.{HolderFault}
 use Rattle.holder_laws.specs.holder_model.Frames.{Entry}
 use Rattle.holder_laws.specs.holder_model.HolderStates.{HolderState}
 use Rattle.holder_laws.specs.holder_model.ModuleFacts.{ModuleFacts, facts_of}
-use Rattle.holder_laws.specs.holder_model.Outcomes.{begins, may_start, run}
-use Rattle.holder_laws.specs.holder_model.States.{Ends, Faulted}
-use Rattle.holder_laws.specs.holder_model.Steps.{step}
+use Rattle.holder_laws.specs.holder_model.Outcomes.{begins, may_start}
 use Rattle.lockstep_runs.specs.inner.Agreeing.{OutcomesAgree, RunsAgree, RunsAsItDid}
 use Rattle.lockstep_runs.specs.inner.Lockstep.{IsKeptBy}
 use Rattle.lockstep_runs.specs.inner.Frames.{FrameParts}
@@ -49,21 +46,10 @@ RunAsTheyDid = (m m' : Module) (First Second : ℕ → HolderState → Type 0) (
 abbrev pub AreOutcomesInLockstep : Type 0
 AreOutcomesInLockstep = (m m' : Module) (e : FuncId) (bound : ℕ) → RunsAgree m m' (facts_of m) (facts_of m') e bound → OutcomesAgree m m' e bound
 
--- no run from the state ends in a fault
-abbrev pub NeverFaultsFrom : Module → ModuleFacts → ℕ → HolderState → Type 0
-NeverFaultsFrom m told bound s = (steps : ℕ) (last : HolderState) (x : HolderFault) → run (step m told bound) steps s ≡ Ends (Faulted x) last → ⊥
-
-abbrev pub RunsNeverFault : Module → Type 0
-RunsNeverFault m = (bound : ℕ) (e : FuncId) (f : Function) → slice_get m.functions e.0 ≡ Some f → may_start f ≡ true
-    → NeverFaultsFrom m (facts_of m) bound (begins e f)
-
 -- modules with the same functions and declarations run alike, whatever else they differ in
 pub record HaveSameFunctions (m m' : Module) : Type 0 where
   pub functions : m'.functions ≡ m.functions
   pub declarations : declarations_of m' ≡ declarations_of m
-
-abbrev pub UnchangedRunAsTheyDid : Type 0
-UnchangedRunAsTheyDid = (m m' : Module) → HaveSameFunctions m m' → RunsNeverFault m → RunsNeverFault m' → RunsAsItDid m m'
 
 -- a module runs as itself, and what is rewritten once and again as the first one did
 abbrev pub IsAsItDidAgain : Type 0

@@ -18,7 +18,7 @@ use Rattle.machine_steps.specs.ready_code.ReadyOps.{leaf_offset, operands_of}
 use Rattle.machine_steps.specs.ready_code.declared.op.ReadyOp.TheVariants as op
 use Rattle.machine_steps.specs.run_typing.Forms.{OfValue, form_of}
 use Rattle.machine_steps.specs.run_typing.RowForms.{IsGroup}
-use Rattle.run_values.specs.Fits.{fit_each}
+use Rattle.run_values.specs.inner.Fits.{fit_each}
 use Rattle.run_values.specs.Leaves.{leaves_of}
 use Rattle.run_values.specs.Memory.{Memory}
 use Rattle.run_values.specs.Shapes.{Shape, member_shapes}

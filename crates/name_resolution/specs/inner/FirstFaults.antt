@@ -5,14 +5,13 @@ use Rattle.written_tree.specs.declared.fault.Fault.{Fault}
 use Rattle.written_tree.specs.declared.written_functions.WrittenBlock.{WrittenBlock}
 use Rattle.written_tree.specs.declared.written_instructions.WrittenEdge.{WrittenEdge}
 use Rattle.written_tree.specs.declared.written_instructions.WrittenInst.{WrittenInst}
-use Rattle.written_tree.specs.declared.written_instructions.WrittenOperand.{WrittenOperand}
 use Rattle.written_tree.specs.declared.written_module.WrittenItem.{WrittenItem}
 use Rattle.written_tree.specs.Faults.{earlier, earliest}
 use Rattle.name_resolution.specs.declared.first_faults.CodeFaults.{CodeFaults}
 use Rattle.name_resolution.specs.declared.first_faults.ItemFaults.{ItemFaults}
 use Rattle.name_scopes.specs.NameFaults.{function_fault, members_fault, twice_or_unknown}
 use Rattle.name_scopes.specs.Names.{Name, code_of, decls_of, edge_label, edge_values, functions_of, functions_used, label_of}
-use Rattle.name_scopes.specs.Names.{labels_used, operand_name, used_by_item, values_defined, values_used}
+use Rattle.name_scopes.specs.Names.{labels_used, used_by_item, values_defined, values_used}
 use Rattle.name_scopes.specs.inner.Symbols.{Symbols, names_in, unknown_of}
 
 -- the names that are defined where a function is
@@ -23,14 +22,6 @@ pub record Known : Type 0 where
 
 abbrev pub known_in : Symbols → Symbols → Symbols → Known
 known_in functions labels values = record { functions = names_in functions; labels = names_in labels; values = names_in values }
-
--- after the operands of an instruction
-abbrev pub with_operands : Known → CodeFaults → List WrittenOperand → CodeFaults
-with_operands k c operands = record {
-  functions = c.functions;
-  labels = c.labels;
-  values = earlier c.values (unknown_of k.values (map operand_name operands));
-}
 
 -- after its edges
 unfoldable pub with_edges : Known → CodeFaults → List WrittenEdge → CodeFaults

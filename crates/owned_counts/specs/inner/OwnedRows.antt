@@ -86,9 +86,3 @@ AreRowsOwned = (m : Module) (g : FuncId) (f : Function) (w : World) (memory : Me
     (stored : List Numbers) → IsDone m g f w memory entries p i ops c → HasItsWords (declarations_of m) f i ops.given → length stored ≡ length memory.objects
     → Owns (facts_in (declarations_of m) f) entries (item_taken f (item.Inst p)) (item_defined f (item.Inst p)) (declarations_of m) (shapes_of m)
     (shapes_in (shapes_of m) g) memory i ops.given stored (effect_of i.op) c.results
-
--- and it has its words
-abbrev pub HaveTheirWords : Type 0
-HaveTheirWords = (m : Module) (g : FuncId) (f : Function) (w : World) (memory : Memory) (entries : List Entry) (p : PointId) (i : Inst)
-    (ops : Operands) (c : Change)
-    → IsDone m g f w memory entries p i ops c → HasItsWords (declarations_of m) f i ops.given

@@ -1,12 +1,10 @@
 -- Laws of kinds and bases.
-use Rattle.std.specs.Prelude.{◌≡◌, ◌↔◌, ◌<◌, List, length, Some, true}
+use Rattle.std.specs.Prelude.{◌≡◌, ◌↔◌, ◌<◌, List, length, Some}
 use Rattle.sil_ast.specs.declared.place.ValueId.{ValueId}
-use Rattle.type_definitions.specs.declared.kind.Kind.TheVariants as kind
 use Rattle.ownership_chains.specs.declared.definition.Definition.{Definition}
-use Rattle.ownership_chains.specs.declared.definition.Origin.TheVariants as origin
 use Rattle.ownership_chains.specs.declared.facts.Facts.{Facts}
 use Rattle.ownership_chains.specs.Chains.{IsInRange, LeadsIntoRing}
-use Rattle.ownership_chains.specs.Facts.{AreFactsOf, has, origin_at}
+use Rattle.ownership_chains.specs.Facts.{AreFactsOf}
 use Rattle.ownership_chains.specs.Steps.{told_in}
 
 -- a value has one kind and one list of bases
@@ -21,8 +19,3 @@ EndAtRings = (defs : List Definition) (v : ValueId) (f : Facts) → AreFactsOf d
 abbrev pub AreToldInTime : Type 0
 AreToldInTime = (defs : List Definition) (v : ValueId) (f : Facts) → IsInRange defs → v.0 < length defs
     → AreFactsOf defs v f ↔ (told_in defs (length defs) v ≡ Some f)
-
--- a Guaranteed value is its own base just where it lends itself
-abbrev pub AreLendersOwnBases : Type 0
-AreLendersOwnBases = (defs : List Definition) (v : ValueId) (f : Facts) → AreFactsOf defs v f → f.kind ≡ kind.Guaranteed
-    → (has f.bases v.0 ≡ true) ↔ (origin_at defs v ≡ origin.Lender)

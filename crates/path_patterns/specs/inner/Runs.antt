@@ -1,10 +1,9 @@
 -- The marks of a value that is held from a begin to its end, as runs.
-use Rattle.std.specs.Prelude.{◌≡◌, ◌↔◌, ℕ, List, [], ◌∷◌, ◌++◌, All, filter_map, map, replicate, Bool, true, false, Option, Some, None}
+use Rattle.std.specs.Prelude.{◌≡◌, ◌↔◌, ℕ, List, [], ◌∷◌, ◌++◌, All, filter_map, replicate, Bool, true, false, Option, Some, None}
 use Rattle.sil_rules.specs.declared.rule.Rule.{Rule}
 use Rattle.path_patterns.specs.declared.mark.Mark.{Mark}
-use Rattle.path_patterns.specs.Lawful.{AreLawful}
-use Rattle.path_patterns.specs.Marks.{needs_off, needs_off_turns_on, needs_on, needs_on_turns_off}
-use Rattle.path_patterns.specs.Switch.{IsInPlace, IsOn}
+use Rattle.path_patterns.specs.Marks.{needs_off_turns_on, needs_on, needs_on_turns_off}
+use Rattle.path_patterns.specs.Switch.{IsOn}
 
 -- what an item does to the value
 pub data Sort : Type 0 where
@@ -23,16 +22,6 @@ pub data AreRuns : Bool → List Sort → Type 0 where
   none : AreRuns true []
   unended : (uses : ℕ) → AreRuns false (Begin ∷ replicate uses Use)
   run : (uses : ℕ) (ended : Bool) (rest : List Sort) → AreRuns ended rest → AreRuns ended (Begin ∷ (replicate uses Use ++ End ∷ rest))
-
--- the marks are lawful exactly where they are runs
-abbrev pub ReadsRuns : Type 0
-ReadsRuns = (rules : Sort → Rule) (sorts : List Sort) →
-    AreLawful IsInPlace (map (held_mark rules) sorts) ↔ ((ended : Bool) × AreRuns ended sorts)
-
--- and with a `return` behind them, which needs the switch off, where each run has its end
-abbrev pub ReadsEndedRuns : Type 0
-ReadsEndedRuns = (rules : Sort → Rule) (left : Rule) (sorts : List Sort) →
-    AreLawful IsInPlace (map (held_mark rules) sorts ++ needs_off left ∷ []) ↔ AreRuns true sorts
 
 -- the value is held: it began, and since then it has only been used
 pub record IsHeld (sorts : List Sort) : Type 0 where

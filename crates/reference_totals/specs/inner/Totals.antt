@@ -39,10 +39,6 @@ abbrev pub come_to : LowNext → LowState
 come_to (Goes l) = l
 come_to (Ends e l) = l
 
--- a step keeps the totals even, whether it goes on or ends the run
-abbrev pub AreTotalsKept : Type 0
-AreTotalsKept = (m : Module) (told : ModuleShapes) (bound : ℕ) (l : LowState) → AreTotalsOf l → AreTotalsOf (come_to (low_step m told bound l))
-
 -- they are even where a run begins
 abbrev pub BeginWithTotals : Type 0
 BeginWithTotals = (e : FuncId) (f : Function) → AreTotalsOf (low_begins e f)

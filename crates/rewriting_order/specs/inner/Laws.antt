@@ -7,7 +7,6 @@ use Rattle.sil_ast.specs.declared.place.ValueId.{ValueId}
 use Rattle.sil_rules.specs.Order.{NotAfter}
 use Rattle.numbered_form.specs.Numbering.{values_of}
 use Rattle.value_tables.specs.Borrows.{borrows_of}
-use Rattle.ownership_chains.specs.Facts.{known_or}
 use Rattle.moved_functions.specs.copy_removal.Copies.{IsCopy}
 use Rattle.moved_functions.specs.copy_removal.Removable.{IsBorrowable, IsMovable}
 use Rattle.moved_functions.specs.copy_removal.Rewritten.{lent, moved}
@@ -52,11 +51,6 @@ LendingMakesNoCopy = (f : Function) (q : PointId) (c d w : ValueId) → IsCopy (
 abbrev pub MovingMakesNoCopy : Type 0
 MovingMakesNoCopy = (m : Module) (f : Function) (p q : PointId) (c v d w : ValueId) → IsVerifiedIn m f → IsCopy f p c v
     → (h : IsMovable (facts_of m f) f p c v) → IsCopy (moved p h.last f) q d w → (o : PointId) × IsCopy f o d w
-
--- all values keep their bases
-abbrev pub LendingKeepsBases : Type 0
-LendingKeepsBases = (m : Module) (f : Function) (p : PointId) (c v w : ValueId) → IsVerifiedIn m f → IsCopy f p c v → IsBorrowable (facts_of m f) f c v
-    → (known_or (facts_of m (lent c f)) w).bases ≡ (known_or (facts_of m f) w).bases
 
 -- the second function has the values of the first one, with the same kinds, bases and borrows
 pub record HasValuesOf (m : Module) (f g : Function) : Type 0 where

@@ -1,5 +1,5 @@
 -- Laws of values: they come back from their leaves and from their cells. And the size of a type's shape is the one measured on the type.
-use Rattle.std.specs.Prelude.{◌≡◌, ◌<◌, Bool, true, false, Some, length}
+use Rattle.std.specs.Prelude.{◌≡◌, Bool, true, false, Some, length}
 use Rattle.std.specs.List.{list_all}
 use Rattle.sil_ast.specs.declared.decl.Decl.{Decl}
 use Rattle.sil_ast.specs.declared.type_name.TypeName.{TypeName, fold-TypeName}
@@ -7,8 +7,7 @@ use Rattle.sil_ast.specs.declared.type_name.TypeName.TheOpen.{TypeName-F, Int, N
 use Rattle.type_definitions.specs.Contained.{held_types}
 use Rattle.type_definitions.specs.Declarations.{Declarations, all_decls}
 use Rattle.type_definitions.specs.Measures as measures
-use Rattle.run_values.specs.Cells.{cell_count, in_cells}
-use Rattle.run_values.specs.Fits.{fits}
+use Rattle.run_values.specs.inner.Fits.{fits}
 use Rattle.run_values.specs.Leaves.{in_leaves, leaves_of, value_of}
 use Rattle.run_values.specs.Shapes.{Shape, shape_of}
 use Rattle.run_values.specs.Values.{Value}
@@ -16,15 +15,6 @@ use Rattle.run_values.specs.Values.{Value}
 -- a value of a shape has just as many leaves as the shape, and is the value that has them
 abbrev pub LeavesComeBack : Type 0
 LeavesComeBack = (s : Shape) (v : Value) → fits s v ≡ true → (value_of s (leaves_of s v) ≡ Some v) × (length (leaves_of s v) ≡ (in_leaves s).size)
-
--- it has just as many cells as the shape, and is the value that they keep
-abbrev pub CellsComeBack : Type 0
-CellsComeBack = (s : Shape) (v : Value) → fits s v ≡ true
-    → ((in_cells s).value ((in_cells s).cells v) ≡ Some v) × (length ((in_cells s).cells v) ≡ cell_count s)
-
--- each shape has a cell
-abbrev pub HaveCells : Type 0
-HaveCells = (s : Shape) → 0 < cell_count s
 
 abbrev pub has_no_address_over : TypeName-F Bool → Bool
 has_no_address_over (Int width) = true

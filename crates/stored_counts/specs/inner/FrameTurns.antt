@@ -20,7 +20,7 @@ use Rattle.lowered_run.specs.holder_model.Holders.{in_memory, of_references, one
 use Rattle.lowered_run.specs.holder_model.ModuleFacts.{ModuleFacts, facts_told}
 use Rattle.lowered_run.specs.holder_model.Outcomes.{Numbers, returned_holders}
 use Rattle.lowered_run.specs.holder_model.StepParts.{new_frame}
-use Rattle.lowered_run.specs.holder_model.States.{Finishes, Runs, Task}
+use Rattle.lowered_run.specs.holder_model.States.{Runs, Task}
 use Rattle.lowered_run.specs.Stored.{numbers_of}
 use Rattle.holder_laws.specs.inner.Steps.Ways.{left_with, moved, operands_in, turned}
 use Rattle.holder_laws.specs.inner.Counts.Taking.{IsBelow, references_begun, references_ended}
@@ -56,12 +56,6 @@ module _ (m : Module) (told : ModuleFacts) (bound : ℕ) where
     pub each : Each (IsBelow (length ops.left)) (item_defined f i)
     pub same : (o : ObjectId) → begun_in frame.function f i xs o ≡ ended_in frame f i o
 
-  abbrev pub AreHandedStored : Type 0
-  AreHandedStored = (s : HolderState) (rest : List (Task Frame)) (frame : Frame) (f : Function) (i : Item) (ops : Operands) (xs : List Datum)
-      (slots : List Place)
-      (entries : List Entry) (stored : List Numbers) → HandsOver s rest frame f i ops xs entries → AreCounts s stored
-      → AreCounts (moved m told bound s rest (left_with m told bound frame ops) i (record (unchanged s.memory) { results = xs }) slots entries) stored
-
   -- ---- calls
 
   pub record Calls (s : HolderState) (rest : List (Task Frame)) (frame : Frame) (f : Function) (i : Item) (ops : Operands) (lent : List LentPlace) (g : FuncId)
@@ -86,11 +80,6 @@ module _ (m : Module) (told : ModuleFacts) (bound : ℕ) where
     pub each : Each (IsBelow (value_count callee)) (item_defined callee item.Entry)
     pub none : (o : ObjectId) → begun_in g callee item.Entry args o ≡ 0
 
-  abbrev pub AreDeinitCallsStored : Type 0
-  AreDeinitCallsStored = (s : HolderState) (h g : FuncId) (gs : List FuncId) (o : ObjectId) (rest : List (Task Frame)) (callee : Function) (args : List Datum)
-      (entries : List Entry) (stored : List Numbers) → s.tasks ≡ Finishes (h ∷ gs) o ∷ rest → CallsDeinit g callee args entries → AreCounts s stored
-      → AreCounts (record (turned s) { tasks = Runs (new_frame g entries) ∷ Finishes gs o ∷ rest }) stored
-
   -- ---- returns
 
   -- behind the operands of its `return` the frame holds nothing
@@ -112,12 +101,6 @@ module _ (m : Module) (told : ModuleFacts) (bound : ℕ) where
       (call : Item) (slots : List Place) (entries : List Entry) (stored : List Numbers) → Resumes s rest callee body i ops x frame f call entries
       → AreCounts s stored
       → AreCounts (moved m told bound s rest frame call (record (unchanged s.memory) { results = x ∷ [] }) slots entries) stored
-
-  -- from a deinitialiser
-  abbrev pub AreDeinitReturnsStored : Type 0
-  AreDeinitReturnsStored = (s : HolderState) (rest : List (Task Frame)) (callee : Frame) (body : Function) (i : Item) (ops : Operands) (stored : List Numbers)
-      → LeavesNothing s rest callee body i ops → ((o : ObjectId) → ended_in callee body i o ≡ 0) → AreCounts s stored
-      → AreCounts (record s { tasks = rest }) stored
 
   -- out of the run: what is told of its objects is stored
   abbrev pub AreLeftStored : Type 0

@@ -1,18 +1,18 @@
 -- Stored numbers where references are dropped, where an object starts to deinitialise or dies, and where nothing that is counted changes.
-use Rattle.std.specs.Prelude.{◌≡◌, ℕ, suc, ◌+◌, List, ◌∷◌, true, false, length}
+use Rattle.std.specs.Prelude.{◌≡◌, ℕ, List, false, length}
 use Rattle.sil_ast.specs.declared.decl.Storage.{Storage}
 use Rattle.sil_ast.specs.declared.module.Module.{Module}
 use Rattle.sil_ast.specs.declared.place.ObjectId.{ObjectId}
-use Rattle.run_values.specs.Memory.{is_dead, is_live, object_at}
+use Rattle.run_values.specs.Memory.{is_dead, object_at}
 use Rattle.lowered_run.specs.holder_model.Frames.{Frame}
 use Rattle.lowered_run.specs.holder_model.HolderStates.{HolderState, strong_holders}
 use Rattle.lowered_run.specs.holder_model.Holders.{in_memory, one_object}
 use Rattle.lowered_run.specs.holder_model.ModuleFacts.{ModuleFacts}
 use Rattle.lowered_run.specs.holder_model.Outcomes.{Numbers}
-use Rattle.lowered_run.specs.holder_model.States.{Drops, Task}
-use Rattle.lowered_run.specs.Stored.{changed, numbers_of, one_less, unnamed}
+use Rattle.lowered_run.specs.holder_model.States.{Task}
+use Rattle.lowered_run.specs.Stored.{unnamed}
 use Rattle.holder_laws.specs.inner.Counts.Moving.{in_tasks}
-use Rattle.holder_laws.specs.inner.Steps.Ways.{deinitialising, finished}
+use Rattle.holder_laws.specs.inner.Steps.Ways.{finished}
 use Rattle.stored_counts.specs.inner.Numbers.{AreCounts, AreNamesStored}
 
 -- ---- what changes no count
@@ -35,23 +35,8 @@ AreTasksStored = (s : HolderState) (tasks : List (Task Frame)) (stored : List Nu
 
 -- ---- drops
 
--- the first reference that waits has left its list
-abbrev pub with_dropped : HolderState → List ObjectId → List (Task Frame) → HolderState
-with_dropped s os rest = record s { tasks = Drops os ∷ rest; releases = s.releases + 1 }
-
 module _ (m : Module) (told : ModuleFacts) (bound : ℕ) where
-  -- its number was one more than the holders that are left, and one less is what they are
-  abbrev pub AreDropsStored : Type 0
-  AreDropsStored = (s : HolderState) (o : ObjectId) (os : List ObjectId) (rest : List (Task Frame)) (stored : List Numbers)
-      → s.tasks ≡ Drops (o ∷ os) ∷ rest → is_dead s.memory o ≡ false → AreCounts s stored
-      → ((numbers_of stored o).strong ≡ suc (strong_holders (with_dropped s os rest) o)) × AreCounts (with_dropped s os rest) (changed one_less stored o)
-
   -- ---- deinitialisations
-
-  -- an object starts to deinitialise
-  abbrev pub AreDeinitsStored : Type 0
-  AreDeinitsStored = (s : HolderState) (o : ObjectId) (stored : List Numbers) → is_live s.memory o ≡ true → AreCounts s stored
-      → AreCounts (deinitialising m told bound s o) stored
 
   -- it dies: its weak and unowned fields cease
   abbrev pub AreDeathsStored : Type 0

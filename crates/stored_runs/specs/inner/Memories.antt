@@ -1,10 +1,9 @@
 -- The memory of a lowered run beside that of the run by holders.
-use Rattle.std.specs.Prelude.{◌≡◌, List, Some}
+use Rattle.std.specs.Prelude.{◌≡◌, List}
 use Rattle.std.specs.List.{AllZip}
 use Rattle.sil_ast.specs.declared.decl.Storage.TheVariants as storage
 use Rattle.run_values.specs.Cells.{Cell, Empty, Keeps}
 use Rattle.run_values.specs.Memory.{Memory, Object}
-use Rattle.run_values.specs.Places.{Place, value_at}
 use Rattle.run_values.specs.Values.{Value}
 
 -- the lowered run has the same in a cell, but that a value stays where it was taken
@@ -29,7 +28,3 @@ pub record IsObjectFor (x low : Object) : Type 0 where
 pub record IsMemoryFor (m low : Memory) : Type 0 where
   pub stack : AreCellsFor m.stack low.stack
   pub objects : AllZip IsObjectFor m.objects low.objects
-
--- what is full is read in the lowered run too
-abbrev pub AreFullRead : Type 0
-AreFullRead = (m low : Memory) → IsMemoryFor m low → (p : Place) (x : Value) → value_at m p ≡ Some x → value_at low p ≡ Some x

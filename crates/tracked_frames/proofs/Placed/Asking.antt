@@ -1,11 +1,8 @@
 -- A place that is as full as an operation's mark needs it is as the run asks it to be.
-use Rattle.std.proofs.Common.{◌≡◌, List, Bool, true, false, cond, is_some, Option, Some, None, refl, ap, ◌∙◌, subst}
+use Rattle.std.proofs.Common.{◌≡◌, Bool, true, false, is_some, Option, Some, None, refl, ap, ◌∙◌, subst}
 use Rattle.std.proofs.lemmas.Bool.{false≢true, or_right}
 use Rattle.std.proofs.lemmas.Option.{none-some}
-use Rattle.holder_laws.specs.holder_model.Effects.{Effect, Faults}
-use Rattle.holder_laws.specs.holder_model.Faults.{HolderFault, NotLastSlot}
-use Rattle.holder_laws.specs.holder_model.MemoryEffects.{asked_before, fault_of, holds, where_held}
-use Rattle.holder_laws.specs.holder_model.ModuleShapes.{ModuleShapes}
+use Rattle.holder_laws.specs.holder_model.MemoryEffects.{asked_before, holds}
 use Rattle.holder_laws.specs.holder_model.memory_accesses.Operations.{load_operation, operation_by, store_operation}
 use Rattle.holder_laws.specs.holder_model.memory_accesses.declared.access.Operation.{Operation}
 use Rattle.holder_laws.specs.holder_model.memory_accesses.declared.access.Operation.TheVariants.{FirstWrite, Read, Lend, Write, TrivialStore, Handed, Take}
@@ -17,15 +14,12 @@ use Rattle.argument_conventions.specs.declared.row.AddressRow.{AddressRow}
 use Rattle.argument_conventions.specs.declared.row.Content.{Content}
 use Rattle.argument_conventions.specs.declared.row.Content.TheVariants as content
 use Rattle.holder_laws.specs.inner.Cells.Cells.{IsPlace}
-use Rattle.holder_laws.proofs.Cells.PlaceCells.{empty_test, full_value, there_test}
+use Rattle.holder_laws.proofs.Cells.PlaceCells.{empty_test, full_value}
 use Rattle.run_values.specs.Memory.{Memory}
 use Rattle.run_values.specs.Places.{Place, is_empty_at}
-use Rattle.run_values.specs.Shapes.{Shape}
 use Rattle.run_values.specs.Trivial.{is_trivial}
-use Rattle.sil_ast.specs.declared.inst.Inst.{Inst}
 use Rattle.sil_ast.specs.declared.inst.Qualifier.{Qualifier}
 use Rattle.sil_ast.specs.declared.inst.Qualifier.TheVariants as word
-use Rattle.type_definitions.specs.Declarations.{Declarations}
 
 -- what is asked of a place is what it holds
 abbrev pub IsAsked : Option Content → Bool → Type 0
@@ -36,13 +30,6 @@ IsAsked (Some content.Full) on = on ≡ true
 pub holds_so : (m : Memory) (p : Place) (on : Bool) → IsPlace on m p → (c : Content) → IsAsked (Some c) on → holds m c p ≡ true
 holds_so m p on h content.Empty e = or_right (is_trivial p.shape) (is_empty_at m p) (empty_test m p (subst (λ b. IsPlace b m p) e h))
 holds_so m p on h content.Full e = ap is_some (full_value m p (subst (λ b. IsPlace b m p) e h)).1
-
-module _ (d : Declarations) (shapes : ModuleShapes) (values : List Shape) (m : Memory) (i : Inst) where
-  pub met : (p : Place) (on : Bool) → IsPlace on m p → (c : Option Content) → IsAsked c on → (e : Effect HolderFault) → where_held d shapes values m i p c e ≡ e
-  met p on h None asked e = ap (λ b. cond b e (Faults NotLastSlot)) (there_test m p on h)
-  met p on h (Some c) asked e =
-      ap (λ b. cond b (cond (holds m c p) e (Faults (fault_of c))) (Faults NotLastSlot)) (there_test m p on h)
-      ∙ ap (λ b. cond b e (Faults (fault_of c))) (holds_so m p on h c asked)
 
 -- ---- operations
 

@@ -4,11 +4,8 @@ use Rattle.std.specs.Prelude.{unwrap_or}
 use Rattle.std.proofs.lemmas.Bool.{true≢false}
 use Rattle.std.proofs.lemmas.List.Elements.{Contains-push}
 use Rattle.accepted_facts.specs.accepted_trails.inner.Bases.{IsAsMade}
-use Rattle.holder_laws.specs.holder_model.Effects.{Effect}
-use Rattle.holder_laws.specs.holder_model.Faults.{HolderFault}
 use Rattle.holder_laws.specs.holder_model.Frames.{Frame}
-use Rattle.holder_laws.specs.holder_model.MemoryEffects.{asked_before, where_held}
-use Rattle.holder_laws.specs.holder_model.ModuleShapes.{ModuleShapes}
+use Rattle.holder_laws.specs.holder_model.MemoryEffects.{asked_before}
 use Rattle.holder_laws.specs.holder_model.States.{Task}
 use Rattle.holder_laws.specs.holder_model.memory_accesses.Locations.{location_of}
 use Rattle.holder_laws.specs.holder_model.memory_accesses.Operations.{operated}
@@ -26,10 +23,9 @@ use Rattle.argument_conventions.specs.declared.row.AddressRow.{AddressRow}
 use Rattle.item_operands.specs.Parts.{item_inst}
 use Rattle.holder_laws.specs.inner.Cells.Cells.{ChangesAt, IsPlace, cell_at}
 use Rattle.holder_laws.proofs.Cells.Writes.{emptied_changes, emptied_empty, filled_changes, filled_full}
-use Rattle.run_values.specs.Fits.{fits}
+use Rattle.run_values.specs.inner.Fits.{fits}
 use Rattle.run_values.specs.Memory.{Memory}
 use Rattle.run_values.specs.Places.{OnStack, Place, emptied, filled}
-use Rattle.run_values.specs.Shapes.{Shape}
 use Rattle.run_values.specs.Values.{Value}
 use Rattle.sil_ast.specs.declared.function.Function.{Function}
 use Rattle.sil_ast.specs.declared.inst.Inst.{Inst}
@@ -38,11 +34,11 @@ use Rattle.sil_ast.specs.declared.place.PointId.{PointId}
 use Rattle.sil_ast.specs.declared.place.ValueId.{ValueId}
 use Rattle.sil_cfg.specs.declared.item.Item.{Item}
 use Rattle.sil_cfg.specs.declared.item.Item.TheVariants as item
-use Rattle.type_definitions.specs.Declarations.{Declarations, declarations_of}
+use Rattle.type_definitions.specs.Declarations.{declarations_of}
 use Rattle.tracked_frames.specs.inner.Placed.FramePlaces.{HoldsPlaces, IsFree, Names}
 use Rattle.tracked_frames.specs.inner.Placed.Roots.{IsThere, argument, is_full_on, is_shared, slot}
 use Rattle.tracked_frames.specs.inner.Placed.TrailLaws.{TrailLaws}
-use Rattle.tracked_frames.proofs.Placed.Asking.{IsAsked, asked_by, met}
+use Rattle.tracked_frames.proofs.Placed.Asking.{IsAsked, asked_by}
 use Rattle.tracked_frames.proofs.Placed.Contents.{FoundAt, OperatesAt, found_at, on_stack, others_untouched, stays_full}
 use Rattle.tracked_frames.proofs.Placed.GoingOn.{IsDoneAt as DoneAt, OthersStay, cells_behind, goes_on, stays_below, stays_quiet}
 use Rattle.tracked_frames.proofs.Placed.Keeping.{Keeps, keeps_roots, slot_no_part, there_still}
@@ -98,12 +94,6 @@ module _ (laws : TrailLaws) (m : Module) (number : ℕ) (f : Function) (body : I
 
     pub asked_so : ((row : AddressRow) → o ≡ Handed row → ⊥) → IsAsked (asked_before p.is_part o) found.on
     asked_so own = asked_by (is_trivial_at (sources_of (declarations_of m) f) l.root) (is_part l) o found.on p.is_part own found.found part_by_location
-
-    -- so the place is as the run asks
-    pub is_as_asked : (d : Declarations) (shapes : ModuleShapes) (values : List Shape) → ((row : AddressRow) → o ≡ Handed row → ⊥)
-        → (e : Effect HolderFault)
-        → where_held d shapes values memory x p (asked_before p.is_part o) e ≡ e
-    is_as_asked d shapes values own e = met d shapes values memory x p found.on as_full (asked_before p.is_part o) (asked_so own) e
 
     -- ---- behind it
 

@@ -11,8 +11,8 @@ use Rattle.run_values.specs.declared.phase.Phase.TheVariants.{Deiniting}
 use Rattle.sil_ast.specs.declared.module.Module.{Module}
 use Rattle.sil_ast.specs.declared.place.ObjectId.{ObjectId}
 use Rattle.tracked_frames.specs.inner.Placed.Items.{PlacedNext}
-use Rattle.tracked_frames.specs.inner.Placed.PlaceStates.{AreSlotsRight, BelowPlaced, TasksPlaced}
-use Rattle.tracked_frames.proofs.Placed.Staying.{below_still, tasks_still}
+use Rattle.tracked_frames.specs.inner.Placed.PlaceStates.{AreSlotsRight, TasksPlaced}
+use Rattle.tracked_frames.proofs.Placed.Staying.{tasks_still}
 use Rattle.tracked_frames.proofs.Placed.Taking.{dropping_placed}
 
 module _ (m : Module) (before after : Memory) (same : after.stack ≡ before.stack) where
@@ -21,9 +21,6 @@ module _ (m : Module) (before after : Memory) (same : after.stack ≡ before.sta
 
   pub same_stack : (tasks : List (Task Frame)) → TasksPlaced m before tasks → TasksPlaced m after tasks
   same_stack tasks h = let long = size in tasks_still m before after (omega (arith, long)) tasks h (λ n lt. inr (ap (λ cells. slice_get cells n) same))
-
-  pub same_stack_below : (callee : Frame) (tasks : List (Task Frame)) → BelowPlaced m before callee tasks → BelowPlaced m after callee tasks
-  same_stack_below callee tasks h = let long = size in below_still m before after (omega (arith, long)) callee tasks h (λ n lt. inr (ap (λ cells. slice_get cells n) same))
 
 module _ (m : Module) (told : ModuleFacts) (bound : ℕ) (s : HolderState) (Found : Type 0) where
   pub drops_one : (o : ObjectId) → AreSlotsRight m s → (next : HolderNext) → DropsOne m told bound s o next → PlacedNext Found m next

@@ -5,27 +5,24 @@ use Rattle.std.proofs.lemmas.List.Elements.{Contains-push}
 use Rattle.holder_laws.specs.holder_model.Calling.{places_given}
 use Rattle.holder_laws.specs.holder_model.Data.{Datum}
 use Rattle.holder_laws.specs.holder_model.Frames.{Entry, Frame}
-use Rattle.holder_laws.specs.holder_model.ModuleShapes.{ModuleShapes}
 use Rattle.holder_laws.specs.holder_model.States.{Runs, Task, dropping}
 use Rattle.holder_laws.specs.holder_model.memory_accesses.Operations.{operated}
 use Rattle.holder_laws.specs.holder_model.memory_accesses.Rows.{has_operation}
 use Rattle.holder_laws.specs.holder_model.memory_accesses.Sources.{source_at, sources_of}
 use Rattle.holder_laws.specs.holder_model.memory_accesses.declared.access.Operation.{Operation}
-use Rattle.holder_laws.specs.holder_model.memory_accesses.declared.access.Operation.TheVariants.{Handed, Take}
+use Rattle.holder_laws.specs.holder_model.memory_accesses.declared.access.Operation.TheVariants.{Take}
 use Rattle.holder_laws.specs.holder_model.memory_accesses.declared.source.Source.TheVariants as source
 use Rattle.accepted_facts.specs.accepted_trails.memory_parts.Parts.{whole_cell}
 use Rattle.accepted_facts.specs.placed_values.accepted_places.inner.Cells.{touches}
 use Rattle.accepted_facts.specs.placed_values.accepted_places.inner.Stacks.{keeps_slots, slots_on}
 use Rattle.accepted_facts.specs.accepted_values.inner.Known.{IsAcceptedBody}
-use Rattle.argument_conventions.specs.declared.row.AddressRow.{AddressRow}
 use Rattle.item_operands.specs.Parts.{inst_at, item_inst}
 use Rattle.holder_laws.specs.inner.Cells.Cells.{cell_at}
 use Rattle.holder_laws.proofs.Cells.Writes.{emptied_changes, filled_changes}
 use Rattle.ownership_chains.specs.declared.facts.Facts.{Facts}
-use Rattle.run_values.specs.Fits.{fits}
+use Rattle.run_values.specs.inner.Fits.{fits}
 use Rattle.run_values.specs.Memory.{Memory}
 use Rattle.run_values.specs.Places.{OnStack, Place, emptied, filled}
-use Rattle.run_values.specs.Shapes.{Shape}
 use Rattle.run_values.specs.Values.{Value}
 use Rattle.sil_ast.specs.declared.function.Function.{Function}
 use Rattle.sil_ast.specs.declared.inst.Inst.{Inst}
@@ -35,18 +32,18 @@ use Rattle.sil_ast.specs.declared.place.PointId.{PointId}
 use Rattle.sil_ast.specs.declared.place.ValueId.{ValueId}
 use Rattle.sil_cfg.specs.declared.item.Item.{Item}
 use Rattle.sil_cfg.specs.declared.item.Item.TheVariants as item
-use Rattle.type_definitions.specs.Declarations.{Declarations, declarations_of}
+use Rattle.type_definitions.specs.Declarations.{declarations_of}
 use Rattle.tracked_frames.specs.inner.Placed.FramePlaces.{HoldsPlaces, IsFree, Names}
 use Rattle.tracked_frames.specs.inner.Placed.PlaceStates.{BelowPlaced, TasksPlaced}
 use Rattle.tracked_frames.specs.inner.Placed.Roots.{IsThere, argument, slot}
 use Rattle.tracked_frames.specs.inner.Placed.TrailLaws.{TrailLaws}
-use Rattle.tracked_frames.proofs.Placed.AtPlaces.{StandsAt, empties, fills, is_as_asked, looks, within}
+use Rattle.tracked_frames.proofs.Placed.AtPlaces.{StandsAt, empties, fills, looks, within}
 use Rattle.tracked_frames.proofs.Placed.Contents.{OperatesAt, others_untouched, on_stack}
 use Rattle.tracked_frames.proofs.Placed.Locating.{IsInObject, IsOperandAt}
 use Rattle.tracked_frames.proofs.Placed.Operating.{Fills, Looks}
 use Rattle.tracked_frames.proofs.Placed.PartsNamed.{AreNewNamed}
 use Rattle.tracked_frames.proofs.Placed.Quiet.{PutsResults, behind, keeps, quiet_behind, root_kept}
-use Rattle.tracked_frames.proofs.Placed.RowsHeld.{IsMet, stack_stays}
+use Rattle.tracked_frames.proofs.Placed.RowsHeld.{stack_stays}
 use Rattle.tracked_frames.proofs.Placed.Taking.{dropping_placed, given_kept, goes_placed}
 
 module _ (laws : TrailLaws) (m : Module) (number : ℕ) (f : Function) (body : IsAcceptedBody m number f) (facts : ValueId → Option Facts)
@@ -191,13 +188,4 @@ module _ (laws : TrailLaws) (m : Module) (number : ℕ) (f : Function) (body : I
       record { holds = b.holds; more = omega (arith, size); below = b.below })
       (λ (field : IsInObject laws m number f body s.operand.location.root).
       in_object (emptied memory p) s field (stack_stays memory p.home _ (s.inner field)))
-      s.operand.root
-
-  -- the place is as the operation asks: in an object the law of fields says so
-  pub is_met : (after : Memory) (s : DoesAt after) → ((row : AddressRow) → o ≡ Handed row → ⊥) → (d : Declarations) (shapes : ModuleShapes) (values : List Shape)
-      → (IsInObject laws m number f body s.operand.location.root → IsMet d shapes values memory x p o) → IsMet d shapes values memory x p o
-  is_met after s own d shapes values field_met = ⊎_elim
-      (λ (there : IsThere (declarations_of m) f frame.trail s.operand.location.root).
-      λ e. is_as_asked laws m number f body frame (after_frame after s) rest memory point x v o s.operand.location p (stands after s there) d shapes values own e)
-      (λ (field : IsInObject laws m number f body s.operand.location.root). field_met field)
       s.operand.root

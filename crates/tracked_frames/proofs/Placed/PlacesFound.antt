@@ -1,5 +1,5 @@
 -- A place that is found as the operation asks meets no fault; on the stack it is found so by what the frame holds.
-use Rattle.std.proofs.Common.{◌≡◌, ⊎_elim, ℕ, List, [], ◌∷◌, true, cond, Contains, Option, Some, None, refl, sym, ap, ◌∙◌, subst}
+use Rattle.std.proofs.Common.{◌≡◌, ℕ, List, [], ◌∷◌, true, cond, Contains, Option, Some, None, refl, sym, ap, ◌∙◌, subst}
 use Rattle.std.proofs.lemmas.List.Elements.{Contains-push}
 use Rattle.holder_laws.specs.holder_model.Effects.{Faults}
 use Rattle.holder_laws.specs.holder_model.Faults.{NotLastSlot}
@@ -18,7 +18,7 @@ use Rattle.argument_conventions.specs.declared.row.Content.{Content}
 use Rattle.item_operands.specs.Parts.{inst_at}
 use Rattle.holder_laws.proofs.Cells.PlaceCells.{there_test}
 use Rattle.run_values.specs.Memory.{Memory}
-use Rattle.run_values.specs.Places.{OnStack, Place}
+use Rattle.run_values.specs.Places.{Place}
 use Rattle.run_values.specs.Shapes.{Shape}
 use Rattle.sil_ast.specs.declared.function.Function.{Function}
 use Rattle.sil_ast.specs.declared.inst.Inst.{Inst}
@@ -34,7 +34,7 @@ use Rattle.tracked_frames.specs.inner.Placed.TrailLaws.{TrailLaws}
 use Rattle.tracked_frames.proofs.Placed.Asking.{IsAsked, holds_so}
 use Rattle.tracked_frames.proofs.Placed.AtPlaces.{StandsAt, as_full, asked_so, found}
 use Rattle.tracked_frames.proofs.Placed.Contents.{OperatesAt}
-use Rattle.tracked_frames.proofs.Placed.Locating.{IsInObject, IsOperandAt}
+use Rattle.tracked_frames.proofs.Placed.Locating.{IsOperandAt}
 use Rattle.tracked_frames.proofs.Placed.RowsHeld.{IsMet}
 
 module _ (d : Declarations) (shapes : ModuleShapes) (values : List Shape) (m : Memory) (x : Inst) where
@@ -91,11 +91,3 @@ module _ (laws : TrailLaws) (m : Module) (number : ℕ) (f : Function) (body : I
     -- the place is found as the operation asks, where its root is there
     pub there_found : ((row : AddressRow) → o ≡ Handed row → ⊥) → IsThere (declarations_of m) f frame.trail s.operand.location.root → IsFoundSo memory p o
     there_found own there = found_on_stack laws m number f body frame frame rest memory point x v o s.operand.location p (stands there) own
-
-    -- and so it is where it is on the stack
-    pub operand_found : ((row : AddressRow) → o ≡ Handed row → ⊥) → p.home ≡ OnStack → IsFoundSo memory p o
-    operand_found own home = ⊎_elim
-        (λ (there : IsThere (declarations_of m) f frame.trail s.operand.location.root). there_found own there)
-        (λ (field : IsInObject laws m number f body s.operand.location.root).
-        absurd (s.holds.fields v s.operand.location s.operand.is field.of field.place field.trivial field.source p s.names home))
-        s.operand.root

@@ -124,19 +124,10 @@ still_slots op.AllocStack e = absurd (false≢true e)
 still_slots op.DeallocStack e = absurd (false≢true e)
 still_slots o e = refl
 
-abbrev pub names_members : RowEffect → Bool
-names_members row.AddressesMember = true
-names_members _ = false
-
 abbrev pub is_member_kind : AccessKind → Bool
 is_member_kind access.NamesMember = true
 is_member_kind access.NamesElement = true
 is_member_kind _ = false
-
-pub member_kind : (o : Op) → names_members (effect_of o) ≡ false → is_member_kind (access_kind_of o) ≡ false
-member_kind op.StructElementAddr e = absurd (true≢false e)
-member_kind op.TupleElementAddr e = absurd (true≢false e)
-member_kind o e = refl
 
 -- the result of any other row isn't a member of an address
 abbrev pub IsPart : Source → Type 0

@@ -24,7 +24,7 @@ use Rattle.item_operands.specs.Parts.{inst_at}
 use Rattle.item_operands.specs.Roles.{taken_by}
 use Rattle.numbered_form.specs.Lists.{Each}
 use Rattle.ownership_chains.specs.declared.facts.Facts.{Facts}
-use Rattle.run_values.specs.Fits.{fits}
+use Rattle.run_values.specs.inner.Fits.{fits}
 use Rattle.run_values.specs.Memory.{Memory}
 use Rattle.run_values.specs.Places.{Place, emptied, filled}
 use Rattle.run_values.specs.Shapes.{Shape}

@@ -6,7 +6,7 @@ use Rattle.holder_laws.specs.holder_model.declared.row_effect.RowEffect.TheVaria
 use Rattle.accepted_facts.specs.accepted_values.owned_run_typing.inner.OwnedRows.{OwnedRowForms}
 use Rattle.accepted_facts.specs.accepted_values.run_typing.Forms.{Form, OfFunction, OfPlace, OfValue}
 use Rattle.accepted_facts.specs.accepted_values.run_typing.RowForms.{RowForms}
-use Rattle.run_values.specs.Fits.{fits}
+use Rattle.run_values.specs.inner.Fits.{fits}
 use Rattle.run_values.specs.Shapes.{Shape, Stored, member_shapes}
 use Rattle.run_values.specs.Values.{Value}
 use Rattle.sil_ast.specs.declared.inst.Inst.{Inst}

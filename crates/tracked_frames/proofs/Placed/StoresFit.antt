@@ -9,7 +9,7 @@ use Rattle.accepted_facts.specs.accepted_values.run_typing.Forms.{Form, OfPlace,
 use Rattle.item_operands.specs.Items.{item_taken}
 use Rattle.item_operands.specs.Parts.{inst_at}
 use Rattle.ownership_chains.specs.declared.facts.Facts.{Facts}
-use Rattle.run_values.specs.Fits.{fits}
+use Rattle.run_values.specs.inner.Fits.{fits}
 use Rattle.run_values.specs.Memory.{Memory}
 use Rattle.run_values.specs.Places.{Place}
 use Rattle.run_values.specs.Values.{Value}

@@ -60,9 +60,6 @@ module _ (m : Module) (w : World) where
   read_function (DatumIs.place p is) g e = absurd (cc)
   read_function (DatumIs.function h) g e = cc
 
-  pub place_of_form : (p : Place) (s : Shape) → p.shape ≡ s → PlaceIs m w p → DatumIs m w (OfPlace s) (AddressOf p)
-  place_of_form p s e is = subst (λ u. DatumIs m w (OfPlace u) (AddressOf p)) e (DatumIs.place p is)
-
   -- where its form is no value, or a value of a trivial shape, it names none
   pub bare_where : {form : Form} {x : Datum} → DatumIs m w form x → ((s : Shape) → form ≡ OfValue s → is_trivial s ≡ true) → IsBare x
   bare_where (DatumIs.value s v good) trivial = no_references (names m w) s v good (trivial s refl)

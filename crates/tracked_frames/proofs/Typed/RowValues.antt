@@ -16,7 +16,7 @@ use Rattle.accepted_facts.specs.held_entries.holder_model.Effects.{Traps, choose
 use Rattle.accepted_facts.specs.held_entries.holder_model.ModuleShapes.{case_place, shapes_of}
 use Rattle.accepted_facts.specs.held_entries.holder_model.declared.row_effect.RowEffect.TheVariants as row
 use Rattle.accepted_facts.specs.held_entries.holder_model.declared.trap.Trap.TheVariants as trap
-use Rattle.run_values.specs.Fits.{fit_each}
+use Rattle.run_values.specs.inner.Fits.{fit_each}
 use Rattle.run_values.specs.Layers.{CaseLayer}
 use Rattle.run_values.specs.Shapes.{Integer, Reference, Shape, case_shapes, member_shapes}
 use Rattle.run_values.specs.Trivial.{is_trivial}

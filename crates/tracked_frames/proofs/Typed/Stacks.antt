@@ -4,7 +4,7 @@ use Rattle.std.specs.Prelude.{slice_get}
 use Rattle.accepted_facts.proofs.accepted_values.lowering_laws.Lists.{each_weaker}
 use Rattle.accepted_facts.specs.accepted_values.run_typing.Forms.{Form}
 use Rattle.holder_laws.specs.inner.Steps.Stacks.{Below}
-use Rattle.holder_laws.proofs.Steps.TaskStacks.{below_another, below_over, going_dropping, going_over}
+use Rattle.holder_laws.proofs.Steps.TaskStacks.{below_another, below_over, going_dropping}
 use Rattle.numbered_form.specs.Lists.{Each}
 use Rattle.accepted_facts.specs.held_entries.holder_model.Frames.{Entry, Frame}
 use Rattle.accepted_facts.specs.held_entries.holder_model.States.{Task, dropping}
@@ -54,11 +54,6 @@ module _ (m : Module) (w v : World) (grows : Grows w v) where
     form = is.form;
     taken = is.taken;
   }
-
-  pub tasks_grow : (tasks : List (Task Frame)) → TasksAre m w tasks → TasksAre m v tasks
-  tasks_grow = going_over (GoesTyped m w) (GoesTyped m v) (WaitsTyped m w) (WaitsTyped m v) (DeinitsTyped m w) (DeinitsTyped m v) (DroppedTyped m w) (DroppedTyped m v)
-      (FinishedTyped m w) (FinishedTyped m v) (λ frame rest is. (is.0, frame_grows is.0 frame is.1)) waits_grows (λ callee o is. tt)
-      (each_weaker (IsMade m w) (IsMade m v) made_grows) finished_grows
 
   pub below_grows : (callee : Frame) (rest : List (Task Frame)) → BelowTyped m w callee rest → BelowTyped m v callee rest
   below_grows callee rest = below_over (GoesTyped m w) (GoesTyped m v) (WaitsTyped m w) (WaitsTyped m v) (DeinitsTyped m w) (DeinitsTyped m v) (DroppedTyped m w) (DroppedTyped m v)

@@ -64,9 +64,6 @@ use Rattle.tracked_frames.proofs.Typed.Stacks.{below_same}
 
 -- ---- a frame stands in a block
 
-ends_there : (o : Option Block) (b : Block) → o ≡ Some b → (i : Inst) × (terminator_in o ≡ Some i)
-ends_there o b e = (b.terminator, ap terminator_in e)
-
 inst_block : (o : Option Block) (k : ℕ) (i : Inst) → inst_in o k ≡ Some i → (j : Inst) × (terminator_in o ≡ Some j)
 inst_block None k i e = absurd (none-some i e)
 inst_block (Some b) k i e = (b.terminator, refl)

@@ -1,14 +1,10 @@
 -- The law that the functions of a typed module have graphs.
-use Rattle.std.specs.Prelude.{◌≡◌, ◌≢◌, ℕ, Some, length, slice_get}
-use Rattle.sil_ast.specs.declared.function.Form.TheVariants.{External}
+use Rattle.std.specs.Prelude.{◌≡◌, ℕ, Some, length, slice_get}
 use Rattle.sil_ast.specs.declared.function.Function.{Function}
 use Rattle.sil_ast.specs.declared.module.Module.{Module}
 use Rattle.numbered_form.specs.inner.NumberedForm.{IsNumbered}
 use Rattle.sil_types.specs.Typing.Typed.{Typed}
 use Rattle.typed_graph_laws.specs.inner.Ready.{IsReadyForGraph}
-
-abbrev pub IsNotExternal : Function → Type 0
-IsNotExternal f = f.form ≢ External
 
 -- in a typed module in numbered form, each function with a body, told so, is ready for its graph
 abbrev pub HaveGraphsWhere : (Function → Type 0) → Type 0

@@ -2,7 +2,7 @@
 use Rattle.std.specs.Prelude.{Bool, false, ◌&&◌, Option, Some, None}
 use Rattle.sil_ast.specs.declared.place.ObjectId.{ObjectId}
 use Rattle.run_values.specs.numbered_form.Names.{Name}
-use Rattle.run_values.specs.Fits.{Test, are_members, fits_width, is_case, is_name}
+use Rattle.run_values.specs.inner.Fits.{Test, are_members, fits_width, is_case, is_name}
 use Rattle.run_values.specs.Layers.{Layer, Integer, Reference, Struct, Tuple, Enum, Stored, Unknown}
 use Rattle.run_values.specs.Shapes.{Shape, by_layers}
 use Rattle.run_values.specs.Values.{Value, case_of, integer_of, members_of, object_of}

@@ -1,16 +1,11 @@
 -- The laws of written numbers.
-use Rattle.std.specs.Prelude.{◌≡◌, ℕ, ◌-◌, ◌^◌, ◌≤◌, ◌<◌, List, Some, ℤ, pos, neg_ℤ, ◌≤ℤ◌, ◌<ℤ◌}
+use Rattle.std.specs.Prelude.{◌≡◌, ℕ, ◌-◌, ◌^◌, ◌≤◌, ◌<◌, Some, ℤ, pos, neg_ℤ, ◌≤ℤ◌, ◌<ℤ◌}
 use Rattle.std.specs.Fmt.{decimal, signed_decimal}
 use Rattle.written_numbers.specs.Numbers.{literal_of, small_of}
 
 -- the number is from -2^(width - 1) to 2^(width - 1) - 1
 abbrev pub IsSigned : ℕ → ℤ → Type 0
 IsSigned width number = (neg_ℤ (pos (2 ^ (width - 1))) ≤ℤ number) × (number <ℤ pos (2 ^ (width - 1)))
-
--- a literal is a number of the signed range
-abbrev pub AreLiteralsSigned : Type 0
-AreLiteralsSigned = (width : ℕ) (spelling : List ℕ) (number : ℤ) → 1 ≤ width →
-    literal_of width spelling ≡ Some number → IsSigned width number
 
 -- a printed number of the signed range reads as itself
 abbrev pub ReadsPrintedLiterals : Type 0

@@ -1,24 +1,21 @@
 -- What the addresses of fields and of members name: a place within the field of an object, where the operand names the object, or a place in the field.
-use Rattle.std.specs.Prelude.{◌≡◌, ℕ, List, true, Contains, Some, length, slice_get}
+use Rattle.std.specs.Prelude.{◌≡◌, ℕ, List, true, Contains, Some, slice_get}
 use Rattle.tracked_frames.specs.accepted_places.accepted_memory.holder_model.Data.{ValueOf}
 use Rattle.tracked_frames.specs.accepted_places.accepted_memory.holder_model.Effects.{effect_of, part_number}
 use Rattle.tracked_frames.specs.accepted_places.accepted_memory.holder_model.Frames.{Entry}
 use Rattle.tracked_frames.specs.accepted_places.accepted_memory.holder_model.ModuleShapes.{field_shapes, shapes_of}
 use Rattle.tracked_frames.specs.accepted_places.accepted_memory.holder_model.declared.row_effect.RowEffect.TheVariants as row
 use Rattle.tracked_frames.specs.accepted_places.accepted_memory.memory_accesses.Rows.{is_part}
-use Rattle.tracked_frames.specs.accepted_places.accepted_memory.memory_accesses.Sources.{source_at, sources_of}
+use Rattle.tracked_frames.specs.accepted_places.accepted_memory.memory_accesses.Sources.{sources_of}
 use Rattle.tracked_frames.specs.accepted_places.accepted_memory.memory_accesses.declared.location.Location.{Location}
-use Rattle.tracked_frames.specs.accepted_places.accepted_memory.memory_accesses.declared.source.Source.TheVariants as source
 use Rattle.tracked_frames.specs.accepted_places.accepted_values.inner.Known.{InAccepted, IsAcceptedBody}
-use Rattle.tracked_frames.specs.accepted_places.accepted_values.run_typing.Forms.{OfValue, form_of}
 use Rattle.tracked_frames.specs.holder_laws.inner.Built.Building.{IsFieldAddress}
 use Rattle.tracked_frames.specs.holder_laws.inner.Built.FrameObjects.{IsInField, Names}
 use Rattle.item_operands.specs.Items.{item_defined}
 use Rattle.item_operands.specs.Parts.{inst_at}
-use Rattle.numbered_form.specs.Names.{Name}
 use Rattle.run_values.specs.Memory.{Memory, object_at}
 use Rattle.run_values.specs.Places.{field_in}
-use Rattle.run_values.specs.Shapes.{Reference, Shape}
+use Rattle.run_values.specs.Shapes.{Shape}
 use Rattle.run_values.specs.Values as value
 use Rattle.sil_ast.specs.declared.function.Function.{Function}
 use Rattle.sil_ast.specs.declared.inst.Inst.{Inst}
@@ -32,12 +29,6 @@ use Rattle.type_definitions.specs.Declarations.{declarations_of}
 use Rattle.tracked_frames.specs.inner.Typed.TypedStates.{EntriesAre}
 use Rattle.tracked_frames.specs.typed_memory.inner.Worlds.{IsWorldOf, MemoryIs, World}
 use Rattle.value_tables.specs.FirstValue.{first_value}
-
--- a new object has as many fields as its class
-abbrev pub AreObjectsCounted : Type 0
-AreObjectsCounted = (m : Module) (n : ℕ) (f : Function) → IsAcceptedBody m n f → (object : ValueId) (fields : ℕ) (class : Name)
-    → source_at (sources_of (declarations_of m) f) object ≡ source.Object fields → form_of (declarations_of m) f object ≡ OfValue (Reference class)
-    → source_at (sources_of (declarations_of m) f) object ≡ source.Object (length (field_shapes (shapes_of m) class))
 
 -- what names a field of an object that its operand names: its result's place is that of the field
 abbrev pub AreFieldsPlaced : Type 0

@@ -1,8 +1,6 @@
 -- How items go on with the new objects of an accepted function.
 use Rattle.std.specs.Prelude.{◌≡◌, ◌⊎◌, ℕ, List, [], ◌∷◌, Bool, true, false, Contains, Some, unwrap_or}
-use Rattle.std.specs.List.{list_any}
 use Rattle.tracked_frames.specs.accepted_places.accepted_memory.accepted_trails.inner.Defined.{IsDefinedOn, makes}
-use Rattle.tracked_frames.specs.accepted_places.accepted_memory.accepted_trails.inner.Passing.{is_end}
 use Rattle.tracked_frames.specs.accepted_places.accepted_memory.holder_model.Frames.{Entry}
 use Rattle.tracked_frames.specs.accepted_places.accepted_memory.memory_accesses.Locations.{location_of}
 use Rattle.tracked_frames.specs.accepted_places.accepted_memory.memory_accesses.Operations.{operations_of}
@@ -90,11 +88,6 @@ AreObjectsMade = InAccepted (λ d f. (t : List Item) (p : PointId) → IsRunTrai
     → IsMadeNow (sources_of d f) (said_in d f t) (said_in d f (item.Inst p ∷ t)) object)
 
 -- ---- unfinished objects
-
--- the next item doesn't end one
-abbrev pub AreEndsOfOthers : Type 0
-AreEndsOfOthers = InAccepted (λ d f. (t : List Item) (i : Item) → IsRunTrail f (i ∷ t) → (object : ValueId) → IsUnfinishedOn d f t object
-    → list_any (is_end (facts_in d f) object) (item_taken f i) ≡ false)
 
 -- so its entry stays
 abbrev pub LoseOthers : Type 0

@@ -4,25 +4,19 @@ use Rattle.std.specs.List.{AllZip}
 use Rattle.sil_ast.specs.declared.function.Function.{Function}
 use Rattle.sil_ast.specs.declared.inst.Inst.{Inst}
 use Rattle.sil_ast.specs.declared.module.Module.{Module}
-use Rattle.type_definitions.specs.Declarations.{Declarations, declarations_of}
+use Rattle.type_definitions.specs.Declarations.{Declarations}
 use Rattle.tracked_frames.specs.accepted_values.run_typing.Forms.{Form}
 use Rattle.tracked_frames.specs.accepted_premises.owned_run_typing.inner.OwnedRows.{OwnedRowForms}
 use Rattle.tracked_frames.specs.typed_memory.inner.Worlds.{DatumIs, World}
-use Rattle.tracked_frames.specs.inner.Typed.TypedStates.{EntriesAre}
 use Rattle.tracked_frames.specs.inner.Tracked.TrackedStates.{GoesAlong}
 use Rattle.tracked_frames.specs.holder_laws.holder_model.Data.{Datum}
-use Rattle.tracked_frames.specs.holder_laws.holder_model.Frames.{Entry, Frame}
+use Rattle.tracked_frames.specs.holder_laws.holder_model.Frames.{Frame}
 use Rattle.accepted_runs.specs.inner.Guarded.Following.{GoAlong}
-use Rattle.accepted_runs.specs.inner.Guarded.Guards.{AreOfKinds}
 use Rattle.accepted_runs.specs.inner.Guarded.Rows.{HandsValues}
 
 -- in a tracked frame the entries go along with the trail
 abbrev pub AreTrackedAlong : Type 0
 AreTrackedAlong = (d : Declarations) (f : Function) (frame : Frame) → GoesAlong d f frame → GoAlong d f frame.trail frame.entries
-
--- typed entries are of their values' kinds
-abbrev pub AreTypedOfKinds : Type 0
-AreTypedOfKinds = (m : Module) (w : World) (f : Function) (entries : List Entry) → EntriesAre m w f entries → AreOfKinds (declarations_of m) f entries
 
 -- where the operands are of the forms of the row, what is handed on or copied as a whole is a value
 abbrev pub HandTypedValues : Type 0

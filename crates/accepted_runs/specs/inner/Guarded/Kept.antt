@@ -24,10 +24,9 @@ use Rattle.tracked_frames.specs.holder_laws.holder_model.Frames.{Entry, Frame, H
 use Rattle.tracked_frames.specs.holder_laws.holder_model.Holders.{in_memory, one_object}
 use Rattle.tracked_frames.specs.holder_laws.holder_model.HolderStates.{HolderState}
 use Rattle.tracked_frames.specs.holder_laws.holder_model.States.{Runs, Task}
-use Rattle.tracked_frames.specs.holder_laws.inner.Counts.Moving.{in_tasks}
 use Rattle.tracked_frames.specs.holder_laws.inner.Counts.Taking.{in_entries}
 use Rattle.accepted_runs.specs.inner.Guarded.Guards.{AreLentGuarded, AreOfKinds, Guard, IsArgument, IsCurrent, IsNamed, IsThere, KeepsAt, Lending}
-use Rattle.accepted_runs.specs.inner.Guarded.GuardedStates.{BelowIsGuarded, IsGuardedIn, IsGuardedState, KeepsBelow, Loans, finishes_of}
+use Rattle.accepted_runs.specs.inner.Guarded.GuardedStates.{IsGuardedIn, IsGuardedState, Loans}
 
 -- a scope, or an argument of the entry: what is lent and guards
 abbrev pub IsAnchor : Function → ValueId → Type 0
@@ -59,12 +58,6 @@ pub data IsHeldSomehow (f : Function) (m : Memory) (entries : List Entry) (o : O
 abbrev pub HaveGuardedHolders : Type 0
 HaveGuardedHolders = (d : Declarations) (f : Function) (lends : Lending) (m : Memory) (entries : List Entry) (o : ObjectId) (b : ValueId)
     → Guard d f lends m entries o b → IsHeldSomehow f m entries o
-
--- what is kept below has a strong holder there, or a finish
-abbrev pub HaveKeptHolders : Type 0
-HaveKeptHolders = (m : Module) (loans : Loans) (memory : Memory) (callee : Frame) (rest : List (Task Frame)) (o : ObjectId)
-    → BelowIsGuarded m loans memory callee rest → KeepsBelow m loans memory rest o
-    → (0 < in_tasks (one_object o) rest + in_memory (one_object o) storage.Strong memory) ⊎ (0 < finishes_of o rest)
 
 -- so what is guarded in the frame that goes on isn't dead
 abbrev pub AreGuardedAlive : Type 0

@@ -1,5 +1,5 @@
 -- Laws of guards in a run by holders: steps keep states guarded, and no step ends where an operand names a dead object.
-use Rattle.std.specs.Prelude.{◌≡◌, ◌⊎◌, ℕ, Bool, true, false}
+use Rattle.std.specs.Prelude.{◌≡◌, ℕ, Bool, true, false}
 use Rattle.sil_ast.specs.declared.module.Module.{Module}
 use Rattle.tracked_frames.specs.accepted_modules.inner.Checked.{IsVerified}
 use Rattle.tracked_frames.specs.holder_laws.holder_model.Faults.{ConsumesLent, EmptyPlace, FullPlace, HolderFault}
@@ -33,16 +33,6 @@ is_dead_fault WrongShape = false
 abbrev pub AreStepsGuardedWhere : Type 1
 AreStepsGuardedWhere = (m : Module) (loans : Loans) (Placed : HolderState → Type 0) (bound : ℕ) (s next : HolderState) → IsVerified m
     → LoansAreKept m loans Placed → IsPlacedState m loans Placed s → IsPlacedState m loans Placed next → IsGuardedState m loans s
-    → step m (facts_of m) bound s ≡ Goes next → IsGuardedState m loans next
-
--- one of two states
-abbrev pub IsEither : HolderState → HolderState → HolderState → Type 0
-IsEither s next t = (t ≡ s) ⊎ (t ≡ next)
-
--- so it is where they keep it in these two states alone
-abbrev pub AreStepsGuarded : Type 0
-AreStepsGuarded = (m : Module) (loans : Loans) (bound : ℕ) (s next : HolderState) → IsVerified m → LoansAreKept m loans (IsEither s next)
-    → IsTypedState m s → IsTrackedState m s → IsTypedState m next → IsTrackedState m next → IsGuardedState m loans s
     → step m (facts_of m) bound s ≡ Goes next → IsGuardedState m loans next
 
 -- and ends in no fault of dead objects

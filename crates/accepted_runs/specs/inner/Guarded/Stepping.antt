@@ -166,7 +166,3 @@ module _ (m : Module) (loans : Loans) where
   AreDeathsGuarded = (memory : Memory) (rest : List (Task Frame)) (o : ObjectId) → IsGuardedRun m loans memory (Finishes [] o ∷ rest)
       → holders_in memory rest o ≡ 0
       → IsGuardedRun m loans (with_object memory o (ended (object_at memory o))) (dropping (field_references (object_at memory o)) rest)
-
--- so it is in each module, whatever its loans are
-abbrev pub InEach : (Module → Loans → Type 0) → Type 0
-InEach Law = (m : Module) (loans : Loans) → Law m loans

@@ -17,7 +17,7 @@ use Rattle.numbered_form.specs.Lists.{Each}
 use Rattle.numbered_form.specs.Names.{Name}
 use Rattle.memory_parts.specs.Building.{builds}
 use Rattle.run_values.specs.Memory.{Memory, new_object, object_at}
-use Rattle.run_values.specs.Fits.{fits}
+use Rattle.run_values.specs.inner.Fits.{fits}
 use Rattle.run_values.specs.declared.phase.Phase.TheVariants.{Live}
 use Rattle.run_values.specs.Places.{Inside, Place, empty_fields, filled, is_there_at, member_place}
 use Rattle.run_values.specs.Values as value

@@ -16,7 +16,7 @@ use Rattle.holder_model.specs.memory_accesses.declared.source.Source.TheVariants
 use Rattle.holder_laws.specs.inner.Cells.Cells.{IsInside}
 use Rattle.numbered_form.specs.Lists.{Each}
 use Rattle.numbered_form.specs.Names.{Name}
-use Rattle.run_values.specs.Fits.{fits}
+use Rattle.run_values.specs.inner.Fits.{fits}
 use Rattle.run_values.specs.Memory.{Memory}
 use Rattle.run_values.specs.Places.{OnStack, Place, filled}
 use Rattle.run_values.specs.Values.{Value, references_of}

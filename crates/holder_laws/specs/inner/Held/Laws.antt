@@ -24,11 +24,6 @@ module _ (m : Module) (said : Function → List Item → Progress) where
     pub classes : (o : ObjectId) → o.0 < length memory.objects → (object_at later o).class ≡ (object_at memory o).class
     pub building : (o : ObjectId) → (BuildsNone m said tasks o → ⊥) → object_at later o ≡ object_at memory o
 
-  abbrev pub StayBelow : Type 0
-  StayBelow = (memory later : Memory) (tasks : List (Task Frame)) → StaysBelow memory later tasks
-      → (TasksBuild m said memory tasks → TasksBuild m said later tasks)
-      × ((callee : Frame) → BelowBuild m said memory callee tasks → BelowBuild m said later callee tasks)
-
   -- what is whole, and what isn't made yet, is being built by none
   abbrev pub AreOthersBuilt : Type 0
   AreOthersBuilt = (memory : Memory) (tasks : List (Task Frame)) (o : ObjectId) → IsWhole memory o ⊎ (length memory.objects ≤ o.0)

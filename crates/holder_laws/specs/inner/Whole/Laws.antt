@@ -4,7 +4,7 @@ use Rattle.holder_model.specs.Dropping.{ended, field_references, in_phase}
 use Rattle.holder_model.specs.MemoryEffects.{references_at}
 use Rattle.holder_laws.specs.inner.Cells.Cells.{IsInside, IsPlace}
 use Rattle.numbered_form.specs.Names.{Name}
-use Rattle.run_values.specs.Fits.{fits}
+use Rattle.run_values.specs.inner.Fits.{fits}
 use Rattle.run_values.specs.declared.phase.Phase.{Phase}
 use Rattle.run_values.specs.declared.phase.Phase.TheVariants.{Live}
 use Rattle.run_values.specs.Memory.{Memory, object_at, with_object}

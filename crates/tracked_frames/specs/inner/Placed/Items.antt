@@ -19,16 +19,14 @@ use Rattle.holder_laws.specs.holder_model.memory_accesses.Operations.{operations
 use Rattle.holder_laws.specs.holder_model.memory_accesses.Sources.{source_at, sources_of}
 use Rattle.holder_laws.specs.holder_model.memory_accesses.declared.access.Operated.{Operated}
 use Rattle.holder_laws.specs.holder_model.memory_accesses.declared.access.Operation.{Operation}
-use Rattle.holder_laws.specs.holder_model.memory_accesses.declared.access.Operation.TheVariants.{Handed}
 use Rattle.holder_laws.specs.holder_model.memory_accesses.declared.location.Location.{Location}
 use Rattle.holder_laws.specs.holder_model.memory_accesses.declared.source.Source.TheVariants as source
 use Rattle.accepted_facts.specs.accepted_modules.inner.Checked.{IsVerified}
-use Rattle.argument_conventions.specs.declared.row.AddressRow.{AddressRow}
 use Rattle.argument_conventions.specs.declared.row.Content.{Content}
 use Rattle.holder_laws.specs.inner.Steps.Ways.{GoesBehind, left_with, operands_in, turned}
 use Rattle.item_operands.specs.Parts.{inst_at}
 use Rattle.run_values.specs.Memory.{Memory}
-use Rattle.run_values.specs.Places.{OnStack, Place, is_there_at}
+use Rattle.run_values.specs.Places.{Place, is_there_at}
 use Rattle.run_values.specs.Values as value
 use Rattle.sil_ast.specs.declared.function.Function.{Function}
 use Rattle.sil_ast.specs.declared.inst.Inst.{Inst}
@@ -69,16 +67,6 @@ AreFieldsFound m bound s = (frame : Frame) (rest : List (Task Frame)) (f : Funct
     → (l : Location) → location_of (sources_of (declarations_of m) f) o.address ≡ Some l
     → (of : ValueId) (k : ℕ) (trivial : Bool) → source_at (sources_of (declarations_of m) f) l.root ≡ source.Field of k trivial
     → (p : Place) → Names frame.entries o.address p → IsFoundSo s.memory p o.operation
-
--- and so is each place on the stack
-abbrev pub AreSlotsFound : Module → HolderState → Type 0
-AreSlotsFound m s = (frame : Frame) (rest : List (Task Frame)) (f : Function) (i : Inst) → s.tasks ≡ Runs frame ∷ rest
-    → slice_get m.functions frame.function.0 ≡ Some f
-    → inst_at f (stands_at f frame.trail) ≡ Some i → (o : Operated) → Contains (operations_of i) o → ((row : AddressRow) → o.operation ≡ Handed row → ⊥)
-    → (p : Place) → Names frame.entries o.address p → p.home ≡ OnStack → IsFoundSo s.memory p o.operation
-
-abbrev pub RowsFindTheirPlaces : Type 0
-RowsFindTheirPlaces = (m : Module) (s : HolderState) → IsVerified m → IsTypedState m s → AreSlotsRight m s → AreSlotsFound m s
 
 -- what holds of where a step leads, if fields are found so
 abbrev pub PlacedNext : Type 0 → Module → HolderNext → Type 0
