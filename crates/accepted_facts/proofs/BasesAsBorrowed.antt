@@ -42,7 +42,7 @@ use Rattle.scoped_addresses.proofs.accepted_values.Addresses.{addresses_of_lende
 use Rattle.scoped_addresses.proofs.accepted_values.Based.{based, lent_by_lenders, owned_own_bases}
 use Rattle.scoped_addresses.proofs.accepted_values.Borrowed.{number_of_parameter}
 use Rattle.scoped_addresses.proofs.accepted_values.Made.{parameters_of_entry}
-use Rattle.scoped_addresses.proofs.accepted_values.lowering_laws.Lowerable.{contained}
+use Rattle.numbered_form.proofs.Lists.{contained}
 use Rattle.scoped_addresses.proofs.OwnScopes.{own_scope}
 
 arg_at : (args : List BlockArg) (k : ℕ) → k < length args → (x : BlockArg) × (slice_get args k ≡ Some x)

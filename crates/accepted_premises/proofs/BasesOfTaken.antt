@@ -32,7 +32,7 @@ use Rattle.item_operands.specs.Parts.{inst_at, item_edge, terminator_in, termina
 use Rattle.item_operands.specs.Roles.{by_row, conventions_in, last_roles, roles_for, taken_by, taken_each}
 use Rattle.item_operands.specs.declared.taken.Taken.{Taken}
 use Rattle.item_operands.specs.declared.taken.Treatment.{Treatment}
-use Rattle.accepted_values.proofs.lowering_laws.Lowerable.{contained}
+use Rattle.numbered_form.proofs.Lists.{contained}
 use Rattle.numbered_form.specs.inner.Parts.{has_operands}
 use Rattle.ownership_chains.specs.Chains.{operands_at}
 use Rattle.ownership_chains.specs.Facts.{has, known_or}

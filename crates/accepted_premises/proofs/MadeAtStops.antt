@@ -10,7 +10,7 @@ use Rattle.accepted_values.specs.inner.Making.{IsMadeAt, Makes}
 use Rattle.accepted_values.proofs.Counted.{stands}
 use Rattle.accepted_values.proofs.Made.{items_of, made_somewhere, made_there}
 use Rattle.item_operands.specs.Items.{item_defined}
-use Rattle.accepted_values.proofs.lowering_laws.Lowerable.{contained}
+use Rattle.numbered_form.proofs.Lists.{contained}
 use Rattle.numbered_form.specs.Numbering.{values_of}
 use Rattle.ownership_chains.specs.Facts.{has}
 use Rattle.accepted_values.specs.run_typing.CallForms.{IsOf}

@@ -9,9 +9,9 @@ use Rattle.sil_ast.specs.declared.function.Function.{Function}
 use Rattle.sil_ast.specs.declared.module.Module.{Module}
 use Rattle.sil_ast.specs.declared.place.ValueId.{ValueId}
 use Rattle.owned_run_typing.specs.holder_model.Frames.{has_any}
-use Rattle.lowering_laws.proofs.Lowerable.{contained}
-use Rattle.lowering_laws.proofs.Lists.{each_weaker}
-use Rattle.lowering_laws.proofs.Rings.{defined_somewhere, ring_inside}
+use Rattle.numbered_form.proofs.Lists.{contained, each_weaker}
+use Rattle.ownership_kinds.proofs.Defined.{defined_somewhere}
+use Rattle.ownership_chains.proofs.NoRings.{ring_inside}
 use Rattle.numbered_form.specs.Insts.{insts_in, insts_of}
 use Rattle.numbered_form.specs.Lists.{Each}
 use Rattle.numbered_form.specs.Numbering.{AreCountedFrom, values_of}

@@ -16,7 +16,7 @@ use Rattle.instruction_table.specs.declared.entries.Role.TheVariants as role
 use Rattle.instruction_table.specs.declared.op.Op.{Op}
 use Rattle.instruction_table.specs.declared.op.Op.TheVariants as op
 use Rattle.item_operands.specs.Roles.{by_row, conventions_in, roles_for, taken_as, taken_by, taken_each}
-use Rattle.lowering_laws.proofs.Lowerable.{contained}
+use Rattle.numbered_form.proofs.Lists.{contained}
 use Rattle.numbered_form.specs.inner.Parts.{has_operands, is_typed}
 use Rattle.owned_run_typing.proofs.OwnedInsts.{owned_inst}
 use Rattle.owned_run_typing.specs.inner.OwnedRows as owned

@@ -11,7 +11,7 @@ use Rattle.instruction_table.specs.declared.entries.ResultKind.TheVariants.{None
 use Rattle.instruction_table.specs.declared.entries.Results.TheVariants.{OneResult}
 use Rattle.instruction_table.specs.declared.op.Op.{Op}
 use Rattle.instruction_table.specs.declared.op.Op.TheVariants as op
-use Rattle.lowering_laws.proofs.Lists.{counted_split}
+use Rattle.numbered_form.proofs.Counted.{counted_split}
 use Rattle.numbered_form.specs.Insts.{insts_of}
 use Rattle.numbered_form.specs.Numbering.{AreCountedFrom, defined_in, results_of, value_of, values_of}
 use Rattle.ownership_chains.specs.Facts.{origin_at}

@@ -11,7 +11,7 @@ use Rattle.instruction_table.specs.declared.entries.Ending.TheVariants as ending
 use Rattle.instruction_table.specs.declared.op.Op.TheVariants as op
 use Rattle.item_operands.specs.Parts.{edge_at, edge_in, terminator_in, terminator_of}
 use Rattle.item_operands.specs.Roles.{consumed, taken_along, taken_by}
-use Rattle.lowering_laws.proofs.Lowerable.{contained}
+use Rattle.numbered_form.proofs.Lists.{contained}
 use Rattle.numbered_form.specs.inner.Parts.{are_edges_by, is_branch, is_typed}
 use Rattle.ownership_chains.specs.Chains.{operands_at}
 use Rattle.ownership_chains.specs.Facts.{origin_at, told_by}

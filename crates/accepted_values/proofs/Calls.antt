@@ -13,7 +13,7 @@ use Rattle.instruction_table.specs.declared.entries.Role.TheVariants as role
 use Rattle.instruction_table.specs.declared.op.Op.TheVariants as op
 use Rattle.item_operands.specs.Roles.{by_convention, by_row, conventions_by, conventions_in, role_handed, roles_for, taken_as, taken_by, taken_each}
 use Rattle.item_operands.specs.declared.taken.Treatment.{Treatment}
-use Rattle.lowering_laws.proofs.Lowerable.{contained}
+use Rattle.numbered_form.proofs.Lists.{contained}
 use Rattle.accepted_modules.specs.ownership_kinds.Statics.{all_taken}
 use Rattle.point_checks.specs.Points.{IsAt}
 use Rattle.owned_run_typing.proofs.run_typing_laws.CallFacts.{called}

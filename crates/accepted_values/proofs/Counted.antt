@@ -5,8 +5,8 @@ use Rattle.std.specs.List.{flat_map}
 use Rattle.std.proofs.lemmas.List.Elements.{Contains-append_left, Contains-append_right}
 use Rattle.std.proofs.lemmas.Option.{slice_get-get_or, slice_get-map, slice_get_within}
 use Rattle.sil_ast.specs.declared.place.ValueId.{ValueId}
-use Rattle.lowering_laws.proofs.Lists.{counted_split}
-use Rattle.lowering_laws.proofs.Lowerable.{contained}
+use Rattle.numbered_form.proofs.Counted.{counted_split}
+use Rattle.numbered_form.proofs.Lists.{contained}
 use Rattle.numbered_form.specs.Numbering.{AreCountedFrom}
 
 -- ---- what a list contains

@@ -10,7 +10,7 @@ use Rattle.sil_ast.specs.declared.function.Function.{Function}
 use Rattle.sil_ast.specs.declared.inst.Inst.{Inst}
 use Rattle.sil_ast.specs.declared.module.Module.{Module}
 use Rattle.sil_ast.specs.declared.place.ValueId.{ValueId}
-use Rattle.lowering_laws.proofs.Rings.{defined_somewhere}
+use Rattle.ownership_kinds.proofs.Defined.{defined_somewhere}
 use Rattle.accepted_values.specs.inner.Known.{IsAcceptedBody, IsValue}
 use Rattle.accepted_values.proofs.Accepted.{counted}
 use Rattle.accepted_values.proofs.Counted.{stands}

@@ -10,7 +10,7 @@ use Rattle.sil_ast.specs.declared.module.Module.{Module}
 use Rattle.sil_ast.specs.declared.place.ValueId.{ValueId}
 use Rattle.owned_run_typing.specs.holder_model.Calling.{value_count}
 use Rattle.owned_run_typing.specs.holder_model.ModuleFacts.{facts_of, facts_told, function_facts}
-use Rattle.lowering_laws.proofs.Ends.{facts_of as facts_without_ring}
+use Rattle.ownership_chains.proofs.NoRings.{facts_of as facts_without_ring}
 use Rattle.numbered_form.specs.Numbering.{values_of}
 use Rattle.ownership_chains.specs.Chains.{operands_at}
 use Rattle.ownership_chains.specs.Facts.{AreFactsOf, facts_with, told, told_at, value_of}

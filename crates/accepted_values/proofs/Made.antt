@@ -31,8 +31,8 @@ use Rattle.sil_cfg.specs.declared.item.Item.{Item}
 use Rattle.sil_cfg.specs.declared.item.Item.TheVariants.{Entry, Inst, Edge, Exit}
 use Rattle.sil_cfg.specs.inner.Splice.{Stop, into, is_at, item, same_item}
 use Rattle.accepted_modules.specs.sil_types.Typing.EdgeRules.{goes_to_entry, is_to_entry}
-use Rattle.lowering_laws.proofs.Lists.{counted_split}
-use Rattle.lowering_laws.proofs.Rings.{defined_somewhere}
+use Rattle.numbered_form.proofs.Counted.{counted_split}
+use Rattle.ownership_kinds.proofs.Defined.{defined_somewhere}
 use Rattle.accepted_values.specs.inner.Known.{IsAcceptedBody}
 use Rattle.accepted_values.specs.inner.Making.{AreDistinct, AreItemsOf, AreMadeOnce, AreMadeSomewhere, AreMadeThere, AreParametersOfEntry, IsMadeAt, Makes, argument, parameter, result}
 use Rattle.accepted_values.proofs.Accepted.{counted, typed}

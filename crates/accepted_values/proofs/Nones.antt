@@ -20,7 +20,8 @@ use Rattle.owned_run_typing.specs.ownership_origins.Origins.{is_trivial_or_untyp
 use Rattle.owned_run_typing.specs.ownership_origins.Switched.{switch_to, switched_by}
 use Rattle.owned_run_typing.specs.ownership_origins.declared.switched.Switched.{Switched}
 use Rattle.point_checks.specs.Points.{IsAt}
-use Rattle.owned_run_typing.proofs.run_typing_laws.Rows.Finding.{mapped_from, where_found}
+use Rattle.owned_run_typing.proofs.run_typing_laws.Rows.Finding.{where_found}
+use Rattle.numbered_form.proofs.Lists.{mapped_from}
 use Rattle.owned_run_typing.proofs.run_typing_laws.Rows.Layers.{is_int, target-Address}
 use Rattle.owned_run_typing.proofs.run_typing_laws.ShapeFacts.{same_types}
 use Rattle.sil_ast.specs.Blocks.{args_of}

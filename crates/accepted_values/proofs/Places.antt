@@ -13,8 +13,8 @@ use Rattle.sil_ast.specs.declared.function.BlockArg.{BlockArg}
 use Rattle.sil_ast.specs.declared.function.Function.{Function}
 use Rattle.sil_ast.specs.declared.inst.Inst.{Inst}
 use Rattle.sil_ast.specs.declared.place.ValueId.{ValueId}
-use Rattle.lowering_laws.proofs.Lists.{counted_split}
-use Rattle.lowering_laws.proofs.Lowerable.{contained}
+use Rattle.numbered_form.proofs.Counted.{counted_split}
+use Rattle.numbered_form.proofs.Lists.{contained}
 use Rattle.accepted_values.proofs.Counted.{apart, contains_map, counted_in, in_all, nothing_in, one_of, within}
 
 -- the value is an argument of the block with this number

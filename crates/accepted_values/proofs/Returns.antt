@@ -5,7 +5,7 @@ use Rattle.instruction_table.specs.Forms.{roles_of}
 use Rattle.instruction_table.specs.declared.entries.Role.TheVariants as role
 use Rattle.instruction_table.specs.declared.op.Op.TheVariants as op
 use Rattle.item_operands.specs.Roles.{by_row, conventions_in, roles_for, taken_as, taken_by, taken_each}
-use Rattle.lowering_laws.proofs.Lowerable.{contained}
+use Rattle.numbered_form.proofs.Lists.{contained}
 use Rattle.point_checks.specs.Points.{IsAt}
 use Rattle.owned_run_typing.proofs.run_typing_laws.Found.{not_false}
 use Rattle.owned_run_typing.proofs.run_typing_laws.FunctionFacts.{TypedInst}

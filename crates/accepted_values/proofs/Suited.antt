@@ -13,7 +13,7 @@ use Rattle.item_operands.specs.Items.{item_taken, taken_along_in, taken_in}
 use Rattle.item_operands.specs.Parts.{edge_in, inst_at, terminator_of}
 use Rattle.item_operands.specs.Roles.{taken_along, taken_by}
 use Rattle.item_operands.specs.declared.taken.Taken.{Taken}
-use Rattle.lowering_laws.proofs.Lists.{each_both, each_weaker}
+use Rattle.numbered_form.proofs.Lists.{each_both, each_weaker}
 use Rattle.numbered_form.specs.Lists.{Each}
 use Rattle.ownership_chains.specs.Chains.{operands_at}
 use Rattle.ownership_chains.specs.Facts.{by_kind, facts_with, forwarded, is_guaranteed as guarantees, is_owned as owns, origin_at, told_by}

@@ -7,7 +7,7 @@ use Rattle.std.proofs.lemmas.Bool.{and_parts}
 use Rattle.instruction_table.specs.Forms.{ending_of}
 use Rattle.instruction_table.specs.declared.op.Op.TheVariants as op
 use Rattle.item_operands.specs.Parts.{terminator_of}
-use Rattle.lowering_laws.proofs.Lowerable.{contained}
+use Rattle.numbered_form.proofs.Lists.{contained, mapped_from}
 use Rattle.numbered_form.specs.Numbering.{IsValueBelow, values_of}
 use Rattle.ownership_chains.specs.Chains.{operands_at}
 use Rattle.ownership_chains.specs.Facts.{facts_with, origin_at, told_by}
@@ -21,7 +21,7 @@ use Rattle.owned_run_typing.specs.ownership_origins.Origins.{arg_definition_by, 
 use Rattle.owned_run_typing.specs.ownership_origins.Switched.{switch_to, switched_by}
 use Rattle.owned_run_typing.proofs.run_typing_laws.FunctionFacts.{TypedInst}
 use Rattle.owned_run_typing.proofs.run_typing_laws.ListFacts.{or_second}
-use Rattle.owned_run_typing.proofs.run_typing_laws.Rows.Finding.{each_at, mapped_from, never_passes, passes_at}
+use Rattle.owned_run_typing.proofs.run_typing_laws.Rows.Finding.{each_at, never_passes, passes_at}
 use Rattle.owned_run_typing.proofs.run_typing_laws.ShapeFacts.{same_types}
 use Rattle.owned_run_typing.proofs.run_typing_laws.SwitchFacts.{SwitchKept, switch_kept}
 use Rattle.owned_run_typing.proofs.run_typing_laws.ValueForms.{operands_written}

@@ -10,7 +10,7 @@ use Rattle.instruction_table.specs.declared.entries.Ending.TheVariants as ending
 use Rattle.instruction_table.specs.declared.op.Op.{Op}
 use Rattle.instruction_table.specs.declared.op.Op.TheVariants as op
 use Rattle.item_operands.specs.Parts.{terminator_in}
-use Rattle.lowering_laws.proofs.Lowerable.{contained}
+use Rattle.numbered_form.proofs.Lists.{contained}
 use Rattle.owned_run_typing.specs.ownership_origins.Switched.{edge_to, switch_to, switched_by, switches_by, switches_from}
 use Rattle.owned_run_typing.specs.ownership_origins.declared.switched.Switched.{Switched}
 use Rattle.owned_run_typing.proofs.run_typing_laws.Found.{neither_first, neither_second, not_false}

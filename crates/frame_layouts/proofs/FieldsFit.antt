@@ -27,7 +27,8 @@ use Rattle.ready_code.specs.run_typing.Runnable.{IsRunnable}
 use Rattle.run_values.specs.inner.Laws.{has_no_address, has_no_address_over}
 use Rattle.run_typing_laws.proofs.Declared.{each_append, each_from, holds_of_found}
 use Rattle.run_typing_laws.proofs.Opened.{fold-Int, fold-Tuple, fold-Unowned, fold-Weak}
-use Rattle.run_typing_laws.proofs.Rows.Finding.{each_at, found_behind, mapped_from, none_in_any}
+use Rattle.run_typing_laws.proofs.Rows.Finding.{each_at, found_behind, none_in_any}
+use Rattle.numbered_form.proofs.Lists.{mapped_from}
 use Rattle.run_typing_laws.proofs.Sizes.{plain_type}
 use Rattle.frame_layouts.proofs.Fitting.{Fits, in_decls, not_overfull, overfull}
 

@@ -41,7 +41,8 @@ use Rattle.run_values.specs.inner.Laws.{has_no_address, has_no_address_over}
 use Rattle.ready_code.specs.Layout.{size_of}
 use Rattle.run_typing_laws.proofs.Declared.{each_from}
 use Rattle.run_typing_laws.proofs.Opened.{fold-Address, fold-Unowned, fold-Weak}
-use Rattle.run_typing_laws.proofs.Rows.Finding.{each_at, found_behind, mapped_from, where_found}
+use Rattle.run_typing_laws.proofs.Rows.Finding.{each_at, found_behind, where_found}
+use Rattle.numbered_form.proofs.Lists.{mapped_from}
 use Rattle.run_typing_laws.proofs.Rows.Layers.{object_target, tuple_type, unowned_type, weak_type}
 use Rattle.run_typing_laws.proofs.Rows.Mentioned.{operand_placed}
 use Rattle.run_typing_laws.proofs.Rows.Storage.{behind_address, in_unowned_storage, in_weak_storage, unowned_is_named, weak_is_named}

@@ -8,7 +8,7 @@ use Rattle.ownership_chains.specs.Chains.{HasNoRing, IsInRange}
 use Rattle.ownership_chains.specs.declared.definition.Definition.{Definition}
 use Rattle.lowering_model.specs.Names.{renamed_from, stands_for, stands_within, unless_renamed}
 use Rattle.lowering_laws.proofs.Ends.{ends_at}
-use Rattle.lowering_laws.proofs.Placed.{no_operands}
+use Rattle.ownership_chains.proofs.NoRings.{no_operands}
 
 module _ (renamings : List Definition) where
   -- one step

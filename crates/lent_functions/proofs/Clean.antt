@@ -20,7 +20,7 @@ use Rattle.instruction_table.specs.declared.op.Op.TheVariants as op
 use Rattle.item_operands.specs.Parts.{inst_at, inst_in}
 use Rattle.accepted_values.specs.lifetime_worklist.Lives.{lives_of}
 use Rattle.copy_removal.specs.borrow_scopes.Scopes.{scopes_of}
-use Rattle.accepted_values.proofs.lowering_laws.Rings.{defined_somewhere}
+use Rattle.ownership_kinds.proofs.Defined.{defined_somewhere}
 use Rattle.numbered_form.specs.Numbering.{values_of}
 use Rattle.ownership_chains.specs.Facts.{value_of}
 use Rattle.copy_removal.specs.ownership_kinds.Facts.{facts_in}

@@ -44,7 +44,7 @@ use Rattle.lent_functions.specs.copy_removal.Copies.{IsCopy}
 use Rattle.lent_functions.specs.copy_removal.Removable.{IsBorrowable}
 use Rattle.lent_functions.specs.copy_removal.Rewritten.{lent, lent_inst}
 use Rattle.lent_functions.proofs.Graph.{flow_lent, return_lent}
-use Rattle.lent_functions.proofs.lowering_laws.Rings.{defined_somewhere}
+use Rattle.ownership_kinds.proofs.Defined.{defined_somewhere}
 use Rattle.lent_functions.proofs.Facts.{other_facts}
 use Rattle.lent_functions.proofs.Facts as lent_facts
 use Rattle.lent_functions.proofs.Marks.{marks_lent}

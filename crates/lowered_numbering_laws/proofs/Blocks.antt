@@ -30,7 +30,7 @@ use Rattle.type_definitions.specs.declared.standing.Standing.TheVariants.{Value}
 use Rattle.value_tables.proofs.Rows.{each_flat}
 use Rattle.lowering_laws.proofs.Covered.{New, next_define, new_defines, old_defines, own}
 use Rattle.lowering_laws.proofs.Known.{Known, KnownBlock}
-use Rattle.lowering_laws.proofs.Lists.{each_weaker}
+use Rattle.numbered_form.proofs.Lists.{each_weaker}
 use Rattle.lowering_laws.proofs.NewValues.{spare_values_by, takes_spare}
 use Rattle.lowering_laws.proofs.Structs.{IsStruct}
 use Rattle.lowering_laws.proofs.run_typing_laws.Declared.{each_append}

@@ -37,7 +37,8 @@ use Rattle.value_tables.proofs.Rows.{each_flat}
 use Rattle.lowering_laws.specs.inner.Lowerable.{HasNoRings, IsLowerable}
 use Rattle.lowering_laws.specs.inner.Laws.{defined_by}
 use Rattle.lowering_laws.proofs.Known.{known_blocks}
-use Rattle.lowering_laws.proofs.Lists.{counted_below, each_weaker}
+use Rattle.numbered_form.proofs.Counted.{counted_below}
+use Rattle.numbered_form.proofs.Lists.{each_weaker}
 use Rattle.lowering_laws.proofs.Lowerable.{functions_are_lowerable}
 use Rattle.lowering_laws.proofs.Placed.{defined_are_placed, new_values_are_counted, old_are_placed}
 use Rattle.lowering_laws.proofs.Renumbered.{renumbered_values}

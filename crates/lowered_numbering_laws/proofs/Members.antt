@@ -20,8 +20,7 @@ use Rattle.lowering_laws.specs.sil_types.Typing.Shapes.{name_in, struct_fields}
 use Rattle.type_definitions.specs.Declarations.{Declarations, all_decls, declarations_of, decl_of, has_name, integer_struct, is_swift_optional, members_of}
 use Rattle.type_definitions.specs.Declarations.{optional_cases, swift_structs}
 use Rattle.type_definitions.specs.Rules.{has_unknown_owner, is_no_member}
-use Rattle.lowering_laws.proofs.Lists.{each_weaker}
-use Rattle.lowering_laws.proofs.Lowerable.{contained}
+use Rattle.numbered_form.proofs.Lists.{contained, each_weaker}
 use Rattle.lowering_laws.proofs.Structs.{IsStruct}
 use Rattle.lowering_laws.proofs.run_typing_laws.Declared.{each_append, each_from, found_at, holds_of_found, named_so}
 use Rattle.lowering_laws.proofs.run_typing_laws.Found.{name_is, place_once}

@@ -27,7 +27,7 @@ use Rattle.lowering_laws.specs.sil_types.Typing.Typed.{Typed}
 use Rattle.type_definitions.specs.Declarations.{Declarations, declarations_of}
 use Rattle.type_definitions.specs.Mentions.{Mention, function_members, in_function}
 use Rattle.lowering_laws.specs.inner.Lowerable.{HasNoRings}
-use Rattle.lowering_laws.proofs.Lists.{each_weaker}
+use Rattle.numbered_form.proofs.Lists.{each_weaker}
 use Rattle.lowering_laws.proofs.Structs.{IsStruct}
 use Rattle.lowering_laws.proofs.run_typing_laws.Declared.{each_from}
 use Rattle.lowering_laws.proofs.run_typing_laws.ListFacts.{each_map}

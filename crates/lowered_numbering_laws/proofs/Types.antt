@@ -28,7 +28,7 @@ use Rattle.type_definitions.specs.Rules.{is_misplaced_value_layer, is_no_member,
 use Rattle.type_definitions.specs.declared.measure.Measure.{Measure}
 use Rattle.type_definitions.specs.declared.standing.Standing.TheVariants.{Value}
 use Rattle.lowering_laws.specs.inner.Lowerable.{HasNoRings}
-use Rattle.lowering_laws.proofs.Lists.{each_both, each_weaker}
+use Rattle.numbered_form.proofs.Lists.{each_both, each_weaker}
 use Rattle.lowering_laws.proofs.Structs.{IsStruct}
 use Rattle.lowering_laws.proofs.ownership_origins.Ranges.{all_from_each}
 use Rattle.lowering_laws.proofs.run_typing_laws.Declared.{each_append}

@@ -23,7 +23,7 @@ use Rattle.lowering_laws.specs.lowering_model.Names.{renamed_from}
 use Rattle.lowering_laws.specs.lowering_model.Numbers.{new_number, numbering_of, renumbered, renumbered_arg}
 use Rattle.lowering_laws.proofs.run_typing_laws.ListFacts.{map_twice}
 use Rattle.lowering_laws.proofs.run_typing_laws.Rows.Tables.{row_at, told_of_args}
-use Rattle.lowering_laws.proofs.Lists.{each_weaker}
+use Rattle.numbered_form.proofs.Lists.{each_weaker}
 use Rattle.lowered_typing_laws.proofs.Told.{each_of_maps}
 
 -- where each argument passes or fails

@@ -33,8 +33,8 @@ use Rattle.lowering_laws.specs.lowering_model.LoweredInsts.{retains_loaded, stor
 use Rattle.lowering_laws.specs.lowering_model.NewInsts.{loaded_from, release, retain}
 use Rattle.lowering_laws.specs.lowering_model.declared.lowering.Lowering.TheVariants as lowering
 use Rattle.lowering_laws.proofs.run_typing_laws.EndFacts.{one_operand}
-use Rattle.numbered_form.proofs.Lists.{empty_is}
-use Rattle.lowering_laws.proofs.run_typing_laws.Rows.Finding.{found_behind, mapped_from, mapped_some, passed, some_of, where_found}
+use Rattle.numbered_form.proofs.Lists.{empty_is, mapped_from}
+use Rattle.lowering_laws.proofs.run_typing_laws.Rows.Finding.{found_behind, mapped_some, passed, some_of, where_found}
 use Rattle.lowering_laws.proofs.Structs.{IsStruct, struct_is}
 use Rattle.lowered_typing_laws.proofs.Sound.{Sound, Source}
 

@@ -6,7 +6,7 @@ use Rattle.std.specs.List.{AllZip, cons_option, filter_map, flat_map, range_with
 use Rattle.std.proofs.lemmas.List.Sums.{sum_by-append, sum_by-cons}
 use Rattle.std.proofs.lemmas.Option.{slice_get-map}
 use Rattle.numbered_form.specs.Lists.{Each}
-use Rattle.lowering_laws.proofs.run_typing_laws.Rows.Finding.{mapped_from}
+use Rattle.numbered_form.proofs.Lists.{mapped_from}
 
 -- ---- what holds of each
 

@@ -41,7 +41,7 @@ use Rattle.lowering_laws.specs.lowering_model.LoweredModules.{lowered, lowered_b
 use Rattle.lowering_laws.specs.lowering_model.Numbers.{new_number, numbering_of, renumbered_edge, renumbered_inst}
 use Rattle.lowering_laws.specs.inner.Lowerable.{HasNoRings}
 use Rattle.lowering_laws.proofs.Lowerable.{functions_are_lowerable}
-use Rattle.lowering_laws.proofs.Lists.{each_weaker}
+use Rattle.numbered_form.proofs.Lists.{each_weaker}
 use Rattle.lowered_typing_laws.specs.inner.LoweredTyped.{LoweredIsTyped}
 use Rattle.lowered_typing_laws.proofs.Args.{not_annotated}
 use Rattle.lowered_typing_laws.proofs.Bodies.{LowHere, StandsAt, addresses_stay, signature_fits, stands_at}

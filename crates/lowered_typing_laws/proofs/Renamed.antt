@@ -35,9 +35,9 @@ use Rattle.lowering_laws.specs.sil_types.Typing.Shapes.{is_nontrivial, is_object
 use Rattle.lowering_laws.specs.sil_types.Typing.Values.{arg_has, functions_by, result_functions, result_types, type_at, value_types}
 use Rattle.lowering_laws.specs.lowering_model.Names.{renamed_from, stands_for, stands_within, unless_renamed}
 use Rattle.lowering_laws.proofs.run_typing_laws.Declared.{each_from}
-use Rattle.lowering_laws.proofs.run_typing_laws.Rows.Finding.{mapped_from, mapped_some, where_found}
+use Rattle.lowering_laws.proofs.run_typing_laws.Rows.Finding.{mapped_some, where_found}
+use Rattle.numbered_form.proofs.Lists.{each_weaker, mapped_from}
 use Rattle.lowering_laws.proofs.run_typing_laws.Rows.Points.{in_front}
-use Rattle.lowering_laws.proofs.Lists.{each_weaker}
 use Rattle.lowered_typing_laws.proofs.Lists.{zip_append, zip_at, zip_flat, zip_maps, zip_repeat}
 use Rattle.lowered_typing_laws.proofs.NewFunctions.{no_function}
 use Rattle.lowered_typing_laws.proofs.Operands.{typed_at}

@@ -37,7 +37,8 @@ use Rattle.lowering_laws.specs.sil_types.Typing.SwitchRules.{misfits_default, mi
 use Rattle.lowering_laws.specs.sil_types.Typing.Values.{type_at, value_types}
 use Rattle.lowering_laws.proofs.run_typing_laws.Found.{both_second, each_at}
 use Rattle.lowering_laws.proofs.run_typing_laws.ListFacts.{or_second}
-use Rattle.lowering_laws.proofs.run_typing_laws.Rows.Finding.{fails_at, mapped_from, passes_at, where_found}
+use Rattle.lowering_laws.proofs.run_typing_laws.Rows.Finding.{fails_at, passes_at, where_found}
+use Rattle.numbered_form.proofs.Lists.{mapped_from}
 use Rattle.lowering_laws.proofs.run_typing_laws.SameTypes.{same_types}
 use Rattle.lowered_typing_laws.proofs.Becomes.{taken_type}
 use Rattle.lowered_typing_laws.proofs.Lists.{first_from, kept_first, only_within, some_first, some_kept, where_true}

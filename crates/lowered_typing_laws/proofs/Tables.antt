@@ -29,7 +29,7 @@ use Rattle.lowering_laws.specs.lowering_model.Names.{stands_for}
 use Rattle.lowering_laws.specs.lowering_model.Numbers.{new_number, numbering_of, renumbered, renumbered_arg, renumbered_inst}
 use Rattle.lowering_laws.proofs.Placed.{defined_are_placed, old_are_placed}
 use Rattle.lowering_laws.proofs.run_typing_laws.Declared.{each_from}
-use Rattle.lowering_laws.proofs.Lists.{each_weaker}
+use Rattle.numbered_form.proofs.Lists.{each_weaker}
 use Rattle.lowered_typing_laws.proofs.Lists.{mapped_at}
 use Rattle.lowered_typing_laws.proofs.NewFunctions.{new_functions, no_function, no_spare}
 use Rattle.lowered_typing_laws.proofs.NewTypes.{new_types, spare_type}

@@ -24,7 +24,7 @@ use Rattle.lowering_laws.proofs.run_typing_laws.Declared.{each_from}
 use Rattle.lowering_laws.proofs.run_typing_laws.ListFacts.{each_parts, each_within, get_below, get_last, map_twice}
 use Rattle.lowering_laws.proofs.run_typing_laws.Rows.Points.{in_front}
 use Rattle.lowering_laws.proofs.run_typing_laws.Rows.Tables.{row_at, told_of_args, told_of_results}
-use Rattle.lowering_laws.proofs.Lists.{counted_below}
+use Rattle.numbered_form.proofs.Counted.{counted_below}
 use Rattle.lowered_typing_laws.proofs.Lists.{get_behind, maps_same}
 
 pub each_of_maps : {X A : Type 0} (f g : X → A) (xs : List X) → map f xs ≡ map g xs → Each (λ x. f x ≡ g x) xs

@@ -12,40 +12,18 @@ use Rattle.sil_ast.specs.declared.inst.Inst.{Inst}
 use Rattle.sil_ast.specs.declared.place.ValueId.{ValueId}
 use Rattle.lowering_model.specs.LoweredBlocks.{args_become, block_becomes, blocks_become, has_own_name, insts_become, value_with, without_annotation}
 use Rattle.lowering_model.specs.LoweredInsts.{becomes}
-use Rattle.lowering_model.specs.Numbers.{is_value}
 use Rattle.numbered_form.specs.Lists.{Each}
-use Rattle.numbered_form.specs.Numbering.{AreCountedFrom, defined_in, results_of, value_of, values_of}
+use Rattle.numbered_form.specs.Numbering.{AreCountedFrom, defined_in, is_value, results_of, value_of, values_of}
 use Rattle.ownership_chains.specs.declared.definition.Definition.{Definition}
 use Rattle.lowering_model.specs.ownership_origins.Renamings.{renamings_of}
 use Rattle.type_definitions.specs.Declarations.{Declarations}
 use Rattle.lowering_laws.proofs.Known.{Known, KnownBlock, has_name}
-use Rattle.lowering_laws.proofs.Lists.{counted_split}
+use Rattle.numbered_form.proofs.Counted.{counted_split}
 use Rattle.lowering_laws.proofs.NewValues.{new_values, spare_values_by, takes_spare}
 use Rattle.lowering_laws.proofs.Rising.{AreRising, Rises, rises_along, rises_further, rises_kept, rises_none, rises_spare}
+use Rattle.numbered_form.proofs.Lists.{any_cases, any_left, any_right}
 
 -- ---- values among others
-
-module _ {A : Type 0} (test : A → Bool) where
-  pub any_left : (xs ys : List A) → list_any test xs ≡ true → list_any test (xs ++ ys) ≡ true
-  any_left [] ys e = absurd (cc)
-  any_left (x ∷ xs) ys e = at (test x) (λ h. any_left xs ys h) e
-    where
-      at : (b : Bool) → (list_any test xs ≡ true → list_any test (xs ++ ys) ≡ true) → (b || list_any test xs) ≡ true → (b || list_any test (xs ++ ys)) ≡ true
-      at true rest h = refl
-      at false rest h = rest h
-
-  pub any_right : (xs ys : List A) → list_any test ys ≡ true → list_any test (xs ++ ys) ≡ true
-  any_right [] ys e = e
-  any_right (x ∷ xs) ys e = or_right (test x) (list_any test (xs ++ ys)) (any_right xs ys e)
-
-  pub any_cases : (xs ys : List A) → list_any test (xs ++ ys) ≡ true → (list_any test xs ≡ true) ⊎ (list_any test ys ≡ true)
-  any_cases [] ys e = inr e
-  any_cases (x ∷ xs) ys e = at (test x) (λ h. any_cases xs ys h) e
-    where
-      at : (b : Bool) → (list_any test (xs ++ ys) ≡ true → (list_any test xs ≡ true) ⊎ (list_any test ys ≡ true)) → (b || list_any test (xs ++ ys)) ≡ true
-          → ((b || list_any test xs) ≡ true) ⊎ (list_any test ys ≡ true)
-      at true rest h = inl refl
-      at false rest h = rest h
 
 module _ (own : ValueId → Bool) where
   -- the values of the first that have names of their own are among the second

@@ -1,37 +1,21 @@
 -- What a value stands for has a name of its own: where no name leads back to itself, names end.
-use Rattle.std.proofs.Common.{◌≡◌, ℕ, zero, suc, ◌<◌, List, [], ◌∷◌, length, map, refl, sym, ap, ◌∙◌, subst, arith, Bool, true, false, cond, Option, Some, None}
-use Rattle.std.specs.Prelude.{◌&&◌, All, Contains, is_some, slice_get, unwrap_or}
+use Rattle.std.proofs.Common.{◌≡◌, ℕ, zero, suc, ◌<◌, List, [], ◌∷◌, length, refl, sym, ap, ◌∙◌, subst, Bool, true, false, cond, Option, Some, None}
+use Rattle.std.specs.Prelude.{All, is_some, slice_get}
 use Rattle.std.specs.List.{list_all}
 use Rattle.std.proofs.lemmas.Bool.{and_parts, false≢true}
-use Rattle.std.proofs.lemmas.List.{get_or-map, length-map}
-use Rattle.std.proofs.lemmas.List.Sums.{AllPass-from_list_all}
-use Rattle.type_definitions.specs.declared.kind.Kind.TheVariants as kind
-use Rattle.std.proofs.lemmas.List.Elements.{All-contains, All-head, Contains-append_right}
+use Rattle.std.proofs.lemmas.List.Elements.{All-head}
 use Rattle.std.proofs.lemmas.Option.{none-some}
 use Rattle.sil_ast.specs.declared.place.ValueId.{ValueId}
-use Rattle.containment.proofs.RingLemmas.{Ring, some_ring}
-use Rattle.containment.specs.Chains as graph
-use Rattle.containment.specs.Chains.{parts_of}
-use Rattle.ownership_chains.proofs.Enough.{told_in_time}
-use Rattle.ownership_chains.specs.Chains.{Chain, HasNoRing, IsInRange, more, one, operands_at}
-use Rattle.ownership_chains.specs.Facts.{AreFactsOf, facts_with, is_known, known_or, origin_at, told, told_by, value_of}
+use Rattle.ownership_chains.proofs.NoRings.{facts_of}
+use Rattle.ownership_chains.specs.Chains.{HasNoRing, IsInRange, operands_at}
+use Rattle.ownership_chains.specs.Facts.{is_known, known_or, origin_at, told_by}
 use Rattle.ownership_chains.specs.Steps.{told_in}
 use Rattle.ownership_chains.specs.declared.definition.Definition.{Definition}
 use Rattle.ownership_chains.specs.declared.facts.Facts.{Facts}
-use Rattle.ownership_chains.specs.inner.Numbers.{number_of, numbers_of, operand_numbers}
 use Rattle.lowering_model.specs.Names.{renamed_from, stands_for, stands_within, unless_renamed}
 use Rattle.lowering_laws.specs.inner.Laws.{NamesEnd}
 
 -- ---- one of several operands
-
-some_unknown : (known : ValueId → Option Facts) (ops : List ValueId) → list_all (is_known known) ops ≡ false → (w : ValueId) × Contains ops w × (known w ≡ None)
-some_unknown known [] h = absurd (cc)
-some_unknown known (x ∷ ops) h = at (known x) refl (λ e. some_unknown known ops (sym (ap (λ b. b && list_all (is_known known) ops) e) ∙ h))
-  where
-    at : (o : Option Facts) → known x ≡ o → (is_known known x ≡ true → (w : ValueId) × Contains ops w × (known w ≡ None))
-        → (w : ValueId) × Contains (x ∷ ops) w × (known w ≡ None)
-    at None e rest = (x, (0, omega arith, refl), e)
-    at (Some f) e rest = let it = rest (ap is_some e) in (it.0, Contains-append_right (x ∷ []) ops it.0 it.1, it.2)
 
 first_known : (known : ValueId → Option Facts) (ops : List ValueId) (w : ValueId) → list_all (is_known known) ops ≡ true → slice_get ops 0 ≡ Some w
     → (f : Facts) × (known w ≡ Some f)
@@ -49,89 +33,9 @@ first_within : (P : ValueId → Type 0) (ops : List ValueId) (w : ValueId) → A
 first_within P [] w h e = absurd (cc)
 first_within P (x ∷ ops) w h e = let same : x ≡ w = cc in subst P same (All-head P x ops h)
 
--- ---- operands as numbers
-
-has_number : (xs : List ValueId) (w : ValueId) → Contains xs w → Contains (map number_of xs) w.0
-has_number xs w c =
-    let long : length (map number_of xs) ≡ length xs = length-map xs number_of in
-    let lt : c.0 < length xs = c.1 in
-    (c.0, omega arith, get_or-map number_of xs c.0 w w.0 c.1 ∙ ap number_of c.2)
-
-has_value : (xs : List ValueId) (n : ℕ) → Contains (map number_of xs) n → Contains xs (value_of n)
-has_value xs n c =
-    let long : length (map number_of xs) ≡ length xs = length-map xs number_of in
-    let lt : c.0 < length (map number_of xs) = c.1 in
-    let inside : c.0 < length xs = omega arith in
-    (c.0, inside, ap value_of (sym (get_or-map number_of xs c.0 (value_of n) n inside) ∙ c.2))
-
-parts_are : (defs : List Definition) (n : ℕ) → parts_of (numbers_of defs) n ≡ map number_of (operands_at defs (value_of n))
-parts_are [] zero = refl
-parts_are [] (suc n) = refl
-parts_are (d ∷ defs) zero = refl
-parts_are (d ∷ defs) (suc n) = parts_are defs n
-
-chain_value : (defs : List Definition) (n m : ℕ) → graph.Chain (numbers_of defs) n m → Chain defs (value_of n) (value_of m)
-chain_value defs n m (graph.one _ _ c) =
-    one (value_of n) (value_of m) (has_value (operands_at defs (value_of n)) m (subst (λ xs. Contains xs m) (parts_are defs n) c))
-chain_value defs n m (graph.more _ k _ c h) =
-    more (value_of n) (value_of k) (value_of m) (has_value (operands_at defs (value_of n)) k (subst (λ xs. Contains xs k) (parts_are defs n) c))
-    (chain_value defs k m h)
+-- ---- names end
 
 module _ (defs : List Definition) (range : IsInRange defs) (none : HasNoRing defs) where
-  abbrev pub known : ValueId → Option Facts
-  known = told_in defs (length defs)
-
-  -- ---- facts are told of each value
-
-  abbrev IsLeft : ℕ → Type 0
-  IsLeft n = (n < length defs) × (known (value_of n) ≡ None)
-
-  -- where all operands are known, so is the value
-  all_known_so : (v : ValueId) → v.0 < length defs → list_all (is_known known) (operands_at defs v) ≡ true → (f : Facts) × (known v ≡ Some f)
-  all_known_so v lt e = (it, (told_in_time defs v it range lt).0 (told v (known_or known) operand))
-    where
-      it : Facts
-      it = told_by (length defs) v (known_or known) (operands_at defs v) (origin_at defs v)
-
-      operand : (w : ValueId) → Contains (operands_at defs v) w → AreFactsOf defs w (known_or known w)
-      operand w c = at (known w) refl
-        where
-          on : is_known known w ≡ true
-          on = All-contains (λ x. is_known known x ≡ true) (operands_at defs v) w (AllPass-from_list_all (is_known known) (operands_at defs v) e) c
-
-          at : (o : Option Facts) → known w ≡ o → AreFactsOf defs w (known_or known w)
-          at None is = absurd (false≢true (sym (ap is_some is) ∙ on))
-          at (Some f) is =
-              subst (AreFactsOf defs w) (sym (ap (λ o. unwrap_or o (facts_with kind.Plain [])) is))
-              ((told_in_time defs w f range (All-contains (λ x. x.0 < length defs) (operands_at defs v) w (range.inside v lt) c)).1 is)
-
-  not_all : (v : ValueId) → v.0 < length defs → known v ≡ None → list_all (is_known known) (operands_at defs v) ≡ false
-  not_all v lt unknown = at (list_all (is_known known) (operands_at defs v)) refl
-    where
-      at : (b : Bool) → list_all (is_known known) (operands_at defs v) ≡ b → list_all (is_known known) (operands_at defs v) ≡ false
-      at true e = let f = all_known_so v lt e in absurd (none-some f.0 (sym unknown ∙ f.1))
-      at false e = e
-
-  next : (n : ℕ) → IsLeft n → (m : ℕ) × Contains (parts_of (numbers_of defs) n) m × (m < length (numbers_of defs)) × IsLeft m
-  next n left =
-      let w = some_unknown known (operands_at defs (value_of n)) (not_all (value_of n) left.0 left.1) in
-      let lt : w.0.0 < length defs = All-contains (λ x. x.0 < length defs) (operands_at defs (value_of n)) w.0 (range.inside (value_of n) left.0) w.1 in
-      let long : length (numbers_of defs) ≡ length defs = length-map defs operand_numbers in
-      let part = subst (λ xs. Contains xs w.0.0) (sym (parts_are defs n)) (has_number (operands_at defs (value_of n)) w.0 w.1) in
-      (w.0.0, part, omega arith, (lt, w.2))
-
-  pub facts_of : (v : ValueId) → v.0 < length defs → (f : Facts) × (known v ≡ Some f)
-  facts_of v lt = at (known v) refl
-    where
-      ring : Ring (numbers_of defs) IsLeft → ⊥
-      ring r = none (value_of r.0) (chain_value defs r.0 r.0 r.2)
-
-      at : (o : Option Facts) → known v ≡ o → (f : Facts) × (known v ≡ Some f)
-      at None e = absurd (ring (some_ring (numbers_of defs) IsLeft next v.0 (lt, e)))
-      at (Some f) e = (f, e)
-
-  -- ---- so names end
-
   all_known : (n : ℕ) (v : ValueId) (f : Facts) → told_in defs (suc n) v ≡ Some f → list_all (is_known (told_in defs n)) (operands_at defs v) ≡ true
   all_known n v f e = at (list_all (is_known (told_in defs n)) (operands_at defs v)) refl
     where
@@ -164,7 +68,7 @@ module _ (defs : List Definition) (range : IsInRange defs) (none : HasNoRing def
           (rest w (first_within (λ x. x.0 < length defs) (operands_at defs v) w (range.inside v lt) is))
 
   pub ends_at : (v : ValueId) → v.0 < length defs → ((stands_for defs v).0 < length defs) × (renamed_from defs (stands_for defs v) ≡ None)
-  ends_at v lt = let f = facts_of v lt in (inside_within (length defs) v lt, own_within (length defs) v f.0 f.1)
+  ends_at v lt = let f = facts_of defs range none v lt in (inside_within (length defs) v lt, own_within (length defs) v f.0 f.1)
 
 -- a value with a name of its own stands for itself
 pub stands_itself : (defs : List Definition) (v : ValueId) → renamed_from defs v ≡ None → stands_for defs v ≡ v

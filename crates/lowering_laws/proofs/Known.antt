@@ -22,9 +22,8 @@ use Rattle.point_checks.specs.Points.{IsAt}
 use Rattle.lowering_model.specs.Names.{is_other_name}
 use Rattle.run_typing_laws.proofs.Rows.Tables.{row_at, told_of_results}
 use Rattle.lowering_laws.specs.inner.Lowerable.{IsLowerable, IsLowerableBlock, IsLowerableInst}
-use Rattle.lowering_laws.proofs.Lists.{each_weaker}
 use Rattle.run_typing_laws.proofs.Declared.{each_from}
-use Rattle.numbered_form.proofs.Lists.{empty_is}
+use Rattle.numbered_form.proofs.Lists.{each_weaker, empty_is}
 use Rattle.run_typing_laws.proofs.Rows.Finding.{each_at}
 use Rattle.run_typing_laws.proofs.Rows.Points.{in_front}
 use Rattle.run_typing_laws.proofs.Rows.Shares.{of_parts}

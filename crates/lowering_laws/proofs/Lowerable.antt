@@ -1,9 +1,8 @@
 -- Each function of a module that was read and typed, and in which no value is another name of itself, has what lowering asks.
-use Rattle.std.proofs.Common.{◌≡◌, ℕ, List, [], ◌∷◌, length, true, Some}
-use Rattle.std.specs.Prelude.{◌&&◌, Contains, slice_get}
+use Rattle.std.proofs.Common.{◌≡◌, ℕ, [], ◌∷◌, length, true, Some}
+use Rattle.std.specs.Prelude.{◌&&◌, slice_get}
 use Rattle.std.specs.List.{list_all}
 use Rattle.std.proofs.lemmas.Bool.{and_parts}
-use Rattle.std.proofs.lemmas.Option.{get_or_from_slice_get, slice_get_within}
 use Rattle.sil_ast.specs.declared.function.Block.{Block}
 use Rattle.sil_ast.specs.declared.function.Function.{Function}
 use Rattle.sil_ast.specs.declared.inst.Inst.{Inst}
@@ -25,9 +24,7 @@ use Rattle.lowering_laws.specs.inner.Laws.{AreLowerable}
 use Rattle.run_typing_laws.proofs.Declared.{each_from}
 use Rattle.run_typing_laws.proofs.Rows.Finding.{each_at, never_fails}
 use Rattle.run_typing_laws.proofs.Rows.Points.{in_front}
-
-pub contained : {A : Type 0} (xs : List A) (k : ℕ) (x : A) → slice_get xs k ≡ Some x → Contains xs x
-contained xs k x e = (k, slice_get_within xs k x e, get_or_from_slice_get xs k x x e)
+use Rattle.numbered_form.proofs.Lists.{contained}
 
 module _ (m : Module) (n : ℕ) (f : Function) (numbered : IsNumbered m) (typed : Typed m) (rings : HasNoRings m) (there : slice_get m.functions n ≡ Some f) where
   abbrev d : Declarations

@@ -1,18 +1,15 @@
 -- The values of lowered blocks stand for themselves, their places are their new numbers, and each old value stands for one of them.
-use Rattle.std.proofs.Common.{◌≡◌, ℕ, zero, suc, ◌+◌, ◌<◌, ◌≤◌, List, [], ◌∷◌, length, map, refl, sym, ap, ◌∙◌, subst, arith, Bool, true, false, ◌⊎◌, inl, inr}
+use Rattle.std.proofs.Common.{◌≡◌, ℕ, ◌+◌, ◌<◌, ◌≤◌, List, length, map, refl, sym, ap, ◌∙◌, subst, arith, true, ◌⊎◌, inl, inr}
 use Rattle.std.proofs.Common.{Option, Some, None}
-use Rattle.std.specs.Prelude.{◌||◌, is_some, not, slice_get, unwrap_or}
-use Rattle.std.specs.List.{list_any}
-use Rattle.std.proofs.lemmas.Bool.{cases_lt, eqb-false, or_left, or_right}
+use Rattle.std.specs.Prelude.{is_some, not, slice_get}
 use Rattle.std.proofs.lemmas.Option.{slice_get-map}
 use Rattle.sil_ast.specs.declared.function.Function.{Function}
 use Rattle.sil_ast.specs.declared.place.ValueId.{ValueId}
 use Rattle.lowering_model.specs.LoweredBlocks.{lowered_blocks, value_with}
 use Rattle.lowering_model.specs.LoweredModules.{lowered_body}
 use Rattle.lowering_model.specs.Names.{renamed_from, stands_for}
-use Rattle.lowering_model.specs.Numbers.{is_value, new_number, numbering_of, place_among}
+use Rattle.lowering_model.specs.Numbers.{new_number, numbering_of, place_among}
 use Rattle.numbered_form.specs.Numbering.{AreCountedFrom, values_of}
-use Rattle.ownership_chains.specs.Chains.{operands_at}
 use Rattle.ownership_chains.specs.declared.definition.Definition.{Definition}
 use Rattle.lowering_model.proofs.ownership_origins.Counts.{are_of_values}
 use Rattle.lowering_model.specs.ownership_origins.Renamings.{renamings_of}
@@ -22,43 +19,18 @@ use Rattle.lowering_laws.specs.inner.Laws.{AreDefinedPlaced, AreNewCounted, AreO
 use Rattle.lowering_laws.proofs.Covered.{blocks_cover, blocks_rise}
 use Rattle.lowering_laws.proofs.Ends.{names_end, stands_itself}
 use Rattle.lowering_laws.proofs.Known.{has_name, known_blocks}
-use Rattle.lowering_laws.proofs.Lists.{counted_from}
+use Rattle.numbered_form.proofs.Counted.{any_counted, counted_from, stands_somewhere}
 use Rattle.lowering_laws.proofs.Renumbered.{renumbered_values}
-use Rattle.lowering_laws.proofs.Rising.{AreApart, AreRising, all_own, place_found, rising_apart, stands_somewhere}
-use Rattle.run_typing_laws.proofs.Rows.Finding.{each_at, mapped_from}
-
--- a value that is counted is among those that are
-pub any_counted : (n : ℕ) (vs : List ValueId) (v : ValueId) → AreCountedFrom n vs → n ≤ v.0 → v.0 < n + length vs → list_any (is_value v) vs ≡ true
-any_counted n [] v c from to = absurd (omega arith)
-any_counted n (x ∷ vs) v c from to = at (is_value v x) refl (λ lt. any_counted (n + 1) vs v c.1 lt (omega arith))
-  where
-    first : x.0 ≡ n
-    first = c.0
-
-    at_least : (n < v.0) ⊎ (v.0 ≤ n) → (v.0 ≡ x.0 → ⊥) → n + 1 ≤ v.0
-    at_least (inl lt) other = omega arith
-    at_least (inr le) other = absurd (other (omega arith))
-
-    at : (b : Bool) → is_value v x ≡ b → (n + 1 ≤ v.0 → list_any (is_value v) vs ≡ true) → (is_value v x || list_any (is_value v) vs) ≡ true
-    at true is rest = or_left (is_value v x) (list_any (is_value v) vs) is
-    at false is rest =
-        let other : v.0 ≡ x.0 → ⊥ = eqb-false v.0 x.0 is in
-        or_right (is_value v x) (list_any (is_value v) vs) (rest (at_least (cases_lt n v.0) other))
+use Rattle.lowering_laws.proofs.Rising.{AreApart, AreRising, all_own, place_found, rising_apart}
+use Rattle.run_typing_laws.proofs.Rows.Finding.{each_at}
+use Rattle.numbered_form.proofs.Lists.{mapped_from}
+use Rattle.ownership_chains.proofs.NoRings.{no_operands}
 
 no_name : (o : Option ValueId) → not (is_some o) ≡ true → o ≡ None
 no_name None e = refl
 no_name (Some v) e = absurd (cc)
 
 -- a value beyond the function is another name of none
-pub no_operands : (defs : List Definition) (v : ValueId) → length defs ≤ v.0 → operands_at defs v ≡ []
-no_operands defs v le = at defs v.0 le
-  where
-    at : (defs : List Definition) (n : ℕ) → length defs ≤ n → unwrap_or (slice_get (map (λ x. x.operands) defs) n) [] ≡ []
-    at [] zero le = refl
-    at [] (suc n) le = refl
-    at (x ∷ defs) zero le = absurd (omega arith)
-    at (x ∷ defs) (suc n) le = at defs n (omega arith)
-
 beyond : (defs : List Definition) (v : ValueId) → length defs ≤ v.0 → renamed_from defs v ≡ None
 beyond defs v le = ap (λ vs. slice_get vs 0) (no_operands defs v le)
 

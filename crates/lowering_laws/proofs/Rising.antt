@@ -2,14 +2,14 @@
 -- each is found at its place.
 use Rattle.std.proofs.Common.{◌≡◌, ℕ, zero, suc, ◌+◌, ◌<◌, ◌≤◌, List, [], ◌∷◌, ◌++◌, length, refl, sym, ap, ◌∙◌, subst, arith, append_assoc, Bool, true, false}
 use Rattle.std.proofs.Common.{not, cond, ◌⊎◌, inl, inr, Some}
-use Rattle.std.specs.Prelude.{◌||◌, ⊤, filter, slice_get}
-use Rattle.std.specs.List.{list_any, position_or_len}
-use Rattle.std.proofs.lemmas.Bool.{eq-eqb, eqb-true, ne_eqb}
+use Rattle.std.specs.Prelude.{⊤, filter, slice_get}
+use Rattle.std.specs.List.{position_or_len}
+use Rattle.std.proofs.lemmas.Bool.{eq-eqb, ne_eqb}
 use Rattle.sil_ast.specs.declared.place.ValueId.{ValueId}
 use Rattle.lowering_model.specs.LoweredBlocks.{value_with}
-use Rattle.lowering_model.specs.Numbers.{is_value, place_among}
+use Rattle.lowering_model.specs.Numbers.{place_among}
 use Rattle.numbered_form.specs.Lists.{Each}
-use Rattle.numbered_form.specs.Numbering.{AreCountedFrom}
+use Rattle.numbered_form.specs.Numbering.{AreCountedFrom, is_value}
 use Rattle.run_typing_laws.proofs.Rows.Finding.{each_at}
 
 -- ---- values of which none stands twice
@@ -34,15 +34,6 @@ found_at (x ∷ vs) (suc k) v h e =
 
 pub place_found : (vs : List ValueId) (k : ℕ) (v : ValueId) → AreApart vs → slice_get vs k ≡ Some v → place_among vs v ≡ value_with k
 place_found vs k v h e = ap value_with (found_at vs k v h e)
-
--- the value that a test of all finds stands somewhere
-pub stands_somewhere : (vs : List ValueId) (v : ValueId) → list_any (is_value v) vs ≡ true → (k : ℕ) × (slice_get vs k ≡ Some v)
-stands_somewhere [] v e = absurd (cc)
-stands_somewhere (x ∷ vs) v e = at (is_value v x) refl (λ h. stands_somewhere vs v h)
-  where
-    at : (b : Bool) → is_value v x ≡ b → (list_any (is_value v) vs ≡ true → (k : ℕ) × (slice_get vs k ≡ Some v)) → (k : ℕ) × (slice_get (x ∷ vs) k ≡ Some v)
-    at true is among = let number : v.0 ≡ x.0 = eqb-true v.0 x.0 is in (0, ap (λ n. Some (value_with n)) (sym number))
-    at false is among = let rest = among (sym (ap (λ b. b || list_any (is_value v) vs) is) ∙ e) in (suc rest.0, rest.1)
 
 -- ---- rising values
 

@@ -1,5 +1,5 @@
 -- The values of a lowered function, numbered anew.
-use Rattle.std.specs.Prelude.{List, Bool, ◌==◌, map}
+use Rattle.std.specs.Prelude.{List, map}
 use Rattle.std.specs.List.{position_or_len}
 use Rattle.sil_ast.specs.declared.function.Block.{Block}
 use Rattle.sil_ast.specs.declared.function.BlockArg.{BlockArg}
@@ -8,7 +8,7 @@ use Rattle.sil_ast.specs.declared.inst.Edge.{Edge}
 use Rattle.sil_ast.specs.declared.inst.Inst.{Inst}
 use Rattle.sil_ast.specs.declared.operands.Operand.{Operand}
 use Rattle.sil_ast.specs.declared.place.ValueId.{ValueId}
-use Rattle.numbered_form.specs.Numbering.{values_of}
+use Rattle.numbered_form.specs.Numbering.{is_value, values_of}
 use Rattle.ownership_chains.specs.declared.definition.Definition.{Definition}
 use Rattle.ownership_origins.specs.Renamings.{renamings_of}
 use Rattle.type_definitions.specs.Declarations.{Declarations}
@@ -19,9 +19,6 @@ use Rattle.lowering_model.specs.Names.{stands_for}
 pub record Numbering : Type 0 where
   pub renamings : List Definition
   pub defined : List ValueId
-
-abbrev pub is_value : ValueId → ValueId → Bool
-is_value v w = v.0 == w.0
 
 -- the value's place among those that are defined, which is its number (asked only of these)
 abbrev pub place_among : List ValueId → ValueId → ValueId

@@ -12,7 +12,7 @@ use Rattle.type_definitions.specs.Declarations.{Declarations, all_names, is_clas
 use Rattle.type_definitions.specs.Lookups.{class_at, class_named, class_place}
 use Rattle.frame_layouts.proofs.run_typing_laws.Declared.{class_found, found_at}
 use Rattle.frame_layouts.proofs.run_typing_laws.Opened.{out-Named}
-use Rattle.frame_layouts.proofs.run_typing_laws.Rows.Finding.{mapped_from}
+use Rattle.numbered_form.proofs.Lists.{mapped_from}
 
 behind_swift : (swift : Bool) (decls : List Decl) (w : ℕ) (name : Name) (superclass : Option Name) (fields : List Field)
     → slice_get (swift_structs swift ++ decls) w ≡ Some (Class name superclass fields)

@@ -28,7 +28,7 @@ use Rattle.ready_code.specs.run_typing.Forms.{Form, OfPlace, OfValue, form_by, f
 use Rattle.ready_code.specs.run_typing.RowForms as typed
 use Rattle.ready_code.specs.run_typing.RowForms.{RowForms, operation_done, shapes_by}
 use Rattle.ready_code.specs.run_typing.Runnable.{IsRunnable}
-use Rattle.frame_layouts.proofs.run_typing_laws.Rows.Finding.{mapped_from}
+use Rattle.numbered_form.proofs.Lists.{mapped_from}
 use Rattle.ready_code.specs.ReadyOps.{operands_of}
 use Rattle.frame_layouts.specs.inner.Sized.{HasSize, HaveSizes}
 use Rattle.frame_layouts.proofs.Targets.{of_address, of_other}

@@ -1,5 +1,5 @@
 -- Values are numbered in order of definition, and each number that is used stands for something.
-use Rattle.std.specs.Prelude.{◌≡◌, ◌<◌, ◌+◌, ℕ, List, [], ◌∷◌, ◌++◌, ⊤, length, map, IfSome}
+use Rattle.std.specs.Prelude.{◌≡◌, ◌==◌, ◌<◌, ◌+◌, ℕ, Bool, List, [], ◌∷◌, ◌++◌, ⊤, length, map, IfSome}
 use Rattle.std.specs.List.{flat_map}
 use Rattle.sil_ast.specs.declared.function.Block.{Block}
 use Rattle.sil_ast.specs.declared.function.BlockArg.{BlockArg}
@@ -12,6 +12,9 @@ use Rattle.sil_ast.specs.declared.place.ValueId.{ValueId}
 use Rattle.sil_ast.specs.declared.vtable.Vtable.{Vtable}
 use Rattle.numbered_form.specs.Lists.{Each}
 use Rattle.numbered_form.specs.Insts.{insts_of, EachInBlock}
+
+abbrev pub is_value : ValueId → ValueId → Bool
+is_value v w = v.0 == w.0
 
 abbrev pub results_of : Inst → List ValueId
 results_of i = i.results

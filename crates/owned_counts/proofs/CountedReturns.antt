@@ -29,7 +29,7 @@ use Rattle.accepted_runs.specs.accepted_values.run_typing.CallForms.{IsOf}
 use Rattle.accepted_runs.specs.accepted_values.run_typing.Forms.{given_shape}
 use Rattle.accepted_runs.proofs.accepted_values.Facts.{run_facts}
 use Rattle.accepted_runs.proofs.accepted_values.Suited.{suited}
-use Rattle.accepted_runs.proofs.accepted_values.lowering_laws.Lowerable.{contained}
+use Rattle.numbered_form.proofs.Lists.{contained}
 use Rattle.accepted_runs.proofs.accepted_values.run_typing_laws.Declared.{each_from}
 use Rattle.stored_counts.specs.holder_laws.holder_model.Data.{AddressOf, Datum, FunctionOf, ValueOf, as_value}
 use Rattle.stored_counts.specs.holder_laws.holder_model.Effects.{only}

@@ -38,7 +38,7 @@ use Rattle.accepted_runs.specs.accepted_values.run_typing.Forms.{forms_of}
 use Rattle.accepted_runs.specs.accepted_values.run_typing.lowered_run.LowStepParts.{taken_value}
 use Rattle.accepted_runs.proofs.accepted_values.Accepted.{in_ownership_form, well_typed}
 use Rattle.accepted_runs.proofs.accepted_values.Suited.{forwarded_kinds, results_of_kinds, suited}
-use Rattle.accepted_runs.proofs.accepted_values.lowering_laws.Lowerable.{contained}
+use Rattle.numbered_form.proofs.Lists.{contained}
 use Rattle.accepted_runs.proofs.accepted_values.run_typing_laws.Declared.{each_from}
 use Rattle.accepted_runs.proofs.accepted_values.run_typing_laws.Rows.Known.{Known, in_owned, known}
 use Rattle.accepted_runs.proofs.accepted_values.run_typing_laws.Rows.Points.{is_at}

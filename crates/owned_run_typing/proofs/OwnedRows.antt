@@ -27,7 +27,8 @@ use Rattle.run_typing_laws.specs.inner.WellTyped.{IsWellTyped}
 use Rattle.run_typing_laws.proofs.MemberFacts.{struct_group, struct_named}
 use Rattle.run_typing_laws.proofs.Rows.Addresses.{element_target, struct_forms}
 use Rattle.run_typing_laws.proofs.Rows.Counting.{object_counted, placed_at}
-use Rattle.run_typing_laws.proofs.Rows.Finding.{found_behind, mapped_from, some_of, where_found}
+use Rattle.run_typing_laws.proofs.Rows.Finding.{found_behind, some_of, where_found}
+use Rattle.numbered_form.proofs.Lists.{mapped_from}
 use Rattle.run_typing_laws.proofs.Rows.Forms.{typed_form, value_form}
 use Rattle.run_typing_laws.proofs.Rows.Known.{Known}
 use Rattle.run_typing_laws.proofs.Rows.Layers.{target-Tuple, tuple_type}

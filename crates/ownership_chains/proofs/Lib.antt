@@ -6,3 +6,4 @@ mod NumberLemmas
 pub mod FactLemmas
 pub mod RingLemmas
 pub mod Enough
+pub mod NoRings

@@ -46,7 +46,8 @@ use Rattle.accepted_places.proofs.accepted_values.TableRows.{argument_rows}
 use Rattle.accepted_places.proofs.accepted_values.Parameters.{entry_pairs, pair_at, told_of}
 use Rattle.accepted_places.proofs.accepted_values.Written.{written_type}
 use Rattle.accepted_places.proofs.accepted_values.run_typing_laws.FunctionFacts.{TypedInst}
-use Rattle.accepted_places.proofs.accepted_values.run_typing_laws.Rows.Finding.{found_behind, mapped_from, mapped_some, never_passes, passed, passes_at, where_found}
+use Rattle.accepted_places.proofs.accepted_values.run_typing_laws.Rows.Finding.{found_behind, mapped_some, never_passes, passed, passes_at, where_found}
+use Rattle.numbered_form.proofs.Lists.{mapped_from}
 use Rattle.accepted_places.proofs.accepted_values.run_typing_laws.ValueForms.{operands_written, row_kept}
 use Rattle.accepted_places.specs.accepted_values.accepted_modules.sil_types.Typing.SignatureRules.{is_argument_for}
 use Rattle.instruction_table.specs.Forms.{type_words_of}

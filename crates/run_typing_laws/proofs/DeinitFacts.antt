@@ -27,7 +27,8 @@ use Rattle.run_typing.specs.Forms.{OfValue}
 use Rattle.run_typing_laws.specs.inner.WellTyped.{IsWellTyped}
 use Rattle.run_typing_laws.proofs.FunctionFacts.{TypedFunction, typed_function}
 use Rattle.run_typing_laws.proofs.Found.{all_at, both_first, both_second, named_at, neither_second, not_false}
-use Rattle.run_typing_laws.proofs.Rows.Finding.{all_of_both, mapped_from, never_passes, passed}
+use Rattle.run_typing_laws.proofs.Rows.Finding.{all_of_both, never_passes, passed}
+use Rattle.numbered_form.proofs.Lists.{mapped_from}
 use Rattle.run_typing_laws.proofs.Rows.Layers.{target-Named}
 use Rattle.run_typing_laws.proofs.SameFacts.{same_signatures}
 use Rattle.run_typing_laws.proofs.ShapeFacts.{class_shape}

@@ -16,7 +16,8 @@ use Rattle.stored_runs.specs.accepted_values.accepted_modules.sil_types.Typing.S
 use Rattle.stored_runs.specs.accepted_values.accepted_modules.sil_types.Typing.Typed.{at_vtable, deinit_signature as breaks_deinit, vtable}
 use Rattle.stored_runs.proofs.accepted_values.Accepted.{well_typed}
 use Rattle.stored_runs.proofs.accepted_values.run_typing_laws.Found.{both_first, both_second, named_at, not_false}
-use Rattle.stored_runs.proofs.accepted_values.run_typing_laws.Rows.Finding.{mapped_from, never_passes, passed}
+use Rattle.stored_runs.proofs.accepted_values.run_typing_laws.Rows.Finding.{never_passes, passed}
+use Rattle.numbered_form.proofs.Lists.{mapped_from}
 use Rattle.stored_runs.proofs.accepted_values.run_typing_laws.SameFacts.{same_signatures}
 use Rattle.type_definitions.specs.Declarations.{at_place, declarations_of, place_of}
 use Rattle.type_definitions.specs.Lookups.{deinit_in, deinit_of}

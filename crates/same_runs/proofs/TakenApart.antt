@@ -38,7 +38,8 @@ use Rattle.stored_runs.proofs.accepted_values.run_typing_laws.ClassChains.{no_an
 use Rattle.stored_runs.proofs.accepted_values.run_typing_laws.Found.{place_once}
 use Rattle.stored_runs.proofs.accepted_values.run_typing_laws.MemberFacts.{struct_group, struct_named}
 use Rattle.stored_runs.proofs.accepted_values.run_typing_laws.Rows.Addresses.{element_target, struct_forms}
-use Rattle.stored_runs.proofs.accepted_values.run_typing_laws.Rows.Finding.{found_behind, mapped_from, some_of}
+use Rattle.stored_runs.proofs.accepted_values.run_typing_laws.Rows.Finding.{found_behind, some_of}
+use Rattle.numbered_form.proofs.Lists.{mapped_from}
 use Rattle.stored_runs.proofs.accepted_values.run_typing_laws.Rows.Forms.{typed_form, value_form}
 use Rattle.stored_runs.proofs.accepted_values.run_typing_laws.Rows.Known.{Known, known}
 use Rattle.stored_runs.proofs.accepted_values.run_typing_laws.Rows.Layers.{target-Tuple, tuple_type}

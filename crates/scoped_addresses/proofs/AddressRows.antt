@@ -62,7 +62,7 @@ use Rattle.placed_values.proofs.accepted_places.accepted_values.Facts.{facts_so}
 use Rattle.placed_values.proofs.accepted_places.accepted_values.Made.{at_point_of_result}
 use Rattle.placed_values.proofs.accepted_places.accepted_values.TableRows.{argument_rows, result_rows}
 use Rattle.placed_values.proofs.accepted_places.accepted_values.Told.{BaseFrom, addressed, base_from, itself, lent}
-use Rattle.placed_values.proofs.accepted_places.accepted_values.lowering_laws.Lowerable.{contained}
+use Rattle.numbered_form.proofs.Lists.{contained}
 use Rattle.placed_values.proofs.accepted_places.accepted_values.run_typing_laws.EndFacts.{no_operand, one_operand}
 use Rattle.placed_values.specs.accepted_places.owned_run_typing.inner.OwnedRows as owned
 use Rattle.placed_values.specs.accepted_places.owned_run_typing.inner.OwnedRows.{OwnedRowForms}

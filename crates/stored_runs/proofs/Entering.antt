@@ -28,7 +28,7 @@ use Rattle.lowered_steps.specs.lowered_run.holder_model.StepParts as parts
 use Rattle.lowered_steps.specs.lowered_run.holder_model.States.{Ends, Goes, OutOfTurns, Runs, Task, Trapped, frame_count}
 use Rattle.lowered_steps.specs.lowered_run.LowFrames.{LowFrame, no_values, put_all}
 use Rattle.lowered_steps.specs.lowered_run.LowStepParts.{LowNext, LowState, new_frame}
-use Rattle.lowered_numbering_laws.proofs.lowering_laws.Lists.{each_weaker}
+use Rattle.numbered_form.proofs.Lists.{each_weaker}
 use Rattle.lowered_numbering_laws.specs.lowering_laws.lowering_model.LoweredModules.{lowered, lowered_body}
 use Rattle.owned_counts.specs.holder_laws.inner.Steps.Ways as holder
 use Rattle.lowered_steps.specs.inner.LowWays as ways

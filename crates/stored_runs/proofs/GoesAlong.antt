@@ -28,7 +28,7 @@ use Rattle.lowered_steps.specs.lowered_run.holder_model.States.{Goes, Runs, Task
 use Rattle.lowered_steps.specs.lowered_run.LowFrames.{LowFrame, put_all}
 use Rattle.lowered_steps.specs.lowered_run.LowStepParts.{LowNext, LowState, numbers_for}
 use Rattle.lowered_steps.specs.lowered_run.Stored.{new_numbers}
-use Rattle.lowered_numbering_laws.proofs.lowering_laws.Lists.{each_weaker}
+use Rattle.numbered_form.proofs.Lists.{each_weaker}
 use Rattle.lowered_numbering_laws.specs.lowering_laws.lowering_model.LoweredModules.{lowered, lowered_body}
 use Rattle.owned_counts.specs.holder_laws.inner.Steps.Ways as holder
 use Rattle.lowered_steps.specs.inner.LowWays as ways

@@ -35,7 +35,7 @@ use Rattle.lowered_numbering_laws.specs.lowering_laws.lowering_model.LoweredModu
 use Rattle.lowered_numbering_laws.specs.lowering_laws.lowering_model.Names.{renamed_from}
 use Rattle.lowered_numbering_laws.specs.lowering_laws.lowering_model.Numbers.{renumbered_arg, renumbered_edge}
 use Rattle.lowered_numbering_laws.proofs.lowering_laws.Ends.{stands_itself}
-use Rattle.lowered_numbering_laws.proofs.lowering_laws.Lists.{each_both}
+use Rattle.numbered_form.proofs.Lists.{each_both}
 use Rattle.lowered_typing_laws.proofs.Args.{args_go, args_stay, lowered_args}
 use Rattle.lowered_typing_laws.proofs.Sound.{SoundFunction}
 use Rattle.lowered_typing_laws.proofs.Switches.{SwitchFrom, entry_kept, lone, switch_from}

@@ -16,7 +16,8 @@ use Rattle.lowered_numbering_laws.specs.lowering_laws.lowering_model.LoweredBloc
 use Rattle.lowered_numbering_laws.specs.lowering_laws.lowering_model.Names.{renamed_from, stands_for, stands_within, unless_renamed}
 use Rattle.lowered_numbering_laws.specs.lowering_laws.lowering_model.Numbers.{new_number, numbering_of, place_among}
 use Rattle.lowered_numbering_laws.proofs.lowering_laws.Ends.{names_end, stands_itself}
-use Rattle.lowered_numbering_laws.proofs.lowering_laws.Placed.{no_operands, old_are_placed}
+use Rattle.lowered_numbering_laws.proofs.lowering_laws.Placed.{old_are_placed}
+use Rattle.ownership_chains.proofs.NoRings.{no_operands}
 use Rattle.lowered_numbering_laws.proofs.lowering_laws.Renumbered.{renumbered_values}
 use Rattle.lowered_numbering_laws.proofs.lowering_laws.ownership_origins.Counts.{are_of_values}
 use Rattle.stored_runs.specs.inner.Names.{AreNamed, IsOld, lowered_count, lowered_number}

@@ -26,7 +26,7 @@ use Rattle.lowered_numbering_laws.specs.lowering_laws.lowering_model.LoweredModu
 use Rattle.lowered_numbering_laws.specs.lowering_laws.lowering_model.Names.{renamed_from}
 use Rattle.lowered_numbering_laws.proofs.lowering_laws.Ends.{stands_itself}
 use Rattle.lowered_numbering_laws.proofs.lowering_laws.Known.{names_in}
-use Rattle.lowered_numbering_laws.proofs.lowering_laws.Lists.{each_both, each_weaker}
+use Rattle.numbered_form.proofs.Lists.{each_both, each_weaker}
 use Rattle.lowered_numbering_laws.proofs.lowering_laws.Lowerable.{functions_are_lowerable}
 use Rattle.lowered_numbering_laws.proofs.lowering_laws.Rings.{kinds_have_no_rings}
 use Rattle.lowered_numbering_laws.proofs.Types.{declares_the_same}

@@ -17,7 +17,7 @@ use Rattle.sil_cfg.specs.inner.Splice.{Precedes, Stop, is_at, item, same_item}
 use Rattle.sil_cfg.proofs.Places.{same_item-true}
 use Rattle.type_definitions.specs.Declarations.{Declarations}
 use Rattle.ownership_chains.specs.declared.definition.Definition.{Definition}
-use Rattle.lowered_numbering_laws.proofs.lowering_laws.Lists.{each_both}
+use Rattle.numbered_form.proofs.Lists.{each_both}
 use Rattle.lowered_numbering_laws.specs.lowering_laws.ownership_origins.Renamings.{renamings_of}
 use Rattle.lowered_numbering_laws.specs.lowering_laws.lowering_model.Names.{renamed_from, stands_within, unless_renamed}
 use Rattle.owned_counts.specs.accepted_trails.run_trails.inner.RunTrails.{IsTurnedTrail}

@@ -17,7 +17,7 @@ use Rattle.lowered_numbering_laws.specs.lowering_laws.ownership_origins.Renaming
 use Rattle.lowered_numbering_laws.specs.lowering_laws.ownership_origins.Switched.{switch_to}
 use Rattle.lowered_numbering_laws.specs.lowering_laws.lowering_model.Names.{renamed_from}
 use Rattle.lowered_numbering_laws.proofs.lowering_laws.Known.{names_in}
-use Rattle.lowered_numbering_laws.proofs.lowering_laws.Lists.{each_weaker}
+use Rattle.numbered_form.proofs.Lists.{each_weaker}
 use Rattle.lowered_numbering_laws.proofs.lowering_laws.run_typing_laws.Rows.Tables.{row_at, told_of_args, told_of_results}
 
 row_operands : (defs : List Definition) (v : ValueId) → operands_at defs v ≡ (row_at (renamed []) defs v).operands

@@ -40,7 +40,7 @@ use Rattle.lowered_numbering_laws.specs.lowering_laws.lowering_model.LoweredModu
 use Rattle.lowered_numbering_laws.specs.lowering_laws.lowering_model.Numbers.{renumbered_inst}
 use Rattle.owned_counts.specs.accepted_trails.inner.Defined.{makes}
 use Rattle.owned_counts.proofs.accepted_trails.Tests.{each_among}
-use Rattle.lowered_numbering_laws.proofs.lowering_laws.Lists.{each_weaker}
+use Rattle.numbered_form.proofs.Lists.{each_weaker}
 use Rattle.owned_counts.specs.holder_laws.inner.Steps.Ways as holder
 use Rattle.stored_runs.specs.inner.Frames.{AreGivenPartsFull, AreValuesFor, HasFullParts}
 use Rattle.stored_runs.specs.inner.Lowering.{IsOwnName}

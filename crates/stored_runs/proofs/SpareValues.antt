@@ -24,7 +24,7 @@ use Rattle.lowered_steps.specs.lowered_run.LowFrames as low_frames
 use Rattle.lowered_steps.specs.lowered_run.LowStepParts.{LowState}
 use Rattle.lowered_numbering_laws.specs.lowering_laws.lowering_model.LoweredBlocks.{value_with}
 use Rattle.lowered_numbering_laws.specs.lowering_laws.lowering_model.NewInsts.{load}
-use Rattle.lowered_numbering_laws.specs.lowering_laws.lowering_model.Numbers.{is_value}
+use Rattle.numbered_form.specs.Numbering.{is_value}
 use Rattle.stored_runs.specs.inner.PlaceRows.{StandsAt}
 use Rattle.stored_runs.proofs.RowSteps.{KeepsFull}
 use Rattle.stored_runs.proofs.RowsBehind.{begin, lowered_to, made, num}

@@ -6,7 +6,7 @@ use Rattle.std.proofs.lemmas.Bool.{cases_Bool, eqb-true}
 use Rattle.std.proofs.lemmas.List.{length-map}
 use Rattle.std.proofs.lemmas.Option.{none-some, same_Some, slice_get_within}
 use Rattle.numbered_form.specs.Insts.{insts_of}
-use Rattle.numbered_form.specs.Numbering.{defined_in, results_of, value_of, values_of}
+use Rattle.numbered_form.specs.Numbering.{defined_in, is_value, results_of, value_of, values_of}
 use Rattle.sil_ast.specs.declared.function.Block.{Block}
 use Rattle.sil_ast.specs.declared.function.Function.{Function}
 use Rattle.sil_ast.specs.declared.inst.Inst.{Inst}
@@ -17,7 +17,7 @@ use Rattle.lowered_numbering_laws.specs.lowering_laws.inner.Lowerable.{IsLowerab
 use Rattle.lowered_numbering_laws.specs.lowering_laws.ownership_origins.Renamings.{renamings_of}
 use Rattle.lowered_numbering_laws.specs.lowering_laws.lowering_model.LoweredBlocks.{lowered_blocks}
 use Rattle.lowered_numbering_laws.specs.lowering_laws.lowering_model.Names.{stands_for}
-use Rattle.lowered_numbering_laws.specs.lowering_laws.lowering_model.Numbers.{is_value, new_number, numbering_of}
+use Rattle.lowered_numbering_laws.specs.lowering_laws.lowering_model.Numbers.{new_number, numbering_of}
 use Rattle.lowered_numbering_laws.proofs.lowering_laws.Ends.{names_end}
 use Rattle.lowered_numbering_laws.proofs.lowering_laws.Placed.{defined_are_placed, old_are_placed}
 use Rattle.lowered_numbering_laws.proofs.lowering_laws.Renumbered.{renumbered_values}

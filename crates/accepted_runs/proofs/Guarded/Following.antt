@@ -49,7 +49,7 @@ use Rattle.tracked_frames.proofs.accepted_values.Based.{lenders_own_bases, lent_
 use Rattle.tracked_frames.proofs.accepted_values.Borrowed.{number_of_parameter}
 use Rattle.tracked_frames.proofs.accepted_values.Made.{parameters_of_entry}
 use Rattle.tracked_frames.proofs.accepted_values.Suited.{suited}
-use Rattle.tracked_frames.proofs.accepted_values.lowering_laws.Lowerable.{contained}
+use Rattle.numbered_form.proofs.Lists.{contained}
 use Rattle.tracked_frames.specs.holder_laws.holder_model.Data.{Datum}
 use Rattle.tracked_frames.specs.holder_laws.holder_model.Frames.{Entry, Gone, Held, Lent, entry_at, has_any, without_ended}
 use Rattle.tracked_frames.proofs.holder_laws.Counts.Entries.{left_of, was_there}

@@ -57,7 +57,7 @@ use Rattle.tracked_frames.proofs.accepted_values.Based.{bases_of_addresses, hand
 use Rattle.tracked_frames.proofs.accepted_values.Made.{items_of}
 use Rattle.tracked_frames.proofs.accepted_values.Suited.{results_of_kinds}
 use Rattle.tracked_frames.proofs.accepted_values.TableRows.{result_rows}
-use Rattle.tracked_frames.proofs.accepted_values.lowering_laws.Lowerable.{contained}
+use Rattle.numbered_form.proofs.Lists.{contained}
 use Rattle.tracked_frames.proofs.owned_run_typing.run_typing_laws.ItemFacts.{values_counted}
 use Rattle.tracked_frames.specs.holder_laws.holder_model.declared.row_effect.RowEffect.{RowEffect}
 use Rattle.tracked_frames.specs.holder_laws.holder_model.declared.row_effect.RowEffect.TheVariants as row

@@ -31,7 +31,8 @@ use Rattle.tracked_frames.specs.accepted_values.run_typing.Forms.{Form, OfValue,
 use Rattle.tracked_frames.specs.accepted_values.run_typing.lowered_run.LowStepParts.{taken_value}
 use Rattle.tracked_frames.specs.holder_laws.holder_model.ownership_kinds.Facts.{facts_in}
 use Rattle.tracked_frames.proofs.accepted_values.Branches.{known_end}
-use Rattle.tracked_frames.proofs.owned_run_typing.run_typing_laws.Rows.Finding.{found_behind, mapped_from}
+use Rattle.tracked_frames.proofs.owned_run_typing.run_typing_laws.Rows.Finding.{found_behind}
+use Rattle.numbered_form.proofs.Lists.{mapped_from}
 use Rattle.tracked_frames.specs.accepted_premises.owned_run_typing.inner.OwnedEnds.{OwnedEndForms}
 use Rattle.tracked_frames.specs.accepted_premises.owned_run_typing.inner.OwnedTyped.{OwnedFunction}
 use Rattle.tracked_frames.specs.typed_memory.inner.Worlds.{DatumIs, MemoryIs, World}

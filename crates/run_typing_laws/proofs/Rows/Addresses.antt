@@ -27,7 +27,8 @@ use Rattle.run_typing_laws.proofs.Declared.{holds_of_found}
 use Rattle.run_typing_laws.proofs.Opened.{fold-Optional, fold-Tuple}
 use Rattle.run_typing_laws.proofs.ShapeFacts.{field_shape_of}
 use Rattle.run_typing_laws.proofs.Sizes.{plain_type}
-use Rattle.run_typing_laws.proofs.Rows.Finding.{each_at, found_behind, if_some, mapped_from, passes_at}
+use Rattle.run_typing_laws.proofs.Rows.Finding.{each_at, found_behind, if_some, passes_at}
+use Rattle.numbered_form.proofs.Lists.{mapped_from}
 use Rattle.run_typing_laws.proofs.Rows.Forms.{typed_form, value_form}
 use Rattle.run_typing_laws.proofs.Rows.Layers.{is_optional, target-Int, tuple_type}
 

@@ -36,10 +36,6 @@ pub found_behind : {A B : Type 0} (g : A → Option B) (o : Option A) (y : B) �
 found_behind g None y e = absurd (cc)
 found_behind g (Some x) y e = (x, refl, e)
 
-pub mapped_from : {A B : Type 0} (g : A → B) (o : Option A) (y : B) → option_map g o ≡ Some y → (x : A) × (o ≡ Some x) × (g x ≡ y)
-mapped_from g None y e = absurd (cc)
-mapped_from g (Some x) y e = (x, refl, cc)
-
 -- there is something where something is made of it
 pub mapped_some : {A B : Type 0} (g : A → B) (o : Option A) → is_some (option_map g o) ≡ true → (x : A) × (o ≡ Some x)
 mapped_some g None e = absurd (cc)

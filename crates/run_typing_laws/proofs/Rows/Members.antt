@@ -26,7 +26,8 @@ use Rattle.run_typing_laws.specs.inner.WellTyped.{IsWellTyped}
 use Rattle.run_typing_laws.proofs.MemberFacts.{class_member, element_shape, struct_member}
 use Rattle.run_typing_laws.proofs.ShapeFacts.{class_shape}
 use Rattle.run_typing_laws.proofs.Rows.Addresses.{element_target, field_target}
-use Rattle.run_typing_laws.proofs.Rows.Finding.{each_at, found_behind, if_some, mapped_from}
+use Rattle.run_typing_laws.proofs.Rows.Finding.{each_at, found_behind, if_some}
+use Rattle.numbered_form.proofs.Lists.{mapped_from}
 use Rattle.run_typing_laws.proofs.Rows.Forms.{place_form, typed_form, value_form}
 use Rattle.run_typing_laws.proofs.Rows.Known.{Known}
 use Rattle.run_typing_laws.proofs.Rows.Layers.{target-Address, target-Named, target-Tuple, tuple_type}

@@ -16,7 +16,8 @@ use Rattle.run_typing.specs.Forms.{OfFunction, OfPlace, OfValue, form_by}
 use Rattle.run_typing.specs.RowForms.{bit, function, literal, looks, object, removes, slot, traps}
 use Rattle.run_typing_laws.specs.inner.WellTyped.{IsWellTyped}
 use Rattle.run_typing_laws.proofs.ShapeFacts.{class_type_shape}
-use Rattle.run_typing_laws.proofs.Rows.Finding.{found_behind, if_some, mapped_from, some_of, where_found}
+use Rattle.run_typing_laws.proofs.Rows.Finding.{found_behind, if_some, some_of, where_found}
+use Rattle.numbered_form.proofs.Lists.{mapped_from}
 use Rattle.run_typing_laws.proofs.Rows.Forms.{place_form, typed_form, value_form}
 use Rattle.run_typing_laws.proofs.Rows.Known.{Known}
 use Rattle.run_typing_laws.proofs.Rows.Layers.{bit_type, integer_type, out-Int, target-Address, target-Named}

@@ -7,7 +7,7 @@ use Rattle.sil_ast.specs.declared.place.FuncId.{FuncId}
 use Rattle.sil_ast.specs.declared.place.ValueId.{ValueId}
 use Rattle.type_definitions.specs.Declarations.{Declarations, declarations_of}
 use Rattle.lowered_numbering_laws.specs.lowering_laws.inner.Laws.{defined_by}
-use Rattle.lowered_numbering_laws.specs.lowering_laws.lowering_model.Numbers.{is_value}
+use Rattle.numbered_form.specs.Numbering.{is_value}
 use Rattle.owned_counts.specs.accepted_values.inner.Known.{IsAcceptedBody}
 use Rattle.stored_runs.specs.inner.Names.{IsOld, IsSpare, lowered_count, lowered_number}
 

@@ -56,11 +56,10 @@ use Rattle.accepted_facts.proofs.accepted_values.Branches.{known_end}
 use Rattle.accepted_facts.proofs.accepted_values.Calls.{calls_handed}
 use Rattle.accepted_facts.proofs.accepted_values.Counted.{nothing_in, stands}
 use Rattle.accepted_facts.proofs.accepted_values.Parameters.{fits, told_fits}
-use Rattle.accepted_facts.proofs.accepted_values.lowering_laws.Lowerable.{contained}
+use Rattle.numbered_form.proofs.Lists.{contained, mapped_from}
 use Rattle.accepted_facts.proofs.accepted_values.run_typing_laws.CallFacts.{called}
 use Rattle.accepted_facts.proofs.accepted_values.run_typing_laws.Found.{each_at}
 use Rattle.accepted_facts.proofs.accepted_values.run_typing_laws.FunctionFacts.{typed_function}
-use Rattle.accepted_facts.proofs.accepted_values.run_typing_laws.Rows.Finding.{mapped_from}
 use Rattle.accepted_facts.proofs.accepted_values.run_typing_laws.Rows.Layers.{object_target}
 use Rattle.accepted_facts.specs.accepted_values.owned_run_typing.inner.OwnedEnds.{OwnedEndForms}
 use Rattle.accepted_facts.specs.accepted_values.owned_run_typing.inner.OwnedRows.{OwnedRowForms}

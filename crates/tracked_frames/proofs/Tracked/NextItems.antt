@@ -31,7 +31,8 @@ use Rattle.sil_cfg.specs.declared.item.Item.TheVariants as item
 use Rattle.accepted_facts.specs.accepted_values.inner.Known.{IsAcceptedBody}
 use Rattle.accepted_facts.specs.accepted_values.run_typing.EndForms.{value_in}
 use Rattle.accepted_facts.proofs.accepted_values.Branches.{known_end}
-use Rattle.accepted_facts.proofs.accepted_values.run_typing_laws.Rows.Finding.{found_behind, mapped_from}
+use Rattle.accepted_facts.proofs.accepted_values.run_typing_laws.Rows.Finding.{found_behind}
+use Rattle.numbered_form.proofs.Lists.{mapped_from}
 use Rattle.accepted_facts.specs.accepted_trails.run_trails.inner.RunTrails.{ComesAt, GoesOn, IsRunTrail, IsTurnedTrail}
 use Rattle.holder_laws.specs.holder_model.Builtins.{is_set}
 use Rattle.holder_laws.specs.holder_model.Edges.{branch_of, edge_for, edge_of, is_default, is_for}

@@ -29,7 +29,7 @@ use Rattle.accepted_facts.specs.accepted_values.inner.Known.{IsAcceptedBody, kin
 use Rattle.accepted_facts.specs.accepted_values.inner.Operands.{SuitsRole}
 use Rattle.accepted_facts.specs.accepted_values.run_typing.Forms.{Form, OfValue, form_of}
 use Rattle.accepted_facts.proofs.accepted_values.Suited.{suited}
-use Rattle.accepted_facts.proofs.accepted_values.lowering_laws.Lowerable.{contained}
+use Rattle.numbered_form.proofs.Lists.{contained}
 use Rattle.accepted_facts.proofs.accepted_values.run_typing_laws.Found.{each_at}
 use Rattle.accepted_facts.proofs.accepted_values.run_typing_laws.ListFacts.{get_next}
 use Rattle.accepted_facts.specs.accepted_trails.inner.Defined.{IsDefinedOn, IsTakenFrom}

@@ -10,7 +10,7 @@ use Rattle.accepted_facts.specs.accepted_values.run_typing.CallForms.{IsDeinitOf
 use Rattle.accepted_facts.specs.accepted_values.run_typing.Classes.{ClassesAreSound, is_a}
 use Rattle.accepted_facts.specs.accepted_values.run_typing.Forms.{OfValue, entry_forms}
 use Rattle.accepted_facts.specs.accepted_values.accepted_modules.inner.Checked.{IsVerified}
-use Rattle.accepted_facts.proofs.accepted_values.lowering_laws.Lists.{each_weaker}
+use Rattle.numbered_form.proofs.Lists.{each_weaker}
 use Rattle.accepted_facts.proofs.accepted_values.run_typing_laws.Declared.{each_append}
 use Rattle.holder_laws.specs.inner.Steps.Ways.{DropsOne, Enters, FinishesOne, with_tasks}
 use Rattle.numbered_form.specs.Lists.{Each}

@@ -7,7 +7,7 @@ use Rattle.accepted_facts.specs.accepted_values.inner.Known.{IsAcceptedBody}
 use Rattle.accepted_facts.specs.accepted_values.run_typing.CallForms.{IsOf}
 use Rattle.accepted_facts.specs.accepted_values.run_typing.Forms.{Form, OfValue, form_of, forms_of, given_shape}
 use Rattle.accepted_facts.specs.accepted_values.accepted_modules.inner.Checked.{IsVerified}
-use Rattle.accepted_facts.proofs.accepted_values.lowering_laws.Lowerable.{contained}
+use Rattle.numbered_form.proofs.Lists.{contained}
 use Rattle.argument_conventions.specs.declared.row.AddressRow.{AddressRow}
 use Rattle.argument_conventions.specs.declared.row.Content.{Content}
 use Rattle.argument_conventions.specs.declared.row.Content.TheVariants as content

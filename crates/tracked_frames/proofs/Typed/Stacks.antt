@@ -1,7 +1,7 @@
 -- Tasks that are typed stay so while the world grows, and while the frame on top changes but its function.
 use Rattle.std.proofs.Common.{◌≡◌, ◌∙◌, List, sym, ap}
 use Rattle.std.specs.Prelude.{slice_get}
-use Rattle.accepted_facts.proofs.accepted_values.lowering_laws.Lists.{each_weaker}
+use Rattle.numbered_form.proofs.Lists.{each_weaker}
 use Rattle.accepted_facts.specs.accepted_values.run_typing.Forms.{Form}
 use Rattle.holder_laws.specs.inner.Steps.Stacks.{Below}
 use Rattle.holder_laws.proofs.Steps.TaskStacks.{below_another, below_over, going_dropping}

@@ -11,7 +11,7 @@ use Rattle.accepted_facts.proofs.accepted_values.Accepted.{counted}
 use Rattle.accepted_facts.proofs.accepted_values.Counted.{stands}
 use Rattle.accepted_facts.proofs.Facts.{accepted_facts}
 use Rattle.accepted_facts.proofs.accepted_values.Places.{IsArgumentOf, no_argument_and_result, results_once}
-use Rattle.accepted_facts.proofs.accepted_values.lowering_laws.Lowerable.{contained}
+use Rattle.numbered_form.proofs.Lists.{contained}
 use Rattle.accepted_facts.proofs.accepted_values.run_typing_laws.Declared.{each_from}
 use Rattle.accepted_facts.proofs.accepted_values.run_typing_laws.ItemFacts.{values_counted}
 use Rattle.accepted_facts.proofs.accepted_values.run_typing_laws.Rows.Points.{is_at}

@@ -3,7 +3,7 @@ use Rattle.std.specs.Prelude.{◌≡◌, ℕ, ◌+◌, List, length, drop, slice
 use Rattle.std.specs.List.{position_or_len}
 use Rattle.sil_ast.specs.declared.place.ValueId.{ValueId}
 use Rattle.lowering_model.specs.LoweredBlocks.{value_with}
-use Rattle.lowering_model.specs.Numbers.{is_value}
+use Rattle.numbered_form.specs.Numbering.{is_value}
 
 -- each value has the place of the first that is it, of those that stand at this place or behind it, and else the number of all
 abbrev pub ArePlaced : List ValueId → List ValueId → ℕ → Type 0
