@@ -1,4 +1,4 @@
--- What is handed over along edges and to callees: what ends holds what begins.
+-- What is handed over to callees: what ends holds what begins.
 use Rattle.std.proofs.Common.{◌≡◌, inl, inr, ℕ, ◌+◌, List, [], ◌∷◌, map, refl, sym, ap, ◌∙◌, subst, false, cond, Option, Some, None, arith}
 use Rattle.std.specs.List.{AllZip}
 use Rattle.argument_conventions.specs.Arguments.{Told, argument_type}

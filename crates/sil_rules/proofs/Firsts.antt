@@ -1,4 +1,4 @@
--- The first of what is shown: of two kinds of refusals, and in terms of another key.
+-- The first of what is shown: of two kinds of refusals, and in other words.
 use Rattle.std.proofs.Common.{ℕ, List, sym, subst, ◌⊎◌, inl, inr, Option, Some, None}
 use Rattle.sil_rules.specs.Order.{NotAfter, IsLeast, IsFirst, Either, IsEarlier}
 use Rattle.sil_rules.proofs.Keys.{not_after_trans}

@@ -1,4 +1,4 @@
--- Stored numbers behind a drop, at the start and the end of a deinitialisation, and where no count changes.
+-- Stored numbers at the end of a deinitialisation, and where no count changes.
 use Rattle.std.proofs.Common.{◌≡◌, ℕ, ◌+◌, ◌-◌, List, length-set, arith, refl, sym, ap, ◌∙◌}
 use Rattle.sil_ast.specs.declared.decl.Storage.{Storage}
 use Rattle.sil_ast.specs.declared.decl.Storage.TheVariants as storage

@@ -1,4 +1,4 @@
--- Tracked entries go along with the trail, and typed ones are of their values' kinds. What is handed on as a whole is a value.
+-- Tracked entries go along with the trail. What is handed on as a whole is a value.
 use Rattle.std.proofs.Common.{◌≡◌, inl, inr, List, [], ◌∷◌, refl, sym, ap, ◌∙◌, Bool, true, false}
 use Rattle.std.specs.List.{AllZip}
 use Rattle.std.proofs.lemmas.Bool.{false≢true}

@@ -1,4 +1,4 @@
--- Laws of values: they come back from their leaves and from their cells. And the size of a type's shape is the one measured on the type.
+-- Laws of values: they come back from their leaves. And the size of a type's shape is the one measured on the type.
 use Rattle.std.specs.Prelude.{◌≡◌, Bool, true, false, Some, length}
 use Rattle.std.specs.List.{list_all}
 use Rattle.sil_ast.specs.declared.decl.Decl.{Decl}

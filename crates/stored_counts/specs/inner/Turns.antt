@@ -1,4 +1,4 @@
--- Stored numbers where references are dropped, where an object starts to deinitialise or dies, and where nothing that is counted changes.
+-- Stored numbers where an object dies, and where nothing that is counted changes.
 use Rattle.std.specs.Prelude.{◌≡◌, ℕ, List, false, length}
 use Rattle.sil_ast.specs.declared.decl.Storage.{Storage}
 use Rattle.sil_ast.specs.declared.module.Module.{Module}
@@ -33,12 +33,8 @@ AreTasksStored = (s : HolderState) (tasks : List (Task Frame)) (stored : List Nu
     → ((o : ObjectId) → in_tasks (one_object o) tasks ≡ in_tasks (one_object o) s.tasks)
     → AreCounts s stored → AreCounts (record s { tasks = tasks }) stored
 
--- ---- drops
-
 module _ (m : Module) (told : ModuleFacts) (bound : ℕ) where
-  -- ---- deinitialisations
-
-  -- it dies: its weak and unowned fields cease
+  -- an object dies: its weak and unowned fields cease
   abbrev pub AreDeathsStored : Type 0
   AreDeathsStored = (s : HolderState) (o : ObjectId) (stored : List Numbers) → is_dead s.memory o ≡ false
       → AreNamesStored stored (object_at s.memory o).cells → AreCounts s stored

@@ -1,4 +1,4 @@
--- Each operation of the first frame's instruction whose place is on the stack finds the place as it asks.
+-- What is known of the first frame, its types and its places, where its instruction does something.
 use Rattle.std.proofs.Common.{◌≡◌, List, ◌∷◌, Some, sym, ◌∙◌, subst, slice_get}
 use Rattle.std.proofs.lemmas.Option.{same_Some}
 use Rattle.holder_laws.specs.holder_model.Frames.{Frame}

@@ -1,4 +1,4 @@
--- Laws of typed memory: what is read and written there is typed, and stays so while the world grows.
+-- What is made in typed memory, and values without references.
 use Rattle.std.specs.Prelude.{◌≡◌, [], ◌∷◌, ◌++◌, true}
 use Rattle.sil_ast.specs.declared.module.Module.{Module}
 use Rattle.numbered_form.specs.Names.{Name}
@@ -7,14 +7,11 @@ use Rattle.run_values.specs.Trivial.{is_trivial}
 use Rattle.run_values.specs.Values.{Value, references_of}
 use Rattle.typed_memory.specs.inner.Worlds.{Suits, World}
 
--- ---- values as cells, and cells as values
-
 -- a value of a trivial shape has no references
 abbrev pub HaveNoReferences : Type 0
 HaveNoReferences = (m : Module) (w : World) (s : Shape) (x : Value) → Suits m w s x → is_trivial s ≡ true → references_of x ≡ []
 
--- ---- what is made
-
+-- a world with one class more, and with one slot more
 abbrev pub with_class : World → Name → World
 with_class w class = record w { classes = w.classes ++ class ∷ [] }
 
