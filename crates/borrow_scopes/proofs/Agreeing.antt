@@ -4,25 +4,25 @@ use Rattle.std.specs.Prelude.{◌&&◌, filter}
 use Rattle.std.specs.List.{flat_map, range_with_len}
 use Rattle.std.specs.declared.alloc.Global.{Global}
 use Rattle.std.specs.declared.vec.Vec.{Vec}
-use Rattle.path_checks.proofs.PickedMarks.{shared_picked}
-use Rattle.path_checks.specs.declared.entry.Entry.{Entry}
-use Rattle.path_checks.specs.inner.Shared.{entries_with, is_sharing, shared_if}
-use Rattle.path_lists.specs.inner.Lists.{list_at}
-use Rattle.path_patterns.specs.inner.Reads.{AgreesWith}
-use Rattle.path_patterns.specs.declared.mark.Mark as pattern
+use Rattle.reach_engine_marks.proofs.PathChecks.PickedMarks.{shared_picked}
+use Rattle.reach_engine_marks.specs.declared.path_checks.entry.Entry.{Entry}
+use Rattle.reach_engine_marks.specs.PathChecks.inner.Shared.{entries_with, is_sharing, shared_if}
+use Rattle.number_tables.specs.PathLists.inner.Lists.{list_at}
+use Rattle.reach_engine_marks.specs.PathPatterns.inner.Reads.{AgreesWith}
+use Rattle.reach_engine_marks.specs.declared.path_patterns.mark.Mark as pattern
 use Rattle.sil_ast.specs.declared.function.Function.{Function}
 use Rattle.sil_ast.specs.declared.place.ValueId.{ValueId}
 use Rattle.sil_cfg.specs.Layout.{Layout, item_at}
 use Rattle.sil_cfg.specs.Returns.{is_return}
 use Rattle.sil_cfg.specs.declared.item.Item.{Item}
-use Rattle.ownership_marks.specs.ownership_chains.Facts.{has, is_guaranteed, known_or, value_of}
-use Rattle.ownership_marks.specs.ownership_chains.declared.facts.Facts.{Facts}
-use Rattle.value_tables.specs.Borrows.{borrows_of, is_borrow, lent_by}
-use Rattle.ownership_marks.proofs.MarkTables.{flat_map_same}
-use Rattle.ownership_marks.specs.Known.{AreKindsBy, Known, facts_of, marks_at}
-use Rattle.ownership_marks.specs.declared.mark.Mark.{Mark}
-use Rattle.ownership_marks.specs.declared.mark.MarkSort.{MarkSort}
-use Rattle.ownership_marks.specs.declared.mark.MarkSort.TheVariants.{End, Use, Begin}
+use Rattle.ownership_kinds_chains.specs.OwnershipChains.Facts.{has, is_guaranteed, known_or, value_of}
+use Rattle.ownership_kinds_chains.specs.declared.ownership_chains.facts.Facts.{Facts}
+use Rattle.numbered_form.specs.ValueTables.Borrows.{borrows_of, is_borrow, lent_by}
+use Rattle.ownership_kinds_chains.proofs.OwnershipMarks.MarkTables.{flat_map_same}
+use Rattle.ownership_kinds_chains.specs.OwnershipMarks.Known.{AreKindsBy, Known, facts_of, marks_at}
+use Rattle.ownership_kinds_chains.specs.declared.ownership_marks.mark.Mark.{Mark}
+use Rattle.ownership_kinds_chains.specs.declared.ownership_marks.mark.MarkSort.{MarkSort}
+use Rattle.ownership_kinds_chains.specs.declared.ownership_marks.mark.MarkSort.TheVariants.{End, Use, Begin}
 use Rattle.borrow_scopes.specs.Scopes.{bases_in, entry_of, is_scope, leaves, left_at_return, lent_bases, lost_at_end, lost_from, lost_with, mark_entries, returned, scope_entries, scopes_of}
 use Rattle.borrow_scopes.specs.inner.Tables.{borrowers_at, borrowers_of, left_mark, lost_at, mark_entries_in}
 

@@ -2,10 +2,10 @@
 use Rattle.std.proofs.Common.{◌≡◌, sym, ◌∙◌, subst, Some}
 use Rattle.sil_ast.specs.declared.function.Function.{Function}
 use Rattle.sil_cfg.specs.Layout.{Layout}
-use Rattle.rule_faults.specs.declared.fault.RuleFault.{RuleFault}
-use Rattle.path_checks.specs.declared.fault.PathFault.{PathFault}
-use Rattle.ownership_marks.specs.ownership_chains.Facts.{told_at, value_of}
-use Rattle.ownership_marks.specs.Known.{Known}
+use Rattle.sil_rules.specs.declared.rule_faults.fault.RuleFault.{RuleFault}
+use Rattle.reach_engine_marks.specs.declared.path_checks.fault.PathFault.{PathFault}
+use Rattle.ownership_kinds_chains.specs.OwnershipChains.Facts.{told_at, value_of}
+use Rattle.ownership_kinds_chains.specs.OwnershipMarks.Known.{Known}
 use Rattle.borrow_scopes.specs.Others.{other_of}
 use Rattle.borrow_scopes.specs.inner.Borrows.{IsFaultOf, IsFirstBrokenScope, IsFirstScope}
 use Rattle.borrow_scopes.proofs.SameOthers.{same_other}

@@ -14,8 +14,8 @@ use Rattle.std.proofs.lemmas.Option.{slice_get_cases}
 use Rattle.sil_cfg.proofs.Blocks.{all_get}
 use Rattle.sil_cfg.proofs.Gets.{last_get, length_push}
 use Rattle.sil_ast.specs.declared.place.ValueId.{ValueId}
-use Rattle.path_checks.proofs.Accesses.{accesses_kept, accesses_last, accesses_past, accesses_there}
-use Rattle.ownership_marks.specs.ownership_chains.Facts.{has}
+use Rattle.reach_engine_marks.proofs.PathChecks.Accesses.{accesses_kept, accesses_last, accesses_past, accesses_there}
+use Rattle.ownership_kinds_chains.specs.OwnershipChains.Facts.{has}
 use Rattle.borrow_scopes.specs.inner.Tables.{borrowers_at, ends_with, is_one, with_last, with_last_if}
 
 ends_pushed : (scopes : List ℕ) (n : ℕ) → ends_with (scopes ++ n ∷ []) n ≡ true

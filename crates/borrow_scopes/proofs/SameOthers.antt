@@ -4,12 +4,12 @@ use Rattle.std.specs.Prelude.{option_map}
 use Rattle.sil_ast.specs.declared.function.Function.{Function}
 use Rattle.sil_ast.specs.declared.place.ValueId.{ValueId}
 use Rattle.sil_cfg.specs.declared.item.Item.{Item}
-use Rattle.ownership_marks.specs.ownership_chains.Facts.{known_or}
-use Rattle.ownership_marks.specs.ownership_chains.declared.facts.Facts.{Facts}
-use Rattle.ownership_marks.proofs.MarkTables.{same_marks}
-use Rattle.item_operands.specs.Items.{item_taken}
+use Rattle.ownership_kinds_chains.specs.OwnershipChains.Facts.{known_or}
+use Rattle.ownership_kinds_chains.specs.declared.ownership_chains.facts.Facts.{Facts}
+use Rattle.ownership_kinds_chains.proofs.OwnershipMarks.MarkTables.{same_marks}
+use Rattle.sil_cfg_items.specs.Items.{item_taken}
 use Rattle.sil_rules.specs.declared.rule.Rule.{Rule}
-use Rattle.value_tables.specs.Borrows.{lent_by}
+use Rattle.numbered_form.specs.ValueTables.Borrows.{lent_by}
 use Rattle.borrow_scopes.specs.Others.{ended_base, ends_one, is_on_bases, is_on_uses, lies_in, marked_value, other_of, taken_value, used_operand}
 use Rattle.borrow_scopes.proofs.Agreeing.{same_bases}
 

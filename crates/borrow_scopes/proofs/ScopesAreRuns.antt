@@ -8,19 +8,19 @@ use Rattle.sil_ast.specs.declared.function.Function.{Function}
 use Rattle.sil_ast.specs.declared.place.ValueId.{ValueId}
 use Rattle.sil_cfg.specs.Returns.{is_return}
 use Rattle.sil_cfg.specs.declared.item.Item.{Item}
-use Rattle.path_patterns.proofs.HeldIsOn.{on_while_held}
-use Rattle.path_patterns.specs.inner.Runs as runs
-use Rattle.path_patterns.specs.inner.Runs.{Sort, TurnAlike}
-use Rattle.path_patterns.specs.declared.mark.Mark as pattern
-use Rattle.path_checks.proofs.QuietEntries.{IsQuiet, quiet_turns}
-use Rattle.path_checks.proofs.RulesShown.{each_flat, each_if}
-use Rattle.path_checks.specs.Entries.{marks_for, means}
-use Rattle.ownership_marks.specs.ownership_chains.Facts.{has, known_or, value_of}
-use Rattle.ownership_marks.specs.ownership_chains.declared.facts.Facts.{Facts}
-use Rattle.ownership_marks.specs.Marks.{marks_of}
-use Rattle.ownership_marks.specs.declared.mark.Mark.{Mark}
-use Rattle.ownership_marks.specs.declared.mark.MarkSort.{MarkSort}
-use Rattle.ownership_marks.specs.declared.mark.MarkSort.TheVariants.{End, Use, Begin}
+use Rattle.reach_engine_marks.proofs.PathPatterns.HeldIsOn.{on_while_held}
+use Rattle.reach_engine_marks.specs.PathPatterns.inner.Runs as runs
+use Rattle.reach_engine_marks.specs.PathPatterns.inner.Runs.{Sort, TurnAlike}
+use Rattle.reach_engine_marks.specs.declared.path_patterns.mark.Mark as pattern
+use Rattle.reach_engine_marks.proofs.PathChecks.QuietEntries.{IsQuiet, quiet_turns}
+use Rattle.reach_engine_marks.proofs.PathChecks.RulesShown.{each_flat, each_if}
+use Rattle.reach_engine_marks.specs.PathChecks.Entries.{marks_for, means}
+use Rattle.ownership_kinds_chains.specs.OwnershipChains.Facts.{has, known_or, value_of}
+use Rattle.ownership_kinds_chains.specs.declared.ownership_chains.facts.Facts.{Facts}
+use Rattle.ownership_kinds_chains.specs.OwnershipMarks.Marks.{marks_of}
+use Rattle.ownership_kinds_chains.specs.declared.ownership_marks.mark.Mark.{Mark}
+use Rattle.ownership_kinds_chains.specs.declared.ownership_marks.mark.MarkSort.{MarkSort}
+use Rattle.ownership_kinds_chains.specs.declared.ownership_marks.mark.MarkSort.TheVariants.{End, Use, Begin}
 use Rattle.borrow_scopes.specs.Scopes.{entry_of, is_scope, leaves, left_at_return, lent_bases, lost_at_end, lost_entries, lost_from, lost_with}
 use Rattle.borrow_scopes.specs.Scopes.{mark_entries, returned, scope_entries, scopes_of, turned_by}
 use Rattle.borrow_scopes.specs.inner.Runs.{AreOpenWhileOn, scope_along, sort_for, sort_of, sorts_along}

@@ -3,17 +3,17 @@ use Rattle.std.specs.Prelude.{List, Bool, true, false, ◌&&◌, ◌==◌, Optio
 use Rattle.sil_ast.specs.declared.function.Function.{Function}
 use Rattle.sil_ast.specs.declared.place.ValueId.{ValueId}
 use Rattle.sil_cfg.specs.declared.item.Item.{Item}
-use Rattle.ownership_marks.specs.ownership_chains.Facts.{has, is_guaranteed, known_or}
-use Rattle.ownership_marks.specs.ownership_chains.declared.facts.Facts.{Facts}
-use Rattle.item_operands.specs.Items.{item_taken}
-use Rattle.item_operands.specs.declared.taken.Taken.{Taken}
+use Rattle.ownership_kinds_chains.specs.OwnershipChains.Facts.{has, is_guaranteed, known_or}
+use Rattle.ownership_kinds_chains.specs.declared.ownership_chains.facts.Facts.{Facts}
+use Rattle.sil_cfg_items.specs.Items.{item_taken}
+use Rattle.sil_cfg_items.specs.declared.taken.Taken.{Taken}
 use Rattle.sil_rules.specs.Rules.{index_of}
 use Rattle.sil_rules.specs.declared.rule.Rule.{Rule}
 use Rattle.sil_rules.specs.declared.rule.Rule.TheVariants as rule
-use Rattle.ownership_marks.specs.Marks.{marks_of}
-use Rattle.ownership_marks.specs.declared.mark.Mark.{Mark}
-use Rattle.ownership_marks.specs.declared.mark.MarkSort.{MarkSort}
-use Rattle.ownership_marks.specs.declared.mark.MarkSort.TheVariants.{End, Use, Begin}
+use Rattle.ownership_kinds_chains.specs.OwnershipMarks.Marks.{marks_of}
+use Rattle.ownership_kinds_chains.specs.declared.ownership_marks.mark.Mark.{Mark}
+use Rattle.ownership_kinds_chains.specs.declared.ownership_marks.mark.MarkSort.{MarkSort}
+use Rattle.ownership_kinds_chains.specs.declared.ownership_marks.mark.MarkSort.TheVariants.{End, Use, Begin}
 use Rattle.borrow_scopes.specs.Scopes.{lent_bases}
 
 -- the facts are of a Guaranteed value that has the scope among its bases

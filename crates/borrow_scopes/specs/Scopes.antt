@@ -6,17 +6,17 @@ use Rattle.sil_ast.specs.declared.function.Function.{Function}
 use Rattle.sil_ast.specs.declared.place.ValueId.{ValueId}
 use Rattle.sil_cfg.specs.Returns.{is_return}
 use Rattle.sil_cfg.specs.declared.item.Item.{Item}
-use Rattle.path_checks.specs.declared.entry.Entry as entry
-use Rattle.path_patterns.specs.Marks.{needs_off, needs_off_turns_on, needs_on, needs_on_turns_off}
-use Rattle.path_patterns.specs.declared.mark.Mark as pattern
+use Rattle.reach_engine_marks.specs.declared.path_checks.entry.Entry as entry
+use Rattle.reach_engine_marks.specs.PathPatterns.Marks.{needs_off, needs_off_turns_on, needs_on, needs_on_turns_off}
+use Rattle.reach_engine_marks.specs.declared.path_patterns.mark.Mark as pattern
 use Rattle.sil_rules.specs.declared.rule.Rule.TheVariants as rule
-use Rattle.ownership_marks.specs.ownership_chains.Facts.{has, is_guaranteed, known_or, value_of}
-use Rattle.ownership_marks.specs.ownership_chains.declared.facts.Facts.{Facts}
-use Rattle.value_tables.specs.Borrows.{is_borrow, lent_by}
-use Rattle.ownership_marks.specs.Marks.{marks_of}
-use Rattle.ownership_marks.specs.declared.mark.Mark as mark
-use Rattle.ownership_marks.specs.declared.mark.MarkSort.{MarkSort}
-use Rattle.ownership_marks.specs.declared.mark.MarkSort.TheVariants.{End, Use, Begin}
+use Rattle.ownership_kinds_chains.specs.OwnershipChains.Facts.{has, is_guaranteed, known_or, value_of}
+use Rattle.ownership_kinds_chains.specs.declared.ownership_chains.facts.Facts.{Facts}
+use Rattle.numbered_form.specs.ValueTables.Borrows.{is_borrow, lent_by}
+use Rattle.ownership_kinds_chains.specs.OwnershipMarks.Marks.{marks_of}
+use Rattle.ownership_kinds_chains.specs.declared.ownership_marks.mark.Mark as mark
+use Rattle.ownership_kinds_chains.specs.declared.ownership_marks.mark.MarkSort.{MarkSort}
+use Rattle.ownership_kinds_chains.specs.declared.ownership_marks.mark.MarkSort.TheVariants.{End, Use, Begin}
 
 -- a use needs the scope open. An end does too, and closes it. A begin needs it not open, and opens it.
 -- At a `return` it is not open, nor is it where a base of what it borrows ends

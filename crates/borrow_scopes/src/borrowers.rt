@@ -1,15 +1,15 @@
 //! An index: from a base to the scopes that borrow from it.
 
 ghost use Rattle.std.specs.Prelude.{◌≡◌, ℕ, ◌<◌, ◌≤◌, ◌==◌, ◌^◌, IfOk, OnOk, length};
-ghost use Rattle.ownership_marks.specs.ownership_chains.Facts.{has};
-ghost use Rattle.ownership_marks.specs.Known.{facts_of};
+ghost use Rattle.ownership_kinds_chains.specs.OwnershipChains.Facts.{has};
+ghost use Rattle.ownership_kinds_chains.specs.OwnershipMarks.Known.{facts_of};
 ghost use Rattle.borrow_scopes.specs.inner.Tables as tables;
 ghost use Rattle.borrow_scopes.specs.inner.Tables.{borrowers_at, ends_with, lent_bases_in, with_last, with_last_if};
 
-use ownership_marks::Kinds;
+use numbered_form::{Borrow, lent_by};
+use ownership_kinds_chains::Kinds;
 use sil_ast::{Exhausted, ValueId};
 use std::alloc::Global;
-use value_tables::{Borrow, lent_by};
 
 /// The bases of what the value lends, and none where it lends nothing.
 pub(crate) fn lent_bases<'a>(k: &'a Kinds, borrows: &[Borrow], value: ValueId) -> &'a [ValueId]

@@ -2,19 +2,19 @@
 
 ghost use Rattle.std.specs.Prelude.{◌≡◌, IfErr, IfOk, MatchOption, OnOk};
 ghost use Rattle.sil_cfg.specs.inner.Build.{IsGraphOf};
-ghost use Rattle.value_tables.specs.Borrows as borrowing;
+ghost use Rattle.numbered_form.specs.ValueTables.Borrows as borrowing;
 ghost use Rattle.borrow_scopes.specs.inner.Borrows.{AreScopesKept, IsFaultOf, IsFirstBrokenScope, IsFirstScope, IsScopeBroken};
 
 use crate::borrowers::borrowers_of;
 use crate::others::other_of;
 use crate::scopes::Scopes;
-use ownership_marks::Kinds;
-use path_checks::{PathFault, entries_by_item, first_fault, marks_by_subject};
-use rule_faults::{RuleEnd, RuleFault};
+use numbered_form::Borrow;
+use ownership_kinds_chains::Kinds;
+use reach_engine_marks::{PathFault, entries_by_item, first_fault, marks_by_subject};
 use sil_ast::{Exhausted, Function, ValueId};
 use sil_cfg::{Graph, returns_by_item};
+use sil_rules::{RuleEnd, RuleFault};
 use std::alloc::Global;
-use value_tables::Borrow;
 
 /// The first scope that some walk breaks, with a walk of fewest edges that shows it.
 fn first_broken(

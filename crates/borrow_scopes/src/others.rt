@@ -1,21 +1,21 @@
 //! The other value of a fault: of 501 the operand that uses the scope, and of 504 the base that ends.
 
 ghost use Rattle.std.specs.Prelude.{◌≡◌, find, option_map, IfOk};
-ghost use Rattle.ownership_marks.specs.ownership_chains.Facts.{has, told_at};
-ghost use Rattle.ownership_marks.specs.Known.{facts_of};
-ghost use Rattle.value_tables.specs.Borrows as borrowing;
+ghost use Rattle.ownership_kinds_chains.specs.OwnershipChains.Facts.{has, told_at};
+ghost use Rattle.ownership_kinds_chains.specs.OwnershipMarks.Known.{facts_of};
+ghost use Rattle.numbered_form.specs.ValueTables.Borrows as borrowing;
 ghost use Rattle.borrow_scopes.specs.Others as others;
 ghost use Rattle.borrow_scopes.specs.Others.{ends_one, marked_value, taken_value};
 
 use crate::borrowers::lent_bases;
 use crate::scopes::is_guaranteed;
-use item_operands::{Taken, add_item_taken};
-use ownership_marks::{Kinds, Mark, MarkSort};
+use numbered_form::Borrow;
+use ownership_kinds_chains::{Kinds, Mark, MarkSort};
 use sil_ast::{Exhausted, Function, ValueId};
 use sil_cfg::Item;
+use sil_cfg_items::{Taken, add_item_taken};
 use sil_rules::Rule;
 use std::alloc::Global;
-use value_tables::Borrow;
 
 /// Whether the value is one of these.
 fn is_among(value: ValueId, values: &[ValueId]) -> bool

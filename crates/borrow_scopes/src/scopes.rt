@@ -2,20 +2,20 @@
 
 ghost use Rattle.std.specs.Prelude.{◌≡◌, ◌++◌, map, OnOk};
 ghost use Rattle.std.specs.List.{flat_map};
-ghost use Rattle.ownership_marks.specs.ownership_chains.Facts as facts;
-ghost use Rattle.ownership_marks.specs.Known.{facts_of, marks_at};
+ghost use Rattle.ownership_kinds_chains.specs.OwnershipChains.Facts as facts;
+ghost use Rattle.ownership_kinds_chains.specs.OwnershipMarks.Known.{facts_of, marks_at};
 ghost use Rattle.borrow_scopes.specs.Scopes as scopes;
 ghost use Rattle.borrow_scopes.specs.Scopes.{lost_at_end};
 ghost use Rattle.borrow_scopes.specs.inner.Tables as tables;
 ghost use Rattle.borrow_scopes.specs.inner.Tables.{borrowers_at, lost_at, mark_entries_in, scope_entries_in};
 
-use ownership_marks::{Kinds, Mark, MarkSort};
-use path_checks::{Entry, ItemTable, SubjectMarks};
+use numbered_form::{Borrow, is_borrow};
+use ownership_kinds_chains::{Kinds, Mark, MarkSort};
+use reach_engine_marks::{Entry, ItemTable, SubjectMarks};
 use sil_ast::{Exhausted, ValueId};
 use sil_cfg::Item;
 use sil_rules::Rule;
-use type_definitions::Kind;
-use value_tables::{Borrow, is_borrow};
+use sil_types_declarations::Kind;
 
 pub(crate) fn is_guaranteed(kind: Kind) -> bool
     ensures { result ≡ facts.is_guaranteed kind }
@@ -31,13 +31,13 @@ fn is_scope(k: &Kinds, borrows: &[Borrow], value: ValueId) -> bool
 }
 
 /// A use and an end need the scope open, and a begin needs it not open.
-fn turned_by(sort: MarkSort) -> path_patterns::Mark
+fn turned_by(sort: MarkSort) -> reach_engine_marks::Mark
     ensures { result ≡ scopes.turned_by sort }
 {
     match sort {
-        MarkSort::Use => path_patterns::Mark::needs_on(Rule::UseOutsideScope),
-        MarkSort::End => path_patterns::Mark::needs_on_turns_off(Rule::EndTwice),
-        MarkSort::Begin => path_patterns::Mark::needs_off_turns_on(Rule::ScopeOverwritten),
+        MarkSort::Use => reach_engine_marks::Mark::needs_on(Rule::UseOutsideScope),
+        MarkSort::End => reach_engine_marks::Mark::needs_on_turns_off(Rule::EndTwice),
+        MarkSort::Begin => reach_engine_marks::Mark::needs_off_turns_on(Rule::ScopeOverwritten),
     }
 }
 
@@ -66,7 +66,7 @@ fn add_lost(entries: &mut Vec<Entry>, lost: &[u32]) -> Result<(), Exhausted>
     for scope in lost {
         entries.push(Entry {
             subject: *scope,
-            mark: path_patterns::Mark::needs_off(Rule::ConsumedWhileBorrowed),
+            mark: reach_engine_marks::Mark::needs_off(Rule::ConsumedWhileBorrowed),
         })?;
     }
     Ok(())
@@ -158,9 +158,9 @@ impl ItemTable for Scopes<'_> {
 impl SubjectMarks for Scopes<'_> {
     ghost mark_of = { λ t n. tables.left_mark t.borrows.now (facts_of t.k.now) n };
 
-    fn shared_mark(&self, subject: u32) -> Option<path_patterns::Mark> {
+    fn shared_mark(&self, subject: u32) -> Option<reach_engine_marks::Mark> {
         if is_scope(self.k, self.borrows, ValueId(subject)) {
-            Some(path_patterns::Mark::needs_off(Rule::ScopeLeft))
+            Some(reach_engine_marks::Mark::needs_off(Rule::ScopeLeft))
         } else {
             None
         }

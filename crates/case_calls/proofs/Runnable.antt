@@ -7,10 +7,10 @@ use Rattle.numbered_form.specs.Insts.{insts_in, insts_of}
 use Rattle.numbered_form.specs.Lists.{Each}
 use Rattle.numbered_form.specs.inner.Limits.{IsFunctionInLimits}
 use Rattle.numbered_form.specs.inner.NumberedForm.{IsNumbered}
-use Rattle.type_definitions.specs.Declarations.{Declarations}
-use Rattle.type_definitions.specs.Rules.{AreDeclarationsOf}
+use Rattle.sil_types_declarations.specs.TypeDefinitions.Declarations.{Declarations}
+use Rattle.sil_types_declarations.specs.TypeDefinitions.Rules.{AreDeclarationsOf}
 use Rattle.sil_types.specs.Typing.Typed.{Typed}
-use Rattle.report_writing.specs.run_typing.Runnable.{IsBodyInLimits, IsNotOwned, IsRunnable, IsShort}
+use Rattle.holder_model.specs.RunTyping.Runnable.{IsBodyInLimits, IsNotOwned, IsRunnable, IsShort}
 
 are_short : (blocks : List Block) → length (insts_in blocks) < 2 ^ 32 → Each IsShort blocks
 are_short [] lt = tt

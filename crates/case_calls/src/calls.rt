@@ -1,7 +1,7 @@
 //! Which call the words name.
 
 ghost use Rattle.numbered_form.specs.inner.NumberedForm.{IsNumbered};
-ghost use Rattle.type_definitions.specs.Rules.{AreDeclarationsOf};
+ghost use Rattle.sil_types_declarations.specs.TypeDefinitions.Rules.{AreDeclarationsOf};
 
 use crate::answer::Answer;
 use crate::heap_calls::answer_on_heap;

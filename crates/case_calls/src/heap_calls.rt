@@ -1,12 +1,11 @@
 //! Calls of the heap, one after another, on a new heap for the classes of a module.
 
 ghost use Rattle.std.specs.Prelude.{◌≡◌, ◌<◌, ◌^◌, false, true};
-ghost use Rattle.heap_model.specs.HeapViews.{is_dead_in};
+ghost use Rattle.count_heap.specs.HeapModel.HeapViews.{is_dead_in};
 
 use crate::answer::Answer;
-use count_heap::{Heap, Totals};
-use heap_model::Released;
-use run_values::Phase;
+use count_heap::{Heap, Released, Totals};
+use holder_model_values::Phase;
 use sil_ast::{Exhausted, ObjectId};
 use sil_types::TypeTable;
 use std::alloc::Global;

@@ -2,11 +2,11 @@
 
 ghost use Rattle.std.specs.Prelude.{◌≡◌, ◌<◌, ◌≤◌, ◌^◌, IfOk, IfSome, length, true};
 ghost use Rattle.count_machine.specs.LowRuns.{MayStartAt};
-ghost use Rattle.report_writing.specs.holder_model.Outcomes.{may_start};
+ghost use Rattle.holder_model.specs.Outcomes.{may_start};
 ghost use Rattle.numbered_form.specs.Lists.{Each};
 ghost use Rattle.numbered_form.specs.inner.NumberedForm.{IsNumbered};
-ghost use Rattle.report_writing.specs.run_typing.Runnable.{IsNotOwned, IsRunnable};
-ghost use Rattle.type_definitions.specs.Rules.{AreDeclarationsOf};
+ghost use Rattle.holder_model.specs.RunTyping.Runnable.{IsNotOwned, IsRunnable};
+ghost use Rattle.sil_types_declarations.specs.TypeDefinitions.Rules.{AreDeclarationsOf};
 
 use crate::answer::Answer;
 use crate::run_reports::add_run;

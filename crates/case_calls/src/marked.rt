@@ -2,11 +2,11 @@
 
 ghost use Rattle.std.specs.Prelude.{◌≡◌, ℕ, ◌<◌, ◌==◌, length, slice_get, cond, IfOk};
 ghost use Rattle.sil_cfg.specs.Layout.{item_count};
-ghost use Rattle.path_patterns.specs.inner.Automaton.{mark_step};
-ghost use Rattle.path_patterns.specs.inner.Reads.{step_in};
+ghost use Rattle.reach_engine_marks.specs.PathPatterns.inner.Automaton.{mark_step};
+ghost use Rattle.reach_engine_marks.specs.PathPatterns.inner.Reads.{step_in};
 
-use path_patterns::{Mark, turn};
 use reach_engine::{Family, MoveAll, Scan, Step, turn_touched};
+use reach_engine_marks::{Mark, turn};
 use sil_ast::{Exhausted, Function, ValueId};
 use sil_cfg::{Graph, Item};
 use sil_rules::Rule;

@@ -1,13 +1,13 @@
 //! The report of a run of lowered code, as an answer.
 
 ghost use Rattle.std.specs.Prelude.{◌≡◌};
-ghost use Rattle.report_writing.specs.run_typing.Runnable.{IsRunnable};
-ghost use Rattle.type_definitions.specs.Declarations.{declarations_of};
+ghost use Rattle.holder_model.specs.RunTyping.Runnable.{IsRunnable};
+ghost use Rattle.sil_types_declarations.specs.TypeDefinitions.Declarations.{declarations_of};
 
 use crate::answer::Answer;
 use count_machine::{LowEnd, LowRun};
-use lowered_run::LowFault;
-use report_writing::{Ending, RunOutcome, write_report};
+use holder_model::LowFault;
+use module_runner_report::{Ending, RunOutcome, write_report};
 use sil_ast::{Exhausted, Module, TypeName};
 use sil_types::TypeTable;
 use std::alloc::Global;

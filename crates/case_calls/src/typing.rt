@@ -1,7 +1,7 @@
 //! What the check of types answers to a text. It goes into lowered functions too, which `check` refuses as a whole.
 
 ghost use Rattle.numbered_form.specs.inner.NumberedForm.{IsNumbered};
-ghost use Rattle.type_definitions.specs.Rules.{AreDeclarationsOf};
+ghost use Rattle.sil_types_declarations.specs.TypeDefinitions.Rules.{AreDeclarationsOf};
 
 use crate::answer::Answer;
 use sil_ast::{Exhausted, FuncId, Module, PointId};

@@ -9,15 +9,15 @@ use Rattle.sil_ast.specs.declared.module.Module.{Module}
 use Rattle.sil_ast.specs.declared.place.PointId.{PointId}
 use Rattle.sil_ast.specs.declared.place.ValueId.{ValueId}
 use Rattle.sil_cfg.specs.Items.{HasBlocks}
-use Rattle.item_operands.specs.Parts.{inst_in}
-use Rattle.ownership_chains.specs.declared.facts.Facts.{Facts}
-use Rattle.ownership_kinds.specs.Facts.{facts_in}
-use Rattle.type_definitions.specs.Declarations.{Declarations, declarations_of}
-use Rattle.copy_removal.proofs.Unique.{same_copy}
-use Rattle.copy_removal.specs.Copies.{IsCopy}
-use Rattle.copy_removal.specs.Optimised.{facts_of}
-use Rattle.copy_removal.specs.Removable.{IsRemoval}
-use Rattle.copy_removal.specs.declared.removal.Removal.{Removal}
+use Rattle.sil_cfg_items.specs.Parts.{inst_in}
+use Rattle.ownership_kinds_chains.specs.declared.ownership_chains.facts.Facts.{Facts}
+use Rattle.ownership_kinds.specs.ownership_kinds_origins.Facts.{facts_in}
+use Rattle.sil_types_declarations.specs.TypeDefinitions.Declarations.{Declarations, declarations_of}
+use Rattle.copy_pairing_model.proofs.Unique.{same_copy}
+use Rattle.copy_pairing_model.specs.Copies.{IsCopy}
+use Rattle.copy_pairing_model.specs.Optimised.{facts_of}
+use Rattle.copy_pairing_model.specs.Removable.{IsRemoval}
+use Rattle.copy_pairing_model.specs.declared.removal.Removal.{Removal}
 
 pub contains_at : {A : Type 0} (xs : List A) (n : ℕ) (x : A) → slice_get xs n ≡ Some x → Contains xs x
 contains_at {A} xs n x e = at (slice_get_cases xs n).1

@@ -7,16 +7,16 @@ use Rattle.sil_ast.specs.declared.function.Function.{Function}
 use Rattle.sil_ast.specs.declared.module.Module.{Module}
 use Rattle.sil_ast.specs.declared.place.PointId.{PointId}
 use Rattle.sil_ast.specs.declared.place.ValueId.{ValueId}
-use Rattle.ownership_chains.specs.Facts.{known_or}
-use Rattle.ownership_chains.specs.declared.facts.Facts.{Facts}
-use Rattle.ownership_kinds.specs.Facts.{facts_in}
-use Rattle.type_definitions.specs.Declarations.{Declarations, declarations_of}
-use Rattle.sil_verifier.specs.accepted_modules.inner.Checked.{IsVerified}
-use Rattle.copy_removal.specs.Copies.{IsCopy}
-use Rattle.copy_removal.specs.Optimised.{facts_of}
-use Rattle.copy_removal.specs.Removable.{IsBorrowable, IsMovable}
-use Rattle.copy_removal.specs.Rewritten.{changed_at, lent, moved, with_function}
-use Rattle.rewriting_order.specs.inner.Laws.{
+use Rattle.ownership_kinds_chains.specs.OwnershipChains.Facts.{known_or}
+use Rattle.ownership_kinds_chains.specs.declared.ownership_chains.facts.Facts.{Facts}
+use Rattle.ownership_kinds.specs.ownership_kinds_origins.Facts.{facts_in}
+use Rattle.sil_types_declarations.specs.TypeDefinitions.Declarations.{Declarations, declarations_of}
+use Rattle.sil_verifier.specs.sil_verifier_accepted.AcceptedModules.inner.Checked.{IsVerified}
+use Rattle.copy_pairing_model.specs.Copies.{IsCopy}
+use Rattle.copy_pairing_model.specs.Optimised.{facts_of}
+use Rattle.copy_pairing_model.specs.Removable.{IsBorrowable, IsMovable}
+use Rattle.copy_pairing_model.specs.Rewritten.{changed_at, lent, moved, with_function}
+use Rattle.copy_pairing_acceptance.specs.RewritingOrder.inner.Laws.{
   HasValuesOf,
   IsVerifiedIn,
   LendingKeepsBorrowable,
@@ -26,13 +26,13 @@ use Rattle.rewriting_order.specs.inner.Laws.{
   MovingLetsNoneBorrow,
   MovingMakesNoCopy,
 }
-use Rattle.borrowable_copies.specs.declared.answers.Answer.{Answer}
+use Rattle.copy_pairing_search.specs.declared.borrowable_copies.answers.Answer.{Answer}
 use Rattle.copy_pairing.specs.declared.notes.Age.{Age}
 use Rattle.copy_pairing.specs.declared.notes.Age.TheVariants.{Current, Moved, Lent}
 use Rattle.copy_pairing.specs.declared.notes.Notes.{Notes}
 use Rattle.copy_pairing.specs.declared.surveys.Survey.{Survey}
 use Rattle.copy_pairing.specs.declared.turns.Turn.TheVariants.{Lend, Move}
-use Rattle.borrowable_copies.specs.inner.Answers.{AreAnswers, AreSpared}
+use Rattle.copy_pairing_search.specs.BorrowableCopies.inner.Answers.{AreAnswers, AreSpared}
 use Rattle.copy_pairing.specs.inner.Surveys.{AreNotesOf, AreValuesOf, HoldsAt, IsKeptFor, IsKeptIn, IsLeftByLending, IsLeftByMove, IsSurveyOf, after_move}
 use Rattle.copy_pairing.specs.inner.Turns.{IsMovableTo, IsTurnThere}
 

@@ -12,23 +12,23 @@ use Rattle.sil_ast.specs.declared.place.PointId.{PointId}
 use Rattle.sil_ast.specs.declared.place.ValueId.{ValueId}
 use Rattle.sil_cfg.specs.Items.{point_at}
 use Rattle.sil_cfg.specs.declared.item.Item.TheVariants.{Inst}
-use Rattle.item_operands.specs.Parts.{inst_in}
-use Rattle.value_tables.specs.Borrows.{borrow_in, borrows_of, lends}
-use Rattle.value_tables.specs.declared.borrows.Borrow.{Borrow}
-use Rattle.value_tables.specs.declared.borrows.Borrow.TheVariants.{NoBorrow}
-use Rattle.ownership_chains.specs.Facts.{has, is_owned, known_or, told_at}
-use Rattle.ownership_chains.specs.declared.facts.Facts.{Facts}
-use Rattle.ownership_marks.proofs.MarkTables.{same_marks}
-use Rattle.ownership_marks.specs.Known.{Known, facts_of}
-use Rattle.ownership_marks.specs.Marks.{marks_of}
-use Rattle.ownership_marks.specs.declared.mark.MarkSort.TheVariants.{Begin}
-use Rattle.copy_removal.proofs.borrow_scopes.Agreeing.{same_bases}
-use Rattle.copy_removal.specs.borrow_scopes.Scopes.{bases_in, lent_bases}
-use Rattle.copy_removal.specs.borrow_scopes.inner.Tables.{lent_bases_in}
-use Rattle.copy_removal.proofs.DestroyShown.{destroy_shown}
-use Rattle.copy_removal.specs.Copies.{IsDestroy}
-use Rattle.copy_removal.specs.Removable.{IsDestroyedNext, IsMovable, IsUnlent, concerns}
-use Rattle.borrowable_copies.specs.inner.Asked.{AreFreeAt}
+use Rattle.sil_cfg_items.specs.Parts.{inst_in}
+use Rattle.numbered_form.specs.ValueTables.Borrows.{borrow_in, borrows_of, lends}
+use Rattle.numbered_form.specs.declared.value_tables.borrows.Borrow.{Borrow}
+use Rattle.numbered_form.specs.declared.value_tables.borrows.Borrow.TheVariants.{NoBorrow}
+use Rattle.ownership_kinds_chains.specs.OwnershipChains.Facts.{has, is_owned, known_or, told_at}
+use Rattle.ownership_kinds_chains.specs.declared.ownership_chains.facts.Facts.{Facts}
+use Rattle.ownership_kinds_chains.proofs.OwnershipMarks.MarkTables.{same_marks}
+use Rattle.ownership_kinds_chains.specs.OwnershipMarks.Known.{Known, facts_of}
+use Rattle.ownership_kinds_chains.specs.OwnershipMarks.Marks.{marks_of}
+use Rattle.ownership_kinds_chains.specs.declared.ownership_marks.mark.MarkSort.TheVariants.{Begin}
+use Rattle.borrow_scopes.proofs.Agreeing.{same_bases}
+use Rattle.borrow_scopes.specs.Scopes.{bases_in, lent_bases}
+use Rattle.borrow_scopes.specs.inner.Tables.{lent_bases_in}
+use Rattle.copy_pairing_model.proofs.DestroyShown.{destroy_shown}
+use Rattle.copy_pairing_model.specs.Copies.{IsDestroy}
+use Rattle.copy_pairing_model.specs.Removable.{IsDestroyedNext, IsMovable, IsUnlent, concerns}
+use Rattle.copy_pairing_search.specs.BorrowableCopies.inner.Asked.{AreFreeAt}
 use Rattle.copy_pairing.specs.inner.Turns.{IsMovableTo, IsOwnedUpTo}
 
 -- the scopes that borrow from a value

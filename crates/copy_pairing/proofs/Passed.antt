@@ -4,12 +4,12 @@ use Rattle.sil_ast.specs.declared.module.Module.{Module}
 use Rattle.sil_ast.specs.declared.place.PointId.{PointId}
 use Rattle.sil_cfg.specs.Items.{point_at}
 use Rattle.sil_rules.specs.Order.{NotAfter}
-use Rattle.type_definitions.specs.Declarations.{Declarations, declarations_of}
-use Rattle.type_definitions.specs.Rules.{AreDeclarationsOf}
-use Rattle.copy_removal.specs.Optimised.{HasNoRemovable, IsOptimised, Rewrites, RewritesFirst, done, more, text_key}
-use Rattle.sil_verifier.specs.accepted_modules.inner.Checked.{IsVerified}
-use Rattle.rewriting_order.specs.inner.Laws.{LaterOnesAreLeft}
-use Rattle.optimised_runs.specs.rewriting_laws.inner.Laws.{RewritingKeepsVerified}
+use Rattle.sil_types_declarations.specs.TypeDefinitions.Declarations.{Declarations, declarations_of}
+use Rattle.sil_types_declarations.specs.TypeDefinitions.Rules.{AreDeclarationsOf}
+use Rattle.copy_pairing_model.specs.Optimised.{HasNoRemovable, IsOptimised, Rewrites, RewritesFirst, done, more, text_key}
+use Rattle.sil_verifier.specs.sil_verifier_accepted.AcceptedModules.inner.Checked.{IsVerified}
+use Rattle.copy_pairing_acceptance.specs.RewritingOrder.inner.Laws.{LaterOnesAreLeft}
+use Rattle.copy_pairing_acceptance.specs.RewritingLaws.inner.Laws.{RewritingKeepsVerified}
 use Rattle.copy_pairing.specs.inner.Passes.{ArePassed, NoneBefore, blocks_at, insts_at}
 use Rattle.copy_pairing.specs.inner.Turns.{Turned, stays, turns}
 use Rattle.copy_pairing.proofs.Keys.{behind, first_place, next_block, next_function, next_index, place}

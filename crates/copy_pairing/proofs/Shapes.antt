@@ -10,11 +10,11 @@ use Rattle.sil_ast.specs.declared.function.Function.{Function}
 use Rattle.sil_ast.specs.declared.module.Module.{Module}
 use Rattle.sil_ast.specs.declared.place.PointId.{PointId}
 use Rattle.sil_ast.specs.declared.place.ValueId.{ValueId}
-use Rattle.item_operands.specs.Parts as parts
-use Rattle.type_definitions.specs.Declarations.{declarations_of}
-use Rattle.copy_removal.specs.Copies.{IsCopy}
-use Rattle.copy_removal.specs.Rewritten.{changed_at, lent, lent_block, lent_inst, moved, moved_block, with_function, with_op}
-use Rattle.copy_removal.specs.Optimised.{Rewrites, lends, moves}
+use Rattle.sil_cfg_items.specs.Parts as parts
+use Rattle.sil_types_declarations.specs.TypeDefinitions.Declarations.{declarations_of}
+use Rattle.copy_pairing_model.specs.Copies.{IsCopy}
+use Rattle.copy_pairing_model.specs.Rewritten.{changed_at, lent, lent_block, lent_inst, moved, moved_block, with_function, with_op}
+use Rattle.copy_pairing_model.specs.Optimised.{Rewrites, lends, moves}
 use Rattle.copy_pairing.specs.inner.Passes.{IsNoLonger, blocks_at, blocks_in, insts_at, insts_in}
 
 module _ {A : Type 0} (change : A → A) where

@@ -8,16 +8,16 @@ use Rattle.sil_ast.specs.declared.function.Block.{Block}
 use Rattle.sil_ast.specs.declared.function.Function.{Function}
 use Rattle.sil_ast.specs.declared.module.Module.{Module}
 use Rattle.sil_cfg.specs.Items.{HasBlocks}
-use Rattle.sil_verifier.proofs.accepted_modules.typed_graph_laws.Functions.{graphs_by_blocks}
-use Rattle.sil_verifier.specs.accepted_modules.inner.Checked.{IsVerified}
+use Rattle.sil_verifier.proofs.sil_verifier_accepted.TypedGraphLaws.Functions.{graphs_by_blocks}
+use Rattle.sil_verifier.specs.sil_verifier_accepted.AcceptedModules.inner.Checked.{IsVerified}
 use Rattle.copy_pairing.specs.inner.Passes.{blocks_at, blocks_in, insts_at, insts_in}
 use Rattle.sil_cfg.proofs.Blocks.{all_get}
 use Rattle.sil_cfg.specs.inner.Build.{HasGraph, IsBlockLinked}
 use Rattle.instruction_table.specs.Forms.{result_kind_of}
 use Rattle.numbered_form.specs.Numbering.{values_of}
-use Rattle.value_tables.proofs.Rows.{rows_count}
-use Rattle.value_tables.specs.Borrows.{arg_borrows, borrow_by, borrows_of, result_borrows}
-use Rattle.value_tables.specs.declared.borrows.Borrow.TheVariants.{NoBorrow}
+use Rattle.numbered_form.proofs.ValueTables.Rows.{rows_count}
+use Rattle.numbered_form.specs.ValueTables.Borrows.{arg_borrows, borrow_by, borrows_of, result_borrows}
+use Rattle.numbered_form.specs.declared.value_tables.borrows.Borrow.TheVariants.{NoBorrow}
 
 pub borrows_count : (f : Function) → length (borrows_of f) ≡ length (values_of f.blocks)
 borrows_count f =

@@ -9,16 +9,16 @@ use Rattle.sil_ast.specs.declared.inst.Inst.{Inst}
 use Rattle.sil_ast.specs.declared.module.Module.{Module}
 use Rattle.sil_ast.specs.declared.place.PointId.{PointId}
 use Rattle.sil_ast.specs.declared.place.ValueId.{ValueId}
-use Rattle.item_operands.specs.Parts.{inst_in}
-use Rattle.ownership_chains.specs.declared.facts.Facts.{Facts}
-use Rattle.ownership_kinds.specs.Facts.{facts_in}
-use Rattle.type_definitions.specs.Declarations.{Declarations, declarations_of}
-use Rattle.copy_removal.specs.Copies.{IsCopy}
-use Rattle.copy_removal.specs.Optimised.{Rewrites, facts_of, lends, moves}
-use Rattle.copy_removal.proofs.Unique.{same_copy}
-use Rattle.copy_removal.specs.Removable.{IsBorrowable, IsMovable, IsRemoval}
-use Rattle.copy_removal.specs.declared.removal.Removal.TheVariants as removal
-use Rattle.copy_removal.specs.Rewritten.{moved, with_function}
+use Rattle.sil_cfg_items.specs.Parts.{inst_in}
+use Rattle.ownership_kinds_chains.specs.declared.ownership_chains.facts.Facts.{Facts}
+use Rattle.ownership_kinds.specs.ownership_kinds_origins.Facts.{facts_in}
+use Rattle.sil_types_declarations.specs.TypeDefinitions.Declarations.{Declarations, declarations_of}
+use Rattle.copy_pairing_model.specs.Copies.{IsCopy}
+use Rattle.copy_pairing_model.specs.Optimised.{Rewrites, facts_of, lends, moves}
+use Rattle.copy_pairing_model.proofs.Unique.{same_copy}
+use Rattle.copy_pairing_model.specs.Removable.{IsBorrowable, IsMovable, IsRemoval}
+use Rattle.copy_pairing_model.specs.declared.removal.Removal.TheVariants as removal
+use Rattle.copy_pairing_model.specs.Rewritten.{moved, with_function}
 use Rattle.copy_pairing.specs.declared.turns.Turn.{Turn}
 use Rattle.copy_pairing.specs.declared.turns.Turn.TheVariants.{Lend, Move, Stay}
 use Rattle.copy_pairing.specs.inner.Turns.{IsMovableTo, IsTurn, IsTurnIn, IsTurnOf, IsTurnThere, StandsBehind}

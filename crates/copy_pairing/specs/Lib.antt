@@ -1,2 +1,3 @@
 pub mod inner
-pub use Rattle.optimised_runs.specs as optimised_runs
+pub use Rattle.copy_pairing_acceptance.specs as copy_pairing_acceptance
+pub use Rattle.copy_pairing_runs.specs as copy_pairing_runs

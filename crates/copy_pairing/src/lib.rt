@@ -10,7 +10,7 @@ mod removals;
 mod surveys;
 mod turns;
 
-pub use copy_removal::Removal;
-pub use optimised_runs::{optimised_outcomes_agree, rewriting_keeps_verified};
+pub use copy_pairing_model::Removal;
+pub use copy_pairing_runs::{optimised_outcomes_agree, rewriting_keeps_verified};
 pub use optimiser::{Unfinished, optimize, optimize_in_place};
 pub use removals::removable;

@@ -5,28 +5,28 @@ ghost use Rattle.std.specs.List.{list_any};
 ghost use Rattle.sil_ast.specs.declared.place.ValueId.{ValueId};
 ghost use Rattle.sil_cfg.specs.declared.item.Item.TheVariants as item;
 ghost use Rattle.sil_cfg.specs.inner.Build.{HasGraph};
-ghost use Rattle.ownership_chains.specs.Facts as chains;
-ghost use Rattle.ownership_chains.specs.Facts.{has, told_at};
-ghost use Rattle.ownership_chains.specs.declared.facts.Facts.{Facts};
-ghost use Rattle.ownership_marks.specs.Known.{facts_of};
-ghost use Rattle.ownership_marks.specs.Marks.{marks_of};
-ghost use Rattle.copy_removal.specs.borrow_scopes.inner.Tables.{lent_bases_in};
-ghost use Rattle.copy_removal.specs.Removable as removal;
-ghost use Rattle.copy_removal.specs.Removable.{IsDestroyedNext, IsMovable, IsUnlent};
-ghost use Rattle.point_checks.specs.inner.Numbered.{IsOfNumberedModule};
-ghost use Rattle.ownership_kinds.specs.Facts.{facts_in};
+ghost use Rattle.ownership_kinds_chains.specs.OwnershipChains.Facts as chains;
+ghost use Rattle.ownership_kinds_chains.specs.OwnershipChains.Facts.{has, told_at};
+ghost use Rattle.ownership_kinds_chains.specs.declared.ownership_chains.facts.Facts.{Facts};
+ghost use Rattle.ownership_kinds_chains.specs.OwnershipMarks.Known.{facts_of};
+ghost use Rattle.ownership_kinds_chains.specs.OwnershipMarks.Marks.{marks_of};
+ghost use Rattle.borrow_scopes.specs.inner.Tables.{lent_bases_in};
+ghost use Rattle.copy_pairing_model.specs.Removable as removal;
+ghost use Rattle.copy_pairing_model.specs.Removable.{IsDestroyedNext, IsMovable, IsUnlent};
+ghost use Rattle.numbered_form.specs.PointChecks.inner.Numbered.{IsOfNumberedModule};
+ghost use Rattle.ownership_kinds.specs.ownership_kinds_origins.Facts.{facts_in};
 ghost use Rattle.copy_pairing.specs.inner.Surveys.{AreNotesOf, AreValuesOf};
 ghost use Rattle.copy_pairing.specs.inner.Turns.{IsMovableTo, IsOwnedUpTo};
 
 use crate::notes::{Notes, surveyed, with_values};
-use borrowable_copies::{Copied, are_free_at, is_among, is_destroyed_at, is_mark};
-use ownership_marks::{Kinds, Mark, MarkSort};
+use copy_pairing_search::{Copied, are_free_at, is_among, is_destroyed_at, is_mark};
+use numbered_form::{Borrow, lent_by};
+use ownership_kinds_chains::{Kinds, Mark, MarkSort};
 use sil_ast::{Block, Exhausted, Function, PointId, ValueId};
 use sil_cfg::Item;
 use sil_types::TypeTable;
+use sil_types_declarations::Kind;
 use std::alloc::Global;
-use type_definitions::Kind;
-use value_tables::{Borrow, lent_by};
 
 fn is_owned(kind: Kind) -> bool
     ensures { result ≡ chains.is_owned kind }

@@ -3,13 +3,13 @@
 ghost use Rattle.std.specs.Prelude.{◌≡◌, length, IfOk, IfSome, IsSomeAnd};
 ghost use Rattle.sil_ast.specs.declared.place.ValueId.{ValueId};
 ghost use Rattle.sil_cfg.specs.inner.Build.{HasGraph};
-ghost use Rattle.point_checks.specs.inner.Numbered.{IsOfNumberedModule};
-ghost use Rattle.borrowable_copies.specs.inner.Answers.{AreAnswered};
+ghost use Rattle.numbered_form.specs.PointChecks.inner.Numbered.{IsOfNumberedModule};
+ghost use Rattle.copy_pairing_search.specs.BorrowableCopies.inner.Answers.{AreAnswered};
 ghost use Rattle.copy_pairing.specs.inner.Surveys as surveys;
 ghost use Rattle.copy_pairing.specs.inner.Surveys.{AreNotesOf, AreValuesOf, IsKeptFor, IsLeftByLending, IsLeftByMove, IsSurveyOf};
 
 use crate::surveys::{Survey, new_survey};
-use borrowable_copies::{Answer, all_answers, forget};
+use copy_pairing_search::{Answer, all_answers, forget};
 use sil_ast::{Exhausted, Function, ValueId};
 use sil_types::TypeTable;
 use std::alloc::Global;

@@ -1,13 +1,13 @@
 //! The other call: the optimised module of an accepted one.
 
 ghost use Rattle.std.specs.Prelude.{◌≡◌, IfErr, IfOk, OnOk};
-ghost use Rattle.type_definitions.specs.Declarations.{declarations_of};
-ghost use Rattle.copy_removal.specs.Optimised.{IsOptimised};
-ghost use Rattle.optimised_runs.specs.lockstep_runs.inner.Agreeing.{RunsAsItDid};
-ghost use Rattle.sil_verifier.specs.accepted_modules.inner.Checked.{IsVerified, IsVerifiedWith};
+ghost use Rattle.sil_types_declarations.specs.TypeDefinitions.Declarations.{declarations_of};
+ghost use Rattle.copy_pairing_model.specs.Optimised.{IsOptimised};
+ghost use Rattle.copy_pairing_runs.specs.holder_model_laws.LockstepRuns.inner.Agreeing.{RunsAsItDid};
+ghost use Rattle.sil_verifier.specs.sil_verifier_accepted.AcceptedModules.inner.Checked.{IsVerified, IsVerifiedWith};
 
 use crate::passes::pass_module;
-use optimised_runs::optimised_runs_as_it_did;
+use copy_pairing_runs::optimised_runs_as_it_did;
 use sil_ast::{Exhausted, Module};
 use sil_types::TypeTable;
 use sil_verifier::Checked;

@@ -2,20 +2,20 @@
 
 ghost use Rattle.std.specs.Prelude.{◌≡◌, ◌+◌, length, IfOk, OnOk};
 ghost use Rattle.sil_cfg.specs.Items.{point_at};
-ghost use Rattle.type_definitions.specs.Declarations.{declarations_of};
-ghost use Rattle.sil_verifier.specs.accepted_modules.inner.Checked.{IsVerified};
+ghost use Rattle.sil_types_declarations.specs.TypeDefinitions.Declarations.{declarations_of};
+ghost use Rattle.sil_verifier.specs.sil_verifier_accepted.AcceptedModules.inner.Checked.{IsVerified};
 ghost use Rattle.copy_pairing.specs.inner.Passes.{ArePassed, blocks_at, insts_at};
 ghost use Rattle.copy_pairing.specs.inner.Surveys.{IsKeptIn};
 ghost use Rattle.copy_pairing.specs.inner.Turns.{IsTurn, IsTurnThere, Turned};
 
 use crate::notes::{Notes, left_by_lending, left_by_move};
 use crate::turns::{Turn, turn_in};
-use copy_rewriting::{lend, move_copy};
-use optimised_runs::rewriting_keeps_verified;
-use rewriting_order::{
+use copy_pairing_acceptance::{
     later_ones_are_left, lending_keeps_borrowable, lending_makes_no_copy, moving_keeps_borrowable,
     moving_keeps_values, moving_lets_none_borrow, moving_makes_no_copy,
 };
+use copy_pairing_runs::rewriting_keeps_verified;
+use copy_pairing_search::{lend, move_copy};
 use sil_ast::{BlockId, Exhausted, Module, PointId};
 use sil_types::TypeTable;
 use std::alloc::Global;

@@ -2,7 +2,7 @@
 
 ghost use Rattle.std.specs.Prelude.{IfOk};
 ghost use Rattle.sil_cfg.specs.inner.Build.{HasGraph};
-ghost use Rattle.point_checks.specs.inner.Numbered.{IsOfNumberedModule};
+ghost use Rattle.numbered_form.specs.PointChecks.inner.Numbered.{IsOfNumberedModule};
 ghost use Rattle.copy_pairing.specs.inner.Surveys.{IsSurveyOf};
 
 use ownership_kinds::{FunctionKinds, kinds_in};

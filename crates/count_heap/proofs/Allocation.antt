@@ -5,21 +5,21 @@ use Rattle.std.specs.Prelude.{◌⊎◌, count_by, max, option_map, take, drop, 
 use Rattle.std.proofs.lemmas.Bool.{cases_eq, eq-eqb, ne_eqb}
 use Rattle.std.proofs.lemmas.List.{ext_get_or, get_or-set_same, get_or-set_other, length-map, length-replicate, map-append}
 use Rattle.std.proofs.lemmas.List.Sums.{sum_by-append}
-use Rattle.type_definitions.specs.Declarations.{Declarations}
-use Rattle.run_values.specs.Memory.{is_dead_phase}
-use Rattle.run_values.specs.declared.leaf.Leaf.{Leaf}
-use Rattle.run_values.specs.declared.leaf.Leaf.TheVariants.{Blank}
-use Rattle.run_values.specs.declared.phase.Phase.TheVariants.{Live}
+use Rattle.sil_types.specs.sil_types_declarations.TypeDefinitions.Declarations.{Declarations}
+use Rattle.holder_model_values.specs.RunValues.Memory.{is_dead_phase}
+use Rattle.holder_model_values.specs.declared.run_values.leaf.Leaf.{Leaf}
+use Rattle.holder_model_values.specs.declared.run_values.leaf.Leaf.TheVariants.{Blank}
+use Rattle.holder_model_values.specs.declared.run_values.phase.Phase.TheVariants.{Live}
 use Rattle.weak_unowned.specs.Sides.{idle_count, is_idle, sides_at}
 use Rattle.weak_unowned.specs.declared.side.SlotSides.{SlotSides}
-use Rattle.number_table.specs.Numbers.{Numbers, slot_in, with_next}
-use Rattle.leaf_pool.specs.Pieces.{IsChanged, Pieces, piece_in}
-use Rattle.class_layouts.specs.ClassFields.{field_leaves, leaves_by_field}
-use Rattle.class_layouts.specs.Layouts.{size_of}
-use Rattle.class_layouts.specs.declared.field_place.FieldPlace.{FieldPlace}
-use Rattle.class_layouts.proofs.Lists.{length_places}
-use Rattle.heap_model.specs.HeapCalls.{allocated_in, new_object}
-use Rattle.heap_model.specs.HeapViews.{HeapObject, class_fields, unfreed_count}
+use Rattle.number_tables.specs.TableByNumber.Numbers.{Numbers, slot_in, with_next}
+use Rattle.count_heap.specs.PooledLeaves.Pieces.{IsChanged, Pieces, piece_in}
+use Rattle.count_heap.specs.LayoutsByClass.ClassFields.{field_leaves, leaves_by_field}
+use Rattle.count_heap.specs.LayoutsByClass.Layouts.{size_of}
+use Rattle.count_heap.specs.declared.layouts_by_class.field_place.FieldPlace.{FieldPlace}
+use Rattle.count_heap.proofs.LayoutsByClass.Lists.{length_places}
+use Rattle.count_heap.specs.HeapModel.HeapCalls.{allocated_in, new_object}
+use Rattle.count_heap.specs.HeapModel.HeapViews.{HeapObject, class_fields, unfreed_count}
 use Rattle.count_heap.specs.declared.slot_record.SlotRecord.{SlotRecord}
 use Rattle.count_heap.specs.inner.Kept.{IsAlive, IsHeap, IsKept}
 use Rattle.count_heap.specs.inner.Objects.{field_at, heap_of, is_mark, no_record, object_at, object_of, objects_in, places_of, record_at}

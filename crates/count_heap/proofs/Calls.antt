@@ -5,18 +5,18 @@ use Rattle.std.proofs.lemmas.Bool.{cond-true, cond-false, ne_eqb}
 use Rattle.std.proofs.lemmas.List.{get_or-set_same, get_or_default}
 use Rattle.std.proofs.lemmas.Option.{unwrap_or-slice_get}
 use Rattle.sil_ast.specs.declared.place.ObjectId.{ObjectId}
-use Rattle.type_definitions.specs.Declarations.{Declarations}
-use Rattle.run_values.specs.Memory.{is_dead_phase, is_live_phase}
-use Rattle.run_values.specs.declared.phase.Phase.TheVariants.{Dead, Deiniting, Live}
+use Rattle.sil_types.specs.sil_types_declarations.TypeDefinitions.Declarations.{Declarations}
+use Rattle.holder_model_values.specs.RunValues.Memory.{is_dead_phase, is_live_phase}
+use Rattle.holder_model_values.specs.declared.run_values.phase.Phase.TheVariants.{Dead, Deiniting, Live}
 use Rattle.weak_unowned.specs.Sides as sides
 use Rattle.weak_unowned.specs.Sides.{is_idle, is_idle_at, is_unnamed, sides_at}
 use Rattle.weak_unowned.specs.declared.side.SlotSides.{SlotSides}
-use Rattle.number_table.specs.Numbers.{AreApart, Numbers, slot_in, without}
-use Rattle.leaf_pool.specs.Pieces.{IsChanged, Pieces}
-use Rattle.heap_model.specs.HeapCalls.{changed, changed_or_freed, dead, deiniting, finished, is_left, one_less, one_more, release_answer, released, retained, started, unless_freed}
-use Rattle.heap_model.specs.HeapViews.{HeapObject, HeapView, is_dead_in, is_named_or_alive, is_unfreed, object_in, phase_in, phase_told, strong_in, strong_told, unowned_told, weak_told}
+use Rattle.number_tables.specs.TableByNumber.Numbers.{AreApart, Numbers, slot_in, without}
+use Rattle.count_heap.specs.PooledLeaves.Pieces.{IsChanged, Pieces}
+use Rattle.count_heap.specs.HeapModel.HeapCalls.{changed, changed_or_freed, dead, deiniting, finished, is_left, one_less, one_more, release_answer, released, retained, started, unless_freed}
+use Rattle.count_heap.specs.HeapModel.HeapViews.{HeapObject, HeapView, is_dead_in, is_named_or_alive, is_unfreed, object_in, phase_in, phase_told, strong_in, strong_told, unowned_told, weak_told}
 use Rattle.count_heap.specs.inner.Answers.{left_answer}
-use Rattle.heap_model.specs.declared.released.Released.TheVariants.{Held, LastGone}
+use Rattle.count_heap.specs.declared.heap_model.released.Released.TheVariants.{Held, LastGone}
 use Rattle.count_heap.specs.declared.slot_record.SlotRecord.{SlotRecord}
 use Rattle.count_heap.specs.inner.Kept.{IsHeap, IsKept}
 use Rattle.count_heap.specs.inner.Objects.{field_at, heap_of, leaves_in, no_record, object_at, object_of, objects_in, places_of, record_at}

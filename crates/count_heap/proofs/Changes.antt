@@ -3,16 +3,16 @@ use Rattle.std.proofs.Common.{◌≡◌, ℕ, ◌<◌, List, true, false, cond, 
 use Rattle.std.specs.Prelude.{option_map}
 use Rattle.std.proofs.lemmas.Bool.{eq-eqb, false≢true, ne_eqb}
 use Rattle.std.proofs.lemmas.List.{get_or-set_same, get_or-set_other}
-use Rattle.type_definitions.specs.Declarations.{Declarations}
-use Rattle.run_values.specs.Memory.{is_dead_phase}
-use Rattle.run_values.specs.declared.leaf.Leaf.{Leaf}
+use Rattle.sil_types.specs.sil_types_declarations.TypeDefinitions.Declarations.{Declarations}
+use Rattle.holder_model_values.specs.RunValues.Memory.{is_dead_phase}
+use Rattle.holder_model_values.specs.declared.run_values.leaf.Leaf.{Leaf}
 use Rattle.weak_unowned.specs.Sides.{is_idle, no_sides, sides_at}
 use Rattle.weak_unowned.specs.declared.side.SlotSides.{SlotSides}
 use Rattle.weak_unowned.proofs.Idle.{count_kept, count_more}
-use Rattle.number_table.specs.Numbers.{AreApart, Numbers, slot_in, without}
-use Rattle.leaf_pool.specs.Pieces.{IsChanged, Pieces, piece_in}
-use Rattle.class_layouts.specs.ClassFields.{leaves_by_field}
-use Rattle.class_layouts.specs.Layouts.{size_of}
+use Rattle.number_tables.specs.TableByNumber.Numbers.{AreApart, Numbers, slot_in, without}
+use Rattle.count_heap.specs.PooledLeaves.Pieces.{IsChanged, Pieces, piece_in}
+use Rattle.count_heap.specs.LayoutsByClass.ClassFields.{leaves_by_field}
+use Rattle.count_heap.specs.LayoutsByClass.Layouts.{size_of}
 use Rattle.count_heap.specs.declared.slot_record.SlotRecord.{SlotRecord}
 use Rattle.count_heap.specs.inner.Kept.{IsAlive, IsHeap, IsKept}
 use Rattle.count_heap.specs.inner.Objects.{no_record, object_at, object_of, objects_in, record_at}

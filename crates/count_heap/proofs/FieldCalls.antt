@@ -6,21 +6,21 @@ use Rattle.std.proofs.lemmas.Bool.{cond-false, eq-eqb}
 use Rattle.std.proofs.lemmas.List.{length-map}
 use Rattle.std.proofs.lemmas.Option.{unwrap_or-slice_get}
 use Rattle.sil_ast.specs.declared.place.ObjectId.{ObjectId}
-use Rattle.type_definitions.specs.Declarations.{Declarations}
-use Rattle.run_values.specs.Memory.{is_dead_phase}
-use Rattle.run_values.specs.declared.leaf.Leaf.{Leaf}
-use Rattle.run_values.specs.declared.leaf.Leaf.TheVariants.{Blank}
+use Rattle.sil_types.specs.sil_types_declarations.TypeDefinitions.Declarations.{Declarations}
+use Rattle.holder_model_values.specs.RunValues.Memory.{is_dead_phase}
+use Rattle.holder_model_values.specs.declared.run_values.leaf.Leaf.{Leaf}
+use Rattle.holder_model_values.specs.declared.run_values.leaf.Leaf.TheVariants.{Blank}
 use Rattle.weak_unowned.specs.declared.side.SlotSides.{SlotSides}
-use Rattle.number_table.specs.Numbers.{AreApart, Numbers, slot_in}
-use Rattle.leaf_pool.specs.Pieces.{IsChanged, Pieces, piece_in, put_leaves}
-use Rattle.class_layouts.specs.ClassFields.{leaves_by_field}
-use Rattle.class_layouts.specs.Layouts.{places_from, size_of}
-use Rattle.class_layouts.specs.declared.field_place.FieldPlace.{FieldPlace}
-use Rattle.class_layouts.proofs.Lists.{length_places}
-use Rattle.class_layouts.proofs.PlacesApart.{count_at, place_at, place_within}
-use Rattle.heap_model.specs.HeapCalls.{changed, with_field, with_field_of, with_part, with_part_of}
-use Rattle.heap_model.specs.HeapCalls as calls
-use Rattle.heap_model.specs.HeapViews.{HeapObject, HeapView, field_in, fields_in, fields_told, is_dead_in, leaves_at}
+use Rattle.number_tables.specs.TableByNumber.Numbers.{AreApart, Numbers, slot_in}
+use Rattle.count_heap.specs.PooledLeaves.Pieces.{IsChanged, Pieces, piece_in, put_leaves}
+use Rattle.count_heap.specs.LayoutsByClass.ClassFields.{leaves_by_field}
+use Rattle.count_heap.specs.LayoutsByClass.Layouts.{places_from, size_of}
+use Rattle.count_heap.specs.declared.layouts_by_class.field_place.FieldPlace.{FieldPlace}
+use Rattle.count_heap.proofs.LayoutsByClass.Lists.{length_places}
+use Rattle.count_heap.proofs.LayoutsByClass.PlacesApart.{count_at, place_at, place_within}
+use Rattle.count_heap.specs.HeapModel.HeapCalls.{changed, with_field, with_field_of, with_part, with_part_of}
+use Rattle.count_heap.specs.HeapModel.HeapCalls as calls
+use Rattle.count_heap.specs.HeapModel.HeapViews.{HeapObject, HeapView, field_in, fields_in, fields_told, is_dead_in, leaves_at}
 use Rattle.count_heap.specs.declared.slot_record.SlotRecord.{SlotRecord}
 use Rattle.count_heap.specs.inner.Kept.{IsAlive, IsHeap}
 use Rattle.count_heap.specs.inner.Objects.{field_at, fields_at, heap_of, leaves_in, object_at, objects_in, places_of, record_at}

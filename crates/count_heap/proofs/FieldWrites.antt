@@ -4,14 +4,14 @@ use Rattle.std.proofs.Common.{sym, ap, ◌∙◌, arith, append-nil, length-drop
 use Rattle.std.specs.Prelude.{slice_index_or}
 use Rattle.std.proofs.lemmas.Bool.{cases_eq, cases_lt}
 use Rattle.std.proofs.lemmas.List.{drop-drop, drop-take, drop_all, ext_get_or, get_or-drop, get_or-set_same, get_or-set_other, get_or-take, length-map, length-take-le}
-use Rattle.run_values.specs.declared.leaf.Leaf.{Leaf}
-use Rattle.run_values.specs.declared.leaf.Leaf.TheVariants.{Blank, Tag}
-use Rattle.leaf_pool.specs.Pieces.{put_leaves}
-use Rattle.leaf_pool.proofs.ListParts.{length_put, part_after, part_before, part_inside}
-use Rattle.class_layouts.specs.Layouts.{places_from, size_of}
-use Rattle.class_layouts.specs.declared.field_place.FieldPlace.{FieldPlace}
-use Rattle.class_layouts.proofs.Lists.{length_places}
-use Rattle.class_layouts.proofs.PlacesApart.{count_at, no_place, place_at, place_within, places_apart}
+use Rattle.holder_model_values.specs.declared.run_values.leaf.Leaf.{Leaf}
+use Rattle.holder_model_values.specs.declared.run_values.leaf.Leaf.TheVariants.{Blank, Tag}
+use Rattle.count_heap.specs.PooledLeaves.Pieces.{put_leaves}
+use Rattle.count_heap.proofs.PooledLeaves.ListParts.{length_put, part_after, part_before, part_inside}
+use Rattle.count_heap.specs.LayoutsByClass.Layouts.{places_from, size_of}
+use Rattle.count_heap.specs.declared.layouts_by_class.field_place.FieldPlace.{FieldPlace}
+use Rattle.count_heap.proofs.LayoutsByClass.Lists.{length_places}
+use Rattle.count_heap.proofs.LayoutsByClass.PlacesApart.{count_at, no_place, place_at, place_within, places_apart}
 use Rattle.count_heap.specs.inner.Objects.{field_at, is_mark}
 use Rattle.count_heap.specs.inner.Written.{written}
 

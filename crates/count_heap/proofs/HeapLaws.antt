@@ -4,9 +4,9 @@ use Rattle.std.specs.Prelude.{max, not, option_and_then, ◌==◌, ◌&&◌}
 use Rattle.std.proofs.lemmas.Bool.{false≢true}
 use Rattle.std.proofs.lemmas.List.{get_or-set_same}
 use Rattle.std.proofs.lemmas.Option.{unwrap_or-slice_get}
-use Rattle.run_values.specs.declared.phase.Phase.TheVariants.{Dead}
-use Rattle.heap_model.specs.HeapCalls.{dead, empty_heap, finished, is_left, released, unless_freed}
-use Rattle.heap_model.specs.HeapViews.{HeapObject, HeapView, object_in, phase_told, strong_in, strong_told, unfreed_count, unowned_told, weak_told}
+use Rattle.holder_model_values.specs.declared.run_values.phase.Phase.TheVariants.{Dead}
+use Rattle.count_heap.specs.HeapModel.HeapCalls.{dead, empty_heap, finished, is_left, released, unless_freed}
+use Rattle.count_heap.specs.HeapModel.HeapViews.{HeapObject, HeapView, object_in, phase_told, strong_in, strong_told, unfreed_count, unowned_told, weak_told}
 use Rattle.count_heap.specs.inner.Laws.{FinishedAreDead, FreedAreDead, HeapCall, SlotsAreFew, after_call, after_calls, most_unfreed}
 use Rattle.count_heap.specs.inner.Laws as laws
 use Rattle.count_heap.proofs.OneObject.{is_there}

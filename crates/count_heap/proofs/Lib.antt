@@ -6,3 +6,5 @@ pub mod Allocation
 pub mod FieldWrites
 pub mod FieldCalls
 pub mod HeapLaws
+pub mod LayoutsByClass
+pub mod PooledLeaves

@@ -3,12 +3,12 @@ use Rattle.std.proofs.Common.{◌≡◌, ℕ, ◌+◌, ◌<◌, ◌≤◌, List,
 use Rattle.std.specs.Prelude.{count_by, max, ◌&&◌, ◌==◌}
 use Rattle.std.proofs.lemmas.Bool.{eqb-true, false≢true}
 use Rattle.std.proofs.lemmas.List.{get_or-set_same, get_or-set_other}
-use Rattle.type_definitions.specs.Declarations.{Declarations}
+use Rattle.sil_types.specs.sil_types_declarations.TypeDefinitions.Declarations.{Declarations}
 use Rattle.weak_unowned.specs.Sides.{idle_count, is_idle, is_unnamed, no_sides, sides_at, unmarked}
 use Rattle.weak_unowned.specs.declared.side.SlotSides.{SlotSides}
 use Rattle.weak_unowned.proofs.Idle.{count_behind, count_less, sides_behind}
-use Rattle.number_table.specs.Numbers.{Numbers, slot_in}
-use Rattle.leaf_pool.specs.Pieces.{Pieces}
+use Rattle.number_tables.specs.TableByNumber.Numbers.{Numbers, slot_in}
+use Rattle.count_heap.specs.PooledLeaves.Pieces.{Pieces}
 use Rattle.count_heap.specs.declared.slot_record.SlotRecord.{SlotRecord}
 use Rattle.count_heap.specs.inner.Allocating.{IsSlotForNew, TakesIdle, TakesNew}
 use Rattle.count_heap.specs.inner.Kept.{IsHeap}

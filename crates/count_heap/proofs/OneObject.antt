@@ -4,14 +4,14 @@ use Rattle.std.specs.Prelude.{option_map, unwrap_or}
 use Rattle.std.proofs.lemmas.Bool.{cases_Bool, cases_eq, cases_lt, cond-true}
 use Rattle.std.proofs.lemmas.List.{ext_get_or, get_or-set_same, get_or-set_other, get_or_past, length-map}
 use Rattle.std.proofs.lemmas.List.Sums.{sum_by-set}
-use Rattle.type_definitions.specs.Declarations.{Declarations}
-use Rattle.run_values.specs.Memory.{is_dead_phase}
+use Rattle.sil_types.specs.sil_types_declarations.TypeDefinitions.Declarations.{Declarations}
+use Rattle.holder_model_values.specs.RunValues.Memory.{is_dead_phase}
 use Rattle.weak_unowned.specs.Sides.{idle_count, is_idle, sides_at}
 use Rattle.weak_unowned.specs.declared.side.SlotSides.{SlotSides}
-use Rattle.number_table.specs.Numbers.{AreApart, Numbers, slot_in, without}
-use Rattle.leaf_pool.specs.Pieces.{Pieces, piece_in}
-use Rattle.class_layouts.specs.ClassFields.{leaves_by_field}
-use Rattle.class_layouts.specs.Layouts.{size_of}
+use Rattle.number_tables.specs.TableByNumber.Numbers.{AreApart, Numbers, slot_in, without}
+use Rattle.count_heap.specs.PooledLeaves.Pieces.{Pieces, piece_in}
+use Rattle.count_heap.specs.LayoutsByClass.ClassFields.{leaves_by_field}
+use Rattle.count_heap.specs.LayoutsByClass.Layouts.{size_of}
 use Rattle.count_heap.specs.declared.slot_record.SlotRecord.{SlotRecord}
 use Rattle.count_heap.specs.inner.Kept.{IsAlive, IsHeap, IsKept}
 use Rattle.count_heap.specs.inner.Objects.{field_at, fields_at, leaves_in, object_at, object_of, objects_in, places_of, record_at}

@@ -1,2 +1,5 @@
 pub mod inner
-pub use Rattle.heap_model.specs as heap_model
+pub mod HeapModel
+pub mod LayoutsByClass
+pub mod PooledLeaves
+pub use Rattle.sil_types.specs as sil_types

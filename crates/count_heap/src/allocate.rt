@@ -1,15 +1,15 @@
 //! Allocation. All growths are made first.
 
 ghost use Rattle.std.specs.Prelude.{◌≡◌, ◌<◌, ◌≤◌, ◌^◌, IfOk, OnErr, ℕ, true, if◌then◌else◌, is_ok, is_some, length};
-ghost use Rattle.type_definitions.specs.Lookups as lookups;
-ghost use Rattle.heap_model.specs.HeapCalls.{allocated_in};
+ghost use Rattle.sil_types.specs.sil_types_declarations.TypeDefinitions.Lookups as lookups;
+ghost use Rattle.count_heap.specs.HeapModel.HeapCalls.{allocated_in};
 ghost use Rattle.count_heap.specs.inner.Allocating.{IsSlotForNew};
 ghost use Rattle.count_heap.specs.inner.Objects.{record_at};
 
 use crate::heap::Heap;
 use crate::slot_record::{NO_RECORD, SlotRecord};
-use number_table::NumberTable;
-use run_values::Phase;
+use holder_model_values::Phase;
+use number_tables::NumberTable;
 use sil_ast::{Exhausted, ObjectId};
 use weak_unowned::SideCounts;
 

@@ -2,12 +2,12 @@
 
 ghost use Rattle.std.specs.Prelude.{◌≡◌, ◌+◌, ◌<◌, ◌≤◌, IfSome, None, Some, false, is_some, length, true};
 ghost use Rattle.std.specs.Option.{option_copied};
-ghost use Rattle.heap_model.specs.HeapCalls.{changed, with_field, with_field_of, with_part};
-ghost use Rattle.heap_model.specs.HeapViews.{field_in, fields_in, is_dead_in, leaves_at};
+ghost use Rattle.count_heap.specs.HeapModel.HeapCalls.{changed, with_field, with_field_of, with_part};
+ghost use Rattle.count_heap.specs.HeapModel.HeapViews.{field_in, fields_in, is_dead_in, leaves_at};
 
 use crate::heap::Heap;
 use crate::parts::{NOT_WRITTEN, count_at, field_at, write_field};
-use run_values::Leaf;
+use holder_model_values::Leaf;
 use sil_ast::ObjectId;
 
 impl Heap {

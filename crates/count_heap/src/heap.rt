@@ -1,13 +1,13 @@
 //! The heap.
 
 ghost use Rattle.std.specs.Prelude.{◌≡◌, IfOk, length};
-ghost use Rattle.heap_model.specs.HeapCalls.{empty_heap};
+ghost use Rattle.count_heap.specs.HeapModel.HeapCalls.{empty_heap};
 
+use crate::layouts_by_class::ClassLayouts;
+use crate::pooled_leaves::LeafPool;
 use crate::slot_record::SlotRecord;
 use crate::totals::Totals;
-use class_layouts::ClassLayouts;
-use leaf_pool::LeafPool;
-use number_table::NumberTable;
+use number_tables::NumberTable;
 use sil_ast::Exhausted;
 use sil_types::TypeTable;
 use std::alloc::Global;
@@ -33,7 +33,7 @@ pub struct Heap {
 impl Model for Heap {
     ghost use Rattle.std.specs.Coded.{codes};
     ghost use Rattle.sil_ast.specs.contracts.type_name.TypeName as type_name;
-    ghost use Rattle.heap_model.specs.HeapViews.{HeapView};
+    ghost use Rattle.count_heap.specs.HeapModel.HeapViews.{HeapView};
 
     ghost Value = { HeapView };
 

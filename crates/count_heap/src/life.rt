@@ -1,12 +1,12 @@
 //! Deinitialisation.
 
 ghost use Rattle.std.specs.Prelude.{◌≡◌};
-ghost use Rattle.run_values.specs.declared.phase.Phase.TheVariants.{Deiniting, Live};
-ghost use Rattle.heap_model.specs.HeapCalls.{finished, started};
-ghost use Rattle.heap_model.specs.HeapViews.{phase_in, strong_in};
+ghost use Rattle.holder_model_values.specs.declared.run_values.phase.Phase.TheVariants.{Deiniting, Live};
+ghost use Rattle.count_heap.specs.HeapModel.HeapCalls.{finished, started};
+ghost use Rattle.count_heap.specs.HeapModel.HeapViews.{phase_in, strong_in};
 
 use crate::heap::Heap;
-use run_values::Phase;
+use holder_model_values::Phase;
 use sil_ast::ObjectId;
 
 impl Heap {

@@ -2,13 +2,13 @@
 
 ghost use Rattle.std.specs.Prelude.{◌≡◌, ◌≤◌, ◌+◌, IfSome, is_some, length, option_map, slice_get, true};
 ghost use Rattle.std.specs.Option.{option_copied};
-ghost use Rattle.leaf_pool.specs.Pieces.{IsChanged, piece_in};
+ghost use Rattle.count_heap.specs.PooledLeaves.Pieces.{IsChanged, piece_in};
 ghost use Rattle.count_heap.specs.inner.Objects as objects;
 ghost use Rattle.count_heap.specs.inner.Written.{written};
 
-use class_layouts::FieldPlace;
-use leaf_pool::LeafPool;
-use run_values::Leaf;
+use crate::layouts_by_class::FieldPlace;
+use crate::pooled_leaves::LeafPool;
+use holder_model_values::Leaf;
 
 /// The leaves of a field, where it is written.
 #[inline]

@@ -1,8 +1,8 @@
 //! Weak and unowned places.
 
 ghost use Rattle.std.specs.Prelude.{◌≡◌, ◌<◌, ◌≤◌, ◌^◌, false};
-ghost use Rattle.heap_model.specs.HeapCalls.{unowned_named, unowned_unnamed, weakly_named, weakly_unnamed};
-ghost use Rattle.heap_model.specs.HeapViews.{is_dead_in, unowned_in, weak_in};
+ghost use Rattle.count_heap.specs.HeapModel.HeapCalls.{unowned_named, unowned_unnamed, weakly_named, weakly_unnamed};
+ghost use Rattle.count_heap.specs.HeapModel.HeapViews.{is_dead_in, unowned_in, weak_in};
 
 use crate::heap::Heap;
 use sil_ast::ObjectId;

@@ -1,6 +1,6 @@
 //! What a slot keeps of its object.
 
-use run_values::Phase;
+use holder_model_values::Phase;
 
 /// What a slot keeps of its object, but for its side counts and its fields.
 #[derive(Clone, Copy)]

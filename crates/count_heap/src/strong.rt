@@ -1,14 +1,14 @@
 //! Strong references.
 
 ghost use Rattle.std.specs.Prelude.{◌≡◌, ◌<◌, ◌≤◌, ◌^◌, false};
-ghost use Rattle.heap_model.specs.HeapCalls.{release_answer, release_tried, released, retained, try_answer};
-ghost use Rattle.heap_model.specs.HeapViews.{is_dead_in, strong_in};
+ghost use Rattle.count_heap.specs.HeapModel.HeapCalls.{release_answer, release_tried, released, retained, try_answer};
+ghost use Rattle.count_heap.specs.HeapModel.HeapViews.{is_dead_in, strong_in};
 ghost use Rattle.count_heap.specs.inner.Answers.{left_answer};
 
 use crate::heap::Heap;
+use crate::heap_model::{Released, Underflow};
 use crate::slot_record::SlotRecord;
-use heap_model::{Released, Underflow};
-use run_values::Phase;
+use holder_model_values::Phase;
 use sil_ast::ObjectId;
 
 /// What a release answers that left this.

@@ -1,26 +1,26 @@
 -- What is told of a run is that for which the machine's stop stands.
 use Rattle.std.proofs.Common.{◌≡◌, ◌∙◌, ℕ, List, [], refl, sym, ap}
 use Rattle.std.specs.Prelude.{option_and_then, unwrap_or}
-use Rattle.count_heap.specs.heap_model.HeapViews.{HeapView}
+use Rattle.count_heap.specs.HeapModel.HeapViews.{HeapView}
 use Rattle.holder_model.specs.declared.trap.Trap.TheVariants as trap
 use Rattle.holder_model.specs.States.{Ending}
-use Rattle.item_operands.specs.Parts.{inst_at}
-use Rattle.lowered_run.specs.declared.low_fault.LowFault.{LowFault}
-use Rattle.machine_laws.specs.inner.Told.{IsEnding, cond_fail, depth, escaped, fault, out_of_turns, returned, returned_leaves, unowned, unreachable}
-use Rattle.machine_laws.specs.inner.Told as stopped
-use Rattle.machine_steps.specs.declared.run_end.RunEnd.{RunEnd}
-use Rattle.machine_steps.specs.declared.run_end.RunEnd.TheVariants as stop
-use Rattle.machine_laws.specs.inner.Told.{all_left}
-use Rattle.machine_steps.specs.Views.{MachineView}
-use Rattle.machine_steps.specs.ready_code.declared.local.Local.{Local}
-use Rattle.run_values.specs.Leaves.{value_of}
-use Rattle.run_values.specs.Shapes.{Shape}
-use Rattle.run_values.specs.declared.leaf.Leaf.{Leaf}
-use Rattle.run_values.specs.declared.value.Val.{Val}
+use Rattle.sil_cfg_items.specs.Parts.{inst_at}
+use Rattle.holder_model.specs.declared.lowered_run.low_fault.LowFault.{LowFault}
+use Rattle.count_machine_laws.specs.inner.Told.{IsEnding, cond_fail, depth, escaped, fault, out_of_turns, returned, returned_leaves, unowned, unreachable}
+use Rattle.count_machine_laws.specs.inner.Told as stopped
+use Rattle.count_machine_model.specs.declared.machine_steps.run_end.RunEnd.{RunEnd}
+use Rattle.count_machine_model.specs.declared.machine_steps.run_end.RunEnd.TheVariants as stop
+use Rattle.count_machine_laws.specs.inner.Told.{all_left}
+use Rattle.count_machine_model.specs.MachineSteps.Views.{MachineView}
+use Rattle.count_machine_model.specs.declared.ready_code.local.Local.{Local}
+use Rattle.holder_model_values.specs.RunValues.Leaves.{value_of}
+use Rattle.holder_model_values.specs.RunValues.Shapes.{Shape}
+use Rattle.holder_model_values.specs.declared.run_values.leaf.Leaf.{Leaf}
+use Rattle.holder_model_values.specs.declared.run_values.value.Val.{Val}
 use Rattle.sil_ast.specs.declared.module.Module.{Module}
 use Rattle.sil_ast.specs.declared.place.FuncId.{FuncId}
 use Rattle.sil_ast.specs.declared.place.PointId.{PointId}
-use Rattle.value_reading.specs.inner.Reading.{IsValueOf}
+use Rattle.count_machine.specs.ValueReading.inner.Reading.{IsValueOf}
 use Rattle.count_machine.specs.declared.low_run.LowEnd.TheVariants as end
 use Rattle.count_machine.specs.declared.low_run.LowRun.{LowRun}
 use Rattle.count_machine.specs.LowRuns.{HeapIsAsTold, ending_told, left_after}

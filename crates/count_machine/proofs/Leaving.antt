@@ -2,10 +2,10 @@
 use Rattle.std.proofs.Common.{◌≡◌, ◌+◌, ◌∙◌, ◌++◌, ℕ, zero, suc, List, [], ◌∷◌, true, false, cond, Some, None, sym, ap, add-one, add-zero, arith, append-nil}
 use Rattle.std.specs.List.{cons_option, filter_map, range_with_len}
 use Rattle.std.proofs.lemmas.List.Elements.{filter_map-append}
-use Rattle.count_heap.specs.heap_model.HeapViews.{HeapView, is_unfreed}
+use Rattle.count_heap.specs.HeapModel.HeapViews.{HeapView, is_unfreed}
 use Rattle.holder_model.specs.declared.left_object.LeftObject.{LeftObject}
 use Rattle.holder_model.specs.Outcomes.{object_number}
-use Rattle.machine_laws.specs.inner.Told.{left_in, left_of}
+use Rattle.count_machine_laws.specs.inner.Told.{left_in, left_of}
 
 range_more : (a n j : ℕ) → a + n ≡ j → range_with_len a (suc n) ≡ range_with_len a n ++ j ∷ []
 range_more a zero j is = ap (λ k. k ∷ []) (sym (add-zero a) ∙ is)

@@ -1,19 +1,19 @@
 -- From the start of the machine to the end of the run.
 use Rattle.std.proofs.Common.{◌≡◌, ◌∙◌, ◌≤◌, ℕ, List, Bool, Some, sym, ap, subst}
 use Rattle.std.specs.Prelude.{slice_get}
-use Rattle.lowered_run.specs.LowOutcomes.{LowEndsSo}
-use Rattle.machine_laws.specs.inner.MachineRuns.{MachineRunsSo, Started}
-use Rattle.machine_steps.specs.declared.run_end.RunEnd.{RunEnd}
-use Rattle.machine_steps.specs.Runs.{Leads, begins}
-use Rattle.machine_steps.specs.Views.{MachineView, Stops}
-use Rattle.machine_steps.specs.ready_code.declared.function.ReadyFunction.{ReadyFunction}
-use Rattle.machine_steps.specs.ready_code.declared.function.ReadyModule.{ReadyModule}
-use Rattle.machine_steps.specs.ready_code.ReadyModules.{IsReadyModule, Reaches}
-use Rattle.run_typing_laws.specs.run_typing.Forms.{given_shape}
-use Rattle.run_typing_laws.specs.run_typing.RunTyped.{RunTyped}
+use Rattle.holder_model.specs.LoweredRun.LowOutcomes.{LowEndsSo}
+use Rattle.count_machine_laws.specs.inner.MachineRuns.{MachineRunsSo, Started}
+use Rattle.count_machine_model.specs.declared.machine_steps.run_end.RunEnd.{RunEnd}
+use Rattle.count_machine_model.specs.MachineSteps.Runs.{Leads, begins}
+use Rattle.count_machine_model.specs.MachineSteps.Views.{MachineView, Stops}
+use Rattle.count_machine_model.specs.declared.ready_code.function.ReadyFunction.{ReadyFunction}
+use Rattle.count_machine_model.specs.declared.ready_code.function.ReadyModule.{ReadyModule}
+use Rattle.count_machine_model.specs.ReadyCode.ReadyModules.{IsReadyModule, Reaches}
+use Rattle.holder_model.specs.RunTyping.Forms.{given_shape}
+use Rattle.holder_model.specs.RunTyping.RunTyped.{RunTyped}
 use Rattle.sil_ast.specs.declared.module.Module.{Module}
 use Rattle.sil_ast.specs.declared.place.FuncId.{FuncId}
-use Rattle.type_definitions.specs.Declarations.{Declarations, declarations_of}
+use Rattle.sil_types_declarations.specs.TypeDefinitions.Declarations.{Declarations, declarations_of}
 use Rattle.count_machine.specs.declared.low_run.LowRun.{LowRun}
 use Rattle.count_machine.specs.LowRuns.{EndsAsTold, MayStartAt}
 use Rattle.count_machine.specs.inner.Stopped.{TellsOf}

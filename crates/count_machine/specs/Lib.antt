@@ -1,4 +1,4 @@
 pub mod LowRuns
 pub mod inner
-pub use Rattle.machine_laws.specs as machine_laws
-pub use Rattle.lowered_run.specs as lowered_run
+pub mod ValueReading
+pub use Rattle.count_machine_laws.specs as count_machine_laws

@@ -1,13 +1,13 @@
 -- What is told of a run of lowered code that has ended.
 use Rattle.std.specs.Prelude.{◌≡◌, ℕ, true, List, [], Some, slice_get}
-use Rattle.count_heap.specs.heap_model.HeapViews.{HeapView}
+use Rattle.count_heap.specs.HeapModel.HeapViews.{HeapView}
 use Rattle.holder_model.specs.declared.left_object.LeftObject.{LeftObject}
 use Rattle.holder_model.specs.Outcomes.{Outcome, may_start}
 use Rattle.holder_model.specs.States.{Ending, Faulted, OutOfTurns, Returned, Trapped}
-use Rattle.lowered_run.specs.LowOutcomes.{LowEndsSo}
-use Rattle.lowered_run.specs.declared.low_fault.LowFault.{LowFault}
-use Rattle.machine_laws.specs.inner.Told.{all_left}
-use Rattle.run_values.specs.Values.{val_of}
+use Rattle.holder_model.specs.LoweredRun.LowOutcomes.{LowEndsSo}
+use Rattle.holder_model.specs.declared.lowered_run.low_fault.LowFault.{LowFault}
+use Rattle.count_machine_laws.specs.inner.Told.{all_left}
+use Rattle.holder_model_values.specs.RunValues.Values.{val_of}
 use Rattle.sil_ast.specs.declared.function.Function.{Function}
 use Rattle.sil_ast.specs.declared.module.Module.{Module}
 use Rattle.sil_ast.specs.declared.place.FuncId.{FuncId}

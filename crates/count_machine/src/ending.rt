@@ -2,19 +2,19 @@
 
 ghost use Rattle.std.specs.Prelude.{◌≡◌, ℕ, IfOk, slice_get};
 ghost use Rattle.std.specs.Option.{option_copied};
-ghost use Rattle.run_typing_laws.specs.run_typing.Forms.{given_shape};
-ghost use Rattle.run_typing_laws.specs.run_typing.Runnable.{IsRunnable};
-ghost use Rattle.type_definitions.specs.Declarations.{declarations_of};
+ghost use Rattle.holder_model.specs.RunTyping.Forms.{given_shape};
+ghost use Rattle.holder_model.specs.RunTyping.Runnable.{IsRunnable};
+ghost use Rattle.sil_types_declarations.specs.TypeDefinitions.Declarations.{declarations_of};
 ghost use Rattle.count_machine.specs.inner.Stopped.{IsToldAs, inst_in, text_in};
 
 use crate::low_run::LowEnd;
+use crate::value_reading::read_given;
+use count_machine_engine::Machine;
+use count_machine_model::RunEnd;
 use holder_model::Trap;
-use machine_engine::Machine;
-use machine_steps::RunEnd;
 use sil_ast::{Exhausted, FuncId, Function, Inst, Module, PointId, Text, TryClone};
 use sil_types::TypeTable;
 use std::alloc::Global;
-use value_reading::read_given;
 
 /// The ending for which the machine's stop stands.
 pub(crate) fn ending_of(

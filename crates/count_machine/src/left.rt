@@ -1,15 +1,15 @@
 //! The objects that are left when a run has ended.
 
 ghost use Rattle.std.specs.Prelude.{◌≡◌, IfOk, true};
-ghost use Rattle.count_heap.specs.heap_model.HeapViews.{is_dead_in, is_unfreed};
-ghost use Rattle.machine_laws.specs.inner.Told.{all_left, left_of};
-ghost use Rattle.machine_steps.specs.Steps.{name_of};
+ghost use Rattle.count_heap.specs.HeapModel.HeapViews.{is_dead_in, is_unfreed};
+ghost use Rattle.count_machine_laws.specs.inner.Told.{all_left, left_of};
+ghost use Rattle.count_machine_model.specs.MachineSteps.Steps.{name_of};
 ghost use Rattle.count_machine.specs.LowRuns as runs;
 
 use crate::low_run::LowEnd;
 use count_heap::Heap;
 use holder_model::LeftObject;
-use run_values::Phase;
+use holder_model_values::Phase;
 use sil_ast::{Exhausted, List, ObjectId, Text, TryClone};
 use std::alloc::Global;
 

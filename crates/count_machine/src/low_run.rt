@@ -1,9 +1,8 @@
 //! What a run of lowered code is told as.
 
 use count_heap::Heap;
-use holder_model::{Event, LeftObject, Trap};
-use lowered_run::LowFault;
-use run_values::Val;
+use holder_model::{Event, LeftObject, LowFault, Trap};
+use holder_model_values::Val;
 use sil_ast::List;
 
 /// A run of lowered code that has ended.

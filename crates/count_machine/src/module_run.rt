@@ -1,20 +1,20 @@
 //! The run of a lowered module.
 
 ghost use Rattle.std.specs.Prelude.{◌≡◌, ◌≤◌, ℕ, IfOk, slice_get};
-ghost use Rattle.run_typing_laws.specs.run_typing.Forms.{given_shape};
-ghost use Rattle.run_typing_laws.specs.run_typing.Runnable.{IsRunnable};
-ghost use Rattle.type_definitions.specs.Declarations.{declarations_of};
+ghost use Rattle.holder_model.specs.RunTyping.Forms.{given_shape};
+ghost use Rattle.holder_model.specs.RunTyping.Runnable.{IsRunnable};
+ghost use Rattle.sil_types_declarations.specs.TypeDefinitions.Declarations.{declarations_of};
 ghost use Rattle.count_machine.specs.LowRuns.{EndsAsTold, HeapIsAsTold, MayStartAt};
 ghost use Rattle.count_machine.specs.inner.Stopped.{TellsOf};
 
 use crate::ending::ending_of;
 use crate::left::left_after;
 use crate::low_run::LowRun;
-use machine_engine::{Machine, Stop, run_to_end};
-use machine_laws::machine_runs_so;
-use machine_steps::RunEnd;
-use make_ready::make_ready;
-use run_typing_laws::runnable_is_typed;
+use count_machine_engine::{Machine, Stop, run_to_end};
+use count_machine_laws::machine_runs_so;
+use count_machine_model::RunEnd;
+use count_machine_ready::make_ready;
+use holder_model_typing::runnable_is_typed;
 use sil_ast::{Exhausted, FuncId, Function, Module};
 use sil_types::TypeTable;
 use std::alloc::Global;

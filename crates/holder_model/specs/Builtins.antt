@@ -2,12 +2,12 @@
 use Rattle.std.specs.Prelude.{ℕ, ◌-◌, ◌^◌, ℤ, pos, neg_ℤ, ◌+ℤ◌, ◌-ℤ◌, ◌*ℤ◌, int_lt, int_le, List, [], ◌∷◌, Bool, true, false, not, ◌&&◌, cond}
 use Rattle.std.specs.Prelude.{Option, Some, None, option_and_then, bit_and, bit_or, bit_xor}
 use Rattle.std.specs.Int.{int_rem_euclid}
-use Rattle.builtin_names.specs.declared.names.Operation.{Operation}
-use Rattle.builtin_names.specs.declared.names.Operation.TheVariants as o
-use Rattle.run_values.specs.numbered_form.inner.Literals.{is_residue}
-use Rattle.run_values.specs.Values as value
-use Rattle.run_values.specs.Values.{Value, grouped}
-use Rattle.memory_accesses.specs.Typing.Builtins.{Builtin, bits, builtin_named}
+use Rattle.instruction_table.specs.declared.builtin_names.names.Operation.{Operation}
+use Rattle.instruction_table.specs.declared.builtin_names.names.Operation.TheVariants as o
+use Rattle.ownership_kinds_origins.specs.numbered_form.inner.Literals.{is_residue}
+use Rattle.holder_model_values.specs.RunValues.Values as value
+use Rattle.holder_model_values.specs.RunValues.Values.{Value, grouped}
+use Rattle.ownership_kinds_origins.specs.sil_types.Typing.Builtins.{Builtin, bits, builtin_named}
 
 abbrev pub modulus : ℕ → ℤ
 modulus width = pos (2 ^ width)

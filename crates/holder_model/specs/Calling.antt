@@ -2,19 +2,19 @@
 use Rattle.std.specs.Prelude.{ℕ, List, [], ◌∷◌, ◌++◌, ◌&&◌, Bool, false, map, length, Option, Some, None, option_map}
 use Rattle.std.specs.List.{list_all, list_any}
 use Rattle.std.specs.Option.{option_to_list}
-use Rattle.argument_conventions.specs.Arguments.{Told, arguments_of}
-use Rattle.argument_conventions.specs.Rows.{address_row}
-use Rattle.argument_conventions.specs.declared.row.AddressRow.{AddressRow}
-use Rattle.argument_conventions.specs.declared.row.Content.{Content}
-use Rattle.argument_conventions.specs.declared.row.Content.TheVariants as content
+use Rattle.memory_rules_accesses.specs.argument_conventions.Arguments.{Told, arguments_of}
+use Rattle.memory_rules_accesses.specs.argument_conventions.Rows.{address_row}
+use Rattle.memory_rules_accesses.specs.argument_conventions.declared.row.AddressRow.{AddressRow}
+use Rattle.memory_rules_accesses.specs.argument_conventions.declared.row.Content.{Content}
+use Rattle.memory_rules_accesses.specs.argument_conventions.declared.row.Content.TheVariants as content
 use Rattle.sil_ast.specs.declared.function.Function.{Function}
 use Rattle.sil_ast.specs.declared.place.ValueId.{ValueId}
-use Rattle.memory_accesses.specs.item_operands.Items.{item_defined}
-use Rattle.memory_accesses.specs.item_operands.declared.taken.Taken.{Taken}
-use Rattle.sil_cfg.specs.declared.item.Item.TheVariants as item
-use Rattle.memory_accesses.specs.Typing.Values.{value_functions}
-use Rattle.run_values.specs.Memory.{Memory}
-use Rattle.run_values.specs.Places.{Place, emptied, is_there_at}
+use Rattle.memory_rules_accesses.specs.sil_cfg_items.Items.{item_defined}
+use Rattle.memory_rules_accesses.specs.sil_cfg_items.declared.taken.Taken.{Taken}
+use Rattle.memory_rules_accesses.specs.sil_cfg.declared.item.Item.TheVariants as item
+use Rattle.ownership_kinds_origins.specs.sil_types.Typing.Values.{value_functions}
+use Rattle.holder_model_values.specs.RunValues.Memory.{Memory}
+use Rattle.holder_model_values.specs.RunValues.Places.{Place, emptied, is_there_at}
 use Rattle.holder_model.specs.Data.{AddressOf, Datum, FunctionOf, ValueOf, as_place}
 use Rattle.holder_model.specs.Frames.{Entry, LentPlace, datum_in, entry_at, is_held}
 use Rattle.holder_model.specs.MemoryEffects.{holds}

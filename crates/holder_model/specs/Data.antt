@@ -2,8 +2,8 @@
 use Rattle.std.specs.Prelude.{List, [], ◌∷◌, Option, Some, None}
 use Rattle.sil_ast.specs.declared.place.FuncId.{FuncId}
 use Rattle.sil_ast.specs.declared.place.ObjectId.{ObjectId}
-use Rattle.run_values.specs.Places.{Home, Inside, OnStack, Place}
-use Rattle.run_values.specs.Values.{Value, references_of}
+use Rattle.holder_model_values.specs.RunValues.Places.{Home, Inside, OnStack, Place}
+use Rattle.holder_model_values.specs.RunValues.Values.{Value, references_of}
 
 -- a value of an object type, the address of a place, or the function that the result of a `function_ref` stands for
 pub data Datum : Type 0 where

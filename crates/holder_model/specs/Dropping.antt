@@ -5,12 +5,12 @@ use Rattle.std.specs.Option.{option_to_list}
 use Rattle.sil_ast.specs.declared.decl.Storage.TheVariants as storage
 use Rattle.sil_ast.specs.declared.place.FuncId.{FuncId}
 use Rattle.sil_ast.specs.declared.place.ObjectId.{ObjectId}
-use Rattle.run_values.specs.numbered_form.Names.{Name}
-use Rattle.run_values.specs.type_definitions.Declarations.{Declarations, ancestors_of}
-use Rattle.run_values.specs.type_definitions.Lookups.{deinit_of}
-use Rattle.run_values.specs.declared.phase.Phase.{Phase}
-use Rattle.run_values.specs.declared.phase.Phase.TheVariants.{Deiniting, Dead}
-use Rattle.run_values.specs.Memory.{Memory, Object, is_live, object_at, with_object}
+use Rattle.ownership_kinds_origins.specs.numbered_form.Names.{Name}
+use Rattle.holder_model_values.specs.sil_types_declarations.TypeDefinitions.Declarations.{Declarations, ancestors_of}
+use Rattle.holder_model_values.specs.sil_types_declarations.TypeDefinitions.Lookups.{deinit_of}
+use Rattle.holder_model_values.specs.declared.run_values.phase.Phase.{Phase}
+use Rattle.holder_model_values.specs.declared.run_values.phase.Phase.TheVariants.{Deiniting, Dead}
+use Rattle.holder_model_values.specs.RunValues.Memory.{Memory, Object, is_live, object_at, with_object}
 use Rattle.holder_model.specs.declared.event.Event.TheVariants as event
 use Rattle.holder_model.specs.declared.trap.Trap.TheVariants as trap
 use Rattle.holder_model.specs.Holders.{kept_references}

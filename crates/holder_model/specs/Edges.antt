@@ -9,10 +9,10 @@ use Rattle.sil_ast.specs.declared.function.Function.{Function}
 use Rattle.sil_ast.specs.declared.inst.Edge.{Edge}
 use Rattle.sil_ast.specs.declared.place.EdgeId.{EdgeId}
 use Rattle.sil_ast.specs.declared.place.PointId.{PointId}
-use Rattle.memory_accesses.specs.item_operands.Parts.{args_behind, edge_at, item_operands, terminator_of}
-use Rattle.sil_cfg.specs.declared.item.Item.TheVariants as item
-use Rattle.run_values.specs.Shapes.{Shape}
-use Rattle.run_values.specs.Values.{Value, case_of, integer_of}
+use Rattle.memory_rules_accesses.specs.sil_cfg_items.Parts.{args_behind, edge_at, item_operands, terminator_of}
+use Rattle.memory_rules_accesses.specs.sil_cfg.declared.item.Item.TheVariants as item
+use Rattle.holder_model_values.specs.RunValues.Shapes.{Shape}
+use Rattle.holder_model_values.specs.RunValues.Values.{Value, case_of, integer_of}
 use Rattle.holder_model.specs.Builtins.{is_set}
 use Rattle.holder_model.specs.Data.{Datum, ValueOf, as_value}
 use Rattle.holder_model.specs.ModuleShapes.{case_place}

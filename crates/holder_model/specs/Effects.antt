@@ -10,15 +10,15 @@ use Rattle.sil_ast.specs.declared.member.Member.{Member}
 use Rattle.sil_ast.specs.declared.place.FuncId.{FuncId}
 use Rattle.sil_ast.specs.declared.place.ObjectId.{ObjectId}
 use Rattle.sil_ast.specs.declared.place.ValueId.{ValueId}
-use Rattle.run_values.specs.type_definitions.Declarations.{Declarations}
-use Rattle.memory_accesses.specs.Sources.{element_place, member_place}
-use Rattle.run_values.specs.declared.phase.Phase.TheVariants.{Live}
-use Rattle.run_values.specs.Memory.{Memory, new_object}
-use Rattle.run_values.specs.Places as places
-use Rattle.run_values.specs.Places.{OnStack, Place, empty_fields, empty_slot, field_place}
-use Rattle.run_values.specs.Shapes.{Shape, Unknown, class_in}
-use Rattle.run_values.specs.Values as value
-use Rattle.run_values.specs.Values.{Value, grouped, integer_of, members_of, object_of}
+use Rattle.holder_model_values.specs.sil_types_declarations.TypeDefinitions.Declarations.{Declarations}
+use Rattle.memory_rules_accesses.specs.Sources.{element_place, member_place}
+use Rattle.holder_model_values.specs.declared.run_values.phase.Phase.TheVariants.{Live}
+use Rattle.holder_model_values.specs.RunValues.Memory.{Memory, new_object}
+use Rattle.holder_model_values.specs.RunValues.Places as places
+use Rattle.holder_model_values.specs.RunValues.Places.{OnStack, Place, empty_fields, empty_slot, field_place}
+use Rattle.holder_model_values.specs.RunValues.Shapes.{Shape, Unknown, class_in}
+use Rattle.holder_model_values.specs.RunValues.Values as value
+use Rattle.holder_model_values.specs.RunValues.Values.{Value, grouped, integer_of, members_of, object_of}
 use Rattle.holder_model.specs.declared.columns.TheConstants.{EFFECTS}
 use Rattle.holder_model.specs.declared.row_effect.RowEffect.{RowEffect}
 use Rattle.holder_model.specs.declared.row_effect.RowEffect.TheVariants as row

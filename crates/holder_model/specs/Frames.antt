@@ -8,17 +8,17 @@ use Rattle.instruction_table.specs.declared.entries.Role.TheVariants as role
 use Rattle.sil_ast.specs.declared.place.FuncId.{FuncId}
 use Rattle.sil_ast.specs.declared.place.ObjectId.{ObjectId}
 use Rattle.sil_ast.specs.declared.place.ValueId.{ValueId}
-use Rattle.argument_conventions.specs.declared.row.AddressRow.{AddressRow}
-use Rattle.sil_cfg.specs.declared.item.Item.{Item}
-use Rattle.memory_accesses.specs.item_operands.declared.taken.Taken.{Taken}
-use Rattle.ownership_kinds.specs.ownership_chains.Facts.{known_or}
-use Rattle.ownership_kinds.specs.ownership_chains.declared.facts.Facts.{Facts}
-use Rattle.memory_accesses.specs.Marks as marks
-use Rattle.run_values.specs.type_definitions.declared.kind.Kind.{Kind}
-use Rattle.run_values.specs.type_definitions.declared.kind.Kind.TheVariants as kind
-use Rattle.run_values.specs.Memory.{Memory, is_dead}
-use Rattle.run_values.specs.Places.{Home, Inside, OnStack, Place}
-use Rattle.run_values.specs.Values.{references_of}
+use Rattle.memory_rules_accesses.specs.argument_conventions.declared.row.AddressRow.{AddressRow}
+use Rattle.memory_rules_accesses.specs.sil_cfg.declared.item.Item.{Item}
+use Rattle.memory_rules_accesses.specs.sil_cfg_items.declared.taken.Taken.{Taken}
+use Rattle.ownership_kinds_origins.specs.ownership_kinds_chains.OwnershipChains.Facts.{known_or}
+use Rattle.ownership_kinds_origins.specs.ownership_kinds_chains.declared.ownership_chains.facts.Facts.{Facts}
+use Rattle.ownership_kinds_origins.specs.ownership_kinds_chains.OwnershipMarks.Marks as marks
+use Rattle.holder_model_values.specs.sil_types_declarations.declared.type_definitions.kind.Kind.{Kind}
+use Rattle.holder_model_values.specs.sil_types_declarations.declared.type_definitions.kind.Kind.TheVariants as kind
+use Rattle.holder_model_values.specs.RunValues.Memory.{Memory, is_dead}
+use Rattle.holder_model_values.specs.RunValues.Places.{Home, Inside, OnStack, Place}
+use Rattle.holder_model_values.specs.RunValues.Values.{references_of}
 use Rattle.holder_model.specs.Data.{Datum, ValueOf, AddressOf, FunctionOf, references_in}
 use Rattle.holder_model.specs.Faults.{HolderFault, ConsumesLent, NamesDead, NoEntry, OverwritesHeld, WrongShape}
 

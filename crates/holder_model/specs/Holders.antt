@@ -3,9 +3,9 @@ use Rattle.std.specs.Prelude.{ℕ, ◌+◌, ◌==◌, List, [], Bool, true, fals
 use Rattle.sil_ast.specs.declared.decl.Storage.{Storage}
 use Rattle.sil_ast.specs.declared.decl.Storage.TheVariants as storage
 use Rattle.sil_ast.specs.declared.place.ObjectId.{ObjectId}
-use Rattle.run_values.specs.Cells.{Cell, Gone, Empty, Keeps}
-use Rattle.run_values.specs.Memory.{Memory, Object, is_dead_phase}
-use Rattle.run_values.specs.Values.{references_of}
+use Rattle.holder_model_values.specs.RunValues.Cells.{Cell, Gone, Empty, Keeps}
+use Rattle.holder_model_values.specs.RunValues.Memory.{Memory, Object, is_dead_phase}
+use Rattle.holder_model_values.specs.RunValues.Values.{references_of}
 
 abbrev pub same_storage : Storage → Storage → Bool
 same_storage storage.Strong storage.Strong = true

@@ -17,14 +17,14 @@ pub mod StepParts
 pub mod Steps
 pub mod Outcomes
 pub mod inner
-pub use Rattle.memory_accesses.specs.Operations
-pub use Rattle.memory_accesses.specs.declared.access.Operation
-pub use Rattle.memory_accesses.specs.Typing
-pub use Rattle.memory_accesses.specs.sil_types as sil_types
-pub use Rattle.memory_accesses.specs as memory_accesses
-pub use Rattle.ownership_kinds.specs as ownership_kinds
-pub use Rattle.ownership_kinds.specs.ownership_origins as ownership_origins
-pub use Rattle.memory_accesses.specs.item_operands as item_operands
-pub use Rattle.run_values.specs as run_values
-pub use Rattle.run_values.specs.type_definitions as type_definitions
-pub use Rattle.memory_accesses.specs.ownership_marks as ownership_marks
+pub mod LoweredRun
+pub mod RunReport
+pub mod RunTyping
+pub use Rattle.holder_model_values.specs as holder_model_values
+pub use Rattle.memory_rules_accesses.specs as memory_rules_accesses
+pub use Rattle.ownership_kinds_origins.specs.ownership_kinds_chains as ownership_kinds_chains
+pub use Rattle.ownership_kinds_origins.specs as ownership_kinds_origins
+pub use Rattle.memory_rules_accesses.specs.reach_engine_marks as reach_engine_marks
+pub use Rattle.memory_rules_accesses.specs.sil_cfg_items as sil_cfg_items
+pub use Rattle.ownership_kinds_origins.specs.sil_types as sil_types
+pub use Rattle.holder_model_values.specs.sil_types_declarations as sil_types_declarations

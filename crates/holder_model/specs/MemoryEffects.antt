@@ -1,25 +1,25 @@
 -- What an instruction does at places, in a run by holders: which of these it does is its access, and its word in brackets.
 use Rattle.std.specs.Prelude.{List, [], ◌∷◌, Bool, true, false, cond, ◌||◌, is_some, Option, Some, None, option_and_then}
 use Rattle.std.specs.List.{flat_map, list_all}
-use Rattle.argument_conventions.specs.declared.row.Content.{Content}
-use Rattle.argument_conventions.specs.declared.row.Content.TheVariants as content
+use Rattle.memory_rules_accesses.specs.argument_conventions.declared.row.Content.{Content}
+use Rattle.memory_rules_accesses.specs.argument_conventions.declared.row.Content.TheVariants as content
 use Rattle.sil_ast.specs.declared.decl.Storage.{Storage}
 use Rattle.sil_ast.specs.declared.decl.Storage.TheVariants as storage
 use Rattle.sil_ast.specs.declared.inst.Inst.{Inst}
 use Rattle.sil_ast.specs.declared.inst.Qualifier.{Qualifier}
 use Rattle.sil_ast.specs.declared.inst.Qualifier.TheVariants as word
 use Rattle.sil_ast.specs.declared.place.ObjectId.{ObjectId}
-use Rattle.memory_accesses.specs.Operations.{access_kind_of, operation_by}
-use Rattle.memory_accesses.specs.declared.access.Operation.{Operation}
-use Rattle.memory_accesses.specs.declared.access.Operation.TheVariants as operation
-use Rattle.run_values.specs.type_definitions.Declarations.{Declarations}
-use Rattle.run_values.specs.Memory.{Memory, is_live}
-use Rattle.run_values.specs.Places.{Place, cells_at, emptied, filled, is_empty_at, is_there_at, removed, value_at}
-use Rattle.run_values.specs.Shapes.{Shape, storage_in}
-use Rattle.run_values.specs.Values as value
-use Rattle.run_values.specs.Values.{Value, references_of}
+use Rattle.memory_rules_accesses.specs.Operations.{access_kind_of, operation_by}
+use Rattle.memory_rules_accesses.specs.declared.access.Operation.{Operation}
+use Rattle.memory_rules_accesses.specs.declared.access.Operation.TheVariants as operation
+use Rattle.holder_model_values.specs.sil_types_declarations.TypeDefinitions.Declarations.{Declarations}
+use Rattle.holder_model_values.specs.RunValues.Memory.{Memory, is_live}
+use Rattle.holder_model_values.specs.RunValues.Places.{Place, cells_at, emptied, filled, is_empty_at, is_there_at, removed, value_at}
+use Rattle.holder_model_values.specs.RunValues.Shapes.{Shape, storage_in}
+use Rattle.holder_model_values.specs.RunValues.Values as value
+use Rattle.holder_model_values.specs.RunValues.Values.{Value, references_of}
 use Rattle.holder_model.specs.ModuleShapes.{ModuleShapes}
-use Rattle.run_values.specs.Trivial.{is_trivial}
+use Rattle.holder_model_values.specs.RunValues.Trivial.{is_trivial}
 use Rattle.holder_model.specs.declared.row_effect.RowEffect.{RowEffect}
 use Rattle.holder_model.specs.declared.row_effect.RowEffect.TheVariants as row
 use Rattle.holder_model.specs.declared.trap.Trap.TheVariants as trap

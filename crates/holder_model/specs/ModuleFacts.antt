@@ -5,10 +5,10 @@ use Rattle.sil_ast.specs.declared.function.Function.{Function}
 use Rattle.sil_ast.specs.declared.module.Module.{Module}
 use Rattle.sil_ast.specs.declared.place.FuncId.{FuncId}
 use Rattle.sil_ast.specs.declared.place.ValueId.{ValueId}
-use Rattle.ownership_kinds.specs.ownership_chains.Facts.{told_at, value_of}
-use Rattle.ownership_kinds.specs.ownership_chains.declared.facts.Facts.{Facts}
-use Rattle.ownership_kinds.specs.Facts.{facts_in}
-use Rattle.run_values.specs.type_definitions.Declarations.{Declarations, declarations_of}
+use Rattle.ownership_kinds_origins.specs.ownership_kinds_chains.OwnershipChains.Facts.{told_at, value_of}
+use Rattle.ownership_kinds_origins.specs.ownership_kinds_chains.declared.ownership_chains.facts.Facts.{Facts}
+use Rattle.ownership_kinds_origins.specs.Facts.{facts_in}
+use Rattle.holder_model_values.specs.sil_types_declarations.TypeDefinitions.Declarations.{Declarations, declarations_of}
 use Rattle.holder_model.specs.Calling.{value_count}
 use Rattle.holder_model.specs.ModuleShapes.{ModuleShapes, shapes_by}
 

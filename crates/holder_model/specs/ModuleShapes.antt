@@ -11,13 +11,13 @@ use Rattle.sil_ast.specs.declared.module.Module.{Module}
 use Rattle.sil_ast.specs.declared.place.FuncId.{FuncId}
 use Rattle.sil_ast.specs.declared.place.ValueId.{ValueId}
 use Rattle.sil_ast.specs.declared.type_name.TypeName.{TypeName}
-use Rattle.run_values.specs.numbered_form.Names.{Name}
-use Rattle.run_values.specs.type_definitions.Declarations.{Declarations, declarations_of}
-use Rattle.run_values.specs.type_definitions.Lookups.{fields_of}
-use Rattle.memory_accesses.specs.Typing.Shapes.{stored_as, target}
-use Rattle.memory_accesses.specs.Typing.Values.{value_types}
-use Rattle.run_values.specs.Layers.{CaseLayer}
-use Rattle.run_values.specs.Shapes.{Shape, Unknown, case_shapes, shape_of}
+use Rattle.ownership_kinds_origins.specs.numbered_form.Names.{Name}
+use Rattle.holder_model_values.specs.sil_types_declarations.TypeDefinitions.Declarations.{Declarations, declarations_of}
+use Rattle.holder_model_values.specs.sil_types_declarations.TypeDefinitions.Lookups.{fields_of}
+use Rattle.ownership_kinds_origins.specs.sil_types.Typing.Shapes.{stored_as, target}
+use Rattle.ownership_kinds_origins.specs.sil_types.Typing.Values.{value_types}
+use Rattle.holder_model_values.specs.RunValues.Layers.{CaseLayer}
+use Rattle.holder_model_values.specs.RunValues.Shapes.{Shape, Unknown, case_shapes, shape_of}
 
 -- the fields of a class, its ancestors' first: of a weak or unowned one the shape of its storage
 pub record ClassShape : Type 0 where

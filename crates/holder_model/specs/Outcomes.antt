@@ -6,13 +6,13 @@ use Rattle.sil_ast.specs.declared.function.Function.{Function}
 use Rattle.sil_ast.specs.declared.module.Module.{Module}
 use Rattle.sil_ast.specs.declared.place.FuncId.{FuncId}
 use Rattle.sil_ast.specs.declared.place.ObjectId.{ObjectId}
-use Rattle.run_values.specs.Memory.{Memory, is_dead, object_at}
-use Rattle.run_values.specs.Values.{references_of}
+use Rattle.holder_model_values.specs.RunValues.Memory.{Memory, is_dead, object_at}
+use Rattle.holder_model_values.specs.RunValues.Values.{references_of}
 use Rattle.holder_model.specs.declared.event.Event.{Event}
 use Rattle.holder_model.specs.declared.left_object.LeftObject.{LeftObject}
 use Rattle.holder_model.specs.Calling.{value_count}
 use Rattle.holder_model.specs.Faults.{HolderFault}
-use Rattle.argument_conventions.specs.Arguments.{arguments_of}
+use Rattle.memory_rules_accesses.specs.argument_conventions.Arguments.{arguments_of}
 use Rattle.holder_model.specs.Frames.{has_any, no_entries}
 use Rattle.holder_model.specs.Holders.{of_references, one_object, unowned_holders, weak_holders}
 use Rattle.holder_model.specs.ModuleFacts.{ModuleFacts, facts_of}

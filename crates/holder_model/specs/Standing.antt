@@ -1,12 +1,12 @@
 -- Where a frame stands: its point, and its slots.
 use Rattle.std.specs.Prelude.{ℕ, suc, ◌==◌, ◌&&◌, List, [], ◌∷◌, Bool, true, false, not, Option, Some, None}
-use Rattle.run_values.specs.Places.{Home, Inside, OnStack, Place}
+use Rattle.holder_model_values.specs.RunValues.Places.{Home, Inside, OnStack, Place}
 use Rattle.sil_ast.specs.declared.function.Function.{Function}
 use Rattle.sil_ast.specs.declared.inst.Edge as edge
 use Rattle.sil_ast.specs.declared.place.PointId.{PointId}
-use Rattle.sil_cfg.specs.declared.item.Item.{Item}
-use Rattle.sil_cfg.specs.declared.item.Item.TheVariants as item
-use Rattle.memory_accesses.specs.item_operands.Parts.{edge_at}
+use Rattle.memory_rules_accesses.specs.sil_cfg.declared.item.Item.{Item}
+use Rattle.memory_rules_accesses.specs.sil_cfg.declared.item.Item.TheVariants as item
+use Rattle.memory_rules_accesses.specs.sil_cfg_items.Parts.{edge_at}
 
 abbrev pub first_point : ℕ → PointId
 first_point b = record { block = record { 0 = b }; index = 0 }

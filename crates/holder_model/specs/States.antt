@@ -6,8 +6,8 @@ use Rattle.holder_model.specs.declared.event.Event.{Event}
 use Rattle.holder_model.specs.declared.trap.Trap.{Trap}
 use Rattle.holder_model.specs.declared.trap.Trap.TheVariants as trap
 use Rattle.holder_model.specs.declared.limits.TheConstants.{FRAMES}
-use Rattle.run_values.specs.Memory.{Memory}
-use Rattle.run_values.specs.Values.{Value}
+use Rattle.holder_model_values.specs.RunValues.Memory.{Memory}
+use Rattle.holder_model_values.specs.RunValues.Values.{Value}
 
 -- a frame; references that wait to be dropped; or a deinitialisation: the deinitialisers that wait to be called, and then its finish
 pub data Task (F : Type 0) : Type 0 where

@@ -3,10 +3,10 @@ use Rattle.std.specs.Prelude.{ℕ, List, [], ◌∷◌, cond, Option, Some, None
 use Rattle.std.specs.declared.result.Result.{Result}
 use Rattle.sil_ast.specs.declared.inst.Inst as inst
 use Rattle.sil_ast.specs.declared.place.FuncId.{FuncId}
-use Rattle.sil_cfg.specs.declared.item.Item.TheVariants as item
-use Rattle.run_values.specs.Places.{Place}
-use Rattle.run_values.specs.Shapes.{Shape, Unknown}
-use Rattle.run_values.specs.Values.{Value}
+use Rattle.memory_rules_accesses.specs.sil_cfg.declared.item.Item.TheVariants as item
+use Rattle.holder_model_values.specs.RunValues.Places.{Place}
+use Rattle.holder_model_values.specs.RunValues.Shapes.{Shape, Unknown}
+use Rattle.holder_model_values.specs.RunValues.Values.{Value}
 use Rattle.holder_model.specs.Data.{Datum, as_value}
 use Rattle.holder_model.specs.Effects.{ClosesSlot, OpensSlot, SameSlots, SlotChange}
 use Rattle.holder_model.specs.Faults.{HolderFault, NoEntry, NotLastSlot, WrongShape}

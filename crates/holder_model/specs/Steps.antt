@@ -11,15 +11,15 @@ use Rattle.sil_ast.specs.declared.place.FuncId.{FuncId}
 use Rattle.sil_ast.specs.declared.place.ObjectId.{ObjectId}
 use Rattle.sil_ast.specs.declared.place.PointId.{PointId}
 use Rattle.sil_ast.specs.declared.place.ValueId.{ValueId}
-use Rattle.sil_cfg.specs.declared.item.Item.{Item}
-use Rattle.sil_cfg.specs.declared.item.Item.TheVariants as item
-use Rattle.memory_accesses.specs.item_operands.Items.{item_defined, item_taken}
-use Rattle.memory_accesses.specs.item_operands.Parts.{inst_at, terminator_of}
-use Rattle.ownership_kinds.specs.ownership_chains.declared.facts.Facts.{Facts}
-use Rattle.run_values.specs.type_definitions.Declarations.{Declarations, declarations_of}
-use Rattle.run_values.specs.Shapes.{Shape}
-use Rattle.run_values.specs.Values as value
-use Rattle.run_values.specs.Values.{Value, integer_of}
+use Rattle.memory_rules_accesses.specs.sil_cfg.declared.item.Item.{Item}
+use Rattle.memory_rules_accesses.specs.sil_cfg.declared.item.Item.TheVariants as item
+use Rattle.memory_rules_accesses.specs.sil_cfg_items.Items.{item_defined, item_taken}
+use Rattle.memory_rules_accesses.specs.sil_cfg_items.Parts.{inst_at, terminator_of}
+use Rattle.ownership_kinds_origins.specs.ownership_kinds_chains.declared.ownership_chains.facts.Facts.{Facts}
+use Rattle.holder_model_values.specs.sil_types_declarations.TypeDefinitions.Declarations.{Declarations, declarations_of}
+use Rattle.holder_model_values.specs.RunValues.Shapes.{Shape}
+use Rattle.holder_model_values.specs.RunValues.Values as value
+use Rattle.holder_model_values.specs.RunValues.Values.{Value, integer_of}
 use Rattle.holder_model.specs.declared.event.Event.TheVariants as event
 use Rattle.holder_model.specs.declared.trap.Trap.TheVariants as trap
 use Rattle.holder_model.specs.Calling.{are_as_after, are_as_before, as_argument, handed_over, holds_something, lent_places, places_given, value_count}

@@ -1,7 +1,10 @@
-//! The table of instructions: one row each, with its form and what each column says of it.
-//! The grammar, the syntax tree and every rule read the same rows.
+//! The table of instructions: one row each, with its form and what each column says of it; and the names of builtin operations,
+//! as a text spells them.
+//! The grammar, the syntax tree and every rule read the same rows. It knows of no module and no rule, and doesn't say what an
+//! operation does.
 #![tactic(auto)]
 
+mod builtin_names;
 mod columns;
 mod entries;
 mod forms;
@@ -10,6 +13,7 @@ mod ownership_columns;
 mod rows;
 mod typing_columns;
 
+pub use builtin_names::{Operation, Width, is_builtin_name, operation_spelling, width_spelling};
 pub use entries::{
     BareOperands, Detail, Ending, ExtraValue, InForms, ResultKind, Results, Role, TypeWords, Words,
 };

@@ -12,24 +12,24 @@ use Rattle.sil_cfg.specs.Returns.{is_return}
 use Rattle.sil_cfg.specs.declared.item.Item.{Item}
 use Rattle.sil_rules.specs.declared.rule.Rule.{Rule}
 use Rattle.sil_rules.specs.declared.rule.Rule.TheVariants as rule
-use Rattle.path_patterns.proofs.HeldIsOn.{held_turns, on_while_held}
-use Rattle.path_patterns.proofs.RunsAreLawful.{reads_ended_runs, reads_runs}
-use Rattle.path_patterns.specs.Lawful.{AreLawful}
-use Rattle.path_patterns.specs.Marks.{needs_off}
-use Rattle.path_patterns.specs.Switch.{IsInPlace}
-use Rattle.path_patterns.specs.inner.Runs as runs
-use Rattle.path_patterns.specs.inner.Runs.{AreRuns, Sort, TurnAlike, held_mark}
-use Rattle.path_patterns.specs.declared.mark.Mark as pattern
-use Rattle.path_checks.proofs.OneSubject.{marks_shared}
-use Rattle.path_checks.proofs.QuietEntries.{IsQuiet, quiet_turns}
-use Rattle.path_checks.proofs.RulesShown.{each_flat, each_if}
-use Rattle.path_checks.specs.Entries.{marks_for, means}
-use Rattle.ownership_marks.specs.ownership_chains.Facts.{is_owned, known_or, value_of}
-use Rattle.ownership_marks.specs.ownership_chains.declared.facts.Facts.{Facts}
-use Rattle.ownership_marks.specs.Marks.{marks_of}
-use Rattle.ownership_marks.specs.declared.mark.Mark.{Mark}
-use Rattle.ownership_marks.specs.declared.mark.MarkSort.{MarkSort}
-use Rattle.ownership_marks.specs.declared.mark.MarkSort.TheVariants.{End, Use, Begin}
+use Rattle.reach_engine_marks.proofs.PathPatterns.HeldIsOn.{held_turns, on_while_held}
+use Rattle.reach_engine_marks.proofs.PathPatterns.RunsAreLawful.{reads_ended_runs, reads_runs}
+use Rattle.reach_engine_marks.specs.PathPatterns.Lawful.{AreLawful}
+use Rattle.reach_engine_marks.specs.PathPatterns.Marks.{needs_off}
+use Rattle.reach_engine_marks.specs.PathPatterns.Switch.{IsInPlace}
+use Rattle.reach_engine_marks.specs.PathPatterns.inner.Runs as runs
+use Rattle.reach_engine_marks.specs.PathPatterns.inner.Runs.{AreRuns, Sort, TurnAlike, held_mark}
+use Rattle.reach_engine_marks.specs.declared.path_patterns.mark.Mark as pattern
+use Rattle.reach_engine_marks.proofs.PathChecks.OneSubject.{marks_shared}
+use Rattle.reach_engine_marks.proofs.PathChecks.QuietEntries.{IsQuiet, quiet_turns}
+use Rattle.reach_engine_marks.proofs.PathChecks.RulesShown.{each_flat, each_if}
+use Rattle.reach_engine_marks.specs.PathChecks.Entries.{marks_for, means}
+use Rattle.ownership_kinds_chains.specs.OwnershipChains.Facts.{is_owned, known_or, value_of}
+use Rattle.ownership_kinds_chains.specs.declared.ownership_chains.facts.Facts.{Facts}
+use Rattle.ownership_kinds_chains.specs.OwnershipMarks.Marks.{marks_of}
+use Rattle.ownership_kinds_chains.specs.declared.ownership_marks.mark.Mark.{Mark}
+use Rattle.ownership_kinds_chains.specs.declared.ownership_marks.mark.MarkSort.{MarkSort}
+use Rattle.ownership_kinds_chains.specs.declared.ownership_marks.mark.MarkSort.TheVariants.{End, Use, Begin}
 use Rattle.lifetime_worklist.specs.Lives.{entry_of, leaves, left_at_return, left_mark, lives_by, lives_of, returned, turned_by}
 use Rattle.lifetime_worklist.specs.inner.Runs.{AreEndedRuns, AreHeldWhileOn, AreLivesRuns, HasNoReturn, IsOwned, life_along, sort_for, sort_of, sorts_along, sorts_at}
 use Rattle.lifetime_worklist.proofs.Tables.{shared_returned}

@@ -7,14 +7,14 @@ use Rattle.sil_cfg.specs.Returns.{is_return}
 use Rattle.sil_cfg.specs.declared.item.Item.{Item}
 use Rattle.sil_rules.specs.Rules.{group_of}
 use Rattle.sil_rules.specs.declared.group.Group.TheVariants as group
-use Rattle.path_checks.specs.declared.entry.Entry as entry
-use Rattle.path_checks.proofs.RulesShown.{each_append, each_flat, each_if, shown_rule}
-use Rattle.ownership_marks.specs.ownership_chains.Facts.{is_owned, known_or, value_of}
-use Rattle.ownership_marks.specs.ownership_chains.declared.facts.Facts.{Facts}
-use Rattle.ownership_marks.specs.Marks.{marks_of}
-use Rattle.ownership_marks.specs.declared.mark.Mark.{Mark}
-use Rattle.ownership_marks.specs.declared.mark.MarkSort.{MarkSort}
-use Rattle.ownership_marks.specs.declared.mark.MarkSort.TheVariants.{End, Use, Begin}
+use Rattle.reach_engine_marks.specs.declared.path_checks.entry.Entry as entry
+use Rattle.reach_engine_marks.proofs.PathChecks.RulesShown.{each_append, each_flat, each_if, shown_rule}
+use Rattle.ownership_kinds_chains.specs.OwnershipChains.Facts.{is_owned, known_or, value_of}
+use Rattle.ownership_kinds_chains.specs.declared.ownership_chains.facts.Facts.{Facts}
+use Rattle.ownership_kinds_chains.specs.OwnershipMarks.Marks.{marks_of}
+use Rattle.ownership_kinds_chains.specs.declared.ownership_marks.mark.Mark.{Mark}
+use Rattle.ownership_kinds_chains.specs.declared.ownership_marks.mark.MarkSort.{MarkSort}
+use Rattle.ownership_kinds_chains.specs.declared.ownership_marks.mark.MarkSort.TheVariants.{End, Use, Begin}
 use Rattle.lifetime_worklist.specs.Lives.{entry_of, leaves, left_at_return, lives_by, lives_of, returned, turned_by}
 use Rattle.lifetime_worklist.specs.inner.Laws.{AreOnLifetimes}
 

@@ -1,22 +1,22 @@
 -- Entries by facts that are the same, and the lives from an item's own marks and the shared ones of a `return`.
 use Rattle.std.proofs.Common.{◌≡◌, ℕ, List, [], ◌∷◌, ◌++◌, length, map, refl, ap, ap₂, ◌∙◌, Bool, true, false, cond, Option, Some}
 use Rattle.std.specs.List.{flat_map, range_with_len}
-use Rattle.path_checks.proofs.PickedMarks.{shared_picked}
-use Rattle.path_checks.specs.declared.entry.Entry.{Entry}
-use Rattle.path_checks.specs.inner.Shared.{entries_with, is_sharing, shared_if}
-use Rattle.path_lists.specs.inner.Lists.{list_at}
-use Rattle.path_patterns.specs.inner.Reads.{AgreesWith}
-use Rattle.path_patterns.specs.declared.mark.Mark as pattern
+use Rattle.reach_engine_marks.proofs.PathChecks.PickedMarks.{shared_picked}
+use Rattle.reach_engine_marks.specs.declared.path_checks.entry.Entry.{Entry}
+use Rattle.reach_engine_marks.specs.PathChecks.inner.Shared.{entries_with, is_sharing, shared_if}
+use Rattle.number_tables.specs.PathLists.inner.Lists.{list_at}
+use Rattle.reach_engine_marks.specs.PathPatterns.inner.Reads.{AgreesWith}
+use Rattle.reach_engine_marks.specs.declared.path_patterns.mark.Mark as pattern
 use Rattle.sil_ast.specs.declared.function.Function.{Function}
 use Rattle.sil_ast.specs.declared.place.ValueId.{ValueId}
 use Rattle.sil_cfg.specs.Layout.{Layout, item_at}
 use Rattle.sil_cfg.specs.Returns.{is_return}
 use Rattle.sil_cfg.specs.declared.item.Item.{Item}
-use Rattle.ownership_marks.specs.ownership_chains.Facts.{is_owned, known_or, value_of}
-use Rattle.ownership_marks.specs.ownership_chains.declared.facts.Facts.{Facts}
-use Rattle.ownership_marks.proofs.MarkTables.{flat_map_same}
-use Rattle.ownership_marks.specs.Known.{AreKindsBy, Known, facts_of, marks_at}
-use Rattle.ownership_marks.specs.declared.mark.Mark.{Mark}
+use Rattle.ownership_kinds_chains.specs.OwnershipChains.Facts.{is_owned, known_or, value_of}
+use Rattle.ownership_kinds_chains.specs.declared.ownership_chains.facts.Facts.{Facts}
+use Rattle.ownership_kinds_chains.proofs.OwnershipMarks.MarkTables.{flat_map_same}
+use Rattle.ownership_kinds_chains.specs.OwnershipMarks.Known.{AreKindsBy, Known, facts_of, marks_at}
+use Rattle.ownership_kinds_chains.specs.declared.ownership_marks.mark.Mark.{Mark}
 use Rattle.lifetime_worklist.specs.Lives.{entry_of, leaves, left_at_return, left_mark, lives_by, lives_of, returned}
 
 module _ (a b : ValueId → Facts) (same : (v : ValueId) → a v ≡ b v) where

@@ -5,11 +5,11 @@ ghost use Rattle.sil_cfg.specs.inner.Build.{IsGraphOf};
 ghost use Rattle.lifetime_worklist.specs.inner.Lifetimes.{AreLivesKept, IsFirstLife, IsLifeBroken};
 
 use crate::lives::Lives;
-use ownership_marks::Kinds;
-use path_checks::{PathFault, entries_by_item, first_fault, marks_by_subject};
-use rule_faults::RuleEnd;
+use ownership_kinds_chains::Kinds;
+use reach_engine_marks::{PathFault, entries_by_item, first_fault, marks_by_subject};
 use sil_ast::{Exhausted, Function};
 use sil_cfg::{Graph, returns_by_item};
+use sil_rules::RuleEnd;
 use std::alloc::Global;
 
 /// The first Owned value whose life some walk breaks, with a walk of fewest edges that shows it.

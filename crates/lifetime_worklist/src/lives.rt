@@ -2,17 +2,17 @@
 
 ghost use Rattle.std.specs.Prelude.{◌≡◌, ◌++◌, OnOk};
 ghost use Rattle.std.specs.List.{flat_map};
-ghost use Rattle.ownership_marks.specs.ownership_chains.Facts as facts;
-ghost use Rattle.ownership_marks.specs.Known.{facts_of, marks_at};
+ghost use Rattle.ownership_kinds_chains.specs.OwnershipChains.Facts as facts;
+ghost use Rattle.ownership_kinds_chains.specs.OwnershipMarks.Known.{facts_of, marks_at};
 ghost use Rattle.lifetime_worklist.specs.Lives as lives;
 ghost use Rattle.lifetime_worklist.specs.Lives.{lives_by};
 
-use ownership_marks::{Kinds, Mark, MarkSort};
-use path_checks::{Entry, ItemTable, SubjectMarks};
+use ownership_kinds_chains::{Kinds, Mark, MarkSort};
+use reach_engine_marks::{Entry, ItemTable, SubjectMarks};
 use sil_ast::{Exhausted, ValueId};
 use sil_cfg::Item;
 use sil_rules::Rule;
-use type_definitions::Kind;
+use sil_types_declarations::Kind;
 
 fn is_owned(kind: Kind) -> bool
     ensures { result ≡ facts.is_owned kind }
@@ -21,13 +21,13 @@ fn is_owned(kind: Kind) -> bool
 }
 
 /// A use and an end need the value alive, and a begin needs it not alive.
-fn turned_by(sort: MarkSort) -> path_patterns::Mark
+fn turned_by(sort: MarkSort) -> reach_engine_marks::Mark
     ensures { result ≡ lives.turned_by sort }
 {
     match sort {
-        MarkSort::Use => path_patterns::Mark::needs_on(Rule::UseAfterConsume),
-        MarkSort::End => path_patterns::Mark::needs_on_turns_off(Rule::DoubleConsume),
-        MarkSort::Begin => path_patterns::Mark::needs_off_turns_on(Rule::Overwritten),
+        MarkSort::Use => reach_engine_marks::Mark::needs_on(Rule::UseAfterConsume),
+        MarkSort::End => reach_engine_marks::Mark::needs_on_turns_off(Rule::DoubleConsume),
+        MarkSort::Begin => reach_engine_marks::Mark::needs_off_turns_on(Rule::Overwritten),
     }
 }
 
@@ -73,9 +73,9 @@ impl ItemTable for Lives<'_> {
 impl SubjectMarks for Lives<'_> {
     ghost mark_of = { λ t n. lives.left_mark (facts_of t.k.now) n };
 
-    fn shared_mark(&self, subject: u32) -> Option<path_patterns::Mark> {
+    fn shared_mark(&self, subject: u32) -> Option<reach_engine_marks::Mark> {
         if is_owned(self.k.kind(ValueId(subject))) {
-            Some(path_patterns::Mark::needs_off(Rule::Leak))
+            Some(reach_engine_marks::Mark::needs_off(Rule::Leak))
         } else {
             None
         }

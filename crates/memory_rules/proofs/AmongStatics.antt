@@ -9,16 +9,16 @@ use Rattle.sil_ast.specs.declared.inst.Inst.{Inst}
 use Rattle.sil_ast.specs.declared.place.ValueId.{ValueId}
 use Rattle.sil_rules.specs.declared.rule.Rule.{Rule}
 use Rattle.sil_rules.specs.declared.rule.Rule.TheVariants as rule
-use Rattle.point_checks.specs.Points.{IsAt}
-use Rattle.point_checks.specs.inner.Faults.{fault_at}
-use Rattle.point_checks.specs.declared.fault.PointFault.{PointFault}
-use Rattle.point_checks.proofs.Among.{Among, among_contained, among_either, among_flat, among_left, among_map, among_right, among_where}
-use Rattle.point_checks.proofs.Among.{contained_among, flat_among, map_among, where_among}
-use Rattle.point_checks.proofs.FaultsOf.{IsFound, found, inst_in_faults}
-use Rattle.point_checks.proofs.FaultsOf.IsFound.{at_args, at_inst}
-use Rattle.memory_accesses.specs.declared.access.Operated.{Operated}
-use Rattle.memory_accesses.specs.declared.source.Source.{Source}
-use Rattle.memory_accesses.specs.Operations.{addresses_of, deallocates, operations_of}
+use Rattle.numbered_form.specs.PointChecks.Points.{IsAt}
+use Rattle.numbered_form.specs.PointChecks.inner.Faults.{fault_at}
+use Rattle.numbered_form.specs.declared.point_checks.fault.PointFault.{PointFault}
+use Rattle.numbered_form.proofs.PointChecks.Among.{Among, among_contained, among_either, among_flat, among_left, among_map, among_right, among_where}
+use Rattle.numbered_form.proofs.PointChecks.Among.{contained_among, flat_among, map_among, where_among}
+use Rattle.numbered_form.proofs.PointChecks.FaultsOf.{IsFound, found, inst_in_faults}
+use Rattle.numbered_form.proofs.PointChecks.FaultsOf.IsFound.{at_args, at_inst}
+use Rattle.memory_rules_accesses.specs.declared.access.Operated.{Operated}
+use Rattle.memory_rules_accesses.specs.declared.source.Source.{Source}
+use Rattle.memory_rules_accesses.specs.Operations.{addresses_of, deallocates, operations_of}
 use Rattle.memory_rules.specs.inner.StaticFaults.{deallocation_faults, lacking_faults, no_args_faults, no_slot_faults, operated_faults}
 use Rattle.memory_rules.specs.inner.StaticFaults.{other_by, overlap_faults, pair_faults, statics_at, statics_of}
 use Rattle.memory_rules.specs.Statics.{AddressPair, IsBrokenAt, address_in, crossed_with, crosses, do_clash, handed_of, is_no_slot}

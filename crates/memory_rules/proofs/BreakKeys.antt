@@ -1,8 +1,8 @@
 -- Where what is broken stands in the order: on walks as any fault, and a static rule never with one on walks.
 use Rattle.std.proofs.Common.{◌≡◌, ℕ, [], ◌∷◌, length, refl, sym, ap, ◌∙◌, subst, inl, inr, Bool, false, Option, Some, None}
 use Rattle.std.specs.Prelude.{cond, ◌==◌, ◌||◌}
-use Rattle.rule_faults.specs.Keys.{fault_key}
-use Rattle.rule_faults.specs.declared.fault.RuleFault.{RuleFault}
+use Rattle.sil_rules.specs.RuleFaults.Keys.{fault_key}
+use Rattle.sil_rules.specs.declared.rule_faults.fault.RuleFault.{RuleFault}
 use Rattle.sil_rules.specs.Order.{Either, IsEarlier, IsFirst, NotAfter}
 use Rattle.sil_rules.specs.Rules.{number_of}
 use Rattle.sil_rules.specs.declared.rule.Rule.{Rule}

@@ -7,10 +7,10 @@ use Rattle.std.proofs.lemmas.List.{at_drop_more, take_all}
 use Rattle.std.proofs.lemmas.List.Concat.{flat_map-append}
 use Rattle.std.proofs.lemmas.List.Folds.{flat_map-map, find-append}
 use Rattle.sil_ast.specs.declared.place.ValueId.{ValueId}
-use Rattle.point_checks.specs.inner.Faults.{least}
-use Rattle.point_checks.specs.declared.fault.PointFault.{PointFault}
-use Rattle.point_checks.proofs.Least.{least-append}
-use Rattle.memory_accesses.specs.declared.source.Source.{Source}
+use Rattle.numbered_form.specs.PointChecks.inner.Faults.{least}
+use Rattle.numbered_form.specs.declared.point_checks.fault.PointFault.{PointFault}
+use Rattle.numbered_form.proofs.PointChecks.Least.{least-append}
+use Rattle.memory_rules_accesses.specs.declared.source.Source.{Source}
 use Rattle.memory_rules.specs.Statics.{AddressPair, address_of, clashes_with, crosses, pair, pairs_of, second_of}
 use Rattle.memory_rules.specs.declared.overlaps.HandedAddress.{HandedAddress}
 

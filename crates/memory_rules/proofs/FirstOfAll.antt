@@ -3,23 +3,23 @@ use Rattle.std.proofs.Common.{◌≡◌, List, ap, inl, inr, false, Option}
 use Rattle.sil_ast.specs.declared.function.Function.{Function}
 use Rattle.sil_ast.specs.declared.place.ValueId.{ValueId}
 use Rattle.sil_cfg.specs.Layout.{Layout}
-use Rattle.rule_faults.specs.Keys.{fault_key}
-use Rattle.rule_faults.specs.declared.fault.RuleFault.{RuleFault}
+use Rattle.sil_rules.specs.RuleFaults.Keys.{fault_key}
+use Rattle.sil_rules.specs.declared.rule_faults.fault.RuleFault.{RuleFault}
 use Rattle.sil_rules.proofs.Firsts.{first_same}
 use Rattle.sil_rules.specs.Order.{Either, IsEarlier}
-use Rattle.ownership_marks.specs.ownership_chains.Facts.{known_or}
-use Rattle.ownership_marks.specs.ownership_chains.declared.facts.Facts.{Facts}
-use Rattle.ownership_marks.specs.Known.{Known}
-use Rattle.memory_accesses.specs.declared.source.Source.{Source}
-use Rattle.memory_parts.specs.Parts.{parts_of}
-use Rattle.memory_parts.specs.Shown.{IsFirstFinding}
+use Rattle.ownership_kinds_chains.specs.OwnershipChains.Facts.{known_or}
+use Rattle.ownership_kinds_chains.specs.declared.ownership_chains.facts.Facts.{Facts}
+use Rattle.ownership_kinds_chains.specs.OwnershipMarks.Known.{Known}
+use Rattle.memory_rules_accesses.specs.declared.source.Source.{Source}
+use Rattle.memory_rules_parts.specs.Parts.{parts_of}
+use Rattle.memory_rules_parts.specs.Shown.{IsFirstFinding}
 use Rattle.memory_rules.specs.Broken.{IsBroken, IsFirstBreak, IsFirstStatic, IsStaticBreak, break_key}
 use Rattle.memory_rules.specs.Broken.IsBroken.{at_part, crossing, static}
 use Rattle.memory_rules.specs.inner.Reports.{IsFirstShown, IsOrderBreak, IsPartBreak, IsWalkBreak}
 use Rattle.memory_rules.specs.Statics.{is_static}
 use Rattle.memory_rules.proofs.BreakKeys.{earlier_first}
 use Rattle.memory_rules.proofs.FirstShown.{first_part}
-use Rattle.memory_parts.proofs.RulesOf.{of_parts}
+use Rattle.memory_rules_parts.proofs.RulesOf.{of_parts}
 
 module _ (sources : List Source) (f : Function) where
   module _ (facts : ValueId → Option Facts) where

@@ -7,25 +7,25 @@ use Rattle.sil_ast.specs.declared.function.Function.{Function}
 use Rattle.sil_ast.specs.declared.place.EdgeId.{EdgeId}
 use Rattle.sil_ast.specs.declared.place.ValueId.{ValueId}
 use Rattle.sil_cfg.specs.Layout.{Layout}
-use Rattle.rule_faults.specs.Keys.{fault_key}
-use Rattle.rule_faults.specs.declared.fault.RuleFault.{RuleFault}
+use Rattle.sil_rules.specs.RuleFaults.Keys.{fault_key}
+use Rattle.sil_rules.specs.declared.rule_faults.fault.RuleFault.{RuleFault}
 use Rattle.sil_rules.specs.Order.{IsFirst, IsLeast, NotAfter}
 use Rattle.sil_rules.specs.Rules.{number_of}
 use Rattle.sil_rules.specs.declared.rule.Rule.TheVariants as rule
-use Rattle.ownership_marks.specs.ownership_chains.Facts.{known_or}
-use Rattle.ownership_marks.specs.ownership_chains.declared.facts.Facts.{Facts}
-use Rattle.ownership_marks.specs.Known.{Known}
-use Rattle.memory_accesses.specs.declared.source.Source.{Source}
-use Rattle.memory_accesses.specs.declared.source.Source.TheVariants as source
-use Rattle.memory_parts.specs.Parts.{parts_of}
-use Rattle.memory_parts.specs.Shown.{IsFirstFinding}
-use Rattle.memory_accesses.specs.Sources.{is_slot_source}
-use Rattle.memory_slots.specs.Pairs.{IsCrossing, IsFirstCrossing, crossing_key}
-use Rattle.memory_slots.specs.declared.crossing.Crossing.{Crossing}
+use Rattle.ownership_kinds_chains.specs.OwnershipChains.Facts.{known_or}
+use Rattle.ownership_kinds_chains.specs.declared.ownership_chains.facts.Facts.{Facts}
+use Rattle.ownership_kinds_chains.specs.OwnershipMarks.Known.{Known}
+use Rattle.memory_rules_accesses.specs.declared.source.Source.{Source}
+use Rattle.memory_rules_accesses.specs.declared.source.Source.TheVariants as source
+use Rattle.memory_rules_parts.specs.Parts.{parts_of}
+use Rattle.memory_rules_parts.specs.Shown.{IsFirstFinding}
+use Rattle.memory_rules_accesses.specs.Sources.{is_slot_source}
+use Rattle.memory_rules_slots.specs.Pairs.{IsCrossing, IsFirstCrossing, crossing_key}
+use Rattle.memory_rules_slots.specs.declared.crossing.Crossing.{Crossing}
 use Rattle.memory_rules.specs.Broken.{break_key, last_key}
 use Rattle.memory_rules.specs.inner.Reports.{IsFirstShown, IsOrderBreak, IsPartBreak, report_of}
 use Rattle.memory_rules.proofs.BreakKeys.{walk_key}
-use Rattle.memory_parts.proofs.RulesOf.{of_parts}
+use Rattle.memory_rules_parts.proofs.RulesOf.{of_parts}
 
 -- where there is no slot, no two of them cross
 no_slot : (sources : List Source) → list_any is_slot_source sources ≡ false → (n : ℕ) → is_slot_source (unwrap_or (slice_get sources n) source.Other) ≡ true → ⊥

@@ -4,18 +4,18 @@ use Rattle.std.specs.Prelude.{cond, length}
 use Rattle.sil_ast.specs.declared.function.Function.{Function}
 use Rattle.sil_ast.specs.declared.inst.Inst.{Inst}
 use Rattle.sil_ast.specs.declared.place.ValueId.{ValueId}
-use Rattle.rule_faults.specs.declared.fault.RuleFault.{RuleFault}
+use Rattle.sil_rules.specs.declared.rule_faults.fault.RuleFault.{RuleFault}
 use Rattle.sil_rules.specs.Order.{NotAfter}
 use Rattle.sil_rules.specs.Rules.{number_of}
 use Rattle.sil_rules.specs.declared.rule.Rule.{Rule}
-use Rattle.point_checks.specs.Points.{IsAt, key_at}
-use Rattle.point_checks.specs.inner.Faults.{fault_at, key_of, least}
-use Rattle.point_checks.specs.inner.Reports.{IsReport, report_of}
-use Rattle.point_checks.specs.declared.fault.PointFault.{PointFault}
-use Rattle.point_checks.proofs.Among.{Among}
-use Rattle.point_checks.proofs.Order.{least_among, least_none}
-use Rattle.point_checks.proofs.Reported.{is_report}
-use Rattle.memory_accesses.specs.declared.source.Source.{Source}
+use Rattle.numbered_form.specs.PointChecks.Points.{IsAt, key_at}
+use Rattle.numbered_form.specs.PointChecks.inner.Faults.{fault_at, key_of, least}
+use Rattle.numbered_form.specs.PointChecks.inner.Reports.{IsReport, report_of}
+use Rattle.numbered_form.specs.declared.point_checks.fault.PointFault.{PointFault}
+use Rattle.numbered_form.proofs.PointChecks.Among.{Among}
+use Rattle.numbered_form.proofs.PointChecks.Order.{least_among, least_none}
+use Rattle.numbered_form.proofs.PointChecks.Reported.{is_report}
+use Rattle.memory_rules_accesses.specs.declared.source.Source.{Source}
 use Rattle.memory_rules.specs.Broken.{IsFirstStatic, IsStaticBreak, break_key}
 use Rattle.memory_rules.specs.inner.StaticFaults.{other_by, statics_of}
 use Rattle.memory_rules.specs.Statics.{IsBrokenAt, is_static}

@@ -15,14 +15,14 @@ use Rattle.sil_ast.specs.declared.operands.Operand.{Operand}
 use Rattle.sil_ast.specs.declared.place.ValueId.{ValueId}
 use Rattle.argument_conventions.specs.declared.convention.ArgumentConvention.{ArgumentConvention}
 use Rattle.argument_conventions.specs.declared.row.AddressRow.{AddressRow}
-use Rattle.item_operands.specs.Roles.{by_row, conventions_in, last_roles, roles_for, taken_each}
-use Rattle.item_operands.specs.declared.taken.Treatment.{Treatment}
-use Rattle.memory_accesses.specs.declared.access.Operation.{Operation}
-use Rattle.memory_accesses.specs.declared.access.Operation.TheVariants.{Handed}
-use Rattle.memory_accesses.specs.declared.columns.AccessKind.{AccessKind}
-use Rattle.memory_accesses.specs.declared.columns.AccessKind.TheVariants.{NoAccess, AllocatesSlot, AllocatesObject, DeallocatesSlot, LendsValue, Upcasts, LendsLocation}
-use Rattle.memory_accesses.specs.declared.columns.AccessKind.TheVariants.{NamesField, NamesMember, NamesElement, Loads, Stores, Destroys, Passes}
-use Rattle.memory_accesses.specs.Operations.{access_kind_of, deallocates, deallocates_by, is_address_role, operated, operated_at, operation_by, operations_of}
+use Rattle.ownership_kinds_chains.specs.sil_cfg_items.Roles.{by_row, conventions_in, last_roles, roles_for, taken_each}
+use Rattle.ownership_kinds_chains.specs.sil_cfg_items.declared.taken.Treatment.{Treatment}
+use Rattle.memory_rules_accesses.specs.declared.access.Operation.{Operation}
+use Rattle.memory_rules_accesses.specs.declared.access.Operation.TheVariants.{Handed}
+use Rattle.memory_rules_accesses.specs.declared.columns.AccessKind.{AccessKind}
+use Rattle.memory_rules_accesses.specs.declared.columns.AccessKind.TheVariants.{NoAccess, AllocatesSlot, AllocatesObject, DeallocatesSlot, LendsValue, Upcasts, LendsLocation}
+use Rattle.memory_rules_accesses.specs.declared.columns.AccessKind.TheVariants.{NamesField, NamesMember, NamesElement, Loads, Stores, Destroys, Passes}
+use Rattle.memory_rules_accesses.specs.Operations.{access_kind_of, deallocates, deallocates_by, is_address_role, operated, operated_at, operation_by, operations_of}
 use Rattle.memory_rules.specs.inner.StaticFaults.{is_idle, is_idle_by}
 
 abbrev is_by_row : Role → Bool

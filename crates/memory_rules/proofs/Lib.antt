@@ -7,4 +7,4 @@ mod FirstStatic
 mod OtherValue
 mod Idle
 pub mod RulesOf
-pub use Rattle.memory_slots.proofs as memory_slots
+pub use Rattle.memory_rules_slots.proofs as memory_rules_slots

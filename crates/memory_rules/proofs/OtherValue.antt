@@ -7,7 +7,7 @@ use Rattle.sil_ast.specs.declared.place.ValueId.{ValueId}
 use Rattle.sil_rules.specs.Rules.{number_of}
 use Rattle.sil_rules.specs.declared.rule.Rule.{Rule}
 use Rattle.sil_rules.specs.declared.rule.Rule.TheVariants as rule
-use Rattle.memory_accesses.specs.declared.source.Source.{Source}
+use Rattle.memory_rules_accesses.specs.declared.source.Source.{Source}
 use Rattle.memory_rules.specs.inner.StaticFaults.{is_overlap, other_by}
 use Rattle.memory_rules.specs.Statics.{crossed_with}
 

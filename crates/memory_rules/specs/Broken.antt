@@ -1,7 +1,7 @@
 -- What breaks a rule on memory, and the first of all.
 use Rattle.std.specs.Prelude.{◌≡◌, ℕ, List, [], ◌∷◌, cond, length, Option, Some}
 use Rattle.sil_ast.specs.declared.function.Function.{Function}
-use Rattle.rule_faults.specs.declared.fault.RuleFault.{RuleFault}
+use Rattle.sil_rules.specs.declared.rule_faults.fault.RuleFault.{RuleFault}
 use Rattle.sil_ast.specs.declared.place.EdgeId.{EdgeId}
 use Rattle.sil_ast.specs.declared.place.PointId.{PointId}
 use Rattle.sil_ast.specs.declared.place.ValueId.{ValueId}
@@ -10,13 +10,13 @@ use Rattle.sil_rules.specs.Order.{IsFirst}
 use Rattle.sil_rules.specs.Rules.{number_of}
 use Rattle.sil_rules.specs.declared.rule.Rule.{Rule}
 use Rattle.sil_rules.specs.declared.rule.Rule.TheVariants as rule
-use Rattle.ownership_marks.specs.ownership_chains.Facts.{known_or}
-use Rattle.ownership_marks.specs.ownership_chains.declared.facts.Facts.{Facts}
-use Rattle.ownership_marks.specs.Known.{AreKindsBy, Known}
-use Rattle.memory_accesses.specs.declared.source.Source.{Source}
-use Rattle.memory_parts.specs.Parts.{parts_of}
-use Rattle.memory_parts.specs.Shown as parts
-use Rattle.memory_slots.specs.Pairs.{IsCrossing}
+use Rattle.ownership_kinds_chains.specs.OwnershipChains.Facts.{known_or}
+use Rattle.ownership_kinds_chains.specs.declared.ownership_chains.facts.Facts.{Facts}
+use Rattle.ownership_kinds_chains.specs.OwnershipMarks.Known.{AreKindsBy, Known}
+use Rattle.memory_rules_accesses.specs.declared.source.Source.{Source}
+use Rattle.memory_rules_parts.specs.Parts.{parts_of}
+use Rattle.memory_rules_parts.specs.Shown as parts
+use Rattle.memory_rules_slots.specs.Pairs.{IsCrossing}
 use Rattle.memory_rules.specs.Statics.{IsBrokenAt, is_static}
 
 -- a rule on memory is broken: a walk shows it at one of the parts (contents, allocation, loans, building and addresses) or of two slots,

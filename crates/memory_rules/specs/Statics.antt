@@ -8,17 +8,17 @@ use Rattle.sil_ast.specs.declared.place.ValueId.{ValueId}
 use Rattle.sil_rules.specs.Rules.{number_of}
 use Rattle.sil_rules.specs.declared.rule.Rule.{Rule}
 use Rattle.sil_rules.specs.declared.rule.Rule.TheVariants as rule
-use Rattle.point_checks.specs.Points.{IsAt}
-use Rattle.memory_accesses.specs.declared.access.Operated.{Operated}
-use Rattle.memory_accesses.specs.declared.access.Operation.{Operation}
-use Rattle.memory_accesses.specs.declared.access.Operation.TheVariants.{FirstWrite, Read, Lend, Write, TrivialStore, Handed, Take}
-use Rattle.memory_accesses.specs.declared.location.Location.{Location}
-use Rattle.memory_accesses.specs.declared.source.Source.{Source}
+use Rattle.numbered_form.specs.PointChecks.Points.{IsAt}
+use Rattle.memory_rules_accesses.specs.declared.access.Operated.{Operated}
+use Rattle.memory_rules_accesses.specs.declared.access.Operation.{Operation}
+use Rattle.memory_rules_accesses.specs.declared.access.Operation.TheVariants.{FirstWrite, Read, Lend, Write, TrivialStore, Handed, Take}
+use Rattle.memory_rules_accesses.specs.declared.location.Location.{Location}
+use Rattle.memory_rules_accesses.specs.declared.source.Source.{Source}
 use Rattle.memory_rules.specs.declared.overlaps.HandedAddress.{HandedAddress}
-use Rattle.memory_accesses.specs.Locations.{do_overlap, location_of}
-use Rattle.memory_accesses.specs.Operations.{addresses_of, deallocates, operations_of}
-use Rattle.memory_accesses.specs.Rows.{has_operation}
-use Rattle.memory_accesses.specs.Sources.{is_slot}
+use Rattle.memory_rules_accesses.specs.Locations.{do_overlap, location_of}
+use Rattle.memory_rules_accesses.specs.Operations.{addresses_of, deallocates, operations_of}
+use Rattle.memory_rules_accesses.specs.Rows.{has_operation}
+use Rattle.memory_rules_accesses.specs.Sources.{is_slot}
 
 abbrev pub lacks_by : List Source → Option Location → Operation → Bool
 lacks_by sources None o = false

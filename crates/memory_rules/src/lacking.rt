@@ -2,12 +2,12 @@
 
 ghost use Rattle.std.specs.Prelude.{◌≡◌};
 ghost use Rattle.std.specs.List.{flat_map};
-ghost use Rattle.point_checks.specs.inner.Faults.{least};
+ghost use Rattle.numbered_form.specs.PointChecks.inner.Faults.{least};
 ghost use Rattle.memory_rules.specs.inner.StaticFaults.{no_slot_faults, operated_faults};
 ghost use Rattle.memory_rules.specs.Statics as statics;
 
-use memory_accesses::{Memory, Operated};
-use point_checks::{PointFault, lesser};
+use memory_rules_accesses::{Memory, Operated};
+use numbered_form::{PointFault, lesser};
 use sil_ast::{PointId, ValueId};
 use sil_rules::Rule;
 

@@ -1,10 +1,10 @@
 //! What an instruction does to locations, and which do nothing.
 
 ghost use Rattle.std.specs.Prelude.{◌≡◌, IfOk};
-ghost use Rattle.memory_accesses.specs.Operations as operations;
+ghost use Rattle.memory_rules_accesses.specs.Operations as operations;
 ghost use Rattle.memory_rules.specs.inner.StaticFaults as faults;
 
-use memory_accesses::{AccessKind, Operated, access_kind_of, add_operations};
+use memory_rules_accesses::{AccessKind, Operated, access_kind_of, add_operations};
 use sil_ast::{Exhausted, Inst};
 use std::alloc::Global;
 

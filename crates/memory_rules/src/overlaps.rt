@@ -3,14 +3,14 @@
 ghost use Rattle.std.specs.Prelude.{◌≡◌, ◌==◌, IfOk, None, cond, find, option_map};
 ghost use Rattle.std.specs.List.{flat_map};
 ghost use Rattle.std.specs.Option.{option_to_list};
-ghost use Rattle.point_checks.specs.inner.Faults.{least};
+ghost use Rattle.numbered_form.specs.PointChecks.inner.Faults.{least};
 ghost use Rattle.memory_rules.specs.inner.StaticFaults.{faults_with, pair_faults};
 ghost use Rattle.memory_rules.specs.Statics as statics;
 ghost use Rattle.memory_rules.specs.Statics.{crosses, pair, pairs_of, second_of};
 
 use crate::operations::operations_of;
-use memory_accesses::{Memory, Operated, Operation};
-use point_checks::{PointFault, lesser};
+use memory_rules_accesses::{Memory, Operated, Operation};
+use numbered_form::{PointFault, lesser};
 use sil_ast::{Exhausted, Inst, PointId, ValueId};
 use sil_rules::Rule;
 use std::alloc::Global;

@@ -3,9 +3,8 @@
 ghost use Rattle.std.specs.Prelude.{◌≡◌};
 ghost use Rattle.memory_rules.specs.inner.Reports.{report_of};
 
-use memory_slots::Crossing;
-use rule_faults::RuleFault;
-use sil_rules::Rule;
+use memory_rules_slots::Crossing;
+use sil_rules::{Rule, RuleFault};
 
 /// What is found of two slots, as it is reported: the later one takes part.
 pub(crate) fn crossing_report(crossing: Crossing) -> RuleFault

@@ -2,18 +2,18 @@
 
 ghost use Rattle.std.specs.Prelude.{IfErr, IfOk, OnOk};
 ghost use Rattle.sil_cfg.specs.inner.Build.{IsGraphOf};
-ghost use Rattle.point_checks.specs.inner.Numbered.{IsOfNumberedModule};
-ghost use Rattle.memory_accesses.specs.Sources.{sources_of};
+ghost use Rattle.numbered_form.specs.PointChecks.inner.Numbered.{IsOfNumberedModule};
+ghost use Rattle.memory_rules_accesses.specs.Sources.{sources_of};
 ghost use Rattle.memory_rules.specs.Broken.{IsFirstBreak};
 ghost use Rattle.memory_rules.specs.inner.Ends.{IsMemoryEnd, IsMemoryKept};
 
 use crate::statics::first_static;
 use crate::walks::first_on_walks;
-use memory_accesses::Memory;
-use ownership_marks::Kinds;
-use rule_faults::{RuleEnd, RuleFault, earlier};
+use memory_rules_accesses::Memory;
+use ownership_kinds_chains::Kinds;
 use sil_ast::{Exhausted, Function};
 use sil_cfg::Graph;
+use sil_rules::{RuleEnd, RuleFault, earlier};
 use sil_types::TypeTable;
 use std::alloc::Global;
 

@@ -1,20 +1,19 @@
 //! Rules 608 and 611, by one pass over the points of a function: they hold at each point, whether a walk reaches it or not.
 
 ghost use Rattle.std.specs.Prelude.{◌≡◌, IfOk};
-ghost use Rattle.point_checks.specs.inner.Numbered.{IsOfNumberedModule};
-ghost use Rattle.point_checks.specs.Points.{IsAt};
-ghost use Rattle.point_checks.specs.inner.Faults.{least};
+ghost use Rattle.numbered_form.specs.PointChecks.inner.Numbered.{IsOfNumberedModule};
+ghost use Rattle.numbered_form.specs.PointChecks.Points.{IsAt};
+ghost use Rattle.numbered_form.specs.PointChecks.inner.Faults.{least};
 ghost use Rattle.memory_rules.specs.Broken.{IsFirstStatic};
 ghost use Rattle.memory_rules.specs.inner.StaticFaults.{deallocation_faults, no_args_faults, other_by, statics_at};
 
 use crate::lacking::{add_lacking, add_no_slots};
 use crate::operations::{is_idle, operations_of};
 use crate::overlaps::{add_overlaps, crossed_with, handed_addresses};
-use memory_accesses::{Memory, add_addresses, deallocates};
-use point_checks::{PointCheck, PointFault, inst_at, least_fault, rule_fault};
-use rule_faults::RuleFault;
+use memory_rules_accesses::{Memory, add_addresses, deallocates};
+use numbered_form::{PointCheck, PointFault, inst_at, least_fault, rule_fault};
 use sil_ast::{Block, BlockId, Exhausted, Function, Inst, PointId, ValueId};
-use sil_rules::Rule;
+use sil_rules::{Rule, RuleFault};
 use std::alloc::Global;
 
 /// What the two rules are decided by: what each value is to memory.

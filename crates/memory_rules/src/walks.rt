@@ -3,17 +3,17 @@
 ghost use Rattle.std.specs.Prelude.{◌≡◌, IfOk};
 ghost use Rattle.std.specs.List.{list_any};
 ghost use Rattle.sil_cfg.specs.inner.Build.{IsGraphOf};
-ghost use Rattle.memory_accesses.specs.Sources.{is_slot_source};
+ghost use Rattle.memory_rules_accesses.specs.Sources.{is_slot_source};
 ghost use Rattle.memory_rules.specs.inner.Reports.{IsFirstShown, IsOrderBreak, IsWalkBreak};
 
 use crate::reports::crossing_report;
-use memory_accesses::{Memory, Source, accesses_by_item};
-use memory_parts::first_fault;
-use memory_slots::first_crossing;
-use ownership_marks::Kinds;
-use rule_faults::{RuleFault, earlier};
+use memory_rules_accesses::{Memory, Source, accesses_by_item};
+use memory_rules_parts::first_fault;
+use memory_rules_slots::first_crossing;
+use ownership_kinds_chains::Kinds;
 use sil_ast::{Exhausted, Function};
 use sil_cfg::Graph;
+use sil_rules::{RuleFault, earlier};
 use std::alloc::Global;
 
 fn has_slots(sources: &[Source]) -> bool

@@ -13,11 +13,11 @@ use Rattle.argument_conventions.specs.Arguments.{arguments_of}
 use Rattle.count_machine.specs.LowRuns.{MayStartAt}
 use Rattle.holder_model.specs.Frames.{has_any}
 use Rattle.holder_model.specs.Outcomes.{may_start}
-use Rattle.ownership_lowering.specs.lowering_model.LoweredBlocks.{blocks_become}
-use Rattle.ownership_lowering.specs.lowering_model.LoweredModules.{lowered, lowered_by, lowered_function}
-use Rattle.ownership_lowering.specs.lowering_model.Numbers.{renumbered}
+use Rattle.ownership_lowering_model.specs.LoweredBlocks.{blocks_become}
+use Rattle.ownership_lowering_model.specs.LoweredModules.{lowered, lowered_by, lowered_function}
+use Rattle.ownership_lowering_model.specs.Numbers.{renumbered}
 use Rattle.numbered_form.specs.Names.{Name}
-use Rattle.ownership_chains.specs.declared.definition.Definition.{Definition}
+use Rattle.ownership_kinds_chains.specs.declared.ownership_chains.definition.Definition.{Definition}
 use Rattle.sil_ast.specs.declared.function.Block.{Block}
 use Rattle.sil_ast.specs.declared.function.Form.{Form}
 use Rattle.sil_ast.specs.declared.function.Form.TheVariants.{Ossa, Lowered, External}
@@ -25,9 +25,9 @@ use Rattle.sil_ast.specs.declared.function.Function.{Function}
 use Rattle.sil_ast.specs.declared.module.Module.{Module}
 use Rattle.sil_ast.specs.declared.place.FuncId.{FuncId}
 use Rattle.sil_ast.specs.declared.place.ValueId.{ValueId}
-use Rattle.sil_verifier.specs.accepted_modules.inner.Checked.{IsVerified}
-use Rattle.type_definitions.specs.Declarations.{Declarations, declarations_of}
-use Rattle.type_definitions.specs.Mentions.{given_type}
+use Rattle.sil_verifier.specs.sil_verifier_accepted.AcceptedModules.inner.Checked.{IsVerified}
+use Rattle.sil_types_declarations.specs.TypeDefinitions.Declarations.{Declarations, declarations_of}
+use Rattle.sil_types_declarations.specs.TypeDefinitions.Mentions.{given_type}
 use Rattle.module_runner.specs.Entries.{HasEntry, IsEntry}
 use Rattle.module_runner.specs.inner.Entries.{is_entry}
 

@@ -1,17 +1,17 @@
 -- Runs of the module that is left: of it and of what is lowered of it, and of the module itself beside it.
 use Rattle.std.proofs.Common.{◌≡◌, ◌≤◌, ℕ, Bool, true, false, refl, sym, subst, Some, slice_get, arith}
-use Rattle.copy_pairing.specs.optimised_runs.inner.Laws.{OptimisedOutcomesAgree}
-use Rattle.copy_pairing.specs.optimised_runs.lockstep_runs.inner.Agreeing.{TellsAsItDid}
-use Rattle.copy_pairing.specs.optimised_runs.rewriting_laws.inner.Laws.{RewritingKeepsVerified}
-use Rattle.copy_removal.specs.Optimised.{IsOptimised, done, more}
+use Rattle.copy_pairing.specs.copy_pairing_runs.OptimisedRuns.inner.Laws.{OptimisedOutcomesAgree}
+use Rattle.sil_verifier.specs.holder_model_laws.LockstepRuns.inner.Agreeing.{TellsAsItDid}
+use Rattle.copy_pairing.specs.copy_pairing_acceptance.RewritingLaws.inner.Laws.{RewritingKeepsVerified}
+use Rattle.copy_pairing_model.specs.Optimised.{IsOptimised, done, more}
 use Rattle.holder_model.specs.Faults.{HolderFault}
 use Rattle.holder_model.specs.Outcomes.{EndsSo, Outcome, may_start}
 use Rattle.sil_ast.specs.declared.function.Function.{Function}
 use Rattle.sil_ast.specs.declared.module.Module.{Module}
 use Rattle.sil_ast.specs.declared.place.FuncId.{FuncId}
 use Rattle.numbered_form.specs.Names.{Name}
-use Rattle.same_runs.specs.stored_runs.inner.Runs.{AreRunsSame, LoweredRunsAreSame}
-use Rattle.sil_verifier.specs.accepted_modules.inner.Checked.{IsVerified}
+use Rattle.ownership_lowering_runs.specs.StoredRuns.inner.Runs.{AreRunsSame, LoweredRunsAreSame}
+use Rattle.sil_verifier.specs.sil_verifier_accepted.AcceptedModules.inner.Checked.{IsVerified}
 use Rattle.module_runner.specs.Entries.{IsEntry}
 use Rattle.module_runner.specs.Optimising.{IsOptimisedIf}
 use Rattle.module_runner.proofs.Stays.{left_enters}

@@ -11,16 +11,16 @@ use Rattle.holder_model.specs.declared.event.Event.{Event}
 use Rattle.holder_model.specs.declared.event.Event.TheVariants as event
 use Rattle.holder_model.specs.declared.left_object.LeftObject.{LeftObject}
 use Rattle.numbered_form.specs.Names.{function_name}
-use Rattle.ownership_lowering.specs.lowering_model.LoweredModules.{lowered, lowered_by, lowered_function}
-use Rattle.report_writing.specs.run_report.ReportLines.{count_line, ending_lines, event_line, name_of, report}
-use Rattle.run_values.specs.Shapes.{Shape}
+use Rattle.ownership_lowering_model.specs.LoweredModules.{lowered, lowered_by, lowered_function}
+use Rattle.holder_model.specs.RunReport.ReportLines.{count_line, ending_lines, event_line, name_of, report}
+use Rattle.holder_model_values.specs.RunValues.Shapes.{Shape}
 use Rattle.sil_ast.specs.declared.function.Form.{Form}
 use Rattle.sil_ast.specs.declared.function.Form.TheVariants.{External, Lowered, Ossa}
 use Rattle.sil_ast.specs.declared.function.Function.{Function}
 use Rattle.sil_ast.specs.declared.module.Module.{Module}
 use Rattle.sil_ast.specs.declared.place.FuncId.{FuncId}
-use Rattle.report_writing.specs.sil_printer.Words.{in_parens, line}
-use Rattle.type_definitions.specs.Declarations.{Declarations, declarations_of}
+use Rattle.sil_printer.specs.Words.{in_parens, line}
+use Rattle.sil_types_declarations.specs.TypeDefinitions.Declarations.{Declarations, declarations_of}
 
 name_by : (o : Form) (d : Declarations) (f : Function) → (lowered_by o d f).name ≡ f.name
 name_by Ossa d f = refl

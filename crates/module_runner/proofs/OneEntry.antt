@@ -3,8 +3,8 @@ use Rattle.std.proofs.Common.{◌≡◌, ◌∙◌, ℕ, sym, ap, Some, map, sli
 use Rattle.std.proofs.lemmas.Option.{same_Some}
 use Rattle.numbered_form.specs.Names.{function_name}
 use Rattle.sil_ast.specs.declared.place.FuncId.{FuncId}
-use Rattle.report_writing.proofs.run_typing_laws.Found.{place_once}
-use Rattle.type_definitions.specs.Declarations.{place_of}
+use Rattle.count_machine.proofs.holder_model_typing.RunTypingLaws.Found.{place_once}
+use Rattle.sil_types_declarations.specs.TypeDefinitions.Declarations.{place_of}
 use Rattle.module_runner.specs.inner.Laws.{HaveOneEntry}
 
 pub one_entry : HaveOneEntry

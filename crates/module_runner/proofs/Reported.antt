@@ -10,14 +10,14 @@ use Rattle.holder_model.specs.Outcomes.{EndsSo, Outcome}
 use Rattle.holder_model.specs.States.{Ending, Faulted, OutOfTurns, Returned, Trapped}
 use Rattle.holder_model.specs.declared.event.Event.{Event}
 use Rattle.holder_model.specs.declared.left_object.LeftObject.{LeftObject}
-use Rattle.count_machine.specs.lowered_run.declared.low_fault.LowFault.{LowFault}
-use Rattle.count_machine.specs.lowered_run.LowOutcomes.{LowEndsSo}
-use Rattle.ownership_lowering.specs.lowering_model.LoweredModules.{lowered}
-use Rattle.report_writing.specs.RunOutcomes.{ending_of, value_of}
-use Rattle.report_writing.specs.declared.outcome.Ending as told
-use Rattle.report_writing.specs.declared.outcome.Ending.TheVariants as told_ending
-use Rattle.report_writing.proofs.Told.{value_told}
-use Rattle.same_runs.specs.stored_runs.inner.Runs.{AreRunsSame, IsEndingFor, IsOutcomeFor, out_of_turns, returned, trapped}
+use Rattle.holder_model.specs.declared.lowered_run.low_fault.LowFault.{LowFault}
+use Rattle.holder_model.specs.LoweredRun.LowOutcomes.{LowEndsSo}
+use Rattle.ownership_lowering_model.specs.LoweredModules.{lowered}
+use Rattle.module_runner_report.specs.RunOutcomes.{ending_of, value_of}
+use Rattle.module_runner_report.specs.declared.outcome.Ending as told
+use Rattle.module_runner_report.specs.declared.outcome.Ending.TheVariants as told_ending
+use Rattle.module_runner_report.proofs.Told.{value_told}
+use Rattle.ownership_lowering_runs.specs.StoredRuns.inner.Runs.{AreRunsSame, IsEndingFor, IsOutcomeFor, out_of_turns, returned, trapped}
 use Rattle.sil_ast.specs.declared.module.Module.{Module}
 use Rattle.sil_ast.specs.declared.place.FuncId.{FuncId}
 use Rattle.module_runner.specs.LoweredRuns.{LoweredNeverFaults}

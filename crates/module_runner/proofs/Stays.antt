@@ -3,21 +3,21 @@ use Rattle.std.proofs.Common.{◌≡◌, ◌∙◌, ◌⊎◌, inl, inr, ℕ, tr
 use Rattle.std.specs.Prelude.{Bool, OnOk, Result, Ok, Err}
 use Rattle.argument_conventions.specs.Arguments.{arguments_of}
 use Rattle.copy_pairing.proofs.Shapes.{rewritten_declares}
-use Rattle.copy_removal.specs.Optimised.{IsOptimised, Rewrites, done, lends, more, moves}
-use Rattle.copy_removal.specs.Rewritten.{changed_at, lent, lent_block, moved, moved_block, with_function}
-use Rattle.copy_removal.specs.inner.Laws.{AreUnique}
+use Rattle.copy_pairing_model.specs.Optimised.{IsOptimised, Rewrites, done, lends, more, moves}
+use Rattle.copy_pairing_model.specs.Rewritten.{changed_at, lent, lent_block, moved, moved_block, with_function}
+use Rattle.copy_pairing_model.specs.inner.Laws.{AreUnique}
 use Rattle.holder_model.specs.Frames.{has_any}
 use Rattle.holder_model.specs.Outcomes.{may_start}
-use Rattle.ownership_lowering.specs.lowering_model.LoweredModules.{lowered}
+use Rattle.ownership_lowering_model.specs.LoweredModules.{lowered}
 use Rattle.numbered_form.specs.Names.{Name}
-use Rattle.report_writing.specs.run_typing.Runnable.{IsRunnable}
+use Rattle.holder_model.specs.RunTyping.Runnable.{IsRunnable}
 use Rattle.sil_ast.specs.declared.function.Block.{Block}
 use Rattle.sil_ast.specs.declared.function.Function.{Function}
 use Rattle.sil_ast.specs.declared.module.Module.{Module}
 use Rattle.sil_ast.specs.declared.place.FuncId.{FuncId}
 use Rattle.sil_ast.specs.declared.place.PointId.{PointId}
 use Rattle.sil_ast.specs.declared.place.ValueId.{ValueId}
-use Rattle.type_definitions.specs.Declarations.{declarations_of}
+use Rattle.sil_types_declarations.specs.TypeDefinitions.Declarations.{declarations_of}
 use Rattle.module_runner.specs.Entries.{IsEntry}
 use Rattle.module_runner.specs.Optimising.{IsOptimisedIf}
 use Rattle.module_runner.specs.inner.Laws.{IsOne}

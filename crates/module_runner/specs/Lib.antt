@@ -2,14 +2,4 @@ pub mod Entries
 pub mod LoweredRuns
 pub mod Optimising
 pub mod inner
-pub use Rattle.copy_removal.specs.Optimised
-pub use Rattle.holder_model.specs.Outcomes
-pub use Rattle.holder_model.specs.States
-pub use Rattle.holder_model.specs.Faults
-pub use Rattle.holder_model.specs.inner.Laws
-pub use Rattle.ownership_lowering.specs.lowering_model.LoweredModules
-pub use Rattle.report_writing.specs.run_report.ReportLines
-pub use Rattle.report_writing.specs.RunOutcomes
-pub use Rattle.type_definitions.specs.Mentions
-pub use Rattle.run_values.specs.Shapes
-pub use Rattle.type_definitions.specs.Declarations
+pub use Rattle.module_runner_report.specs as module_runner_report

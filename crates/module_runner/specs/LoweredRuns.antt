@@ -2,9 +2,9 @@
 use Rattle.std.specs.Prelude.{◌≡◌, ℕ}
 use Rattle.holder_model.specs.Outcomes.{Outcome}
 use Rattle.holder_model.specs.States.{Faulted}
-use Rattle.count_machine.specs.lowered_run.LowOutcomes.{LowEndsSo}
-use Rattle.count_machine.specs.lowered_run.declared.low_fault.LowFault.{LowFault}
-use Rattle.ownership_lowering.specs.lowering_model.LoweredModules.{lowered}
+use Rattle.holder_model.specs.LoweredRun.LowOutcomes.{LowEndsSo}
+use Rattle.holder_model.specs.declared.lowered_run.low_fault.LowFault.{LowFault}
+use Rattle.ownership_lowering_model.specs.LoweredModules.{lowered}
 use Rattle.sil_ast.specs.declared.module.Module.{Module}
 use Rattle.sil_ast.specs.declared.place.FuncId.{FuncId}
 

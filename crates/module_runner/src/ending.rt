@@ -4,7 +4,7 @@ ghost use Rattle.std.specs.Prelude.{◌≡◌};
 ghost use Rattle.module_runner.specs.inner.Endings.{IsNoFault, end_of};
 
 use count_machine::LowEnd;
-use report_writing::Ending;
+use module_runner_report::Ending;
 
 /// The ending that is reported. The lowered run of an accepted module ends in no fault.
 pub(crate) fn reported(end: LowEnd) -> Ending

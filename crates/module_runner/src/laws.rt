@@ -2,7 +2,7 @@
 
 ghost use Rattle.module_runner.specs.inner.Laws.{HaveOneEntry, IsOne};
 
-use copy_removal::optimised_modules_are_unique;
+use copy_pairing_model::optimised_modules_are_unique;
 
 /// In a module in numbered form a run may begin with one function of a name at most.
 pub fn names_have_one_entry()

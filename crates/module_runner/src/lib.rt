@@ -11,10 +11,10 @@ mod runner;
 
 pub use holder_model::runs_end_once;
 pub use laws::{names_have_one_entry, one_module_is_lowered};
+pub use module_runner_report::Ending;
 pub use optimising::optimised_if;
 pub use ownership_lowering::{lower, lower_in_place};
+pub use ownership_lowering_runs::{lowered_runs_are_same, numbers_are_counts};
 pub use report::{RunReport, report_text};
-pub use report_writing::Ending;
 pub use runner::{RunEnd, run_checked, run_owned};
-pub use same_runs::{lowered_runs_are_same, numbers_are_counts};
 pub use sil_types::TypeTable;

@@ -3,7 +3,7 @@
 ghost use Rattle.std.specs.Prelude.{IfOk, OnOk};
 ghost use Rattle.module_runner.specs.Optimising.{IsOptimisedIf};
 ghost use Rattle.module_runner.specs.inner.RunReports.{IsLoweredIf};
-ghost use Rattle.sil_verifier.specs.accepted_modules.inner.Checked.{IsVerifiedWith};
+ghost use Rattle.sil_verifier.specs.sil_verifier_accepted.AcceptedModules.inner.Checked.{IsVerifiedWith};
 
 use copy_pairing::{optimize, optimize_in_place};
 use ownership_lowering::lower_in_place;

@@ -1,12 +1,12 @@
 //! What is reported of a run.
 
 ghost use Rattle.std.specs.Prelude.{◌≡◌, IfOk};
-ghost use Rattle.report_writing.specs.RunOutcomes as told;
+ghost use Rattle.module_runner_report.specs.RunOutcomes as told;
 ghost use Rattle.module_runner.specs.inner.RunReports.{IsReportable, outcome_of, text_of};
 
 use count_heap::Heap;
 use holder_model::{Event, LeftObject};
-use report_writing::{Ending, RunOutcome, write_report};
+use module_runner_report::{Ending, RunOutcome, write_report};
 use sil_ast::{Exhausted, List, Module, Text, TypeName};
 use sil_types::TypeTable;
 use std::alloc::Global;

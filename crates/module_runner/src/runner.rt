@@ -2,10 +2,10 @@
 
 ghost use Rattle.std.specs.Prelude.{◌≡◌, ◌≤◌, ◌↔◌, Err, IfOk};
 ghost use Rattle.sil_ast.specs.declared.function.Function.{Function};
-ghost use Rattle.type_definitions.specs.Mentions as mentions;
+ghost use Rattle.sil_types_declarations.specs.TypeDefinitions.Mentions as mentions;
 ghost use Rattle.module_runner.specs.Entries.{HasEntry, IsEntry};
 ghost use Rattle.module_runner.specs.inner.RunReports.{HeapIsAsTold, IsReportable, TellsAsItself, TellsOfRun};
-ghost use Rattle.sil_verifier.specs.accepted_modules.inner.Checked.{IsVerifiedWith};
+ghost use Rattle.sil_verifier.specs.sil_verifier_accepted.AcceptedModules.inner.Checked.{IsVerifiedWith};
 ghost use Rattle.module_runner.specs.declared.runner.RunEnd.TheVariants.{NoEntry};
 
 use crate::ending::reported;
@@ -14,7 +14,7 @@ use crate::optimising::lower_if;
 use crate::report::RunReport;
 use copy_pairing::{optimised_outcomes_agree, rewriting_keeps_verified};
 use count_machine::{LowRun, run};
-use same_runs::lowered_runs_are_same;
+use ownership_lowering_runs::lowered_runs_are_same;
 use sil_ast::{Boxed, Exhausted, FuncId, Given, List, Module, Signature, TryClone, TypeName};
 use sil_types::{TypeTable, only_direct_type};
 use sil_verifier::Checked;

@@ -1,2 +1,4 @@
 pub mod Lists
 pub mod Counted
+pub mod ValueTables
+pub mod PointChecks

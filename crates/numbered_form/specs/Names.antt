@@ -12,7 +12,7 @@ use Rattle.sil_ast.specs.declared.member.Member.{Member}
 use Rattle.sil_ast.specs.declared.module.Module.{Module}
 use Rattle.sil_ast.specs.declared.vtable.Vtable.{Vtable}
 use Rattle.sil_ast.specs.Imports.{reserved}
-use Rattle.text_bytes.specs.Bytes.{is_word_start, is_name_byte, is_text_byte}
+use Rattle.sil_ast.specs.TextBytes.Bytes.{is_word_start, is_name_byte, is_text_byte}
 use Rattle.sil_rules.specs.declared.limits.TheConstants.{NAME_BYTES}
 use Rattle.numbered_form.specs.Lists.{Each, is_empty}
 use Rattle.numbered_form.specs.Insts.{EachInst}

@@ -11,27 +11,27 @@ use Rattle.sil_ast.specs.declared.function.BlockArg.{BlockArg}
 use Rattle.sil_ast.specs.declared.function.Function.{Function}
 use Rattle.sil_ast.specs.declared.inst.Inst.{Inst}
 use Rattle.sil_ast.specs.declared.place.ValueId.{ValueId}
-use Rattle.value_tables.specs.numbered_form.Insts.{insts_of}
-use Rattle.value_tables.specs.numbered_form.Numbering.{AreCountedFrom, defined_in, results_of, values_of}
-use Rattle.value_tables.specs.numbered_form.Numbering as numbering
+use Rattle.numbered_form.specs.Insts.{insts_of}
+use Rattle.numbered_form.specs.Numbering.{AreCountedFrom, defined_in, results_of, values_of}
+use Rattle.numbered_form.specs.Numbering as numbering
 use Rattle.sil_rules.specs.Order.{NotAfter}
 use Rattle.sil_rules.specs.declared.rule.Rule.{Rule}
 use Rattle.sil_rules.specs.declared.rule.Rule.TheVariants as rule
 use Rattle.sil_rules.proofs.Keys.{compared, not_after_refl}
-use Rattle.item_operands.specs.declared.taken.Taken.{Taken}
-use Rattle.value_tables.specs.FirstValue.{first_value}
-use Rattle.value_tables.specs.Borrows.{borrows_of, is_borrow}
-use Rattle.point_checks.specs.Points.{IsAt, key_at}
-use Rattle.point_checks.specs.inner.Faults.{fault_at, key_of}
-use Rattle.point_checks.specs.declared.fault.PointFault.{PointFault}
-use Rattle.point_checks.proofs.Among.{Among, among_contained, among_either, among_flat, among_left, among_map, among_option, among_right, among_where}
-use Rattle.point_checks.proofs.Among.{contained_among, flat_among, map_among, option_among, place_among, where_among}
-use Rattle.point_checks.proofs.FaultsOf.{IsFound, args_in_faults, found, inst_in_faults}
-use Rattle.point_checks.proofs.FaultsOf.IsFound.{at_args, at_inst}
-use Rattle.type_definitions.specs.Declarations.{Declarations}
-use Rattle.type_definitions.specs.Measures.{is_trivial}
-use Rattle.ownership_origins.specs.Switched.{switch_to}
-use Rattle.ownership_kinds.specs.Facts.{kind_in}
+use Rattle.sil_cfg_items.specs.declared.taken.Taken.{Taken}
+use Rattle.numbered_form.specs.ValueTables.FirstValue.{first_value}
+use Rattle.numbered_form.specs.ValueTables.Borrows.{borrows_of, is_borrow}
+use Rattle.numbered_form.specs.PointChecks.Points.{IsAt, key_at}
+use Rattle.numbered_form.specs.PointChecks.inner.Faults.{fault_at, key_of}
+use Rattle.numbered_form.specs.declared.point_checks.fault.PointFault.{PointFault}
+use Rattle.numbered_form.proofs.PointChecks.Among.{Among, among_contained, among_either, among_flat, among_left, among_map, among_option, among_right, among_where}
+use Rattle.numbered_form.proofs.PointChecks.Among.{contained_among, flat_among, map_among, option_among, place_among, where_among}
+use Rattle.numbered_form.proofs.PointChecks.FaultsOf.{IsFound, args_in_faults, found, inst_in_faults}
+use Rattle.numbered_form.proofs.PointChecks.FaultsOf.IsFound.{at_args, at_inst}
+use Rattle.sil_types_declarations.specs.TypeDefinitions.Declarations.{Declarations}
+use Rattle.sil_types_declarations.specs.TypeDefinitions.Measures.{is_trivial}
+use Rattle.ownership_kinds_origins.specs.Switched.{switch_to}
+use Rattle.ownership_kinds_origins.specs.Facts.{kind_in}
 use Rattle.ownership_kinds.specs.inner.Faults.{annotation_faults, arg_faults, args_faults, faults_of, inst_faults, is_one}
 use Rattle.ownership_kinds.specs.inner.Faults.{lacking_faults, mixed_faults, needy_faults, ring_faults, taken_faults}
 use Rattle.ownership_kinds.specs.inner.Known.{IsFirstOnRing, IsRingOf}

@@ -4,16 +4,16 @@ use Rattle.std.specs.Prelude.{◌↔◌, nat_lt, if◌then◌else◌}
 use Rattle.std.proofs.lemmas.Bool.Decides.{nat_tests}
 use Rattle.std.proofs.lemmas.Option.{none-some}
 use Rattle.sil_ast.specs.declared.place.ValueId.{ValueId}
-use Rattle.ownership_chains.proofs.Enough.{told_in_time}
-use Rattle.ownership_chains.specs.Chains.{IsInRange}
-use Rattle.ownership_chains.specs.Facts.{AreFactsOf}
-use Rattle.ownership_chains.specs.Steps.{told_in}
-use Rattle.ownership_chains.specs.declared.definition.Definition.{Definition}
-use Rattle.ownership_chains.specs.declared.facts.Facts.{Facts}
-use Rattle.ownership_origins.proofs.Counts.{are_of_values}
-use Rattle.ownership_origins.proofs.Ranges.{are_in_range}
-use Rattle.ownership_origins.specs.Origins.{definitions_of}
-use Rattle.ownership_kinds.specs.Facts.{facts_by, facts_in}
+use Rattle.ownership_kinds_chains.proofs.OwnershipChains.Enough.{told_in_time}
+use Rattle.ownership_kinds_chains.specs.OwnershipChains.Chains.{IsInRange}
+use Rattle.ownership_kinds_chains.specs.OwnershipChains.Facts.{AreFactsOf}
+use Rattle.ownership_kinds_chains.specs.OwnershipChains.Steps.{told_in}
+use Rattle.ownership_kinds_chains.specs.declared.ownership_chains.definition.Definition.{Definition}
+use Rattle.ownership_kinds_chains.specs.declared.ownership_chains.facts.Facts.{Facts}
+use Rattle.ownership_kinds_origins.proofs.Counts.{are_of_values}
+use Rattle.ownership_kinds_origins.proofs.Ranges.{are_in_range}
+use Rattle.ownership_kinds_origins.specs.Origins.{definitions_of}
+use Rattle.ownership_kinds_origins.specs.Facts.{facts_by, facts_in}
 use Rattle.ownership_kinds.specs.inner.Laws.{AreFactsTold}
 
 by_steps : (defs : List Definition) (v : ValueId) (x : Facts) → IsInRange defs → (facts_by defs v ≡ Some x) ↔ ((v.0 < length defs) × AreFactsOf defs v x)

@@ -3,19 +3,19 @@ use Rattle.std.proofs.Common.{◌≡◌, ℕ, sym, ap, ◌∙◌, Option, Some, 
 use Rattle.std.specs.Prelude.{IfSome, IfNone, option_map}
 use Rattle.sil_ast.specs.declared.function.Function.{Function}
 use Rattle.sil_ast.specs.declared.place.ValueId.{ValueId}
-use Rattle.value_tables.specs.numbered_form.Numbering.{AreCountedFrom, values_of}
+use Rattle.numbered_form.specs.Numbering.{AreCountedFrom, values_of}
 use Rattle.sil_rules.specs.Order.{NotAfter}
 use Rattle.sil_rules.specs.declared.rule.Rule.{Rule}
 use Rattle.sil_rules.proofs.Keys.{not_after_trans}
-use Rattle.point_checks.specs.Points.{key_at}
-use Rattle.point_checks.specs.inner.Faults.{key_of, least}
-use Rattle.point_checks.specs.declared.fault.PointFault.{PointFault}
-use Rattle.point_checks.proofs.Among.{Among}
-use Rattle.point_checks.proofs.Order.{least_among, least_none}
-use Rattle.value_tables.specs.Borrows.{borrows_of}
-use Rattle.type_definitions.specs.Declarations.{Declarations}
-use Rattle.type_definitions.specs.declared.kind.Kind.{Kind}
-use Rattle.ownership_kinds.specs.Facts.{kind_in, kind_of_facts}
+use Rattle.numbered_form.specs.PointChecks.Points.{key_at}
+use Rattle.numbered_form.specs.PointChecks.inner.Faults.{key_of, least}
+use Rattle.numbered_form.specs.declared.point_checks.fault.PointFault.{PointFault}
+use Rattle.numbered_form.proofs.PointChecks.Among.{Among}
+use Rattle.numbered_form.proofs.PointChecks.Order.{least_among, least_none}
+use Rattle.numbered_form.specs.ValueTables.Borrows.{borrows_of}
+use Rattle.sil_types_declarations.specs.TypeDefinitions.Declarations.{Declarations}
+use Rattle.sil_types_declarations.specs.declared.type_definitions.kind.Kind.{Kind}
+use Rattle.ownership_kinds_origins.specs.Facts.{kind_in, kind_of_facts}
 use Rattle.ownership_kinds.specs.inner.Ends.{IsFirstFault}
 use Rattle.ownership_kinds.specs.inner.Faults.{faults_of}
 use Rattle.ownership_kinds.specs.inner.Known.{IsKnown, IsRingOf, kind_told}

@@ -5,17 +5,17 @@ use Rattle.std.proofs.lemmas.Bool.Decides.{nat_tests}
 use Rattle.sil_ast.specs.declared.function.Function.{Function}
 use Rattle.sil_ast.specs.declared.place.ValueId.{ValueId}
 use Rattle.sil_cfg.specs.Layout.{Layout}
-use Rattle.value_tables.specs.numbered_form.Numbering.{values_of}
-use Rattle.ownership_chains.specs.Facts.{told_at}
-use Rattle.ownership_chains.specs.Steps.{told_in}
-use Rattle.ownership_chains.specs.inner.Outcome.{IsTold}
-use Rattle.ownership_chains.specs.declared.definition.Definition.{Definition}
-use Rattle.ownership_chains.specs.declared.facts.Facts.{Facts}
-use Rattle.type_definitions.specs.Declarations.{Declarations}
-use Rattle.ownership_origins.specs.Origins.{definitions_of}
-use Rattle.ownership_marks.specs.Known.{AreKindsBy}
-use Rattle.ownership_marks.specs.Known as marks
-use Rattle.ownership_kinds.specs.Facts.{facts_by, facts_in}
+use Rattle.numbered_form.specs.Numbering.{values_of}
+use Rattle.ownership_kinds_chains.specs.OwnershipChains.Facts.{told_at}
+use Rattle.ownership_kinds_chains.specs.OwnershipChains.Steps.{told_in}
+use Rattle.ownership_kinds_chains.specs.OwnershipChains.inner.Outcome.{IsTold}
+use Rattle.ownership_kinds_chains.specs.declared.ownership_chains.definition.Definition.{Definition}
+use Rattle.ownership_kinds_chains.specs.declared.ownership_chains.facts.Facts.{Facts}
+use Rattle.sil_types_declarations.specs.TypeDefinitions.Declarations.{Declarations}
+use Rattle.ownership_kinds_origins.specs.Origins.{definitions_of}
+use Rattle.ownership_kinds_chains.specs.OwnershipMarks.Known.{AreKindsBy}
+use Rattle.ownership_kinds_chains.specs.OwnershipMarks.Known as marks
+use Rattle.ownership_kinds_origins.specs.Facts.{facts_by, facts_in}
 
 beyond : (table : List (Option Facts)) (n : ℕ) → length table ≤ n → unwrap_or (slice_get table n) None ≡ None
 beyond [] n le = refl

@@ -4,4 +4,3 @@ pub mod FirstRing
 mod FactsTold
 pub mod RulesOf
 pub mod Defined
-pub use Rattle.ownership_origins.proofs as ownership_origins

@@ -5,7 +5,7 @@ use Rattle.sil_ast.specs.declared.place.ValueId.{ValueId}
 use Rattle.sil_rules.specs.Rules.{group_of}
 use Rattle.sil_rules.specs.declared.group.Group.TheVariants as group
 use Rattle.sil_rules.specs.declared.rule.Rule.{Rule}
-use Rattle.type_definitions.specs.Declarations.{Declarations}
+use Rattle.sil_types_declarations.specs.TypeDefinitions.Declarations.{Declarations}
 use Rattle.ownership_kinds.specs.Statics.{IsBroken}
 use Rattle.ownership_kinds.specs.Statics.IsBroken.{on_ring, mixed, mismatch, annotated, lacking}
 

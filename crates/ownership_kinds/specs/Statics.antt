@@ -17,24 +17,24 @@ use Rattle.sil_ast.specs.declared.function.Function.{Function}
 use Rattle.sil_ast.specs.declared.inst.Edge.{Edge}
 use Rattle.sil_ast.specs.declared.inst.Inst.{Inst}
 use Rattle.sil_ast.specs.declared.place.ValueId.{ValueId}
-use Rattle.item_operands.specs.Roles.{taken_along, taken_by}
-use Rattle.item_operands.specs.declared.taken.Taken.{Taken}
-use Rattle.point_checks.specs.Points.{IsAt, key_at}
-use Rattle.value_tables.specs.Borrows.{is_borrow}
-use Rattle.value_tables.specs.FirstValue.{first_value, value_of}
-use Rattle.ownership_chains.specs.Chains.{IsCyclic}
+use Rattle.sil_cfg_items.specs.Roles.{taken_along, taken_by}
+use Rattle.sil_cfg_items.specs.declared.taken.Taken.{Taken}
+use Rattle.numbered_form.specs.PointChecks.Points.{IsAt, key_at}
+use Rattle.numbered_form.specs.ValueTables.Borrows.{is_borrow}
+use Rattle.numbered_form.specs.ValueTables.FirstValue.{first_value, value_of}
+use Rattle.ownership_kinds_chains.specs.OwnershipChains.Chains.{IsCyclic}
 use Rattle.sil_rules.specs.Order.{NotAfter}
 use Rattle.sil_rules.specs.declared.rule.Rule.{Rule}
 use Rattle.sil_rules.specs.declared.rule.Rule.TheVariants as rule
-use Rattle.type_definitions.specs.Declarations.{Declarations}
-use Rattle.type_definitions.specs.Measures.{is_trivial}
-use Rattle.type_definitions.specs.declared.kind.Kind.{Kind}
-use Rattle.type_definitions.specs.declared.kind.Kind.TheVariants as kind
-use Rattle.ownership_origins.specs.Origins.{definitions_of}
-use Rattle.ownership_origins.specs.Renamings.{renamings_of}
-use Rattle.ownership_origins.specs.Switched.{switch_to}
-use Rattle.ownership_origins.specs.declared.switched.Switched.{Switched}
-use Rattle.ownership_kinds.specs.Facts.{kind_in}
+use Rattle.sil_types_declarations.specs.TypeDefinitions.Declarations.{Declarations}
+use Rattle.sil_types_declarations.specs.TypeDefinitions.Measures.{is_trivial}
+use Rattle.sil_types_declarations.specs.declared.type_definitions.kind.Kind.{Kind}
+use Rattle.sil_types_declarations.specs.declared.type_definitions.kind.Kind.TheVariants as kind
+use Rattle.ownership_kinds_origins.specs.Origins.{definitions_of}
+use Rattle.ownership_kinds_origins.specs.Renamings.{renamings_of}
+use Rattle.ownership_kinds_origins.specs.Switched.{switch_to}
+use Rattle.ownership_kinds_origins.specs.declared.switched.Switched.{Switched}
+use Rattle.ownership_kinds_origins.specs.Facts.{kind_in}
 
 abbrev pub is_owned : Option Kind → Bool
 is_owned None = false

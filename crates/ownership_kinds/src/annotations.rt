@@ -1,18 +1,18 @@
 //! 305 at an argument: its annotation isn't the one that is due.
 
 ghost use Rattle.std.specs.Prelude.{◌≡◌};
-ghost use Rattle.point_checks.specs.inner.Faults.{least};
+ghost use Rattle.numbered_form.specs.PointChecks.inner.Faults.{least};
 ghost use Rattle.ownership_kinds.specs.inner.Faults.{annotation_faults};
 ghost use Rattle.ownership_kinds.specs.inner.Known.{kind_told};
 ghost use Rattle.ownership_kinds.specs.Statics as statics;
 
-use ownership_chains::{Facts, kind_of};
-use ownership_origins::Switched;
-use point_checks::{PointFault, lesser};
+use numbered_form::{PointFault, lesser};
+use ownership_kinds_chains::{Facts, kind_of};
+use ownership_kinds_origins::Switched;
 use sil_ast::{ArgKind, BlockArg, BlockId, PointId};
 use sil_rules::Rule;
 use sil_types::TypeTable;
-use type_definitions::Kind;
+use sil_types_declarations::Kind;
 
 fn is_plain(annotation: ArgKind) -> bool
     ensures { result ≡ statics.is_plain_annotation annotation }

@@ -2,10 +2,10 @@
 
 ghost use Rattle.std.specs.Prelude.{◌≡◌, IfNone, IfOk, IfSome};
 ghost use Rattle.std.specs.List.{flat_map};
-ghost use Rattle.value_tables.specs.numbered_form.Numbering.{AreCountedFrom, values_of};
-ghost use Rattle.point_checks.specs.inner.Faults.{least};
-ghost use Rattle.point_checks.specs.inner.Numbered.{IsOfNumberedModule};
-ghost use Rattle.ownership_origins.specs.inner.Tables.{AreSwitches};
+ghost use Rattle.numbered_form.specs.Numbering.{AreCountedFrom, values_of};
+ghost use Rattle.numbered_form.specs.PointChecks.inner.Faults.{least};
+ghost use Rattle.numbered_form.specs.PointChecks.inner.Numbered.{IsOfNumberedModule};
+ghost use Rattle.ownership_kinds_origins.specs.inner.Tables.{AreSwitches};
 ghost use Rattle.ownership_kinds.specs.inner.Faults.{arg_faults, args_faults, inst_faults};
 ghost use Rattle.ownership_kinds.specs.inner.Known.{IsKnown, kind_told};
 ghost use Rattle.ownership_kinds.specs.inner.Ends.{IsFirstFault};
@@ -16,14 +16,13 @@ use crate::defaults::add_lacking;
 use crate::mismatch::{add_mismatches, take_all};
 use crate::mixed::add_mixed;
 use crate::rings::{add_ring, add_rings};
-use item_operands::Taken;
-use ownership_chains::Facts;
-use ownership_origins::{Switched, switch_of};
-use point_checks::{PointCheck, PointFault, least_fault};
+use numbered_form::{Borrow, PointCheck, PointFault, least_fault};
+use ownership_kinds_chains::Facts;
+use ownership_kinds_origins::{Switched, switch_of};
 use sil_ast::{Block, BlockArg, BlockId, Exhausted, Function, Inst, PointId, ValueId};
+use sil_cfg_items::Taken;
 use sil_types::TypeTable;
 use std::alloc::Global;
-use value_tables::Borrow;
 
 /// What the rules on kinds are decided by.
 #[derive(Drop)]

@@ -1,15 +1,15 @@
 //! The kinds of a function whose values' definitions and first ring of renamings are known, or the first broken rule on kinds.
 
 ghost use Rattle.std.specs.Prelude.{◌≡◌, IfErr, IfNone, IfOk, IfSome, OnOk, length};
-ghost use Rattle.value_tables.specs.numbered_form.Numbering.{AreCountedFrom, values_of};
-ghost use Rattle.point_checks.specs.inner.Numbered.{IsOfNumberedModule};
-ghost use Rattle.ownership_chains.specs.Chains.{HasNoRing, IsFirstCyclic, IsInRange};
-ghost use Rattle.ownership_chains.specs.Facts.{told_at};
-ghost use Rattle.ownership_origins.specs.Origins.{definitions_of};
-ghost use Rattle.ownership_origins.specs.Renamings.{renamings_of};
-ghost use Rattle.ownership_origins.specs.inner.Tables.{AreSwitches};
-ghost use Rattle.value_tables.specs.Borrows as borrowing;
-ghost use Rattle.ownership_kinds.specs.Facts.{facts_in};
+ghost use Rattle.numbered_form.specs.Numbering.{AreCountedFrom, values_of};
+ghost use Rattle.numbered_form.specs.PointChecks.inner.Numbered.{IsOfNumberedModule};
+ghost use Rattle.ownership_kinds_chains.specs.OwnershipChains.Chains.{HasNoRing, IsFirstCyclic, IsInRange};
+ghost use Rattle.ownership_kinds_chains.specs.OwnershipChains.Facts.{told_at};
+ghost use Rattle.ownership_kinds_origins.specs.Origins.{definitions_of};
+ghost use Rattle.ownership_kinds_origins.specs.Renamings.{renamings_of};
+ghost use Rattle.ownership_kinds_origins.specs.inner.Tables.{AreSwitches};
+ghost use Rattle.numbered_form.specs.ValueTables.Borrows as borrowing;
+ghost use Rattle.ownership_kinds_origins.specs.Facts.{facts_in};
 ghost use Rattle.ownership_kinds.specs.inner.Known as known;
 ghost use Rattle.ownership_kinds.specs.inner.Known.{IsRingOf};
 ghost use Rattle.ownership_kinds.specs.inner.Ends.{AreKindsOf, IsFirstFault};
@@ -17,15 +17,13 @@ ghost use Rattle.ownership_kinds.specs.Statics.{HasKinds};
 
 use crate::check::{KindCheck, first_broken};
 use crate::find::FunctionKinds;
-use ownership_chains::{Definition, Facts, Outcome, kinds_of};
-use ownership_marks::Kinds;
-use ownership_origins::Switched;
-use point_checks::PointFault;
+use numbered_form::{Borrow, PointFault};
+use ownership_kinds_chains::{Definition, Facts, Kinds, Outcome, kinds_of};
+use ownership_kinds_origins::Switched;
 use sil_ast::{Exhausted, Function, ValueId};
 use sil_cfg::Graph;
 use sil_types::TypeTable;
 use std::alloc::Global;
-use value_tables::Borrow;
 
 /// Of two values the one with the lesser number.
 fn first_of(one: Option<ValueId>, other: Option<ValueId>) -> Option<ValueId>

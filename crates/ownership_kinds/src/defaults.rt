@@ -2,18 +2,18 @@
 
 ghost use Rattle.std.specs.Prelude.{◌≡◌};
 ghost use Rattle.std.specs.List.{list_any};
-ghost use Rattle.point_checks.specs.inner.Faults.{least};
+ghost use Rattle.numbered_form.specs.PointChecks.inner.Faults.{least};
 ghost use Rattle.ownership_kinds.specs.inner.Faults.{lacking_faults};
 ghost use Rattle.ownership_kinds.specs.inner.Known.{kind_told};
 ghost use Rattle.ownership_kinds.specs.Statics as statics;
 
 use crate::kinds::{is_guaranteed, is_owned};
 use instruction_table::{Ending, ending_of};
-use ownership_chains::{Facts, kind_of};
-use point_checks::{PointFault, lesser};
+use numbered_form::{PointFault, lesser};
+use ownership_kinds_chains::{Facts, kind_of};
 use sil_ast::{Edge, Function, Inst, PointId};
 use sil_rules::Rule;
-use type_definitions::Kind;
+use sil_types_declarations::Kind;
 
 fn needs_argument(kind: Option<Kind>) -> bool
     ensures { result ≡ statics.needs_argument kind }

@@ -2,24 +2,22 @@
 
 ghost use Rattle.std.specs.Prelude.{◌≡◌, IfErr, IfNone, IfOk, IfSome, OnOk};
 ghost use Rattle.sil_cfg.specs.inner.Build.{HasGraph};
-ghost use Rattle.point_checks.specs.inner.Numbered.{IsOfNumberedModule};
-ghost use Rattle.ownership_chains.specs.Chains.{HasNoRing, IsFirstCyclic, IsInRange};
-ghost use Rattle.ownership_origins.specs.Renamings.{renamings_of};
-ghost use Rattle.ownership_origins.specs.inner.Tables.{AreSwitches};
+ghost use Rattle.numbered_form.specs.PointChecks.inner.Numbered.{IsOfNumberedModule};
+ghost use Rattle.ownership_kinds_chains.specs.OwnershipChains.Chains.{HasNoRing, IsFirstCyclic, IsInRange};
+ghost use Rattle.ownership_kinds_origins.specs.Renamings.{renamings_of};
+ghost use Rattle.ownership_kinds_origins.specs.inner.Tables.{AreSwitches};
 ghost use Rattle.ownership_kinds.specs.inner.Ends.{AreKindsOf, IsEndOn, IsFirstFault};
 ghost use Rattle.ownership_kinds.specs.Statics.{HasKinds};
 
 use crate::decide::decide;
-use ownership_chains::first_cyclic;
-use ownership_marks::Kinds;
-use ownership_origins::{Switched, are_renamed_in_order, definitions, renamings, switches};
-use point_checks::{PointFault, rule_fault};
-use rule_faults::RuleEnd;
+use numbered_form::{Borrow, PointFault, borrows_of, rule_fault};
+use ownership_kinds_chains::{Kinds, first_cyclic};
+use ownership_kinds_origins::{Switched, are_renamed_in_order, definitions, renamings, switches};
 use sil_ast::{Exhausted, Function, ValueId};
 use sil_cfg::Graph;
+use sil_rules::RuleEnd;
 use sil_types::TypeTable;
 use std::alloc::Global;
-use value_tables::{Borrow, borrows_of};
 
 /// What the checks on walks ask of a function's values.
 #[derive(Drop)]

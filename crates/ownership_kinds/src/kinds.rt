@@ -3,7 +3,7 @@
 ghost use Rattle.std.specs.Prelude.{◌≡◌};
 ghost use Rattle.ownership_kinds.specs.Statics as statics;
 
-use type_definitions::Kind;
+use sil_types_declarations::Kind;
 
 pub(crate) fn is_owned(kind: Option<Kind>) -> bool
     ensures { result ≡ statics.is_owned kind }

@@ -2,21 +2,20 @@
 
 ghost use Rattle.std.specs.Prelude.{◌≡◌, ◌++◌, OnOk};
 ghost use Rattle.std.specs.List.{flat_map};
-ghost use Rattle.item_operands.specs.Roles.{taken_along};
-ghost use Rattle.point_checks.specs.inner.Faults.{least};
+ghost use Rattle.sil_cfg_items.specs.Roles.{taken_along};
+ghost use Rattle.numbered_form.specs.PointChecks.inner.Faults.{least};
 ghost use Rattle.ownership_kinds.specs.inner.Faults.{taken_faults};
 ghost use Rattle.ownership_kinds.specs.inner.Known.{kind_told};
 ghost use Rattle.ownership_kinds.specs.Statics as statics;
 
 use crate::kinds::{is_guaranteed, is_owned};
 use instruction_table::Role;
-use item_operands::{Taken, add_taken_along, add_taken_by};
-use ownership_chains::{Facts, kind_of};
-use point_checks::{PointFault, lesser};
+use numbered_form::{Borrow, PointFault, is_borrow, lesser};
+use ownership_kinds_chains::{Facts, kind_of};
 use sil_ast::{Edge, Exhausted, Inst, PointId};
+use sil_cfg_items::{Taken, add_taken_along, add_taken_by};
 use sil_rules::Rule;
-use type_definitions::Kind;
-use value_tables::{Borrow, is_borrow};
+use sil_types_declarations::Kind;
 
 fn add_all_along(taken: &mut Vec<Taken>, edges: &[Edge]) -> Result<(), Exhausted>
     ensures { OnOk result (taken.new.items ≡ taken.old.items ++ flat_map taken_along edges.now) }

@@ -3,16 +3,16 @@
 ghost use Rattle.std.specs.Prelude.{◌≡◌, find, map};
 ghost use Rattle.std.specs.List.{list_any};
 ghost use Rattle.instruction_table.specs.Forms as form;
-ghost use Rattle.value_tables.specs.FirstValue.{value_of};
-ghost use Rattle.point_checks.specs.inner.Faults.{least};
+ghost use Rattle.numbered_form.specs.ValueTables.FirstValue.{value_of};
+ghost use Rattle.numbered_form.specs.PointChecks.inner.Faults.{least};
 ghost use Rattle.ownership_kinds.specs.inner.Faults.{mixed_faults};
 ghost use Rattle.ownership_kinds.specs.inner.Known.{kind_told};
 ghost use Rattle.ownership_kinds.specs.Statics as statics;
 
 use crate::kinds::{is_guaranteed, is_owned};
 use instruction_table::{Op, ResultKind, result_kind_of};
-use ownership_chains::{Facts, kind_of};
-use point_checks::{PointFault, lesser};
+use numbered_form::{PointFault, lesser};
+use ownership_kinds_chains::{Facts, kind_of};
 use sil_ast::{Inst, Operand, PointId, ValueId};
 use sil_rules::Rule;
 

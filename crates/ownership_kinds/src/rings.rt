@@ -3,10 +3,10 @@
 ghost use Rattle.std.specs.Prelude.{◌≡◌};
 ghost use Rattle.std.specs.List.{flat_map};
 ghost use Rattle.ownership_kinds.specs.inner.Faults as faults;
-ghost use Rattle.point_checks.specs.inner.Faults.{least};
+ghost use Rattle.numbered_form.specs.PointChecks.inner.Faults.{least};
 ghost use Rattle.ownership_kinds.specs.inner.Faults.{ring_faults};
 
-use point_checks::{PointFault, lesser};
+use numbered_form::{PointFault, lesser};
 use sil_ast::{PointId, ValueId};
 use sil_rules::Rule;
 

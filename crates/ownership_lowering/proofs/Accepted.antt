@@ -8,9 +8,9 @@ use Rattle.sil_ast.specs.declared.function.Function.{Function}
 use Rattle.sil_ast.specs.declared.module.Module.{Module}
 use Rattle.numbered_form.specs.Lists.{Each}
 use Rattle.numbered_form.specs.inner.Limits.{IsFunctionInLimits}
-use Rattle.lowering_laws.specs.inner.Laws as laws
-use Rattle.sil_verifier.specs.accepted_modules.inner.Checked.{IsVerified}
-use Rattle.function_lowering.specs.inner.Lowerable.{AreLowerable, IsLowerable, IsLowerableByForm, IsLowerableFunction}
+use Rattle.ownership_lowering_laws.specs.LoweringLaws.inner.Laws as laws
+use Rattle.sil_verifier.specs.sil_verifier_accepted.AcceptedModules.inner.Checked.{IsVerified}
+use Rattle.ownership_lowering_functions.specs.FunctionLowering.inner.Lowerable.{AreLowerable, IsLowerable, IsLowerableByForm, IsLowerableFunction}
 use Rattle.ownership_lowering.proofs.Runnable.{have_kinds}
 
 each_at : {A : Type 0} (P : A → Type 0) (xs : List A) (i : ℕ) (x : A) → Each P xs → slice_get xs i ≡ Some x → P x

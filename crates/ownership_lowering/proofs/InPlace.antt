@@ -5,8 +5,8 @@ use Rattle.std.proofs.lemmas.List.{length-map}
 use Rattle.sil_ast.proofs.Refilled.{refilled}
 use Rattle.sil_ast.specs.declared.function.Function.{Function}
 use Rattle.sil_ast.specs.declared.module.Module.{Module}
-use Rattle.lowering_laws.specs.lowering_model.LoweredModules.{lowered, lowered_function}
-use Rattle.type_definitions.specs.Declarations.{Declarations, declarations_of}
+use Rattle.ownership_lowering_laws.specs.ownership_lowering_model.LoweredModules.{lowered, lowered_function}
+use Rattle.sil_types_declarations.specs.TypeDefinitions.Declarations.{Declarations, declarations_of}
 
 abbrev with_functions : Module → List Function → Module
 with_functions m functions = record m { functions = functions }

@@ -3,17 +3,17 @@ use Rattle.std.proofs.Common.{◌≡◌, ℕ, [], Some, None, refl}
 use Rattle.std.specs.Prelude.{slice_get}
 use Rattle.sil_ast.specs.declared.function.Function.{Function}
 use Rattle.sil_ast.specs.declared.module.Module.{Module}
-use Rattle.rule_faults.specs.declared.fault.RuleFault.{RuleFault}
-use Rattle.lowered_numbering_laws.specs.inner.Laws.{AreTypesKept, DeclaresTheSame, IsLoweredNumbered}
-use Rattle.lowered_typing_laws.specs.inner.LoweredTyped.{LoweredIsTyped}
-use Rattle.lowering_laws.specs.inner.Laws.{HaveNoRings}
-use Rattle.lowering_laws.specs.lowering_model.LoweredModules.{lowered}
-use Rattle.sil_verifier.specs.accepted_modules.ownership_kinds.Statics.{HasKinds}
-use Rattle.lowering_laws.specs.run_typing.Runnable.{IsRunnable}
+use Rattle.sil_rules.specs.declared.rule_faults.fault.RuleFault.{RuleFault}
+use Rattle.ownership_lowering_laws.specs.LoweredNumberingLaws.inner.Laws.{AreTypesKept, DeclaresTheSame, IsLoweredNumbered}
+use Rattle.ownership_lowering_laws.specs.LoweredTypingLaws.inner.LoweredTyped.{LoweredIsTyped}
+use Rattle.ownership_lowering_laws.specs.LoweringLaws.inner.Laws.{HaveNoRings}
+use Rattle.ownership_lowering_laws.specs.ownership_lowering_model.LoweredModules.{lowered}
+use Rattle.ownership_lowering_laws.specs.ownership_kinds.Statics.{HasKinds}
+use Rattle.sil_verifier.specs.holder_model.RunTyping.Runnable.{IsRunnable}
 use Rattle.sil_cfg.specs.Items.{HasBlocks}
-use Rattle.sil_verifier.specs.accepted_modules.Shown.IsShownIn.{kind}
-use Rattle.sil_verifier.specs.accepted_modules.inner.Checked.{IsVerified}
-use Rattle.type_definitions.specs.Declarations.{declarations_of}
+use Rattle.sil_verifier.specs.sil_verifier_accepted.AcceptedModules.Shown.IsShownIn.{kind}
+use Rattle.sil_verifier.specs.sil_verifier_accepted.AcceptedModules.inner.Checked.{IsVerified}
+use Rattle.sil_types_declarations.specs.TypeDefinitions.Declarations.{declarations_of}
 use Rattle.ownership_lowering.specs.inner.Laws.{AcceptedLowersRunnable}
 
 module _ (m : Module) (verified : IsVerified m) where

@@ -1,2 +1,1 @@
 pub mod inner
-pub use Rattle.lowering_laws.specs.lowering_model as lowering_model

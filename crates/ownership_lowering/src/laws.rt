@@ -2,9 +2,9 @@
 
 ghost use Rattle.ownership_lowering.specs.inner.Laws.{AcceptedLowersRunnable};
 
-use lowered_numbering_laws::{declares_the_same, lowered_is_numbered, types_are_kept};
-use lowered_typing_laws::lowered_is_typed;
-use lowering_laws::kinds_have_no_rings;
+use ownership_lowering_laws::{
+    declares_the_same, kinds_have_no_rings, lowered_is_numbered, lowered_is_typed, types_are_kept,
+};
 
 /// What lowering makes of an accepted module can be run, and declares what the module does.
 pub fn accepted_lowers_runnable()

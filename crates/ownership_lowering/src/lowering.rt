@@ -1,14 +1,14 @@
 //! The lowered module of an accepted one.
 
 ghost use Rattle.std.specs.Prelude.{◌≡◌, IfOk, OnOk};
-ghost use Rattle.lowering_laws.specs.lowering_model.LoweredModules.{lowered};
-ghost use Rattle.lowering_laws.specs.run_typing.Runnable.{IsRunnable};
-ghost use Rattle.sil_verifier.specs.accepted_modules.inner.Checked.{IsVerifiedWith};
-ghost use Rattle.type_definitions.specs.Declarations.{declarations_of};
+ghost use Rattle.ownership_lowering_laws.specs.ownership_lowering_model.LoweredModules.{lowered};
+ghost use Rattle.sil_verifier.specs.holder_model.RunTyping.Runnable.{IsRunnable};
+ghost use Rattle.sil_verifier.specs.sil_verifier_accepted.AcceptedModules.inner.Checked.{IsVerifiedWith};
+ghost use Rattle.sil_types_declarations.specs.TypeDefinitions.Declarations.{declarations_of};
 
 use crate::laws::accepted_lowers_runnable;
-use function_lowering::lower_functions;
-use lowering_laws::{functions_are_lowerable, kinds_have_no_rings};
+use ownership_lowering_functions::lower_functions;
+use ownership_lowering_laws::{functions_are_lowerable, kinds_have_no_rings};
 use sil_ast::{Exhausted, Module};
 use sil_types::TypeTable;
 use sil_verifier::Checked;

@@ -17,4 +17,3 @@ pub mod EffectsKnown
 pub mod RowsAreSound
 pub mod RowsAreExact
 pub mod DirtyBlocks
-pub use Rattle.sil_cfg.proofs as sil_cfg

@@ -1,8 +1,11 @@
-//! The program: hands the words, standard input and standard output on, and ends with the status.
+//! The program: hands the words of a command line, standard input and standard output to the command, and ends with its status.
+//! It knows of no mode and no text: what is answered is the command's.
 #![tactic(auto)]
 
+mod sil_program;
+
+use crate::sil_program::run;
 use sil_io::{ReadSource, WriteSink};
-use sil_program::run;
 use std::process::ExitCode;
 use std::{env, io};
 

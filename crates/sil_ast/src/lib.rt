@@ -1,4 +1,5 @@
-//! The plain data of a textual SIL module: what every layer reads and none interprets.
+//! The plain data of a textual SIL module: what every layer reads and none interprets. It also says what a byte may be in a
+//! text: a blank, or a part of a token.
 //! It knows of no token, no rule and no run.
 #![tactic(auto)]
 

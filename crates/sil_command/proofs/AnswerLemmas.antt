@@ -15,8 +15,8 @@ use Rattle.sil_rules.specs.declared.limits.TheConstants.{TEXT_BYTES}
 use Rattle.sil_command.specs.declared.status.Status.{Status}
 use Rattle.sil_command.specs.declared.status.Status.TheVariants.{Usage, Limit}
 use Rattle.sil_command.specs.Statuses.{code_of}
-use Rattle.accepted_modules.specs.Findings.{Accepted}
-use Rattle.answer_lines.specs.Texts.{limit_text, usage_text}
+use Rattle.sil_verifier_accepted.specs.AcceptedModules.Findings.{Accepted}
+use Rattle.sil_command_lines.specs.Texts.{limit_text, usage_text}
 use Rattle.sil_command.specs.declared.answer.Answer.{Answer}
 use Rattle.sil_command.specs.declared.words.Mode.{Mode}
 use Rattle.sil_command.specs.declared.words.Mode.TheVariants.{Check, Generate, Lower, Optimize, Print, Run}

@@ -1,8 +1,8 @@
 -- The mode that words ask for: it is the one that is said, and there is one alone.
 use Rattle.std.proofs.Common.{◌≡◌, ◌∙◌, ℕ, Bor, List, Option, Some, None, ap, ap₂, arith, get_or, option_map, refl, subst, subst₂, sym}
 use Rattle.std.specs.Prelude.{Bool, MatchOption}
-use Rattle.command_words.specs.CommandLines.{Says}
-use Rattle.command_words.specs.inner.Laws.{SayOneThing}
+use Rattle.sil_command_words.specs.CommandLines.{Says}
+use Rattle.sil_command_words.specs.inner.Laws.{SayOneThing}
 use Rattle.sil_command.specs.declared.words.Mode.{Mode}
 use Rattle.sil_command.specs.declared.words.Mode.TheVariants.{Check, Generate, Lower, Optimize, Print, Run}
 use Rattle.sil_command.specs.Words.{AsksFor, IsBoundBy, IsCommandLine, IsSizeBy, Takes, word_of}

@@ -1,14 +1,14 @@
 -- What follows from how a call of the command ends: the clauses of the public call.
 use Rattle.std.proofs.Common.{◌≡◌, ◌⊎◌, inl, inr, ℕ, ◌<◌, Bool, true, List, refl, sym, subst, arith}
-use Rattle.module_runner.specs.States as ending
-use Rattle.module_runner.specs.States.{Ending}
-use Rattle.module_runner.specs.Faults.{HolderFault}
+use Rattle.sil_verifier.specs.holder_model.States as ending
+use Rattle.sil_verifier.specs.holder_model.States.{Ending}
+use Rattle.sil_verifier.specs.holder_model.Faults.{HolderFault}
 use Rattle.sil_ast.specs.declared.module.Module.{Module}
 use Rattle.sil_io.specs.Count.{MayFail}
 use Rattle.sil_command.specs.declared.status.Status.{Status}
 use Rattle.sil_command.specs.declared.status.Status.TheVariants.{Done, Refused, Usage, NotAModule, ReadFault, WriteFault, Trapped, OutOfTurns, Limit, OutOfMemory, NoEntry}
 use Rattle.sil_command.specs.Statuses.{code_of}
-use Rattle.answer_lines.specs.Texts.{read_fault_text}
+use Rattle.sil_command_lines.specs.Texts.{read_fault_text}
 use Rattle.sil_command.specs.declared.words.Mode.{Mode}
 use Rattle.sil_command.specs.declared.words.Mode.TheVariants.{Check, Generate, Lower, Optimize, Print, Run}
 use Rattle.sil_command.specs.Answers.{Answers, usage, in_mode, AnswersText, too_long, unread, spelled, AnswersModule, AnswersChecked, AnswersRun, AnswersWrong, limit_passed, refused, wrong, accepted}

@@ -1,10 +1,10 @@
 -- The answer of `generate`: how a call ends with it, and with which statuses.
 use Rattle.std.proofs.Common.{◌≡◌, ◌↔◌, ◌≤◌, ℕ, List, [], Option, Some, None, refl, subst, arith}
 use Rattle.std.specs.Prelude.{codes}
-use Rattle.command_words.specs.inner.Laws.{SayOneThing}
-use Rattle.accepted_modules.specs.Findings.{Accepted}
-use Rattle.accepted_modules.specs.inner.Laws.{AreAcceptedWhereNothingIsFound}
-use Rattle.module_generator.specs.GeneratedModules.{generated}
+use Rattle.sil_command_words.specs.inner.Laws.{SayOneThing}
+use Rattle.sil_verifier_accepted.specs.AcceptedModules.Findings.{Accepted}
+use Rattle.sil_verifier_accepted.specs.AcceptedModules.inner.Laws.{AreAcceptedWhereNothingIsFound}
+use Rattle.sil_command_generator.specs.GeneratedModules.{generated}
 use Rattle.module_runner.specs.Entries.{HasEntry}
 use Rattle.sil_ast.specs.declared.module.Module.{Module}
 use Rattle.sil_grammar.specs.inner.Laws.{AreSpelledOnce}

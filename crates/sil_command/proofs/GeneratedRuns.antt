@@ -1,17 +1,17 @@
 -- What is told of the runs of a generated module.
 use Rattle.std.proofs.Common.{◌≡◌, ℕ, List, length, subst}
 use Rattle.std.specs.Prelude.{codes, false, true, IfOk, Result, Ok, Err}
-use Rattle.module_runner.specs.Outcomes.{EndsSo}
+use Rattle.sil_verifier.specs.holder_model.Outcomes.{EndsSo}
 use Rattle.module_runner.specs.Optimising.{IsOptimisedIf}
 use Rattle.module_runner.specs.declared.report.RunReport.{RunReport}
 use Rattle.module_runner.specs.inner.RunReports.{TellsOfRun, outcome_of}
 use Rattle.sil_ast.specs.declared.module.Module.{Module}
 use Rattle.sil_command.specs.declared.run_words.TheConstants.{DEFAULT_TURNS}
 use Rattle.sil_command.specs.declared.status.Status.TheVariants.{Done}
-use Rattle.answer_lines.specs.declared.sums.Totals.{Totals}
+use Rattle.sil_command_lines.specs.declared.sums.Totals.{Totals}
 use Rattle.sil_command.specs.Generated.{AnswersGenerated, Ran, RunsSo, both_ran, totals_of}
 use Rattle.sil_command.specs.Statuses.{code_of}
-use Rattle.answer_lines.specs.Summaries.{summary_text}
+use Rattle.sil_command_lines.specs.Summaries.{summary_text}
 use Rattle.sil_command.specs.Copies.{copies_of}
 
 pub ran_so : (m : Module) (r : RunReport) → TellsOfRun m (codes "main") DEFAULT_TURNS false r → RunsSo m (outcome_of r)

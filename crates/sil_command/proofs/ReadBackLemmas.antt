@@ -1,10 +1,10 @@
 -- For the law that what `print` writes reads back.
 use Rattle.std.proofs.Common.{◌≡◌, ℕ, List, arith}
-use Rattle.command_words.specs.inner.Laws.{SayOneThing}
+use Rattle.sil_command_words.specs.inner.Laws.{SayOneThing}
 use Rattle.sil_ast.specs.declared.module.Module.{Module}
 use Rattle.sil_grammar.specs.Spells.{Spells}
 use Rattle.sil_grammar.specs.inner.Laws.{AreSpelledNumbered}
-use Rattle.printed_reading_laws.specs.inner.Laws.{ArePrintedSpelled}
+use Rattle.sil_printer_laws.specs.inner.Laws.{ArePrintedSpelled}
 use Rattle.sil_command.specs.declared.status.Status.TheVariants.{Done}
 use Rattle.sil_command.specs.Statuses.{code_of}
 use Rattle.sil_command.specs.declared.words.Mode.TheVariants.{Print}

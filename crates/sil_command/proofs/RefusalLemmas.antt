@@ -3,10 +3,10 @@ use Rattle.std.proofs.Common.{◌≡◌, refl, subst}
 use Rattle.std.proofs.lemmas.List.{append-nil}
 use Rattle.std.proofs.lemmas.Option.{same_Some}
 use Rattle.sil_ast.specs.declared.module.Module.{Module}
-use Rattle.accepted_modules.specs.Findings.{Finding, item, limit, typing, value, IsLimit}
+use Rattle.sil_verifier_accepted.specs.AcceptedModules.Findings.{Finding, item, limit, typing, value, IsLimit}
 use Rattle.sil_verifier.specs.inner.Reports.{Reported}
 use Rattle.sil_verifier.specs.declared.refusal.Refusal.{Refusal}
-use Rattle.answer_lines.specs.RefusalTexts.{refusal_text}
+use Rattle.sil_command_lines.specs.RefusalTexts.{refusal_text}
 use Rattle.sil_command.specs.inner.ReportTexts.{report_text}
 
 -- a limit has no report

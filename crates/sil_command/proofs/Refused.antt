@@ -1,10 +1,10 @@
 -- For the laws on refusals: what `check` writes of a module, and which texts are answered as no module.
 use Rattle.std.proofs.Common.{◌≡◌, ℕ, ◌≤◌, Bool, true, List, length, refl, sym, ap, subst, arith}
-use Rattle.command_words.specs.inner.Laws.{SayOneThing}
-use Rattle.module_runner.specs.LoweredModules.{lowered}
-use Rattle.module_runner.specs.States as ending
-use Rattle.module_runner.specs.States.{Ending}
-use Rattle.module_runner.specs.Faults.{HolderFault}
+use Rattle.sil_command_words.specs.inner.Laws.{SayOneThing}
+use Rattle.ownership_lowering_model.specs.LoweredModules.{lowered}
+use Rattle.sil_verifier.specs.holder_model.States as ending
+use Rattle.sil_verifier.specs.holder_model.States.{Ending}
+use Rattle.sil_verifier.specs.holder_model.Faults.{HolderFault}
 use Rattle.sil_ast.specs.declared.module.Module.{Module}
 use Rattle.sil_grammar.specs.Refusals.{SpellsNone}
 use Rattle.sil_grammar.specs.Spells.{Spells}
@@ -21,8 +21,8 @@ use Rattle.sil_command.specs.Answers.{limit_passed, refused, wrong, accepted, wr
 use Rattle.sil_command.specs.Generated.{AnswersGenerated, both_ran, no_main}
 use Rattle.sil_command.specs.GivenTexts.{text_for}
 use Rattle.sil_command.specs.Laws.{AreRefusedForTheFirst, AreReportedRightly, ChecksRules}
-use Rattle.answer_lines.specs.RefusalTexts.{refusal_text}
-use Rattle.accepted_modules.specs.Findings.{Accepted, Finding, Refusal, limit as found_limit}
+use Rattle.sil_command_lines.specs.RefusalTexts.{refusal_text}
+use Rattle.sil_verifier_accepted.specs.AcceptedModules.Findings.{Accepted, Finding, Refusal, limit as found_limit}
 use Rattle.sil_command.proofs.StatusLemmas.{mode_answers}
 use Rattle.sil_command.proofs.Unread.{unread_none}
 

@@ -1,14 +1,14 @@
 -- The answer of `run`, by what is reported of the run.
 use Rattle.std.proofs.Common.{◌≡◌, ◌∙◌, ◌≤◌, ℕ, Bool, List, Option, Some, None, Result, ap, arith, subst, sym}
 use Rattle.std.specs.Prelude.{IfOk, Ok, Err}
-use Rattle.module_runner.specs.Declarations.{declarations_of}
-use Rattle.module_runner.specs.Faults.{HolderFault}
-use Rattle.module_runner.specs.LoweredModules.{lowered}
-use Rattle.module_runner.specs.Mentions.{given_type}
-use Rattle.module_runner.specs.ReportLines as lines
-use Rattle.module_runner.specs.RunOutcomes.{ending_of}
+use Rattle.sil_types_declarations.specs.TypeDefinitions.Declarations.{declarations_of}
+use Rattle.sil_verifier.specs.holder_model.Faults.{HolderFault}
+use Rattle.ownership_lowering_model.specs.LoweredModules.{lowered}
+use Rattle.sil_types_declarations.specs.TypeDefinitions.Mentions.{given_type}
+use Rattle.sil_verifier.specs.holder_model.RunReport.ReportLines as lines
+use Rattle.module_runner.specs.module_runner_report.RunOutcomes.{ending_of}
 use Rattle.module_runner.specs.inner.RunReports.{TellsOfRun, outcome_of, text_of}
-use Rattle.module_runner.specs.Shapes.{Shape, shape_of}
+use Rattle.holder_model_values.specs.RunValues.Shapes.{Shape, shape_of}
 use Rattle.module_runner.specs.declared.report.RunReport.{RunReport}
 use Rattle.module_runner.proofs.LoweredReports.{report_lowered}
 use Rattle.sil_ast.specs.declared.module.Module.{Module}

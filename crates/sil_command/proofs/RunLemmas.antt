@@ -1,12 +1,12 @@
 -- For the laws on the statuses of `run`: which texts it answers with the status of an ending, and which with that of no entry function.
 use Rattle.std.proofs.Common.{◌≡◌, ◌↔◌, ◌⊎◌, ◌∙◌, inl, inr, ℕ, ◌==◌, Bool, List, refl, sym, ap, subst, subst₂, arith}
 use Rattle.std.specs.Prelude.{cond}
-use Rattle.command_words.specs.inner.Laws.{SayOneThing}
-use Rattle.module_runner.specs.Faults.{HolderFault}
-use Rattle.module_runner.specs.Outcomes.{EndsSo, Outcome}
-use Rattle.module_runner.specs.States as ending
-use Rattle.module_runner.specs.States.{Ending}
-use Rattle.module_runner.specs.Laws.{RunsEndOnce}
+use Rattle.sil_command_words.specs.inner.Laws.{SayOneThing}
+use Rattle.sil_verifier.specs.holder_model.Faults.{HolderFault}
+use Rattle.sil_verifier.specs.holder_model.Outcomes.{EndsSo, Outcome}
+use Rattle.sil_verifier.specs.holder_model.States as ending
+use Rattle.sil_verifier.specs.holder_model.States.{Ending}
+use Rattle.sil_verifier.specs.holder_model.inner.Laws.{RunsEndOnce}
 use Rattle.module_runner.specs.Entries.{HasEntry, IsEntry}
 use Rattle.module_runner.specs.Optimising.{IsOptimisedIf}
 use Rattle.module_runner.specs.inner.Laws.{HaveOneEntry, IsOne}
@@ -18,8 +18,8 @@ use Rattle.sil_grammar.specs.inner.Laws.{AreSpelledNumbered, AreSpelledOnce}
 use Rattle.sil_command.specs.declared.status.Status.{Status}
 use Rattle.sil_command.specs.declared.status.Status.TheVariants.{Done, Refused, Trapped, OutOfTurns, Limit, NoEntry}
 use Rattle.sil_command.specs.Statuses.{code_of}
-use Rattle.accepted_modules.specs.Findings.{Accepted, limit as found_limit}
-use Rattle.accepted_modules.specs.inner.Laws.{AreAcceptedWhereNothingIsFound}
+use Rattle.sil_verifier_accepted.specs.AcceptedModules.Findings.{Accepted, limit as found_limit}
+use Rattle.sil_verifier_accepted.specs.AcceptedModules.inner.Laws.{AreAcceptedWhereNothingIsFound}
 use Rattle.sil_command.specs.declared.words.Mode.TheVariants.{Run}
 use Rattle.sil_command.specs.Answers.{AnswersModule, AnswersRun, AnswersWrong, limit_passed, refused, wrong, accepted, HasStatus, no_entry, ran}
 use Rattle.sil_command.specs.Laws.{AreRunExactly, HaveNoEntryExactly, RunsTo}

@@ -1,9 +1,9 @@
 -- For the laws on statuses: which texts a mode answers with a status.
 use Rattle.std.proofs.Common.{◌≡◌, ◌↔◌, ◌⊎◌, inl, inr, ℕ, ◌≤◌, List, length, refl, sym, subst, ◌∙◌, arith}
 use Rattle.std.specs.Prelude.{Bool, true, ⊤}
-use Rattle.command_words.specs.inner.Laws.{SayOneThing}
+use Rattle.sil_command_words.specs.inner.Laws.{SayOneThing}
 use Rattle.sil_ast.specs.declared.module.Module.{Module}
-use Rattle.module_runner.specs.LoweredModules.{lowered}
+use Rattle.ownership_lowering_model.specs.LoweredModules.{lowered}
 use Rattle.sil_grammar.specs.Spells.{Spells}
 use Rattle.sil_grammar.specs.inner.Laws.{AreSpelledOnce}
 use Rattle.sil_printer.specs.CanonicalModules.{canonical_text}
@@ -12,14 +12,14 @@ use Rattle.sil_command.specs.declared.status.Status.TheVariants.{Done, NotAModul
 use Rattle.sil_command.specs.Statuses.{code_of}
 use Rattle.sil_command.specs.declared.words.Mode.{Mode}
 use Rattle.sil_command.specs.declared.words.Mode.TheVariants.{Check, Lower, Optimize, Print}
-use Rattle.answer_lines.specs.Texts.{accepted_text}
+use Rattle.sil_command_lines.specs.Texts.{accepted_text}
 use Rattle.sil_command.specs.Words.{AsksFor}
 use Rattle.sil_command.specs.GivenTexts.{text_for}
 use Rattle.sil_command.specs.Answers.{Answers, usage, in_mode, AnswersText, too_long, unread, spelled, AnswersModule, AnswersChecked, AnswersWrong}
 use Rattle.sil_command.specs.Answers.{limit_passed, refused, wrong, accepted, Writes, WritesOf, written}
 use Rattle.sil_command.specs.Laws.{AnswersExactly, AreAcceptedExactly, AreLoweredExactly, AreOptimisedExactly, ArePrintedExactly}
-use Rattle.accepted_modules.specs.Findings.{Accepted, limit as found_limit}
-use Rattle.accepted_modules.specs.inner.Laws.{AreAcceptedWhereNothingIsFound}
+use Rattle.sil_verifier_accepted.specs.AcceptedModules.Findings.{Accepted, limit as found_limit}
+use Rattle.sil_verifier_accepted.specs.AcceptedModules.inner.Laws.{AreAcceptedWhereNothingIsFound}
 use Rattle.sil_command.proofs.Asked.{asks_for_one}
 use Rattle.sil_command.proofs.Unread.{unread_none, unread_status}
 

@@ -6,33 +6,33 @@ use Rattle.sil_ast.specs.declared.place.FuncId.{FuncId}
 use Rattle.sil_grammar.specs.declared.refusal.ReadRefusal.{ReadRefusal}
 use Rattle.sil_grammar.specs.Refusals.{IsRefusalOf}
 use Rattle.sil_grammar.specs.Spells.{Spells}
-use Rattle.module_runner.specs.Faults.{HolderFault}
-use Rattle.module_runner.specs.Outcomes.{EndsSo, Outcome}
-use Rattle.module_runner.specs.States as ending
-use Rattle.module_runner.specs.States.{Ending}
-use Rattle.module_runner.specs.LoweredModules.{lowered}
+use Rattle.sil_verifier.specs.holder_model.Faults.{HolderFault}
+use Rattle.sil_verifier.specs.holder_model.Outcomes.{EndsSo, Outcome}
+use Rattle.sil_verifier.specs.holder_model.States as ending
+use Rattle.sil_verifier.specs.holder_model.States.{Ending}
+use Rattle.ownership_lowering_model.specs.LoweredModules.{lowered}
 use Rattle.module_runner.specs.LoweredRuns.{LoweredNeverFaults}
 use Rattle.module_runner.specs.Entries.{HasEntry, IsEntry}
 use Rattle.module_runner.specs.Optimising.{IsOptimisedIf}
-use Rattle.module_runner.specs.ReportLines.{report}
-use Rattle.module_runner.specs.Mentions.{given_type}
-use Rattle.module_runner.specs.Shapes.{shape_of}
-use Rattle.module_runner.specs.Declarations.{declarations_of}
+use Rattle.sil_verifier.specs.holder_model.RunReport.ReportLines.{report}
+use Rattle.sil_types_declarations.specs.TypeDefinitions.Mentions.{given_type}
+use Rattle.holder_model_values.specs.RunValues.Shapes.{shape_of}
+use Rattle.sil_types_declarations.specs.TypeDefinitions.Declarations.{declarations_of}
 use Rattle.sil_printer.specs.CanonicalModules.{canonical_text}
 use Rattle.sil_rules.specs.declared.limit_word.LimitWord.{LimitWord}
 use Rattle.sil_rules.specs.declared.limits.TheConstants.{TEXT_BYTES}
 use Rattle.sil_command.specs.declared.status.Status.{Status}
 use Rattle.sil_command.specs.declared.status.Status.TheVariants.{Done, Refused, Usage, Trapped, OutOfTurns, Limit, NoEntry}
 use Rattle.sil_command.specs.Statuses.{code_of}
-use Rattle.accepted_modules.specs.Findings.{Accepted, Finding, IsLimit, Refusal, limit}
+use Rattle.sil_verifier_accepted.specs.AcceptedModules.Findings.{Accepted, Finding, IsLimit, Refusal, limit}
 use Rattle.sil_command.specs.declared.words.Mode.{Mode}
 use Rattle.sil_command.specs.declared.words.Mode.TheVariants.{Check, Generate, Lower, Optimize, Print, Run}
 use Rattle.sil_command.specs.Words.{AsksFor, IsCommandLine}
 use Rattle.sil_command.specs.GivenTexts.{text_for}
 use Rattle.sil_command.specs.Generated.{AnswersGenerated}
 use Rattle.sil_command.specs.Reading.{AnswersRefusal}
-use Rattle.answer_lines.specs.Texts.{usage_text, limit_text, type_limit_text, accepted_text, no_entry_text}
-use Rattle.answer_lines.specs.RefusalTexts.{refusal_text}
+use Rattle.sil_command_lines.specs.Texts.{usage_text, limit_text, type_limit_text, accepted_text, no_entry_text}
+use Rattle.sil_command_lines.specs.RefusalTexts.{refusal_text}
 
 -- what is answered to a module that isn't accepted: the first that is wrong with it, with a walk that shows it for a rule on walks
 pub data AnswersWrong (m : Module) : List ℕ → ℕ → Type 0 where

@@ -8,7 +8,7 @@ use Rattle.sil_rules.specs.declared.limits.TheConstants.{TEXT_BYTES}
 use Rattle.sil_command.specs.declared.status.Status.{Status}
 use Rattle.sil_command.specs.declared.status.Status.TheVariants.{ReadFault, WriteFault, OutOfMemory}
 use Rattle.sil_command.specs.Statuses.{code_of}
-use Rattle.answer_lines.specs.Texts.{read_fault_text}
+use Rattle.sil_command_lines.specs.Texts.{read_fault_text}
 use Rattle.sil_command.specs.GivenTexts.{AskForText}
 use Rattle.sil_command.specs.Answers.{Answers}
 

@@ -1,19 +1,19 @@
 -- What `generate` answers to an accepted module: five lines on the module, on the optimised one, and on the runs of both.
 use Rattle.std.specs.Prelude.{ℕ, List, length, codes, true}
 use Rattle.module_runner.specs.Entries.{HasEntry, IsEntry}
-use Rattle.module_runner.specs.Faults.{HolderFault}
+use Rattle.sil_verifier.specs.holder_model.Faults.{HolderFault}
 use Rattle.module_runner.specs.Optimising.{IsOptimisedIf}
-use Rattle.module_runner.specs.Outcomes.{EndsSo, Outcome}
+use Rattle.sil_verifier.specs.holder_model.Outcomes.{EndsSo, Outcome}
 use Rattle.sil_ast.specs.declared.function.Function.{Function}
 use Rattle.sil_ast.specs.declared.module.Module.{Module}
 use Rattle.sil_ast.specs.declared.place.FuncId.{FuncId}
 use Rattle.sil_command.specs.declared.run_words.TheConstants.{DEFAULT_TURNS}
 use Rattle.sil_command.specs.declared.status.Status.TheVariants.{Done, NoEntry}
-use Rattle.answer_lines.specs.declared.sums.Totals.{Totals}
+use Rattle.sil_command_lines.specs.declared.sums.Totals.{Totals}
 use Rattle.sil_command.specs.Statuses.{code_of}
-use Rattle.answer_lines.specs.Summaries.{summary_text}
+use Rattle.sil_command_lines.specs.Summaries.{summary_text}
 use Rattle.sil_command.specs.Copies.{copies_of}
-use Rattle.answer_lines.specs.Texts.{no_entry_text}
+use Rattle.sil_command_lines.specs.Texts.{no_entry_text}
 
 -- a run by holders that ends with this outcome
 abbrev pub Ran : Type 0

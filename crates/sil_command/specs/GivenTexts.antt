@@ -1,6 +1,6 @@
 -- Which text a mode answers.
 use Rattle.std.specs.Prelude.{ℕ, List, ⊤}
-use Rattle.module_generator.specs.GeneratedModules.{generated}
+use Rattle.sil_command_generator.specs.GeneratedModules.{generated}
 use Rattle.sil_command.specs.declared.words.Mode.{Mode}
 use Rattle.sil_command.specs.declared.words.Mode.TheVariants.{Check, Generate, Lower, Optimize, Print, Run}
 use Rattle.sil_command.specs.Words.{AsksFor}

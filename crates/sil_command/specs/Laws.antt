@@ -1,8 +1,8 @@
 -- What the answers of each mode tell of a text.
 use Rattle.std.specs.Prelude.{◌≡◌, ◌↔◌, ℕ, ◌≤◌, Bool, List, codes, length, ⊤}
-use Rattle.module_runner.specs.Faults.{HolderFault}
-use Rattle.module_runner.specs.Outcomes.{EndsSo, Outcome}
-use Rattle.module_runner.specs.States.{Ending}
+use Rattle.sil_verifier.specs.holder_model.Faults.{HolderFault}
+use Rattle.sil_verifier.specs.holder_model.Outcomes.{EndsSo, Outcome}
+use Rattle.sil_verifier.specs.holder_model.States.{Ending}
 use Rattle.module_runner.specs.Entries.{HasEntry, IsEntry}
 use Rattle.module_runner.specs.Optimising.{IsOptimisedIf}
 use Rattle.sil_ast.specs.declared.function.Function.{Function}
@@ -14,13 +14,13 @@ use Rattle.sil_rules.specs.declared.limits.TheConstants.{TEXT_BYTES}
 use Rattle.sil_command.specs.declared.status.Status.{Status}
 use Rattle.sil_command.specs.declared.status.Status.TheVariants.{Done, NotAModule, NoEntry}
 use Rattle.sil_command.specs.Statuses.{code_of}
-use Rattle.accepted_modules.specs.Findings.{Accepted, Finding, Refusal}
+use Rattle.sil_verifier_accepted.specs.AcceptedModules.Findings.{Accepted, Finding, Refusal}
 use Rattle.sil_command.specs.declared.words.Mode.{Mode}
 use Rattle.sil_command.specs.declared.words.Mode.TheVariants.{Check, Generate, Lower, Optimize, Print, Run}
 use Rattle.sil_command.specs.Words.{AsksFor}
 use Rattle.sil_command.specs.GivenTexts.{text_for}
 use Rattle.sil_command.specs.Answers.{Answers, HasStatus}
-use Rattle.answer_lines.specs.RefusalTexts.{refusal_text}
+use Rattle.sil_command_lines.specs.RefusalTexts.{refusal_text}
 
 -- among texts within the limit, the mode answers with the status just those that spell a module that is such: texts of a source, or the
 -- generated one

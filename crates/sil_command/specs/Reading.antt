@@ -8,7 +8,7 @@ use Rattle.sil_rules.specs.declared.limit_word.LimitWord.{LimitWord}
 use Rattle.sil_rules.specs.declared.limit_word.LimitWord.TheVariants.{Name}
 use Rattle.sil_command.specs.declared.status.Status.TheVariants.{NotAModule, Limit}
 use Rattle.sil_command.specs.Statuses.{code_of}
-use Rattle.answer_lines.specs.Texts.{not_a_module_text, passed_limit_text}
+use Rattle.sil_command_lines.specs.Texts.{not_a_module_text, passed_limit_text}
 
 -- want of memory has no answer
 pub data AnswersRefusal : ReadRefusal → List ℕ → ℕ → Type 0 where

@@ -1,7 +1,7 @@
 -- The words of a command line.
 use Rattle.std.specs.Prelude.{◌≡◌, ℕ, ◌≤◌, Bool, false, List, Option, Some, None, codes, length, unwrap_or}
 use Rattle.std.specs.Str.Parse.{IsNumeral, digits_value}
-use Rattle.command_words.specs.CommandLines.{Says}
+use Rattle.sil_command_words.specs.CommandLines.{Says}
 use Rattle.sil_command.specs.declared.run_words.TheConstants.{BOUND_DIGITS, DEFAULT_TURNS, MOST_TURNS}
 use Rattle.sil_command.specs.declared.size_words.TheConstants.{MOST_FUNCTIONS, SIZE_DIGITS}
 use Rattle.sil_command.specs.declared.words.Mode.{Mode}

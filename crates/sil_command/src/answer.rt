@@ -1,10 +1,10 @@
 //! The answer to a text: what is written, and the status. No byte is read or written here.
 
 ghost use Rattle.std.specs.Prelude.{◌≡◌, ◌≤◌, IfOk, length, true};
-ghost use Rattle.module_runner.specs.LoweredModules.{lowered};
+ghost use Rattle.ownership_lowering_model.specs.LoweredModules.{lowered};
 ghost use Rattle.sil_printer.specs.CanonicalModules.{canonical_text};
 ghost use Rattle.sil_rules.specs.declared.limits.TheConstants.{TEXT_BYTES};
-ghost use Rattle.accepted_modules.specs.inner.Checked.{IsVerifiedWith};
+ghost use Rattle.sil_verifier_accepted.specs.AcceptedModules.inner.Checked.{IsVerifiedWith};
 ghost use Rattle.sil_command.specs.Statuses.{code_of};
 ghost use Rattle.numbered_form.specs.inner.NumberedForm.{IsNumbered};
 ghost use Rattle.sil_command.specs.declared.words.Mode.TheVariants.{Check, Lower, Optimize, Run};
@@ -76,7 +76,7 @@ fn check_module(alloc: Global, module: Module) -> Result<Answer, Exhausted>
         Ok(checked) => {
             forget(checked);
             Ok(Answer {
-                text: Vec::from_slice(alloc, answer_lines::accepted())?,
+                text: Vec::from_slice(alloc, sil_command_lines::accepted())?,
                 status: Status::Done,
             })
         }

@@ -9,8 +9,8 @@ ghost use Rattle.sil_command.specs.Generated as generated;
 ghost use Rattle.sil_command.specs.Generated.{AnswersGenerated, Ran, RunsSo};
 ghost use Rattle.sil_command.specs.Statuses.{code_of};
 ghost use Rattle.sil_command.specs.Copies as counts;
-ghost use Rattle.answer_lines.specs.Summaries.{summary_text};
-ghost use Rattle.answer_lines.specs.Texts.{no_entry_text};
+ghost use Rattle.sil_command_lines.specs.Summaries.{summary_text};
+ghost use Rattle.sil_command_lines.specs.Texts.{no_entry_text};
 ghost use Rattle.sil_command.specs.declared.status.Status.TheVariants as status;
 
 use crate::answer::Answer;
@@ -18,9 +18,9 @@ use crate::copies::copies_in;
 use crate::run_words::DEFAULT_TURNS;
 use crate::status::Status;
 use crate::verified::answer_end;
-use answer_lines::{Totals, summary};
 use module_runner::{RunEnd, RunReport, optimised_if, run_checked};
 use sil_ast::{Exhausted, Module};
+use sil_command_lines::{Totals, summary};
 use sil_verifier::{Checked, verify};
 use std::alloc::Global;
 use std::mem::forget;
@@ -57,7 +57,7 @@ fn no_main(alloc: Global) -> Result<Answer, Exhausted>
     ensures status { IfOk result (λ a. a.status ≡ status.NoEntry) }
 {
     Ok(Answer {
-        text: answer_lines::no_entry(alloc, b"main")?,
+        text: sil_command_lines::no_entry(alloc, b"main")?,
         status: Status::NoEntry,
     })
 }

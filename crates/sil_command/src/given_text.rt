@@ -1,20 +1,20 @@
 //! The mode that takes no text from a source: it makes one, and answers that.
 
 ghost use Rattle.std.specs.Prelude.{◌≡◌, IfOk, MatchOption};
-ghost use Rattle.module_generator.specs.GeneratedModules.{generated};
+ghost use Rattle.sil_command_generator.specs.GeneratedModules.{generated};
 ghost use Rattle.sil_command.specs.declared.words.Mode.TheVariants.{Generate};
 ghost use Rattle.sil_command.specs.Answers.{AnswersText};
 ghost use Rattle.sil_command.specs.GivenTexts.{TakesSource};
 ghost use Rattle.sil_command.specs.Statuses.{code_of};
-ghost use Rattle.answer_lines.specs.Texts.{limit_text};
+ghost use Rattle.sil_command_lines.specs.Texts.{limit_text};
 ghost use Rattle.sil_command.specs.Words.{IsAskedFor};
 ghost use Rattle.sil_command.specs.declared.status.Status.TheVariants as status;
 
 use crate::answer::{Answer, answer_to};
 use crate::status::Status;
 use crate::words::Mode;
-use module_generator::generated_text;
 use sil_ast::Exhausted;
+use sil_command_generator::generated_text;
 use sil_rules::limits;
 use std::alloc::Global;
 
@@ -54,7 +54,7 @@ fn past_limit(alloc: Global) -> Result<Answer, Exhausted>
     ensures status { IfOk result (λ a. a.status ≡ status.Limit) }
 {
     Ok(Answer {
-        text: Vec::from_slice(alloc, answer_lines::limit())?,
+        text: Vec::from_slice(alloc, sil_command_lines::limit())?,
         status: Status::Limit,
     })
 }

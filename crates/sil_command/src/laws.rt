@@ -3,11 +3,11 @@
 ghost use Rattle.sil_command.specs.Laws.{AreAcceptedExactly, AreLoweredExactly, AreOptimisedExactly, ArePrintedExactly, ArePrintedReadBack};
 ghost use Rattle.sil_command.specs.Laws.{AreGeneratedExactly, AreRefusedForTheFirst, AreReportedRightly, AreRunExactly, HaveNoEntryExactly};
 
-use accepted_modules::accepted_where_nothing_is_found;
-use command_words::command_lines_say_one_thing;
 use module_runner::{names_have_one_entry, one_module_is_lowered, runs_end_once};
-use printed_reading_laws::printed_modules_are_spelled;
+use sil_command_words::command_lines_say_one_thing;
 use sil_grammar::{spelled_modules_are_numbered, spelled_once};
+use sil_printer_laws::printed_modules_are_spelled;
+use sil_verifier_accepted::accepted_where_nothing_is_found;
 
 /// `check` answers a text that spells an accepted module with status 0, and one that is answered so spells such a module.
 pub fn accepted_exactly()

@@ -21,6 +21,6 @@ pub use laws::{
     accepted_exactly, generated_exactly, lowered_exactly, no_entry_exactly, optimised_exactly,
     printed_exactly, printed_texts_read_back, refused_for_the_first, reported_rightly, run_exactly,
 };
-pub use module_generator::generated_text;
+pub use sil_command_generator::generated_text;
 pub use status::Status;
 pub use top_call::command;

@@ -6,7 +6,7 @@ ghost use Rattle.sil_grammar.specs.declared.refusal.ReadRefusal.TheVariants.{Lex
 ghost use Rattle.sil_command.specs.declared.status.Status.TheVariants.{NotAModule, Limit};
 ghost use Rattle.sil_command.specs.Statuses.{code_of};
 ghost use Rattle.sil_command.specs.Reading.{AnswersRefusal};
-ghost use Rattle.answer_lines.specs.Texts.{not_a_module_text, passed_limit_text};
+ghost use Rattle.sil_command_lines.specs.Texts.{not_a_module_text, passed_limit_text};
 
 use crate::answer::Answer;
 use crate::status::Status;
@@ -47,7 +47,7 @@ fn not_a_module(alloc: Global, what: &[u8], place: Place) -> Result<Answer, Exha
     ensures status { IfOk result (λ a. a.status ≡ NotAModule) }
 {
     Ok(Answer {
-        text: answer_lines::not_a_module(alloc, what, place)?,
+        text: sil_command_lines::not_a_module(alloc, what, place)?,
         status: Status::NotAModule,
     })
 }
@@ -57,7 +57,7 @@ fn passed_limit(alloc: Global, what: LimitWord, place: Place) -> Result<Answer, 
     ensures status { IfOk result (λ a. a.status ≡ Limit) }
 {
     Ok(Answer {
-        text: answer_lines::passed_limit(alloc, what, place)?,
+        text: sil_command_lines::passed_limit(alloc, what, place)?,
         status: Status::Limit,
     })
 }

@@ -4,8 +4,8 @@ ghost use Rattle.std.specs.Prelude.{◌≡◌, ◌++◌, IfOk, OnOk};
 ghost use Rattle.std.specs.Option.{option_copied};
 ghost use Rattle.sil_command.specs.inner.ReportTexts.{function_in, lines_behind, report_text};
 
-use answer_lines::{push_shown, refused_line};
 use sil_ast::{Exhausted, FuncId, Function, Module};
+use sil_command_lines::{push_shown, refused_line};
 use sil_verifier::Refusal;
 use std::alloc::Global;
 

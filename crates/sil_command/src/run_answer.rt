@@ -2,8 +2,8 @@
 
 ghost use Rattle.std.specs.Prelude.{◌≡◌, ◌≤◌, IfOk};
 ghost use Rattle.module_runner.specs.inner.RunReports.{IsReportable, text_of};
-ghost use Rattle.module_runner.specs.RunOutcomes.{ending_of};
-ghost use Rattle.accepted_modules.specs.inner.Checked.{IsVerifiedWith};
+ghost use Rattle.module_runner.specs.module_runner_report.RunOutcomes.{ending_of};
+ghost use Rattle.sil_verifier_accepted.specs.AcceptedModules.inner.Checked.{IsVerifiedWith};
 ghost use Rattle.sil_command.specs.Statuses.{code_of};
 ghost use Rattle.sil_command.specs.Answers.{AnswersRun, HasStatus};
 
@@ -35,7 +35,7 @@ pub(crate) fn answer_run(
             answer
         }
         Err(RunEnd::NoEntry) => Ok(Answer {
-            text: answer_lines::no_entry(alloc, entry)?,
+            text: sil_command_lines::no_entry(alloc, entry)?,
             status: Status::NoEntry,
         }),
         Err(RunEnd::Memory) => Err(Exhausted),

@@ -8,7 +8,7 @@ ghost use Rattle.sil_command.specs.declared.status.Status.TheVariants.{ReadFault
 ghost use Rattle.sil_command.specs.Statuses.{code_of};
 ghost use Rattle.sil_command.specs.Words.{AsksFor, IsAskedFor};
 ghost use Rattle.sil_command.specs.GivenTexts.{AskForText, TakesSource};
-ghost use Rattle.answer_lines.specs.Texts.{read_fault_text};
+ghost use Rattle.sil_command_lines.specs.Texts.{read_fault_text};
 ghost use Rattle.sil_command.specs.Ends.{TakesText, Gains, GainsFront, WritesAnswer, Exhausts, WritesWhole};
 ghost use Rattle.sil_command.specs.Ends.{WritesFrontOfAnswer, IsStatus, FinishesText, call_between, Ends};
 
@@ -16,8 +16,8 @@ use crate::answer::answer_to;
 use crate::given_text::{answer_to_size, size_of};
 use crate::status::Status;
 use crate::words::{Mode, mode_of};
-use command_words::command_lines_say_one_thing;
 use sil_ast::Exhausted;
+use sil_command_words::command_lines_say_one_thing;
 use sil_io::{ReadEnd, Sink, Source, read_all, write_all};
 use sil_rules::limits;
 use std::alloc::Global;
@@ -92,7 +92,7 @@ fn run<'a, S: Source, K: Sink>(
 {
     match mode_of(alloc, words) {
         Ok(Some(mode)) => answer_asked(alloc, mode, source, out),
-        Ok(None) => finish(out, answer_lines::usage(), Status::Usage),
+        Ok(None) => finish(out, sil_command_lines::usage(), Status::Usage),
         Err(Exhausted) => Status::OutOfMemory.code(),
     }
 }
@@ -128,8 +128,8 @@ fn answer_in<S: Source, K: Sink>(alloc: Global, mode: Mode, source: &mut S, out:
             Ok(answer) => finish(out, answer.text.as_slice(), answer.status),
             Err(Exhausted) => Status::OutOfMemory.code(),
         },
-        Err(ReadEnd::TooLong) => finish(out, answer_lines::limit(), Status::Limit),
-        Err(ReadEnd::Fault) => finish(out, answer_lines::read_fault(), Status::ReadFault),
+        Err(ReadEnd::TooLong) => finish(out, sil_command_lines::limit(), Status::Limit),
+        Err(ReadEnd::Fault) => finish(out, sil_command_lines::read_fault(), Status::ReadFault),
         Err(ReadEnd::Memory) => Status::OutOfMemory.code(),
     }
 }

@@ -7,7 +7,7 @@ ghost use Rattle.sil_command.specs.Statuses.{code_of};
 ghost use Rattle.sil_verifier.specs.inner.Ends.{IsVerifyEnd};
 ghost use Rattle.sil_command.specs.Answers.{AnswersWrong};
 ghost use Rattle.sil_command.specs.inner.ReportTexts.{report_text};
-ghost use Rattle.answer_lines.specs.Texts.{type_limit_text};
+ghost use Rattle.sil_command_lines.specs.Texts.{type_limit_text};
 
 use crate::answer::Answer;
 use crate::refusal_lines;
@@ -55,7 +55,7 @@ fn limit_passed(alloc: Global, what: LimitWord) -> Result<Answer, Exhausted>
     ensures status { IfOk result (λ a. a.status ≡ status.Limit) }
 {
     Ok(Answer {
-        text: answer_lines::type_limit(alloc, what)?,
+        text: sil_command_lines::type_limit(alloc, what)?,
         status: Status::Limit,
     })
 }

@@ -6,8 +6,8 @@ ghost use Rattle.sil_command.specs.Words.{AsksFor, IsCommandLine, Takes, word_of
 
 use crate::run_words::{bound_of, entry_name};
 use crate::size_words::written_size;
-use command_words::{CommandWords, command_lines_say_one_thing, read_words};
 use sil_ast::{Exhausted, Text};
+use sil_command_words::{CommandWords, command_lines_say_one_thing, read_words};
 use std::alloc::Global;
 
 /// What is done with the module that a text spells.

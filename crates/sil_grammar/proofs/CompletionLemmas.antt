@@ -2,19 +2,19 @@
 use Rattle.std.proofs.Common.{◌≡◌, List, [], ◌∷◌, ◌++◌, refl, ap, sym, subst, ◌∙◌}
 use Rattle.std.specs.Prelude.{Some}
 use Rattle.std.proofs.lemmas.Option.{same_Some}
-use Rattle.token_classes.specs.declared.classes.Class.{Class}
-use Rattle.grammar_tables.specs.declared.grammar.Nonterminal.{Nonterminal}
-use Rattle.grammar_tables.specs.declared.grammar.Symbol.{Symbol}
-use Rattle.grammar_tables.specs.declared.grammar.Symbol.TheVariants.{Part}
-use Rattle.grammar_tables.specs.declared.grammar.Production.{Production}
-use Rattle.sil_shape.specs.declared.steps.Step.{Step}
-use Rattle.sil_shape.specs.declared.steps.Step.TheVariants.{Take, Expand}
-use Rattle.sil_shape.specs.inner.Choice.{choose}
-use Rattle.sil_shape.specs.Derivation.{Accepts, BeginsShape, Derives, token, rule}
-use Rattle.grammar_tables.specs.Grammar.{written, body}
-use Rattle.sil_shape.specs.Shortest.{shortest_step, Shortens, written as nothing_left, step}
-use Rattle.sil_shape.proofs.NextClasses.{Derives-inner, Fits, Fits-expand, FitsOne, FitsOne-start}
-use Rattle.sil_shape.proofs.Shortened.{Shortens-derives}
+use Rattle.sil_grammar_classes.specs.declared.classes.Class.{Class}
+use Rattle.sil_grammar_tables.specs.declared.grammar.Nonterminal.{Nonterminal}
+use Rattle.sil_grammar_tables.specs.declared.grammar.Symbol.{Symbol}
+use Rattle.sil_grammar_tables.specs.declared.grammar.Symbol.TheVariants.{Part}
+use Rattle.sil_grammar_tables.specs.declared.grammar.Production.{Production}
+use Rattle.sil_grammar_shape.specs.declared.steps.Step.{Step}
+use Rattle.sil_grammar_shape.specs.declared.steps.Step.TheVariants.{Take, Expand}
+use Rattle.sil_grammar_shape.specs.inner.Choice.{choose}
+use Rattle.sil_grammar_shape.specs.Derivation.{Accepts, BeginsShape, Derives, token, rule}
+use Rattle.sil_grammar_tables.specs.Grammar.{written, body}
+use Rattle.sil_grammar_shape.specs.Shortest.{shortest_step, Shortens, written as nothing_left, step}
+use Rattle.sil_grammar_shape.proofs.NextClasses.{Derives-inner, Fits, Fits-expand, FitsOne, FitsOne-start}
+use Rattle.sil_grammar_shape.proofs.Shortened.{Shortens-derives}
 use Rattle.sil_grammar.specs.Completion.{Completes, IsShortestFrom, behind, taken, expanded}
 
 Shortens-once : {ss : List Symbol} {steps others : List Step} → Shortens ss steps → Shortens ss others → others ≡ steps

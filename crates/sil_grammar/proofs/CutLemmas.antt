@@ -1,18 +1,18 @@
 -- A derivation cut behind the last token goes on in one shortest way: for `fault_before` and for the cut itself.
 use Rattle.std.proofs.Common.{◌≡◌, ℕ, zero, suc, ◌+◌, ◌<◌, List, [], ◌∷◌, ◌++◌, length, drop, take, reverse, slice_index_or, refl, ap, sym, subst, ◌∙◌, append_assoc, length-append, add-one, arith}
-use Rattle.token_classes.specs.declared.classes.Class.{Class}
-use Rattle.grammar_tables.specs.declared.grammar.Symbol.{Symbol}
-use Rattle.grammar_tables.specs.declared.grammar.Production.{Production}
-use Rattle.sil_shape.specs.declared.steps.Front.{Front}
-use Rattle.sil_shape.specs.declared.steps.Step.{Step}
-use Rattle.sil_shape.specs.declared.steps.Step.TheVariants.{Take, Expand}
-use Rattle.sil_shape.specs.inner.Begun.{LeadsTo}
-use Rattle.sil_shape.specs.Derivation.{Derives, token, rule, start}
-use Rattle.grammar_tables.specs.Grammar.{body}
-use Rattle.sil_shape.specs.Shortest.{Shortens}
-use Rattle.sil_shape.specs.inner.Values.{takes_of}
-use Rattle.sil_shape.proofs.Shortened.{shortened, Shortens-derives}
-use Rattle.sil_shape.proofs.ValuesLemmas.{takes_of-append, takes_of-derives}
+use Rattle.sil_grammar_classes.specs.declared.classes.Class.{Class}
+use Rattle.sil_grammar_tables.specs.declared.grammar.Symbol.{Symbol}
+use Rattle.sil_grammar_tables.specs.declared.grammar.Production.{Production}
+use Rattle.sil_grammar_shape.specs.declared.steps.Front.{Front}
+use Rattle.sil_grammar_shape.specs.declared.steps.Step.{Step}
+use Rattle.sil_grammar_shape.specs.declared.steps.Step.TheVariants.{Take, Expand}
+use Rattle.sil_grammar_shape.specs.inner.Begun.{LeadsTo}
+use Rattle.sil_grammar_shape.specs.Derivation.{Derives, token, rule, start}
+use Rattle.sil_grammar_tables.specs.Grammar.{body}
+use Rattle.sil_grammar_shape.specs.Shortest.{Shortens}
+use Rattle.sil_grammar_shape.specs.inner.Values.{takes_of}
+use Rattle.sil_grammar_shape.proofs.Shortened.{shortened, Shortens-derives}
+use Rattle.sil_grammar_shape.proofs.ValuesLemmas.{takes_of-append, takes_of-derives}
 use Rattle.sil_grammar.specs.Completion.{Completes, IsShortestFrom, behind, taken, expanded}
 use Rattle.sil_grammar.specs.inner.Left.{after, left_after, AreDecided, IsCut}
 

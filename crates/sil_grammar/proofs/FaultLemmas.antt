@@ -3,13 +3,13 @@ use Rattle.std.proofs.Common.{◌≡◌, ℕ, List, ◌++◌, length-append, map
 use Rattle.std.specs.Prelude.{◌↔◌}
 use Rattle.std.proofs.lemmas.List.{length-map}
 use Rattle.sil_lexer.specs.Lexes.{Lexeme}
-use Rattle.sil_shape.specs.declared.steps.Step.{Step}
-use Rattle.sil_shape.specs.Derivation.{Derives, start}
-use Rattle.spelled_parts_laws.specs.inner.Laws.{IsToldByReplay}
-use Rattle.spelled_parts_laws.specs.Reading.{IsFirstFault}
-use Rattle.spelled_parts_laws.proofs.Derived.{told_by_replay}
-use Rattle.written_modules.specs.inner.Replay.{first_fault}
-use Rattle.written_tree.specs.declared.fault.Fault.{Fault}
+use Rattle.sil_grammar_shape.specs.declared.steps.Step.{Step}
+use Rattle.sil_grammar_shape.specs.Derivation.{Derives, start}
+use Rattle.sil_grammar.specs.SpelledPartsLaws.inner.Laws.{IsToldByReplay}
+use Rattle.sil_grammar.specs.SpelledPartsLaws.Reading.{IsFirstFault}
+use Rattle.sil_grammar.proofs.SpelledPartsLaws.Derived.{told_by_replay}
+use Rattle.sil_grammar_modules.specs.inner.Replay.{first_fault}
+use Rattle.sil_grammar_tree.specs.declared.written_tree.fault.Fault.{Fault}
 use Rattle.sil_grammar.specs.Classes.{token_class}
 use Rattle.sil_grammar.specs.Completion.{IsShortestFrom}
 use Rattle.sil_grammar.specs.inner.Front.{IsFound}

@@ -5,22 +5,22 @@ use Rattle.std.proofs.lemmas.Bool.{eqb-true, ltb-true}
 use Rattle.std.proofs.lemmas.Option.{same_Some}
 use Rattle.instruction_table.specs.declared.op.Op.{Op}
 use Rattle.instruction_table.specs.declared.op.Op.TheVariants as op
-use Rattle.token_classes.specs.declared.classes.Class.{Class}
-use Rattle.grammar_tables.specs.declared.grammar.Nonterminal.{Nonterminal}
-use Rattle.grammar_tables.specs.declared.grammar.Nonterminal.TheVariants as n
-use Rattle.grammar_tables.specs.declared.grammar.Symbol.{Symbol}
-use Rattle.grammar_tables.specs.declared.grammar.Symbol.TheVariants.{Read, Part}
-use Rattle.grammar_tables.specs.declared.grammar.Production.{Production}
-use Rattle.grammar_tables.specs.declared.grammar.Production.TheVariants as p
-use Rattle.sil_shape.specs.declared.steps.Step.{Step}
-use Rattle.sil_shape.specs.Derivation.{Accepts, Derives, nothing, token, rule}
-use Rattle.grammar_tables.specs.Grammar.{written, body}
-use Rattle.grammar_tables.specs.Rows.{row_body, row_part}
-use Rattle.sil_shape.specs.Shortest.{Shortens, written as nothing_left, step}
-use Rattle.grammar_tables.specs.Shortest.{shortest}
-use Rattle.sil_shape.specs.inner.Values.{takes_of}
-use Rattle.grammar_tables.proofs.Unfolded.{rows}
-use Rattle.sil_shape.proofs.NextClasses.{Derives-inner, Fits, Fits-expand, FitsOne-start}
+use Rattle.sil_grammar_classes.specs.declared.classes.Class.{Class}
+use Rattle.sil_grammar_tables.specs.declared.grammar.Nonterminal.{Nonterminal}
+use Rattle.sil_grammar_tables.specs.declared.grammar.Nonterminal.TheVariants as n
+use Rattle.sil_grammar_tables.specs.declared.grammar.Symbol.{Symbol}
+use Rattle.sil_grammar_tables.specs.declared.grammar.Symbol.TheVariants.{Read, Part}
+use Rattle.sil_grammar_tables.specs.declared.grammar.Production.{Production}
+use Rattle.sil_grammar_tables.specs.declared.grammar.Production.TheVariants as p
+use Rattle.sil_grammar_shape.specs.declared.steps.Step.{Step}
+use Rattle.sil_grammar_shape.specs.Derivation.{Accepts, Derives, nothing, token, rule}
+use Rattle.sil_grammar_tables.specs.Grammar.{written, body}
+use Rattle.sil_grammar_tables.specs.Rows.{row_body, row_part}
+use Rattle.sil_grammar_shape.specs.Shortest.{Shortens, written as nothing_left, step}
+use Rattle.sil_grammar_tables.specs.Shortest.{shortest}
+use Rattle.sil_grammar_shape.specs.inner.Values.{takes_of}
+use Rattle.sil_grammar_tables.proofs.Unfolded.{rows}
+use Rattle.sil_grammar_shape.proofs.NextClasses.{Derives-inner, Fits, Fits-expand, FitsOne-start}
 use Rattle.sil_grammar.specs.Completion.{Completes, behind, taken, expanded}
 use Rattle.sil_grammar.specs.inner.Laws.{HaveFewestTokens}
 use Rattle.sil_grammar.proofs.CompletionLemmas.{inner}

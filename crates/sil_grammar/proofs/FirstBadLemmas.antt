@@ -17,15 +17,15 @@ use Rattle.sil_lexer.specs.Places.{place_of}
 use Rattle.sil_lexer.proofs.OrderLemmas.{in_order}
 use Rattle.sil_lexer.proofs.SpellLemmas.{spelling_some}
 use Rattle.sil_lexer.proofs.UniqueLemmas.{one_way}
-use Rattle.sil_shape.specs.Derivation.{IsFirstBad}
-use Rattle.sil_shape.specs.Unsupported.{IsUnsupported}
+use Rattle.sil_grammar_shape.specs.Derivation.{IsFirstBad}
+use Rattle.sil_grammar_shape.specs.Unsupported.{IsUnsupported}
 use Rattle.sil_grammar.specs.declared.first_bad.BadKind.{BadKind}
 use Rattle.sil_grammar.specs.declared.first_bad.BadKind.TheVariants.{Unsupported, Unexpected}
 use Rattle.sil_grammar.specs.declared.first_bad.BadPlace.{BadPlace}
 use Rattle.sil_grammar.specs.Classes.{token_class}
 use Rattle.sil_grammar.specs.FirstBad.{HasShape, IsBadToken, IsBadPlace, lexical, unsupported, unexpected, bad_stop, rank, IsNoLater, IsFirstBadPlace}
 use Rattle.sil_grammar.specs.FirstBad.{token_place}
-use Rattle.sil_shape.proofs.DerivedOnce.{first_bad_once, no_first_bad}
+use Rattle.sil_grammar_shape.proofs.DerivedOnce.{first_bad_once, no_first_bad}
 use Rattle.sil_grammar.proofs.LexemeLemmas.{some_token, some_lexeme, lexeme_at}
 
 -- tokens in order end before the stop

@@ -11,7 +11,7 @@ use Rattle.sil_lexer.specs.declared.token.TokenKind.TheVariants.{Word}
 use Rattle.sil_lexer.specs.Lexes.{Lexeme}
 use Rattle.sil_lexer.specs.inner.Lexing.{Lexing, lexeme_of, lexemes_of}
 use Rattle.sil_lexer.specs.Places.{place_of}
-use Rattle.token_classes.specs.declared.classes.Class.{Class}
+use Rattle.sil_grammar_classes.specs.declared.classes.Class.{Class}
 use Rattle.sil_grammar.specs.Classes.{token_class}
 use Rattle.sil_grammar.specs.inner.ClassAt.{IsClassAt}
 use Rattle.sil_grammar.specs.FirstBad.{token_place}

@@ -9,5 +9,5 @@ pub mod ReadLemmas
 pub mod RefusedOnce
 pub mod ShapeLemmas
 pub mod NumberedLemmas
-pub use Rattle.spelled_parts_laws.proofs as spelled_parts_laws
-pub use Rattle.numbered_reading_laws.proofs as numbered_reading_laws
+pub mod SpelledPartsLaws
+pub mod NumberedReadingLaws

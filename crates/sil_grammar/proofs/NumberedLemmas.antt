@@ -4,18 +4,18 @@ use Rattle.std.proofs.Math.Seq.{take-append_seam}
 use Rattle.std.specs.List.{list_all}
 use Rattle.sil_lexer.specs.declared.token.LexRefusal.{LexRefusal}
 use Rattle.sil_lexer.specs.declared.token.TokenKind.{TokenKind}
-use Rattle.text_bytes.specs.Bytes.{is_name_byte, is_word_start}
+use Rattle.sil_ast.specs.TextBytes.Bytes.{is_name_byte, is_word_start}
 use Rattle.sil_lexer.specs.Lexes.{Lexeme, Lexes, end, token, stop}
 use Rattle.sil_lexer.specs.Spelling.{Spells, arrow, at_name, name_length, negative, number, percent, punctuation, quoted, without_quotes, word}
-use Rattle.token_classes.specs.declared.classes.Punctuation as sign
-use Rattle.builtin_names.specs.BuiltinNames.{is_builtin_name}
-use Rattle.token_classes.specs.Spelling.{punctuation_of}
-use Rattle.written_modules.specs.Leaves.{kept_of}
+use Rattle.sil_grammar_classes.specs.declared.classes.Punctuation as sign
+use Rattle.instruction_table.specs.BuiltinNames.BuiltinNames.{is_builtin_name}
+use Rattle.sil_grammar_classes.specs.Spelling.{punctuation_of}
+use Rattle.sil_grammar_modules.specs.Leaves.{kept_of}
 use Rattle.numbered_form.specs.Names.{is_quotable, is_short}
 use Rattle.numbered_form.specs.inner.NumberedForm.{IsNumbered}
-use Rattle.numbered_reading_laws.specs.inner.Leaves.{AreOfClasses, IsTextOf}
-use Rattle.numbered_reading_laws.proofs.ListsAndFaults.{both}
-use Rattle.numbered_reading_laws.proofs.Numbered.{written_numbered}
+use Rattle.sil_grammar.specs.NumberedReadingLaws.inner.Leaves.{AreOfClasses, IsTextOf}
+use Rattle.sil_grammar.proofs.NumberedReadingLaws.ListsAndFaults.{both}
+use Rattle.sil_grammar.proofs.NumberedReadingLaws.Numbered.{written_numbered}
 use Rattle.sil_grammar.specs.Classes.{class_by, punctuation_class, text_class, token_class}
 use Rattle.sil_grammar.specs.inner.Laws.{AreSpelledNumbered}
 use Rattle.sil_grammar.proofs.ReplayedSpelling.{replayed}

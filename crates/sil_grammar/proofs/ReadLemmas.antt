@@ -6,17 +6,17 @@ use Rattle.std.proofs.lemmas.Result.{err_from_is_err_and}
 use Rattle.sil_lexer.specs.Lexes.{Lexeme, Lexes}
 use Rattle.sil_lexer.specs.inner.Lexing.{Lexing, IsLexingOf, lexeme_of, lexemes_of}
 use Rattle.sil_lexer.proofs.UniqueLemmas.{one_way}
-use Rattle.sil_shape.specs.declared.steps.Step.{Step}
-use Rattle.sil_shape.specs.declared.steps.Front.{Front}
-use Rattle.sil_shape.specs.Derivation.{Derives, start}
-use Rattle.sil_shape.specs.inner.Begun.{LeadsTo}
-use Rattle.sil_shape.specs.Shortest.{Shortens}
-use Rattle.sil_shape.proofs.DerivedOnce.{steps_once}
-use Rattle.written_tree.specs.declared.fault.Fault.{Fault}
-use Rattle.written_tree.specs.declared.written_module.WrittenModule.{WrittenModule}
-use Rattle.written_modules.specs.inner.Replay.{first_fault, Writes}
-use Rattle.name_scopes.specs.NameFaults.{name_fault}
-use Rattle.name_resolution.specs.Resolved.{resolved}
+use Rattle.sil_grammar_shape.specs.declared.steps.Step.{Step}
+use Rattle.sil_grammar_shape.specs.declared.steps.Front.{Front}
+use Rattle.sil_grammar_shape.specs.Derivation.{Derives, start}
+use Rattle.sil_grammar_shape.specs.inner.Begun.{LeadsTo}
+use Rattle.sil_grammar_shape.specs.Shortest.{Shortens}
+use Rattle.sil_grammar_shape.proofs.DerivedOnce.{steps_once}
+use Rattle.sil_grammar_tree.specs.declared.written_tree.fault.Fault.{Fault}
+use Rattle.sil_grammar_tree.specs.declared.written_tree.written_module.WrittenModule.{WrittenModule}
+use Rattle.sil_grammar_modules.specs.inner.Replay.{first_fault, Writes}
+use Rattle.sil_grammar_names.specs.NameScopes.NameFaults.{name_fault}
+use Rattle.sil_grammar_names.specs.NameResolution.Resolved.{resolved}
 use Rattle.sil_grammar.specs.declared.first_bad.BadPlace.{BadPlace}
 use Rattle.sil_grammar.specs.declared.refusal.ReadRefusal.{ReadRefusal}
 use Rattle.sil_grammar.specs.declared.refusal.ReadRefusal.TheVariants.{Memory}

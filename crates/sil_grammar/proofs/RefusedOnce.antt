@@ -5,13 +5,13 @@ use Rattle.std.proofs.lemmas.List.{take-map, take-take}
 use Rattle.std.proofs.lemmas.Option.{same_Some}
 use Rattle.sil_lexer.specs.Lexes.{Lexeme, Lexes}
 use Rattle.sil_lexer.proofs.UniqueLemmas.{one_way}
-use Rattle.sil_shape.specs.declared.steps.Step.{Step}
-use Rattle.sil_shape.specs.Derivation.{BeginsShape, Derives, start}
-use Rattle.sil_shape.proofs.DerivedOnce.{front_begins, steps_once}
-use Rattle.written_tree.specs.declared.fault.Fault.{Fault}
-use Rattle.written_tree.specs.declared.written_module.WrittenModule.{WrittenModule}
-use Rattle.written_modules.specs.inner.Replay.{first_fault}
-use Rattle.name_scopes.specs.NameFaults.{name_fault}
+use Rattle.sil_grammar_shape.specs.declared.steps.Step.{Step}
+use Rattle.sil_grammar_shape.specs.Derivation.{BeginsShape, Derives, start}
+use Rattle.sil_grammar_shape.proofs.DerivedOnce.{front_begins, steps_once}
+use Rattle.sil_grammar_tree.specs.declared.written_tree.fault.Fault.{Fault}
+use Rattle.sil_grammar_tree.specs.declared.written_tree.written_module.WrittenModule.{WrittenModule}
+use Rattle.sil_grammar_modules.specs.inner.Replay.{first_fault}
+use Rattle.sil_grammar_names.specs.NameScopes.NameFaults.{name_fault}
 use Rattle.sil_grammar.specs.declared.first_bad.BadPlace.{BadPlace}
 use Rattle.sil_grammar.specs.Classes.{token_class}
 use Rattle.sil_grammar.specs.Completion.{IsShortestFrom}

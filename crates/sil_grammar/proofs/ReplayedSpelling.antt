@@ -1,13 +1,13 @@
 -- A text that spells a module has steps of which the replay comes to it, and nothing is at fault in them.
 use Rattle.std.proofs.Common.{◌≡◌, ℕ, List, [], ◌∷◌, map, None}
 use Rattle.sil_lexer.specs.Lexes.{Lexeme, Lexes}
-use Rattle.sil_shape.specs.declared.steps.Step.{Step}
-use Rattle.sil_shape.specs.Derivation.{Derives, start}
-use Rattle.spelled_parts_laws.specs.inner.Laws.{IsReplayed}
-use Rattle.spelled_parts_laws.proofs.Derived.{stood_for}
-use Rattle.written_values.specs.Opened.{module_value}
-use Rattle.written_modules.specs.inner.Replay.{first_fault, Writes}
-use Rattle.written_tree.specs.declared.written_module.WrittenModule.{WrittenModule}
+use Rattle.sil_grammar_shape.specs.declared.steps.Step.{Step}
+use Rattle.sil_grammar_shape.specs.Derivation.{Derives, start}
+use Rattle.sil_grammar.specs.SpelledPartsLaws.inner.Laws.{IsReplayed}
+use Rattle.sil_grammar.proofs.SpelledPartsLaws.Derived.{stood_for}
+use Rattle.sil_grammar_values.specs.Opened.{module_value}
+use Rattle.sil_grammar_modules.specs.inner.Replay.{first_fault, Writes}
+use Rattle.sil_grammar_tree.specs.declared.written_tree.written_module.WrittenModule.{WrittenModule}
 use Rattle.sil_grammar.specs.Classes.{token_class}
 use Rattle.sil_grammar.specs.Spells.{SpellsWritten}
 

@@ -5,14 +5,14 @@ use Rattle.std.proofs.lemmas.List.{append-nil, length-map, length-take-le, take_
 use Rattle.sil_lexer.specs.declared.token.LexRefusal.{LexRefusal}
 use Rattle.sil_lexer.specs.Lexes.{Lexes}
 use Rattle.sil_lexer.specs.inner.Lexing.{Lexing, IsLexingOf, lexeme_of, lexemes_of}
-use Rattle.token_classes.specs.declared.classes.Class.{Class}
-use Rattle.sil_shape.specs.declared.steps.Step.{Step}
-use Rattle.sil_shape.specs.declared.steps.Front.{Front}
-use Rattle.grammar_tables.specs.declared.grammar.Symbol.{Symbol}
-use Rattle.sil_shape.specs.inner.Begun.{LeadsTo}
-use Rattle.sil_shape.specs.Derivation.{BeginsShape, Derives, nothing, start, IsDerivation, HasShape, IsFirstBad}
-use Rattle.sil_shape.specs.inner.Values.{takes_of}
-use Rattle.sil_shape.proofs.DerivedOnce.{no_first_bad}
+use Rattle.sil_grammar_classes.specs.declared.classes.Class.{Class}
+use Rattle.sil_grammar_shape.specs.declared.steps.Step.{Step}
+use Rattle.sil_grammar_shape.specs.declared.steps.Front.{Front}
+use Rattle.sil_grammar_tables.specs.declared.grammar.Symbol.{Symbol}
+use Rattle.sil_grammar_shape.specs.inner.Begun.{LeadsTo}
+use Rattle.sil_grammar_shape.specs.Derivation.{BeginsShape, Derives, nothing, start, IsDerivation, HasShape, IsFirstBad}
+use Rattle.sil_grammar_shape.specs.inner.Values.{takes_of}
+use Rattle.sil_grammar_shape.proofs.DerivedOnce.{no_first_bad}
 use Rattle.sil_grammar.specs.declared.first_bad.BadPlace.{BadPlace}
 use Rattle.sil_grammar.specs.declared.first_bad.Shape.{Shape}
 use Rattle.sil_grammar.specs.declared.first_bad.Shape.TheVariants.{Whole, Broken}

@@ -4,11 +4,11 @@ use Rattle.sil_lexer.specs.declared.token.TokenKind.{TokenKind}
 use Rattle.sil_lexer.specs.declared.token.TokenKind.TheVariants as kind
 use Rattle.sil_lexer.specs.Lexes.{Lexeme}
 use Rattle.sil_lexer.specs.Spelling.{without_quotes, without_sigil}
-use Rattle.token_classes.specs.declared.classes.Class.{Class}
-use Rattle.token_classes.specs.declared.classes.Class.TheVariants.{Word, At, Percent, Number, BuiltinText, OtherText, Punctuation}
-use Rattle.token_classes.specs.declared.classes.Punctuation as punctuation
-use Rattle.builtin_names.specs.BuiltinNames.{is_builtin_name}
-use Rattle.token_classes.specs.Spelling.{keyword_of, at_word_of, punctuation_of}
+use Rattle.sil_grammar_classes.specs.declared.classes.Class.{Class}
+use Rattle.sil_grammar_classes.specs.declared.classes.Class.TheVariants.{Word, At, Percent, Number, BuiltinText, OtherText, Punctuation}
+use Rattle.sil_grammar_classes.specs.declared.classes.Punctuation as punctuation
+use Rattle.instruction_table.specs.BuiltinNames.BuiltinNames.{is_builtin_name}
+use Rattle.sil_grammar_classes.specs.Spelling.{keyword_of, at_word_of, punctuation_of}
 
 abbrev pub text_class : Bool → Class
 text_class true = BuiltinText

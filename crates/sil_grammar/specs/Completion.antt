@@ -1,14 +1,14 @@
 -- The shortest list with the shape of a module that begins with given classes.
 use Rattle.std.specs.Prelude.{List, [], ◌∷◌, ◌++◌}
-use Rattle.token_classes.specs.declared.classes.Class.{Class}
-use Rattle.grammar_tables.specs.declared.grammar.Symbol.{Symbol}
-use Rattle.grammar_tables.specs.declared.grammar.Symbol.TheVariants.{Part}
-use Rattle.grammar_tables.specs.declared.grammar.Production.{Production}
-use Rattle.sil_shape.specs.declared.steps.Step.{Step}
-use Rattle.sil_shape.specs.declared.steps.Step.TheVariants.{Take, Expand}
-use Rattle.sil_shape.specs.Derivation.{Accepts, start}
-use Rattle.grammar_tables.specs.Grammar.{written, body}
-use Rattle.sil_shape.specs.Shortest.{Shortens}
+use Rattle.sil_grammar_classes.specs.declared.classes.Class.{Class}
+use Rattle.sil_grammar_tables.specs.declared.grammar.Symbol.{Symbol}
+use Rattle.sil_grammar_tables.specs.declared.grammar.Symbol.TheVariants.{Part}
+use Rattle.sil_grammar_tables.specs.declared.grammar.Production.{Production}
+use Rattle.sil_grammar_shape.specs.declared.steps.Step.{Step}
+use Rattle.sil_grammar_shape.specs.declared.steps.Step.TheVariants.{Take, Expand}
+use Rattle.sil_grammar_shape.specs.Derivation.{Accepts, start}
+use Rattle.sil_grammar_tables.specs.Grammar.{written, body}
+use Rattle.sil_grammar_shape.specs.Shortest.{Shortens}
 
 -- these symbols in a row derive these classes, and behind the last class what is left is written in the shortest way, by these steps
 pub data Completes : List Symbol → List Class → List Step → Type 0 where

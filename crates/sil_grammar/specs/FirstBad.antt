@@ -7,8 +7,8 @@ use Rattle.sil_lexer.specs.declared.token.LexRefusal.{LexRefusal}
 use Rattle.sil_lexer.specs.declared.token.LexRefusal.TheVariants as stop
 use Rattle.sil_lexer.specs.Lexes.{Lexeme, Lexes}
 use Rattle.sil_lexer.specs.Places.{place_of}
-use Rattle.sil_shape.specs.Derivation as derivation
-use Rattle.sil_shape.specs.Unsupported.{IsUnsupported}
+use Rattle.sil_grammar_shape.specs.Derivation as derivation
+use Rattle.sil_grammar_shape.specs.Unsupported.{IsUnsupported}
 use Rattle.sil_grammar.specs.declared.first_bad.BadKind.{BadKind}
 use Rattle.sil_grammar.specs.declared.first_bad.BadKind.TheVariants.{BadByte, UnclosedText, NameTooLong, Unsupported, Unexpected}
 use Rattle.sil_grammar.specs.declared.first_bad.BadPlace.{BadPlace}

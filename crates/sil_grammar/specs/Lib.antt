@@ -4,5 +4,5 @@ pub mod FirstBad
 pub mod Refusals
 pub mod Spells
 pub mod inner
-pub use Rattle.written_modules.specs as written_modules
-pub use Rattle.spelled_parts_laws.specs as spelled_parts_laws
+pub mod SpelledPartsLaws
+pub mod NumberedReadingLaws

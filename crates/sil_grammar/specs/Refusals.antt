@@ -5,14 +5,14 @@ use Rattle.sil_ast.specs.declared.place.Place.{Place}
 use Rattle.sil_lexer.specs.declared.token.LexRefusal.{LexRefusal}
 use Rattle.sil_lexer.specs.declared.token.LexRefusal.TheVariants as stop
 use Rattle.sil_lexer.specs.Lexes.{Lexeme, Lexes}
-use Rattle.sil_shape.specs.declared.steps.Step.{Step}
-use Rattle.sil_shape.specs.Derivation.{BeginsShape, Derives, start}
-use Rattle.written_tree.specs.declared.fault.Fault.{Fault}
-use Rattle.written_tree.specs.declared.fault.FaultKind.{FaultKind}
-use Rattle.written_tree.specs.declared.fault.FaultKind.TheVariants as kind
-use Rattle.written_tree.specs.declared.written_module.WrittenModule.{WrittenModule}
-use Rattle.spelled_parts_laws.specs.Reading.{IsFirstFault}
-use Rattle.name_scopes.specs.NameFaults.{name_fault}
+use Rattle.sil_grammar_shape.specs.declared.steps.Step.{Step}
+use Rattle.sil_grammar_shape.specs.Derivation.{BeginsShape, Derives, start}
+use Rattle.sil_grammar_tree.specs.declared.written_tree.fault.Fault.{Fault}
+use Rattle.sil_grammar_tree.specs.declared.written_tree.fault.FaultKind.{FaultKind}
+use Rattle.sil_grammar_tree.specs.declared.written_tree.fault.FaultKind.TheVariants as kind
+use Rattle.sil_grammar_tree.specs.declared.written_tree.written_module.WrittenModule.{WrittenModule}
+use Rattle.sil_grammar.specs.SpelledPartsLaws.Reading.{IsFirstFault}
+use Rattle.sil_grammar_names.specs.NameScopes.NameFaults.{name_fault}
 use Rattle.sil_grammar.specs.declared.first_bad.BadKind.{BadKind}
 use Rattle.sil_grammar.specs.declared.first_bad.BadKind.TheVariants as bad
 use Rattle.sil_grammar.specs.declared.first_bad.BadPlace.{BadPlace}

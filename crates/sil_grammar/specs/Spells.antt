@@ -2,12 +2,12 @@
 use Rattle.std.specs.Prelude.{◌≡◌, ℕ, List, [], ◌∷◌, None}
 use Rattle.sil_ast.specs.declared.module.Module.{Module}
 use Rattle.sil_lexer.specs.Lexes.{Lexeme, Lexes}
-use Rattle.sil_shape.specs.Derivation.{start}
-use Rattle.written_tree.specs.declared.written_module.WrittenModule.{WrittenModule}
-use Rattle.written_values.specs.Opened.{module_value}
-use Rattle.spelled_parts_laws.specs.Stands.{Stands}
-use Rattle.name_scopes.specs.NameFaults.{name_fault}
-use Rattle.name_resolution.specs.Resolved.{resolved}
+use Rattle.sil_grammar_shape.specs.Derivation.{start}
+use Rattle.sil_grammar_tree.specs.declared.written_tree.written_module.WrittenModule.{WrittenModule}
+use Rattle.sil_grammar_values.specs.Opened.{module_value}
+use Rattle.sil_grammar.specs.SpelledPartsLaws.Stands.{Stands}
+use Rattle.sil_grammar_names.specs.NameScopes.NameFaults.{name_fault}
+use Rattle.sil_grammar_names.specs.NameResolution.Resolved.{resolved}
 use Rattle.sil_grammar.specs.Classes.{token_class}
 
 -- the text writes a module with names in place of numbers, and no number is out of range and no limit is passed

@@ -2,16 +2,16 @@
 
 ghost use Rattle.std.specs.Prelude.{◌≡◌, ◌<◌, length, map, IfOk};
 ghost use Rattle.sil_lexer.specs.inner.Lexing.{IsLexingOf, lexemes_of};
-ghost use Rattle.builtin_names.specs.BuiltinNames.{is_builtin_name};
-ghost use Rattle.token_classes.specs.Spelling.{punctuation_of};
+ghost use Rattle.instruction_table.specs.BuiltinNames.BuiltinNames.{is_builtin_name};
+ghost use Rattle.sil_grammar_classes.specs.Spelling.{punctuation_of};
 ghost use Rattle.sil_grammar.specs.Classes.{class_by, punctuation_class, text_class, token_class};
 ghost use Rattle.sil_grammar.specs.inner.ClassAt.{IsClassAt};
 
-use builtin_names::is_builtin_name;
+use instruction_table::is_builtin_name;
 use sil_ast::Exhausted;
+use sil_grammar_classes::{Class, at_word, keyword, punctuation};
 use sil_lexer::{TokenKind, Tokens, without_quotes, without_sigil};
 use std::alloc::Global;
-use token_classes::{Class, at_word, keyword, punctuation};
 
 fn text_class(content: &[u8]) -> Class
     ensures { result ≡ text_class (is_builtin_name content.now) }

@@ -1,14 +1,14 @@
 //! A derivation cut behind the last token that it takes: what no token has decided is left to be written.
 
 ghost use Rattle.std.specs.Prelude.{◌≡◌, ◌≤◌, drop, length, reverse, take, IfOk, OnOk};
-ghost use Rattle.sil_shape.specs.Derivation.{start};
-ghost use Rattle.sil_shape.specs.inner.Turns.{Pops};
-ghost use Rattle.sil_shape.specs.inner.Values.{takes_of};
+ghost use Rattle.sil_grammar_shape.specs.Derivation.{start};
+ghost use Rattle.sil_grammar_shape.specs.inner.Turns.{Pops};
+ghost use Rattle.sil_grammar_shape.specs.inner.Values.{takes_of};
 ghost use Rattle.sil_grammar.specs.inner.Left.{after, left_after, AreDecided, IsCut};
 
-use grammar_tables::{Nonterminal, Symbol, push_body};
 use sil_ast::Exhausted;
-use sil_shape::steps::{Front, Step};
+use sil_grammar_shape::steps::{Front, Step};
+use sil_grammar_tables::{Nonterminal, Symbol, push_body};
 use std::alloc::Global;
 
 /// How many steps there are up to the last token.

@@ -4,8 +4,8 @@
 ghost use Rattle.std.specs.Prelude.{◌≡◌, [], ◌↔◌, length, map, IfOk, IsNone, MatchOption, None, Some};
 ghost use Rattle.sil_lexer.specs.inner.Lexing.{IsLexingOf, lexemes_of};
 ghost use Rattle.sil_lexer.specs.Places.{IsInLimit};
-ghost use Rattle.sil_shape.specs.declared.steps.Front.{Front};
-ghost use Rattle.sil_shape.specs.Derivation.{IsFirstBad};
+ghost use Rattle.sil_grammar_shape.specs.declared.steps.Front.{Front};
+ghost use Rattle.sil_grammar_shape.specs.Derivation.{IsFirstBad};
 ghost use Rattle.sil_grammar.specs.declared.first_bad.BadPlace.{BadPlace};
 ghost use Rattle.sil_grammar.specs.declared.first_bad.Shape.TheVariants.{Whole, Broken};
 ghost use Rattle.sil_grammar.specs.Classes.{token_class};
@@ -14,12 +14,12 @@ ghost use Rattle.sil_grammar.specs.inner.Shape.{IsShapeOf};
 
 use crate::classes::classes_of;
 use sil_ast::{Exhausted, Place};
+use sil_grammar_classes::Class;
+use sil_grammar_shape::machine::{ShapeRefusal, steps_of};
+use sil_grammar_shape::steps::{Front, Step};
+use sil_grammar_shape::unsupported::is_unsupported;
 use sil_lexer::{LexRefusal, LexStop, Tokens, end_place, lex};
-use sil_shape::machine::{ShapeRefusal, steps_of};
-use sil_shape::steps::{Front, Step};
-use sil_shape::unsupported::is_unsupported;
 use std::alloc::Global;
-use token_classes::Class;
 
 /// What is wrong at a place of a text.
 #[derive(Clone, Copy, Debug, PartialEq, Eq)]

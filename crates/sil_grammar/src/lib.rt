@@ -1,4 +1,6 @@
 //! Reads a module from its text: which module a text spells, and where a text goes wrong that spells none.
+//! What the tokens of a text stand for, and what is at fault in it, are relations over their derivation, with one line for each
+//! production of the grammar. Laws say that the reader's replay comes to the same, and that what is read is in numbered form.
 //! It knows of no rule that a module has to keep.
 #![tactic(auto)]
 

@@ -4,8 +4,8 @@ ghost use Rattle.std.specs.Prelude.{◌≡◌, ℕ, List, ◌≤◌, length, map
 ghost use Rattle.sil_ast.specs.declared.module.Module.{Module};
 ghost use Rattle.sil_lexer.specs.inner.Lexing.{IsLexingOf, Lexing, lexemes_of};
 ghost use Rattle.sil_lexer.specs.Places.{IsInLimit};
-ghost use Rattle.sil_shape.specs.declared.steps.Front.{Front};
-ghost use Rattle.sil_shape.specs.inner.Begun.{LeadsTo};
+ghost use Rattle.sil_grammar_shape.specs.declared.steps.Front.{Front};
+ghost use Rattle.sil_grammar_shape.specs.inner.Begun.{LeadsTo};
 ghost use Rattle.numbered_form.specs.inner.NumberedForm.{IsNumbered};
 ghost use Rattle.sil_grammar.specs.Classes.{token_class};
 ghost use Rattle.sil_grammar.specs.inner.Front.{IsFrontFault};
@@ -16,14 +16,14 @@ ghost use Rattle.sil_grammar.specs.Spells.{Spells, SpellsWritten};
 use crate::cutting::cut_at_last_token;
 use crate::first_bad::{BadPlace, Shape, shape_of};
 use crate::refusal::{ReadRefusal, refusal_of_bad, refusal_of_fault};
-use name_resolution::{NameRefusal, resolve};
 use sil_ast::{Exhausted, Module};
+use sil_grammar_modules::{build, front_fault};
+use sil_grammar_names::{NameRefusal, resolve};
+use sil_grammar_shape::steps::{Front, Step};
+use sil_grammar_tree::{Fault, WrittenModule};
 use sil_lexer::{Tokens, lex};
-use sil_shape::steps::{Front, Step};
 use std::alloc::Global;
 use std::rc::Rc;
-use written_modules::{build, front_fault};
-use written_tree::{Fault, WrittenModule};
 
 /// The module that a text spells which writes `written`.
 fn numbered(alloc: Global, written: WrittenModule) -> Result<Module, ReadRefusal>

@@ -4,14 +4,14 @@ ghost use Rattle.std.specs.Prelude.{◌≡◌};
 ghost use Rattle.sil_grammar.specs.declared.first_bad.BadPlace.{BadPlace};
 ghost use Rattle.sil_grammar.specs.declared.refusal.ReadRefusal.TheVariants.{Memory};
 ghost use Rattle.sil_grammar.specs.Refusals.{refusal_of_bad, refusal_of_fault};
-ghost use Rattle.written_tree.specs.declared.fault.Fault.{Fault};
+ghost use Rattle.sil_grammar_tree.specs.declared.written_tree.fault.Fault.{Fault};
 
 use crate::first_bad::{BadKind, BadPlace};
-use name_resolution::NameRefusal;
 use sil_ast::{Exhausted, Place};
+use sil_grammar_names::NameRefusal;
+use sil_grammar_tree::{Fault, FaultKind};
 use sil_lexer::{LexRefusal, LexStop};
 use sil_rules::LimitWord;
-use written_tree::{Fault, FaultKind};
 
 /// Why a text is not read. All places are those of tokens, or the end of the text.
 #[derive(Clone, Copy, Debug, PartialEq, Eq)]

@@ -7,7 +7,7 @@ use Rattle.std.proofs.lemmas.List.{length_push}
 use Rattle.std.proofs.lemmas.Bool.{and_parts, and_left, or_from, or_cases, or_parts, eqb-true, leb-true, lt-leb, false≢true, not-true, ne_eqb}
 use Rattle.sil_lexer.specs.declared.token.TokenKind.{TokenKind}
 use Rattle.sil_lexer.specs.declared.token.TokenKind.TheVariants.{Word, AtName, Percent, Number, Text, Punctuation}
-use Rattle.text_bytes.specs.Bytes.{is_word_start, is_name_byte, is_text_byte, is_punctuation}
+use Rattle.sil_ast.specs.TextBytes.Bytes.{is_word_start, is_name_byte, is_text_byte, is_punctuation}
 use Rattle.sil_lexer.specs.Spelling.{Spells, word, at_name, percent, number, negative, quoted, punctuation, arrow, IsSpelled, begins_with, continues}
 use Rattle.sil_lexer.specs.inner.Lexing.{IsLongestTaken}
 

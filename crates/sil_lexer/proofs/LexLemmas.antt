@@ -13,7 +13,7 @@ use Rattle.sil_ast.specs.declared.place.Place.{Place}
 use Rattle.sil_lexer.specs.declared.token.TokenKind.{TokenKind}
 use Rattle.sil_lexer.specs.declared.token.LexRefusal.{LexRefusal}
 use Rattle.sil_lexer.specs.declared.token.Token.{Token}
-use Rattle.text_bytes.specs.Bytes.{is_line_feed, is_in_line, is_word_start, is_name_byte, is_text_byte, is_punctuation}
+use Rattle.sil_ast.specs.TextBytes.Bytes.{is_line_feed, is_in_line, is_word_start, is_name_byte, is_text_byte, is_punctuation}
 use Rattle.sil_lexer.specs.Places.{place_before, ahead_of, IsPlaceIn}
 use Rattle.sil_lexer.specs.Spelling.{Spells, word, at_name, percent, number, negative, quoted, punctuation, arrow}
 use Rattle.sil_lexer.specs.Lexes.{Lexeme, Skips, nothing, Stops, Lexes, end, token, stop}

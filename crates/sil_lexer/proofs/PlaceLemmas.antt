@@ -4,7 +4,7 @@ use Rattle.std.specs.Prelude.{not}
 use Rattle.std.specs.List.{suffix_len}
 use Rattle.std.proofs.lemmas.List.Sums.{count_by-le-length, count_by_more_no, suffix_len-le-length, suffix_len-take_yes}
 use Rattle.sil_ast.specs.declared.place.Place.{Place}
-use Rattle.text_bytes.specs.Bytes.{is_line_feed, is_in_line}
+use Rattle.sil_ast.specs.TextBytes.Bytes.{is_line_feed, is_in_line}
 use Rattle.sil_lexer.specs.Places.{place_of, ahead_of, IsPlaceIn}
 
 -- a line or a column is at most one more than the bytes before it

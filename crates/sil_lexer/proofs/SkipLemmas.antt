@@ -6,7 +6,7 @@ use Rattle.std.proofs.lemmas.List.{drop_more, drop_all, take_all, take_rest}
 use Rattle.std.proofs.lemmas.List.Sums.{prefix_len_stops, prefix_len_passes}
 use Rattle.std.proofs.lemmas.Bool.{and_parts, and_right, eqb-true, not-false, not-true, false≢true}
 use Rattle.sil_ast.specs.declared.place.Place.{Place}
-use Rattle.text_bytes.specs.Bytes.{is_blank, is_in_line, is_line_feed}
+use Rattle.sil_ast.specs.TextBytes.Bytes.{is_blank, is_in_line, is_line_feed}
 use Rattle.sil_lexer.specs.Places.{ahead_of, IsPlaceIn}
 use Rattle.sil_lexer.specs.Lexes.{Skips, nothing, blank, comment, last_comment, begins_comment}
 use Rattle.sil_lexer.proofs.PlaceLemmas.{place_ahead}

@@ -6,7 +6,7 @@ use Rattle.std.proofs.lemmas.Bool.{agree_below, agree_below_at}
 use Rattle.sil_lexer.specs.declared.starts.Start.{Start}
 use Rattle.sil_lexer.specs.declared.starts.Start.TheVariants.{Nothing, Letter, AtSign, Percent, Digit, Minus, Quote, Mark}
 use Rattle.sil_lexer.specs.declared.starts.TheConstants.{STARTS}
-use Rattle.text_bytes.specs.Bytes.{is_word_start, is_punctuation}
+use Rattle.sil_ast.specs.TextBytes.Bytes.{is_word_start, is_punctuation}
 use Rattle.sil_lexer.specs.Spelling.{begins_with}
 use Rattle.sil_lexer.specs.inner.Scan.{begins_longer}
 

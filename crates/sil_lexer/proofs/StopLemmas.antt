@@ -11,7 +11,7 @@ use Rattle.sil_ast.specs.declared.place.Place.{Place}
 use Rattle.sil_lexer.specs.declared.token.TokenKind.{TokenKind}
 use Rattle.sil_lexer.specs.declared.token.LexRefusal.{LexRefusal}
 use Rattle.sil_lexer.specs.declared.token.LexRefusal.TheVariants.{BadByte, UnclosedText, NameTooLong}
-use Rattle.text_bytes.specs.Bytes.{is_line_feed, is_word_start, is_name_byte, is_text_byte, is_punctuation}
+use Rattle.sil_ast.specs.TextBytes.Bytes.{is_line_feed, is_word_start, is_name_byte, is_text_byte, is_punctuation}
 use Rattle.sil_lexer.specs.Places.{place_of, place_before, ahead_of, IsPlaceIn}
 use Rattle.sil_lexer.specs.Spelling.{Spells, word, at_name, percent, number, negative, quoted, punctuation, arrow, begins_with, name_length}
 use Rattle.sil_lexer.specs.Lexes.{Stops, bad_byte, bad_text_byte, unclosed_at_line_end, unclosed_at_end, name_too_long, begins_skipped}

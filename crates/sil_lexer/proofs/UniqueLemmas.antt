@@ -9,7 +9,7 @@ use Rattle.std.proofs.lemmas.Bool.{and_parts, or_parts, or_from, and_left, eqb-t
 use Rattle.sil_lexer.specs.declared.token.TokenKind.{TokenKind}
 use Rattle.sil_lexer.specs.declared.token.LexRefusal.{LexRefusal}
 use Rattle.sil_lexer.specs.declared.token.LexRefusal.TheVariants.{BadByte, UnclosedText, NameTooLong}
-use Rattle.text_bytes.specs.Bytes.{is_line_feed, is_in_line, is_blank, is_word_start, is_text_byte, is_punctuation}
+use Rattle.sil_ast.specs.TextBytes.Bytes.{is_line_feed, is_in_line, is_blank, is_word_start, is_text_byte, is_punctuation}
 use Rattle.sil_lexer.specs.Places.{place_before}
 use Rattle.sil_lexer.specs.Spelling.{Spells, word, at_name, percent, number, negative, quoted, punctuation, arrow, IsSpelled, begins_with, name_length}
 use Rattle.sil_lexer.specs.Lexes.{Lexeme, Skips, nothing, blank, comment, last_comment, begins_comment, begins_skipped, BeginsNothing, Stops, bad_byte}

@@ -6,7 +6,7 @@ use Rattle.sil_rules.specs.declared.limits.TheConstants.{NAME_BYTES}
 use Rattle.sil_lexer.specs.declared.token.TokenKind.{TokenKind}
 use Rattle.sil_lexer.specs.declared.token.LexRefusal.{LexRefusal}
 use Rattle.sil_lexer.specs.declared.token.LexRefusal.TheVariants.{BadByte, UnclosedText, NameTooLong}
-use Rattle.text_bytes.specs.Bytes.{is_in_line, is_blank, is_text_byte}
+use Rattle.sil_ast.specs.TextBytes.Bytes.{is_in_line, is_blank, is_text_byte}
 use Rattle.sil_lexer.specs.Spelling.{Spells, IsSpelled, begins_with, name_length}
 use Rattle.sil_lexer.specs.Places.{place_before}
 

@@ -3,7 +3,7 @@ use Rattle.std.specs.Prelude.{◌≡◌, ℕ, ◌+◌, ◌-◌, ◌≤◌, List,
 use Rattle.std.specs.List.{suffix_len}
 use Rattle.sil_ast.specs.declared.place.Place.{Place}
 use Rattle.sil_rules.specs.declared.limits.TheConstants.{TEXT_BYTES}
-use Rattle.text_bytes.specs.Bytes.{is_line_feed, is_in_line}
+use Rattle.sil_ast.specs.TextBytes.Bytes.{is_line_feed, is_in_line}
 
 -- one line more than there are line feeds before it, and one column more than there are bytes since the last of them
 abbrev pub place_of : List ℕ → ℕ → Place

@@ -4,7 +4,7 @@ use Rattle.std.specs.List.{list_all}
 use Rattle.std.specs.Char.{is_ascii_digit}
 use Rattle.sil_lexer.specs.declared.token.TokenKind.{TokenKind}
 use Rattle.sil_lexer.specs.declared.token.TokenKind.TheVariants.{Word, AtName, Percent, Number, Text, Punctuation}
-use Rattle.text_bytes.specs.Bytes.{is_word_start, is_name_byte, is_text_byte, is_punctuation}
+use Rattle.sil_ast.specs.TextBytes.Bytes.{is_word_start, is_name_byte, is_text_byte, is_punctuation}
 
 -- a name without its sigil, and a text without its quotes
 abbrev pub without_sigil : List ℕ → List ℕ

@@ -3,7 +3,7 @@
 ghost use Rattle.std.specs.Prelude.{◌≡◌, ◌≤◌, length};
 ghost use Rattle.std.specs.List.{prefix_len};
 ghost use Rattle.std.specs.Char.{is_ascii_digit};
-ghost use Rattle.text_bytes.specs.Bytes.{is_in_line, is_name_byte, is_text_byte};
+ghost use Rattle.sil_ast.specs.TextBytes.Bytes.{is_in_line, is_name_byte, is_text_byte};
 
 /// Each byte of a name stands at its own place, and a point at every other.
 static NAME_BYTES: [u8; 256] = *b"\

@@ -2,7 +2,7 @@
 
 ghost use Rattle.std.specs.Prelude.{◌==◌, ◌<◌, length, IsTrue, IsFalse};
 ghost use Rattle.std.specs.Char.{is_ascii_digit};
-ghost use Rattle.text_bytes.specs.Bytes.{is_word_start};
+ghost use Rattle.sil_ast.specs.TextBytes.Bytes.{is_word_start};
 ghost use Rattle.sil_lexer.specs.Spelling.{begins_with};
 ghost use Rattle.sil_lexer.specs.Places.{IsInLimit};
 ghost use Rattle.sil_lexer.specs.Lexes.{begins_skipped};

@@ -1,7 +1,7 @@
 //! The way over blanks and comments.
 
 ghost use Rattle.std.specs.Prelude.{◌≡◌, ◌+◌, ◌≤◌, length, drop, IsFalse, IsTrue};
-ghost use Rattle.text_bytes.specs.Bytes as byte;
+ghost use Rattle.sil_ast.specs.TextBytes.Bytes as byte;
 ghost use Rattle.sil_lexer.specs.Spelling.{begins_with};
 ghost use Rattle.sil_lexer.specs.Places.{IsInLimit, IsPlaceIn};
 ghost use Rattle.sil_lexer.specs.Lexes.{begins_comment, Skips};

@@ -3,3 +3,4 @@ pub mod LimitWords
 pub mod Statuses
 pub mod Order
 pub mod inner
+pub mod RuleFaults

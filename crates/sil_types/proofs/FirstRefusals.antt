@@ -4,7 +4,7 @@ use Rattle.std.specs.Prelude.{◌⊎◌, All, IsSomeAnd, slice_get}
 use Rattle.std.specs.List.{flat_map}
 use Rattle.std.proofs.lemmas.Bool.{cases_lt}
 use Rattle.std.proofs.lemmas.Option.{slice_get-get_or}
-use Rattle.containment.specs.Chains.{Chain, one, more, IsCyclic, IsFirstCyclic, parts_of}
+use Rattle.number_tables.specs.ContainmentOrder.Chains.{Chain, one, more, IsCyclic, IsFirstCyclic, parts_of}
 use Rattle.sil_ast.specs.declared.decl.Decl.{Decl}
 use Rattle.sil_ast.specs.declared.module.Module.{Module}
 use Rattle.sil_rules.specs.Order.{NotAfter, IsLeast, stage_of}
@@ -13,15 +13,15 @@ use Rattle.sil_rules.specs.declared.limit_word.LimitWord.TheVariants as word
 use Rattle.sil_rules.specs.declared.rule.Rule.{Rule}
 use Rattle.sil_rules.specs.declared.rule.Rule.TheVariants as rule
 use Rattle.std.specs.Prelude.{Contains}
-use Rattle.type_definitions.specs.Contained.{containment, lower_places, place_list}
-use Rattle.type_definitions.specs.Declarations.{Declarations, declarations_of, swift_structs, all_names}
-use Rattle.type_definitions.specs.Mentions.{items_of}
-use Rattle.type_definitions.specs.Rules.{HoldsItself, IsWellNamed, Declared, exceeds_depth, exceeds_leaves}
-use Rattle.type_measures.proofs.Agreement.{names-Int}
-use Rattle.type_item_rules.specs.declared.by_item.ItemFault.{ItemFault}
-use Rattle.type_item_rules.specs.Faults.{Breaks, BreaksIn, fault_key}
-use Rattle.type_item_rules.specs.Faults.Breaks.{unknown_type, bad_member, misplaced_storage}
-use Rattle.type_item_rules.proofs.FirstFaults.{stage_at}
+use Rattle.sil_types_declarations.specs.TypeDefinitions.Contained.{containment, lower_places, place_list}
+use Rattle.sil_types_declarations.specs.TypeDefinitions.Declarations.{Declarations, declarations_of, swift_structs, all_names}
+use Rattle.sil_types_declarations.specs.TypeDefinitions.Mentions.{items_of}
+use Rattle.sil_types_declarations.specs.TypeDefinitions.Rules.{HoldsItself, IsWellNamed, Declared, exceeds_depth, exceeds_leaves}
+use Rattle.sil_types_items.proofs.TypeMeasures.Agreement.{names-Int}
+use Rattle.sil_types_items.specs.declared.type_item_rules.by_item.ItemFault.{ItemFault}
+use Rattle.sil_types_items.specs.TypeItemRules.Faults.{Breaks, BreaksIn, fault_key}
+use Rattle.sil_types_items.specs.TypeItemRules.Faults.Breaks.{unknown_type, bad_member, misplaced_storage}
+use Rattle.sil_types_items.proofs.TypeItemRules.FirstFaults.{stage_at}
 use Rattle.sil_types.specs.declared.refusal.TypeRefusal.{TypeRefusal}
 use Rattle.sil_types.specs.declared.refusal.TypeRefusal.TheVariants as refusal
 use Rattle.sil_types.specs.Refusals.{ShownIn, refusal_key, IsRefusal, IsRule}

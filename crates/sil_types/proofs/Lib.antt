@@ -1,4 +1,3 @@
 pub mod FirstRefusals
 mod PastLimits
-pub use Rattle.type_item_rules.proofs as type_item_rules
-pub use Rattle.type_measures.proofs as type_measures
+pub use Rattle.sil_types_items.proofs as sil_types_items

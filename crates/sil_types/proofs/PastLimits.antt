@@ -7,16 +7,16 @@ use Rattle.std.specs.List.{list_any}
 use Rattle.sil_rules.specs.declared.limits.TheConstants.{DEPTH, LEAVES}
 use Rattle.sil_ast.specs.declared.module.Module.{Module}
 use Rattle.sil_ast.specs.declared.type_name.TypeName.TheVariants.{Int, Named}
-use Rattle.value_tables.specs.numbered_form.Names.{Name}
-use Rattle.type_definitions.specs.Declarations.{Declarations, all_names, at_place, declarations_of, place_of}
-use Rattle.type_definitions.specs.Measures.{measure_at, measure_of, measured, measures_of, unmeasured}
-use Rattle.type_definitions.specs.declared.measure.Measure.{Measure}
-use Rattle.type_measures.proofs.Agreement.{measure-Int, measure-Named}
-use Rattle.type_measures.specs.inner.Gathered.{capped}
-use Rattle.type_item_rules.specs.Faults.{is_wrong_type}
-use Rattle.type_item_rules.proofs.NoFaults.{any_of_two, first_of_none, second_of_none}
-use Rattle.type_definitions.specs.Mentions.{mentions_of}
-use Rattle.type_definitions.specs.Rules.{InLimits, exceeds_depth, exceeds_leaves, has_too_many_leaves, is_too_deep, is_too_low}
+use Rattle.sil_types_declarations.specs.numbered_form.Names.{Name}
+use Rattle.sil_types_declarations.specs.TypeDefinitions.Declarations.{Declarations, all_names, at_place, declarations_of, place_of}
+use Rattle.sil_types_declarations.specs.TypeDefinitions.Measures.{measure_at, measure_of, measured, measures_of, unmeasured}
+use Rattle.sil_types_declarations.specs.declared.type_definitions.measure.Measure.{Measure}
+use Rattle.sil_types_items.proofs.TypeMeasures.Agreement.{measure-Int, measure-Named}
+use Rattle.sil_types_items.specs.TypeMeasures.inner.Gathered.{capped}
+use Rattle.sil_types_items.specs.TypeItemRules.Faults.{is_wrong_type}
+use Rattle.sil_types_items.proofs.TypeItemRules.NoFaults.{any_of_two, first_of_none, second_of_none}
+use Rattle.sil_types_declarations.specs.TypeDefinitions.Mentions.{mentions_of}
+use Rattle.sil_types_declarations.specs.TypeDefinitions.Rules.{InLimits, exceeds_depth, exceeds_leaves, has_too_many_leaves, is_too_deep, is_too_low}
 use Rattle.sil_types.specs.inner.Limits.{any_past, exceeds, is_past}
 use Rattle.sil_types.specs.declared.limits.Limit.{Limit}
 use Rattle.sil_types.specs.declared.limits.Limit.TheVariants.{Depth, Leaves, Either}

@@ -6,9 +6,9 @@ use Rattle.sil_rules.specs.declared.limit_word.LimitWord.{LimitWord}
 use Rattle.sil_rules.specs.declared.limit_word.LimitWord.TheVariants as word
 use Rattle.sil_rules.specs.declared.rule.Rule.{Rule}
 use Rattle.sil_rules.specs.declared.rule.Rule.TheVariants as rule
-use Rattle.type_definitions.specs.Declarations.{declarations_of}
-use Rattle.type_definitions.specs.Rules.{HoldsItself, exceeds_depth, exceeds_leaves}
-use Rattle.type_item_rules.specs.Faults.{BreaksIn}
+use Rattle.sil_types_declarations.specs.TypeDefinitions.Declarations.{declarations_of}
+use Rattle.sil_types_declarations.specs.TypeDefinitions.Rules.{HoldsItself, exceeds_depth, exceeds_leaves}
+use Rattle.sil_types_items.specs.TypeItemRules.Faults.{BreaksIn}
 use Rattle.sil_types.specs.declared.refusal.TypeRefusal.{TypeRefusal}
 use Rattle.sil_types.specs.declared.refusal.TypeRefusal.TheVariants as refusal
 

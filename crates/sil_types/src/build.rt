@@ -1,12 +1,12 @@
 //! Makes a module's type table, or says why it has none.
 
 ghost use Rattle.std.specs.Prelude.{◌≡◌, ◌||◌, ◌+◌, ◌<◌, ◌^◌, ℕ, OnOk, IfOk, IfErr, length, true};
-ghost use Rattle.value_tables.specs.numbered_form.inner.NumberedForm.{IsNumbered};
-ghost use Rattle.type_definitions.specs.Declarations.{declarations_of};
-ghost use Rattle.type_definitions.specs.Rules.{AreDeclarationsOf, HoldsItself, InLimits, exceeds_depth, exceeds_leaves};
-ghost use Rattle.type_item_rules.specs.Faults.{BreaksIn};
-ghost use Rattle.type_item_rules.specs.declared.by_item.ItemFault.{ItemFault};
-ghost use Rattle.type_measures.specs.inner.ByParts.{AreByParts};
+ghost use Rattle.sil_types_declarations.specs.numbered_form.inner.NumberedForm.{IsNumbered};
+ghost use Rattle.sil_types_declarations.specs.TypeDefinitions.Declarations.{declarations_of};
+ghost use Rattle.sil_types_declarations.specs.TypeDefinitions.Rules.{AreDeclarationsOf, HoldsItself, InLimits, exceeds_depth, exceeds_leaves};
+ghost use Rattle.sil_types_items.specs.TypeItemRules.Faults.{BreaksIn};
+ghost use Rattle.sil_types_items.specs.declared.type_item_rules.by_item.ItemFault.{ItemFault};
+ghost use Rattle.sil_types_items.specs.TypeMeasures.inner.ByParts.{AreByParts};
 ghost use Rattle.sil_types.specs.Refusals.{IsRefusal};
 
 use crate::items::check_items;
@@ -17,9 +17,9 @@ use crate::table::TypeTable;
 use crate::wrong::any_wrong;
 use sil_ast::Module;
 use sil_rules::LimitWord;
+use sil_types_declarations::DeclarationTable;
+use sil_types_items::measures;
 use std::alloc::Global;
-use type_declarations::DeclarationTable;
-use type_measures::measures;
 
 impl TypeTable {
     /// The type table of a module. The refusal is the first of all that is wrong: 101, 103 and 104 by item and then by rule,

@@ -1,7 +1,7 @@
 //! What a table holds, for those who copy it or lay its types out.
 
 ghost use Rattle.std.specs.Prelude.{◌≡◌, ◌≤◌, SomeIff};
-ghost use Rattle.type_definitions.specs.Measures.{leaves_of};
+ghost use Rattle.sil_types_declarations.specs.TypeDefinitions.Measures.{leaves_of};
 
 use crate::table::TypeTable;
 use sil_ast::{Decl, TypeName, Vtable};

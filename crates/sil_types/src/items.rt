@@ -1,16 +1,16 @@
 //! The first item that breaks 101, 103 or 104, as a refusal.
 
 ghost use Rattle.std.specs.Prelude.{◌≡◌, ◌+◌, ◌<◌, ◌^◌, length, OnOk, IfErr};
-ghost use Rattle.type_definitions.specs.Declarations.{declarations_of};
-ghost use Rattle.type_item_rules.specs.Faults.{BreaksIn};
-ghost use Rattle.type_item_rules.specs.declared.by_item.ItemFault.{ItemFault};
+ghost use Rattle.sil_types_declarations.specs.TypeDefinitions.Declarations.{declarations_of};
+ghost use Rattle.sil_types_items.specs.TypeItemRules.Faults.{BreaksIn};
+ghost use Rattle.sil_types_items.specs.declared.type_item_rules.by_item.ItemFault.{ItemFault};
 ghost use Rattle.sil_types.specs.Refusals.{IsRefusal, IsRule};
 
 use crate::refusal::TypeRefusal;
 use sil_ast::Module;
 use sil_rules::Rule;
-use type_declarations::DeclarationTable;
-use type_item_rules::first_fault;
+use sil_types_declarations::DeclarationTable;
+use sil_types_items::first_fault;
 
 /// The refusal of an item, unless its number is more than one of a module can be: then memory counts as exhausted.
 pub(crate) fn refused(rule: Rule, item: usize) -> TypeRefusal

@@ -2,22 +2,21 @@
 
 ghost use Rattle.std.specs.Prelude.{◌≡◌, false};
 ghost use Rattle.std.specs.List.{list_any};
-ghost use Rattle.value_tables.specs.numbered_form.Names.{Name};
+ghost use Rattle.sil_types_declarations.specs.numbered_form.Names.{Name};
 ghost use Rattle.sil_ast.specs.declared.type_name.TypeName.TheVariants as type_of;
-ghost use Rattle.type_definitions.specs.Measures.{measure_of};
-ghost use Rattle.type_definitions.specs.Rules as rules;
-ghost use Rattle.type_definitions.specs.Rules.{is_too_low};
-ghost use Rattle.type_definitions.specs.declared.measure.Measure.{Measure};
-ghost use Rattle.type_measures.specs.inner.Gathered.{capped};
+ghost use Rattle.sil_types_declarations.specs.TypeDefinitions.Measures.{measure_of};
+ghost use Rattle.sil_types_declarations.specs.TypeDefinitions.Rules as rules;
+ghost use Rattle.sil_types_declarations.specs.TypeDefinitions.Rules.{is_too_low};
+ghost use Rattle.sil_types_declarations.specs.declared.type_definitions.measure.Measure.{Measure};
+ghost use Rattle.sil_types_items.specs.TypeMeasures.inner.Gathered.{capped};
 ghost use Rattle.sil_types.specs.inner.Limits as limits;
 ghost use Rattle.sil_types.specs.inner.Limits.{exceeds};
 
 use crate::table::TypeTable;
 use sil_ast::{Decl, Given, Module, Operand, Text, TypeName};
 use sil_rules::limits::{DEPTH, LEAVES};
-use type_declarations::DeclarationTable;
-use type_definitions::{Measure, Standing};
-use type_mentions::{MentionTest, any_in_module};
+use sil_types_declarations::{DeclarationTable, Measure, Standing};
+use sil_types_items::{MentionTest, any_in_module};
 
 /// Which of the two limits is asked.
 #[derive(Clone, Copy)]

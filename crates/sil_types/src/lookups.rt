@@ -2,17 +2,17 @@
 
 ghost use Rattle.std.specs.Prelude.{◌≡◌, ◌≤◌, length, option_map};
 ghost use Rattle.std.specs.Option.{option_copied};
-ghost use Rattle.type_definitions.specs.Declarations.{decl_of, inherits, superclass_of};
-ghost use Rattle.type_definitions.specs.Lookups as lookups;
-ghost use Rattle.type_definitions.specs.Lookups.{class_place, field_of, payload_of};
-ghost use Rattle.type_definitions.specs.Measures as measures;
-ghost use Rattle.type_definitions.specs.Measures.{leaves_of};
-ghost use Rattle.type_declarations.specs.inner.Found.{field_told, payload_told};
+ghost use Rattle.sil_types_declarations.specs.TypeDefinitions.Declarations.{decl_of, inherits, superclass_of};
+ghost use Rattle.sil_types_declarations.specs.TypeDefinitions.Lookups as lookups;
+ghost use Rattle.sil_types_declarations.specs.TypeDefinitions.Lookups.{class_place, field_of, payload_of};
+ghost use Rattle.sil_types_declarations.specs.TypeDefinitions.Measures as measures;
+ghost use Rattle.sil_types_declarations.specs.TypeDefinitions.Measures.{leaves_of};
+ghost use Rattle.sil_types_declarations.specs.TypeDeclarations.inner.Found.{field_told, payload_told};
 
 use crate::table::TypeTable;
 use sil_ast::{Decl, Field, FuncId, Text, TypeName};
 use sil_rules::limits::LEAVES;
-use type_declarations::{FieldRef, PayloadRef};
+use sil_types_declarations::{FieldRef, PayloadRef};
 
 impl TypeTable {
     /// Whether a type holds no reference. An address is taken as its target.

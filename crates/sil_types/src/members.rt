@@ -3,12 +3,12 @@
 ghost use Rattle.std.specs.Prelude.{◌≡◌, option_map};
 ghost use Rattle.std.specs.Option.{option_copied};
 ghost use Rattle.sil_ast.specs.declared.type_name.TypeName.{out-TypeName};
-ghost use Rattle.type_declarations.specs.inner.Found.{payload_told};
+ghost use Rattle.sil_types_declarations.specs.TypeDeclarations.inner.Found.{payload_told};
 ghost use Rattle.sil_types.specs.Typing.Shapes as shapes;
 
 use crate::table::TypeTable;
 use sil_ast::{Decl, Field, Member, TypeName};
-use type_declarations::PayloadRef;
+use sil_types_declarations::PayloadRef;
 
 /// The fields of a type that is a struct.
 pub fn fields_of_struct<'t>(table: &'t TypeTable, ty: &TypeName) -> Option<&'t [Field]>

@@ -4,7 +4,7 @@
 ghost use Rattle.std.specs.Prelude.{◌≡◌, IfNone, IfSome};
 ghost use Rattle.std.specs.Option.{option_copied};
 ghost use Rattle.sil_ast.specs.declared.type_name.TypeName.TheVariants as type;
-ghost use Rattle.type_definitions.specs.Mentions.{direct_type, direct_types};
+ghost use Rattle.sil_types_declarations.specs.TypeDefinitions.Mentions.{direct_type, direct_types};
 ghost use Rattle.sil_types.specs.Typing.RowTypes as rows;
 ghost use Rattle.sil_types.specs.Typing.SignatureRules as signatures;
 

@@ -1,20 +1,20 @@
 //! The first declaration that holds itself, as a refusal, or an order of all.
 
 ghost use Rattle.std.specs.Prelude.{◌≡◌, ◌+◌, ◌<◌, ◌^◌, ℕ, IfOk, OnOk, IfErr, length};
-ghost use Rattle.containment.specs.inner.Order.{IsOrder};
-ghost use Rattle.type_definitions.specs.Contained as contained;
-ghost use Rattle.type_definitions.specs.Declarations.{declarations_of};
-ghost use Rattle.type_definitions.specs.Rules.{HoldsItself};
+ghost use Rattle.number_tables.specs.ContainmentOrder.inner.Order.{IsOrder};
+ghost use Rattle.sil_types_declarations.specs.TypeDefinitions.Contained as contained;
+ghost use Rattle.sil_types_declarations.specs.TypeDefinitions.Declarations.{declarations_of};
+ghost use Rattle.sil_types_declarations.specs.TypeDefinitions.Rules.{HoldsItself};
 ghost use Rattle.sil_types.specs.Refusals.{IsRefusal};
 
 use crate::items::{check_items, refused};
 use crate::refusal::TypeRefusal;
-use containment::{Containment, order_or_ring};
+use number_tables::{Containment, order_or_ring};
 use sil_ast::Module;
 use sil_rules::Rule;
+use sil_types_declarations::DeclarationTable;
+use sil_types_items::containment;
 use std::alloc::Global;
-use type_declarations::DeclarationTable;
-use type_measures::containment;
 
 /// An order of all declarations in which parts stand before wholes. A module in which one holds itself is refused, for that or
 /// for an item that breaks another rule.

@@ -2,7 +2,7 @@
 
 ghost use Rattle.std.specs.Prelude.{◌≡◌};
 ghost use Rattle.std.specs.Option.{option_copied};
-ghost use Rattle.type_definitions.specs.Rules as rules;
+ghost use Rattle.sil_types_declarations.specs.TypeDefinitions.Rules as rules;
 ghost use Rattle.sil_types.specs.Typing.Shapes as shapes;
 
 use crate::table::TypeTable;

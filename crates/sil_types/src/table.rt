@@ -3,15 +3,14 @@
 ghost use Rattle.std.specs.Prelude.{◌≡◌, map};
 ghost use Rattle.std.specs.List.{flat_map};
 ghost use Rattle.sil_ast.specs.declared.type_name.TypeName.TheVariants as type_of;
-ghost use Rattle.type_definitions.specs.Measures.{measure_of, measures_of};
-ghost use Rattle.type_definitions.specs.Mentions.{direct_type, operand_types, together};
-ghost use Rattle.type_measures.specs.inner.Gathered.{capped};
+ghost use Rattle.sil_types_declarations.specs.TypeDefinitions.Measures.{measure_of, measures_of};
+ghost use Rattle.sil_types_declarations.specs.TypeDefinitions.Mentions.{direct_type, operand_types, together};
+ghost use Rattle.sil_types_items.specs.TypeMeasures.inner.Gathered.{capped};
 
 use sil_ast::{Given, List, Operand, Text, TypeName};
+use sil_types_declarations::{DeclarationTable, Measure};
+use sil_types_items::{measure_name, measure_operands, measure_results, measure_type};
 use std::marker::Model;
-use type_declarations::DeclarationTable;
-use type_definitions::Measure;
-use type_measures::{measure_name, measure_operands, measure_results, measure_type};
 
 /// What a module declares, with what is measured on its types. To a contract it is what the module declares.
 #[derive(Drop)]
@@ -25,9 +24,9 @@ impl Model for TypeTable {
     ghost use Rattle.std.specs.Prelude.{◌≡◌, map};
     ghost use Rattle.std.specs.Coded.{codes};
     ghost use Rattle.sil_ast.specs.contracts.type_name.TypeName as type_name;
-    ghost use Rattle.type_definitions.specs.Declarations.{Declarations};
-    ghost use Rattle.type_definitions.specs.Measures.{measures_of};
-    ghost use Rattle.type_measures.specs.inner.Gathered.{capped};
+    ghost use Rattle.sil_types_declarations.specs.TypeDefinitions.Declarations.{Declarations};
+    ghost use Rattle.sil_types_declarations.specs.TypeDefinitions.Measures.{measures_of};
+    ghost use Rattle.sil_types_items.specs.TypeMeasures.inner.Gathered.{capped};
 
     ghost Value = { Declarations };
 

@@ -5,18 +5,20 @@ ghost use Rattle.std.specs.Prelude.{◌≡◌, ◌||◌, false};
 ghost use Rattle.std.specs.List.{list_any};
 ghost use Rattle.sil_types.specs.inner.Limits.{exceeds};
 ghost use Rattle.sil_types.specs.declared.limits.Limit.TheVariants.{Either};
-ghost use Rattle.type_definitions.specs.Declarations.{declarations_of};
-ghost use Rattle.type_definitions.specs.Mentions.{mentions_of};
-ghost use Rattle.type_definitions.specs.Rules.{InLimits};
-ghost use Rattle.type_item_rules.specs.Faults.{BreaksIn, is_wrong_type};
-ghost use Rattle.type_item_rules.specs.declared.by_item.ItemFault.{ItemFault};
+ghost use Rattle.sil_types_declarations.specs.TypeDefinitions.Declarations.{declarations_of};
+ghost use Rattle.sil_types_declarations.specs.TypeDefinitions.Mentions.{mentions_of};
+ghost use Rattle.sil_types_declarations.specs.TypeDefinitions.Rules.{InLimits};
+ghost use Rattle.sil_types_items.specs.TypeItemRules.Faults.{BreaksIn, is_wrong_type};
+ghost use Rattle.sil_types_items.specs.declared.type_item_rules.by_item.ItemFault.{ItemFault};
 
 use crate::limits::{Limit, PastLimit, any_too_low};
 use crate::table::TypeTable;
 use sil_ast::{Given, Module, Operand, Text, TypeName};
-use type_definitions::Standing;
-use type_item_rules::{any_bad_member, any_unknown_superclass, any_wrong_vtable, is_wrong_type};
-use type_mentions::{MentionTest, any_in_module};
+use sil_types_declarations::Standing;
+use sil_types_items::{
+    MentionTest, any_bad_member, any_in_module, any_unknown_superclass, any_wrong_vtable,
+    is_wrong_type,
+};
 
 /// Finds types that break 101 or 104, or exceed a limit.
 #[derive(Drop)]

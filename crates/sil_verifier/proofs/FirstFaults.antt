@@ -23,8 +23,8 @@ use Rattle.type_check.specs.Refusals.{fault_at, fault_key, IsBroken}
 use Rattle.type_check.specs.Refusals.IsBroken.{broken}
 use Rattle.type_check.specs.declared.fault.TypingFault.{TypingFault}
 use Rattle.sil_verifier.specs.inner.Lowered.{first_lowered, is_before}
-use Rattle.accepted_modules.specs.Refusals.{IsLowered}
-use Rattle.accepted_modules.specs.Refusals.IsLowered.{lowered}
+use Rattle.sil_verifier_accepted.specs.AcceptedModules.Refusals.{IsLowered}
+use Rattle.sil_verifier_accepted.specs.AcceptedModules.Refusals.IsLowered.{lowered}
 
 -- 207 at the function, where it is lowered
 abbrev IsLoweredAt : ℕ → Function → TypingFault → Type 0

@@ -2,31 +2,31 @@
 use Rattle.std.proofs.Common.{◌≡◌, length, refl, sym, ap, ◌∙◌, subst, arith, None, Some}
 use Rattle.sil_ast.specs.declared.function.Function.{Function}
 use Rattle.sil_cfg.specs.Layout.{Layout}
-use Rattle.rule_faults.specs.declared.fault.RuleEnd.{RuleEnd}
-use Rattle.rule_faults.specs.declared.fault.RuleEnd.TheVariants as end
-use Rattle.rule_faults.specs.declared.fault.RuleFault.{RuleFault}
+use Rattle.sil_rules.specs.declared.rule_faults.fault.RuleEnd.{RuleEnd}
+use Rattle.sil_rules.specs.declared.rule_faults.fault.RuleEnd.TheVariants as end
+use Rattle.sil_rules.specs.declared.rule_faults.fault.RuleFault.{RuleFault}
 use Rattle.numbered_form.specs.Numbering.{values_of}
 use Rattle.sil_rules.specs.Order.{IsLeast, NotAfter}
 use Rattle.sil_rules.specs.declared.group.Group.TheVariants as group
-use Rattle.type_definitions.specs.Declarations.{Declarations}
-use Rattle.point_checks.specs.inner.Reports.{report_of}
-use Rattle.path_checks.specs.First as paths
-use Rattle.path_checks.specs.inner.Reported.{found_at}
+use Rattle.sil_types_declarations.specs.TypeDefinitions.Declarations.{Declarations}
+use Rattle.numbered_form.specs.PointChecks.inner.Reports.{report_of}
+use Rattle.reach_engine_marks.specs.PathChecks.First as paths
+use Rattle.reach_engine_marks.specs.PathChecks.inner.Reported.{found_at}
 use Rattle.value_availability.specs.Accesses.{accesses_of}
 use Rattle.value_availability.specs.inner.Availability.{IsAvailable, IsFirstUndefined, IsUndefined}
 use Rattle.ownership_kinds.specs.inner.Ends.{IsEndOn, IsFaultOn}
-use Rattle.ownership_kinds.specs.Facts.{facts_in}
+use Rattle.ownership_kinds.specs.ownership_kinds_origins.Facts.{facts_in}
 use Rattle.ownership_kinds.specs.Statics.{HasKinds}
-use Rattle.ownership_marks.specs.Known.{AreKindsBy, Known}
+use Rattle.ownership_kinds_chains.specs.OwnershipMarks.Known.{AreKindsBy, Known}
 use Rattle.lifetime_worklist.specs.inner.Lifetimes.{AreLivesKept, IsFirstBrokenLife, IsLifeBroken}
 use Rattle.borrow_scopes.specs.inner.Borrows.{AreScopesKept, IsFirstBrokenScope, IsScopeBroken}
-use Rattle.memory_rules.specs.memory_accesses.Sources.{sources_of}
+use Rattle.memory_rules.specs.memory_rules_accesses.Sources.{sources_of}
 use Rattle.memory_rules.specs.Broken as breaks
 use Rattle.memory_rules.specs.inner.Ends.{IsFirstFault, IsMemoryEnd, IsMemoryKept}
-use Rattle.accepted_modules.proofs.Groups.{by_group, of_definitions, of_kinds, of_lifetimes, of_memory, of_scopes, within_group}
-use Rattle.accepted_modules.specs.Shown.{IsShownIn, inner_key, lives_in, scopes_in}
-use Rattle.accepted_modules.specs.Shown.IsShownIn.{undefined, kind, life, scope, memory}
-use Rattle.accepted_modules.specs.Values.{IsCleanIn, IsEndIn, IsFirstIn}
+use Rattle.sil_verifier_accepted.proofs.AcceptedModules.Groups.{by_group, of_definitions, of_kinds, of_lifetimes, of_memory, of_scopes, within_group}
+use Rattle.sil_verifier_accepted.specs.AcceptedModules.Shown.{IsShownIn, inner_key, lives_in, scopes_in}
+use Rattle.sil_verifier_accepted.specs.AcceptedModules.Shown.IsShownIn.{undefined, kind, life, scope, memory}
+use Rattle.sil_verifier_accepted.specs.AcceptedModules.Values.{IsCleanIn, IsEndIn, IsFirstIn}
 
 module _ (d : Declarations) (f : Function) where
   -- 301

@@ -5,16 +5,16 @@ use Rattle.std.proofs.lemmas.Bool.{cases_eq}
 use Rattle.std.proofs.lemmas.Option.{slice_get_read, slice_get_within, same_Some}
 use Rattle.sil_ast.specs.declared.function.Function.{Function}
 use Rattle.sil_ast.specs.declared.module.Module.{Module}
-use Rattle.rule_faults.specs.declared.fault.RuleFault.{RuleFault}
+use Rattle.sil_rules.specs.declared.rule_faults.fault.RuleFault.{RuleFault}
 use Rattle.sil_rules.specs.Order.{NotAfter}
 use Rattle.sil_rules.proofs.Keys.{compared}
-use Rattle.type_definitions.specs.Declarations.{declarations_of}
+use Rattle.sil_types_declarations.specs.TypeDefinitions.Declarations.{declarations_of}
 use Rattle.sil_cfg.specs.Items.{HasBlocks}
-use Rattle.accepted_modules.proofs.Groups.{stage_told}
-use Rattle.accepted_modules.specs.Shown.{IsShownIn, inner_key}
-use Rattle.accepted_modules.specs.Values.{IsCleanIn, IsFirstIn, IsFirstOf, IsRefusalIn, IsShown, IsValueRefusal, ModuleShowing, showing_key}
-use Rattle.accepted_modules.specs.declared.refusals.ValueRefusal.{ValueRefusal}
-use Rattle.accepted_modules.specs.declared.refusals.ValueRefusal.TheVariants as refusal
+use Rattle.sil_verifier_accepted.proofs.AcceptedModules.Groups.{stage_told}
+use Rattle.sil_verifier_accepted.specs.AcceptedModules.Shown.{IsShownIn, inner_key}
+use Rattle.sil_verifier_accepted.specs.AcceptedModules.Values.{IsCleanIn, IsFirstIn, IsFirstOf, IsRefusalIn, IsShown, IsValueRefusal, ModuleShowing, showing_key}
+use Rattle.sil_verifier_accepted.specs.declared.accepted_modules.refusals.ValueRefusal.{ValueRefusal}
+use Rattle.sil_verifier_accepted.specs.declared.accepted_modules.refusals.ValueRefusal.TheVariants as refusal
 
 -- nothing is shown in the functions before this one
 abbrev pub IsCleanBefore : Module → ℕ → Type 0

@@ -2,4 +2,4 @@ pub mod FirstFaults
 mod FirstShown
 mod Functions
 mod Stages
-pub use Rattle.accepted_modules.proofs as accepted_modules
+pub use Rattle.sil_verifier_accepted.proofs as sil_verifier_accepted

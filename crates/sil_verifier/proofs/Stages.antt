@@ -2,7 +2,7 @@
 -- that is wrong, where the stages before it find nothing.
 use Rattle.std.proofs.Common.{ℕ, ◌+◌, ◌≤◌, List, [], ◌∷◌, arith, inl, inr}
 use Rattle.sil_ast.specs.declared.module.Module.{Module}
-use Rattle.rule_faults.specs.declared.fault.RuleFault.{RuleFault}
+use Rattle.sil_rules.specs.declared.rule_faults.fault.RuleFault.{RuleFault}
 use Rattle.sil_rules.specs.Order.{IsLeast, NotAfter}
 use Rattle.sil_rules.specs.declared.limit_word.LimitWord.{LimitWord}
 use Rattle.sil_rules.specs.declared.rule.Rule.{Rule}
@@ -16,15 +16,15 @@ use Rattle.type_check.proofs.FirstFaults.{stage_at_function, stage_at_point}
 use Rattle.type_check.specs.Refusals.{fault_at, fault_key}
 use Rattle.type_check.specs.Refusals.IsBroken.{broken}
 use Rattle.type_check.specs.declared.fault.TypingFault.{TypingFault}
-use Rattle.type_definitions.specs.Declarations.{declarations_of}
-use Rattle.type_definitions.specs.Mentions.{items_of}
-use Rattle.sil_types.proofs.type_item_rules.FirstFaults.{stage_at}
-use Rattle.accepted_modules.proofs.DeclaredTypes.{declared_not_refused, typed_not_wrong}
-use Rattle.accepted_modules.proofs.Groups.{stage_told}
-use Rattle.accepted_modules.specs.Findings.{Finding, item, limit, typing, value, IsFound, Refusal, finding_key}
-use Rattle.accepted_modules.specs.Refusals.{HasDeclaredTypes, HasTypes, IsWrong}
-use Rattle.accepted_modules.specs.Refusals.IsLowered.{lowered}
-use Rattle.accepted_modules.specs.Values.{IsShown, ModuleShowing, showing_key}
+use Rattle.sil_types_declarations.specs.TypeDefinitions.Declarations.{declarations_of}
+use Rattle.sil_types_declarations.specs.TypeDefinitions.Mentions.{items_of}
+use Rattle.sil_types_items.proofs.TypeItemRules.FirstFaults.{stage_at}
+use Rattle.sil_verifier_accepted.proofs.AcceptedModules.DeclaredTypes.{declared_not_refused, typed_not_wrong}
+use Rattle.sil_verifier_accepted.proofs.AcceptedModules.Groups.{stage_told}
+use Rattle.sil_verifier_accepted.specs.AcceptedModules.Findings.{Finding, item, limit, typing, value, IsFound, Refusal, finding_key}
+use Rattle.sil_verifier_accepted.specs.AcceptedModules.Refusals.{HasDeclaredTypes, HasTypes, IsWrong}
+use Rattle.sil_verifier_accepted.specs.AcceptedModules.Refusals.IsLowered.{lowered}
+use Rattle.sil_verifier_accepted.specs.AcceptedModules.Values.{IsShown, ModuleShowing, showing_key}
 
 -- the first number of a key is at most this, or at least
 abbrev IsAtMost : ℕ → List ℕ → Type 0

@@ -2,13 +2,13 @@
 
 ghost use Rattle.std.specs.Prelude.{◌≡◌, IfOk};
 ghost use Rattle.numbered_form.specs.inner.NumberedForm.{IsNumbered};
-ghost use Rattle.type_definitions.specs.Rules.{AreDeclarationsOf};
-ghost use Rattle.accepted_modules.specs.inner.Checked.{IsVerified, IsVerifiedWith};
-ghost use Rattle.accepted_runs.specs.inner.Laws.{NeverFaults};
+ghost use Rattle.sil_types_declarations.specs.TypeDefinitions.Rules.{AreDeclarationsOf};
+ghost use Rattle.sil_verifier_accepted.specs.AcceptedModules.inner.Checked.{IsVerified, IsVerifiedWith};
+ghost use Rattle.sil_verifier_runs.specs.inner.Laws.{NeverFaults};
 
-use accepted_runs::no_outcome_faults;
 use sil_ast::{Exhausted, Module};
 use sil_types::TypeTable;
+use sil_verifier_runs::no_outcome_faults;
 use std::alloc::Global;
 use std::marker::Model;
 
@@ -23,7 +23,7 @@ impl Model for Checked {
     ghost use Rattle.std.specs.Coded.{codes};
     ghost use Rattle.sil_ast.specs.contracts.type_name.TypeName as type_name;
     ghost use Rattle.sil_ast.specs.declared.module.Module.{Module};
-    ghost use Rattle.accepted_modules.specs.inner.Checked.{IsVerifiedWith};
+    ghost use Rattle.sil_verifier_accepted.specs.AcceptedModules.inner.Checked.{IsVerifiedWith};
 
     ghost Value = { Module };
 

@@ -4,7 +4,7 @@ ghost use Rattle.std.specs.Prelude.{◌≡◌, ◌+◌, ◌<◌, ◌^◌, length
 ghost use Rattle.sil_rules.specs.Order.{IsFirst};
 ghost use Rattle.type_check.specs.Refusals.{fault_key};
 ghost use Rattle.sil_verifier.specs.inner.Lowered.{first_lowered};
-ghost use Rattle.accepted_modules.specs.Refusals.{IsLowered};
+ghost use Rattle.sil_verifier_accepted.specs.AcceptedModules.Refusals.{IsLowered};
 
 use sil_ast::{Form, FuncId, Function, Module};
 use sil_rules::Rule;

@@ -2,14 +2,13 @@
 
 ghost use Rattle.std.specs.Prelude.{◌≡◌, ◌+◌, ◌<◌, ◌^◌, length, IfSome};
 ghost use Rattle.sil_ast.specs.declared.module.Module as any;
-ghost use Rattle.accepted_modules.specs.Findings as finding;
-ghost use Rattle.accepted_modules.specs.Findings.{vtable_item};
+ghost use Rattle.sil_verifier_accepted.specs.AcceptedModules.Findings as finding;
+ghost use Rattle.sil_verifier_accepted.specs.AcceptedModules.Findings.{vtable_item};
 ghost use Rattle.sil_verifier.specs.inner.Reports.{Reported};
 
 use crate::refusal::Refusal;
-use rule_faults::RuleFault;
 use sil_ast::{FuncId, List, Module};
-use sil_rules::Rule;
+use sil_rules::{Rule, RuleFault};
 use std::alloc::Global;
 use type_check::TypingFault;
 

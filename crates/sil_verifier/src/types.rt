@@ -2,13 +2,13 @@
 
 ghost use Rattle.std.specs.Prelude.{◌≡◌, IfErr, IfOk, OnOk};
 ghost use Rattle.numbered_form.specs.inner.NumberedForm.{IsNumbered};
-ghost use Rattle.type_definitions.specs.Rules.{AreDeclarationsOf};
-ghost use Rattle.accepted_modules.specs.Refusals.{HasTypes, IsRefusal};
+ghost use Rattle.sil_types_declarations.specs.TypeDefinitions.Rules.{AreDeclarationsOf};
+ghost use Rattle.sil_verifier_accepted.specs.AcceptedModules.Refusals.{HasTypes, IsRefusal};
 
 use crate::typing::first_fault;
-use accepted_modules::StaticRefusal;
 use sil_ast::Module;
 use sil_types::{TypeRefusal, TypeTable};
+use sil_verifier_accepted::StaticRefusal;
 use std::alloc::Global;
 
 /// The type table of a module that keeps 101 to 104, the limits on types and 201 to 212, and whose functions with a body all have

@@ -5,9 +5,9 @@ ghost use Rattle.numbered_form.specs.inner.NumberedForm.{IsNumbered};
 ghost use Rattle.sil_ast.specs.declared.module.Module.{Module};
 ghost use Rattle.sil_rules.specs.Order.{IsEarlier, IsFirst};
 ghost use Rattle.type_check.specs.Refusals.{IsBroken, fault_key};
-ghost use Rattle.type_definitions.specs.Rules.{AreDeclarationsOf};
+ghost use Rattle.sil_types_declarations.specs.TypeDefinitions.Rules.{AreDeclarationsOf};
 ghost use Rattle.sil_verifier.specs.inner.Lowered as lowering;
-ghost use Rattle.accepted_modules.specs.Refusals.{IsLowered, IsWrong};
+ghost use Rattle.sil_verifier_accepted.specs.AcceptedModules.Refusals.{IsLowered, IsWrong};
 
 use crate::lowered::first_lowered;
 use sil_ast::{Exhausted, Module};

@@ -2,19 +2,19 @@
 
 ghost use Rattle.std.specs.Prelude.{IfErr, OnOk};
 ghost use Rattle.numbered_form.specs.inner.NumberedForm.{IsNumbered};
-ghost use Rattle.type_definitions.specs.Rules.{AreDeclarationsOf};
+ghost use Rattle.sil_types_declarations.specs.TypeDefinitions.Rules.{AreDeclarationsOf};
 ghost use Rattle.sil_cfg.specs.inner.Build.{HasGraph};
-ghost use Rattle.point_checks.specs.inner.Numbered.{IsOfNumberedModule};
+ghost use Rattle.numbered_form.specs.PointChecks.inner.Numbered.{IsOfNumberedModule};
 ghost use Rattle.sil_cfg.specs.Items.{HasBlocks};
-ghost use Rattle.accepted_modules.specs.Refusals.{HasTypes};
-ghost use Rattle.accepted_modules.specs.Values.{AcceptedValues, IsCleanIn, IsEndIn, IsRefusalIn, IsValueRefusal};
+ghost use Rattle.sil_verifier_accepted.specs.AcceptedModules.Refusals.{HasTypes};
+ghost use Rattle.sil_verifier_accepted.specs.AcceptedModules.Values.{AcceptedValues, IsCleanIn, IsEndIn, IsRefusalIn, IsValueRefusal};
 
-use accepted_modules::ValueRefusal;
 use ownership_kinds::kinds_in;
-use rule_faults::{RuleEnd, RuleFault};
 use sil_ast::{FuncId, Function, Module};
 use sil_cfg::Graph;
+use sil_rules::{RuleEnd, RuleFault};
 use sil_types::TypeTable;
+use sil_verifier_accepted::ValueRefusal;
 use std::alloc::Global;
 
 /// The checks of one function, in order.

@@ -3,22 +3,22 @@
 ghost use Rattle.std.specs.Prelude.{◌≡◌, IfErr, IfOk, OnOk};
 ghost use Rattle.numbered_form.specs.inner.NumberedForm.{IsNumbered};
 ghost use Rattle.sil_verifier.specs.inner.Ends.{IsVerifyEnd};
-ghost use Rattle.accepted_modules.specs.Findings.{Accepted};
-ghost use Rattle.accepted_modules.specs.Refusals as types;
-ghost use Rattle.accepted_modules.specs.Refusals.{HasTypes};
-ghost use Rattle.accepted_modules.specs.Values.{IsValueRefusal};
-ghost use Rattle.accepted_modules.specs.declared.refusals.StaticRefusal.TheVariants as static;
-ghost use Rattle.accepted_runs.specs.inner.Laws.{NeverFaults};
+ghost use Rattle.sil_verifier_accepted.specs.AcceptedModules.Findings.{Accepted};
+ghost use Rattle.sil_verifier_accepted.specs.AcceptedModules.Refusals as types;
+ghost use Rattle.sil_verifier_accepted.specs.AcceptedModules.Refusals.{HasTypes};
+ghost use Rattle.sil_verifier_accepted.specs.AcceptedModules.Values.{IsValueRefusal};
+ghost use Rattle.sil_verifier_accepted.specs.declared.accepted_modules.refusals.StaticRefusal.TheVariants as static;
+ghost use Rattle.sil_verifier_runs.specs.inner.Laws.{NeverFaults};
 
 use crate::checked::Checked;
 use crate::refusal::Refusal;
 use crate::reports::{item_refusal, typing_refusal, value_refusal};
 use crate::types::check_types;
 use crate::values::check_values;
-use accepted_modules::{StaticRefusal, ValueRefusal};
-use accepted_runs::no_outcome_faults;
 use sil_ast::Module;
 use sil_rules::LimitWord;
+use sil_verifier_accepted::{StaticRefusal, ValueRefusal};
+use sil_verifier_runs::no_outcome_faults;
 use std::alloc::Global;
 use type_check::TypingFault;
 

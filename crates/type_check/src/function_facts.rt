@@ -3,12 +3,11 @@
 ghost use Rattle.std.specs.Prelude.{OnOk};
 ghost use Rattle.type_check.specs.inner.Facts.{AreFactsOf};
 
+use crate::typing_forms::count_incoming;
 use sil_ast::{Exhausted, FuncId, Function};
 use sil_types::TypeTable;
 use std::alloc::Global;
-use typing_forms::count_incoming;
-use typing_signatures::find_value_functions;
-use typing_values::{GivenTypes, find_value_types};
+use type_check_values::{GivenTypes, find_value_functions, find_value_types};
 
 /// What the rows give: by value its type, by instruction how many results. By value the function that it stands for, and by block
 /// how many edges go to it, 2 for more than one.

@@ -6,7 +6,7 @@ ghost use Rattle.numbered_form.specs.Lists.{Each};
 ghost use Rattle.type_check.specs.inner.Body.{AreBlocksInRange, AreEdgesInRange, HasBodyInRange, IsBody};
 ghost use Rattle.type_check.specs.inner.FirstFault.{fault_of_block, fault_of_inst};
 ghost use Rattle.type_check.specs.inner.Firsts.{first_from};
-ghost use Rattle.typing_values.specs.inner.Given.{given_count};
+ghost use Rattle.type_check_values.specs.TypingValues.inner.Given.{given_count};
 
 use crate::body::Body;
 use crate::fault::TypingFault;

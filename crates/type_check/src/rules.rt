@@ -8,19 +8,19 @@ ghost use Rattle.sil_types.specs.Typing.Values.{value_types};
 ghost use Rattle.type_check.specs.inner.Body.{AreEdgesInRange, IsBody};
 ghost use Rattle.type_check.specs.inner.FirstFault.{judged_function, judged_point, judged_use, judged_vtable};
 ghost use Rattle.type_check.specs.inner.Firsts.{first_broken};
-ghost use Rattle.type_definitions.specs.Declarations.{declarations_of};
-ghost use Rattle.typing_values.specs.inner.Given.{given_count};
+ghost use Rattle.sil_types.specs.sil_types_declarations.TypeDefinitions.Declarations.{declarations_of};
+ghost use Rattle.type_check_values.specs.TypingValues.inner.Given.{given_count};
 
 use crate::body::Body;
+use crate::typing_forms::{has_wrong_cases, has_wrong_qualifier, is_of_other_form, mixes_forms};
 use sil_ast::{Form, Function, Inst, Module, Vtable};
 use sil_rules::Rule;
 use sil_types::TypeTable;
-use typing_forms::{has_wrong_cases, has_wrong_qualifier, is_of_other_form, mixes_forms};
-use typing_signatures::{
+use type_check_values::{
     calls_no_function, differs_from_signature, goes_to_entry, has_wrong_deinitialiser,
-    has_wrong_edge_arguments, has_wrong_signature, is_no_output_call, lets_address_escape,
+    has_wrong_edge_arguments, has_wrong_operand_type, has_wrong_result_count, has_wrong_signature,
+    is_no_output_call, lets_address_escape,
 };
-use typing_values::{has_wrong_operand_type, has_wrong_result_count};
 
 /// The first rule that the function itself breaks. `first` is the form of the module's first function with a body.
 pub(crate) fn rule_at_function(

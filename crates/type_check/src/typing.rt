@@ -10,8 +10,8 @@ ghost use Rattle.type_check.specs.inner.Body.{HasBodyInRange};
 ghost use Rattle.type_check.specs.inner.FirstFault.{fault_of, fault_of_function, fault_of_vtable};
 ghost use Rattle.type_check.specs.inner.Firsts.{first_from};
 ghost use Rattle.type_check.specs.Refusals.{IsRefusal};
-ghost use Rattle.type_definitions.specs.Declarations.{declarations_of};
-ghost use Rattle.type_definitions.specs.Rules.{AreDeclarationsOf};
+ghost use Rattle.sil_types.specs.sil_types_declarations.TypeDefinitions.Declarations.{declarations_of};
+ghost use Rattle.sil_types.specs.sil_types_declarations.TypeDefinitions.Rules.{AreDeclarationsOf};
 
 use crate::body::Body;
 use crate::fault::TypingFault;
@@ -19,10 +19,10 @@ use crate::function_facts::{FunctionFacts, find_facts};
 use crate::points::first_in_body;
 use crate::refusal::CheckRefusal;
 use crate::rules::{rule_at_function, rule_at_vtable};
+use crate::typing_forms::first_form;
 use sil_ast::{Exhausted, Form, FuncId, Function, Module, Vtable};
 use sil_types::TypeTable;
 use std::alloc::Global;
-use typing_forms::first_form;
 
 /// Decides whether a module is typed: whether it keeps 201 to 212. The refusal is the first of all that is wrong: by function,
 /// within it at the function before its points, the points in order, at one place by rule, and behind all functions 208 by vtable.

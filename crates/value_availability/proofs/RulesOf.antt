@@ -5,10 +5,10 @@ use Rattle.sil_ast.specs.declared.function.Function.{Function}
 use Rattle.sil_cfg.specs.declared.item.Item.{Item}
 use Rattle.sil_rules.specs.Rules.{group_of}
 use Rattle.sil_rules.specs.declared.group.Group.TheVariants.{Definitions}
-use Rattle.item_operands.specs.Parts.{item_arguments, item_handover, item_operands, item_results}
-use Rattle.path_checks.specs.inner.Groups.{ShowsOnly}
-use Rattle.path_checks.specs.declared.entry.Entry.{Entry}
-use Rattle.path_checks.proofs.RulesShown.{each_append, each_map, shown_rule}
+use Rattle.sil_cfg_items.specs.Parts.{item_arguments, item_handover, item_operands, item_results}
+use Rattle.reach_engine_marks.specs.PathChecks.inner.Groups.{ShowsOnly}
+use Rattle.reach_engine_marks.specs.declared.path_checks.entry.Entry.{Entry}
+use Rattle.reach_engine_marks.proofs.PathChecks.RulesShown.{each_append, each_map, shown_rule}
 use Rattle.value_availability.specs.Accesses.{accesses_of, begun, defined, used}
 
 abbrev IsOn : Entry → Type 0

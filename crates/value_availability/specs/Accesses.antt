@@ -6,9 +6,9 @@ use Rattle.sil_ast.specs.declared.function.Function.{Function}
 use Rattle.sil_ast.specs.declared.function.BlockArg.{BlockArg}
 use Rattle.sil_cfg.specs.declared.item.Item.{Item}
 use Rattle.sil_rules.specs.declared.rule.Rule.TheVariants as rule
-use Rattle.item_operands.specs.Parts.{item_arguments, item_handover, item_operands, item_results}
-use Rattle.path_patterns.specs.Marks.{needs_on, turns_on}
-use Rattle.path_checks.specs.declared.entry.Entry.{Entry}
+use Rattle.sil_cfg_items.specs.Parts.{item_arguments, item_handover, item_operands, item_results}
+use Rattle.reach_engine_marks.specs.PathPatterns.Marks.{needs_on, turns_on}
+use Rattle.reach_engine_marks.specs.declared.path_checks.entry.Entry.{Entry}
 
 -- an operand needs its value defined
 abbrev pub used : Operand → Entry

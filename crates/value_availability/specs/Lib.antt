@@ -1,3 +1,3 @@
 pub mod Accesses
 pub mod inner
-pub use Rattle.path_checks.specs as path_checks
+pub use Rattle.reach_engine_marks.specs as reach_engine_marks

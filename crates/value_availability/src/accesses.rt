@@ -3,11 +3,10 @@
 ghost use Rattle.std.specs.Prelude.{◌≡◌, ◌++◌, map, OnOk};
 ghost use Rattle.value_availability.specs.Accesses.{accesses_of, begun, defined, used};
 
-use item_operands::{item_arguments, item_handover, item_operands, item_results};
-use path_checks::{Entry, ItemTable};
-use path_patterns::Mark;
+use reach_engine_marks::{Entry, ItemTable, Mark};
 use sil_ast::{BlockArg, Exhausted, Function, Operand, ValueId};
 use sil_cfg::Item;
+use sil_cfg_items::{item_arguments, item_handover, item_operands, item_results};
 use sil_rules::Rule;
 
 /// An operand needs its value defined.

@@ -2,15 +2,15 @@
 
 ghost use Rattle.std.specs.Prelude.{IfOk, OnOk, IfErr};
 ghost use Rattle.sil_cfg.specs.inner.Build.{IsGraphOf};
-ghost use Rattle.path_checks.specs.First.{IsFirst};
+ghost use Rattle.reach_engine_marks.specs.PathChecks.First.{IsFirst};
 ghost use Rattle.value_availability.specs.Accesses.{accesses_of};
 ghost use Rattle.value_availability.specs.inner.Availability.{IsAvailable, IsUndefined};
 
 use crate::accesses::Accesses;
-use path_checks::{PathFault, entries_by_item, first_fault};
-use rule_faults::RuleEnd;
+use reach_engine_marks::{PathFault, entries_by_item, first_fault};
 use sil_ast::{Exhausted, Function};
 use sil_cfg::Graph;
+use sil_rules::RuleEnd;
 use std::alloc::Global;
 
 /// The first value that some walk uses before its definition, with a walk of fewest edges that shows it.

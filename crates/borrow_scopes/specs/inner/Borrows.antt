@@ -3,17 +3,17 @@ use Rattle.std.specs.Prelude.{◌≡◌, ℕ, ⊤, Option, Some, None}
 use Rattle.sil_ast.specs.declared.function.Function.{Function}
 use Rattle.sil_ast.specs.declared.place.ValueId.{ValueId}
 use Rattle.sil_cfg.specs.Layout.{Layout}
-use Rattle.rule_faults.specs.declared.fault.RuleEnd.{RuleEnd}
-use Rattle.rule_faults.specs.declared.fault.RuleEnd.TheVariants.{Fault, Memory}
-use Rattle.rule_faults.specs.declared.fault.RuleFault.{RuleFault}
+use Rattle.sil_rules.specs.declared.rule_faults.fault.RuleEnd.{RuleEnd}
+use Rattle.sil_rules.specs.declared.rule_faults.fault.RuleEnd.TheVariants.{Fault, Memory}
+use Rattle.sil_rules.specs.declared.rule_faults.fault.RuleFault.{RuleFault}
 use Rattle.sil_rules.specs.declared.rule.Rule.{Rule}
 use Rattle.sil_cfg.specs.declared.item.Item.{Item}
-use Rattle.path_checks.specs.First.{IsFirst}
-use Rattle.path_checks.specs.inner.Reported.{found_at}
-use Rattle.path_checks.specs.declared.fault.PathFault.{PathFault}
-use Rattle.ownership_marks.specs.ownership_chains.Facts.{told_at, value_of}
-use Rattle.ownership_marks.specs.ownership_chains.declared.facts.Facts.{Facts}
-use Rattle.ownership_marks.specs.Known.{AreKindsBy, Known}
+use Rattle.reach_engine_marks.specs.PathChecks.First.{IsFirst}
+use Rattle.reach_engine_marks.specs.PathChecks.inner.Reported.{found_at}
+use Rattle.reach_engine_marks.specs.declared.path_checks.fault.PathFault.{PathFault}
+use Rattle.ownership_kinds_chains.specs.OwnershipChains.Facts.{told_at, value_of}
+use Rattle.ownership_kinds_chains.specs.declared.ownership_chains.facts.Facts.{Facts}
+use Rattle.ownership_kinds_chains.specs.OwnershipMarks.Known.{AreKindsBy, Known}
 use Rattle.borrow_scopes.specs.Others.{other_of}
 use Rattle.borrow_scopes.specs.Scopes.{scopes_of}
 

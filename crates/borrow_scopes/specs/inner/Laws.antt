@@ -3,8 +3,8 @@ use Rattle.std.specs.Prelude.{ℕ, Option}
 use Rattle.sil_ast.specs.declared.function.Function.{Function}
 use Rattle.sil_ast.specs.declared.place.ValueId.{ValueId}
 use Rattle.sil_rules.specs.declared.group.Group.TheVariants as group
-use Rattle.path_checks.specs.inner.Groups.{ShowsOnly}
-use Rattle.ownership_marks.specs.ownership_chains.declared.facts.Facts.{Facts}
+use Rattle.reach_engine_marks.specs.PathChecks.inner.Groups.{ShowsOnly}
+use Rattle.ownership_kinds_chains.specs.declared.ownership_chains.facts.Facts.{Facts}
 use Rattle.borrow_scopes.specs.Scopes.{scopes_of}
 
 -- what walks show of the scopes breaks a rule on scopes

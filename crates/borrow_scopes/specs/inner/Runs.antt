@@ -3,17 +3,17 @@ use Rattle.std.specs.Prelude.{◌≡◌, ◌↔◌, ℕ, List, true, ◌==◌, c
 use Rattle.sil_ast.specs.declared.function.Function.{Function}
 use Rattle.sil_ast.specs.declared.place.ValueId.{ValueId}
 use Rattle.sil_cfg.specs.declared.item.Item.{Item}
-use Rattle.path_patterns.specs.Switch.{IsOn}
-use Rattle.path_patterns.specs.inner.Runs as runs
-use Rattle.path_patterns.specs.inner.Runs.{IsHeld, Sort}
-use Rattle.path_patterns.specs.declared.mark.Mark as pattern
-use Rattle.path_checks.specs.Entries.{marks_for}
-use Rattle.ownership_marks.specs.ownership_chains.Facts.{known_or}
-use Rattle.ownership_marks.specs.ownership_chains.declared.facts.Facts.{Facts}
-use Rattle.ownership_marks.specs.Marks.{marks_of}
-use Rattle.ownership_marks.specs.declared.mark.Mark.{Mark}
-use Rattle.ownership_marks.specs.declared.mark.MarkSort.{MarkSort}
-use Rattle.ownership_marks.specs.declared.mark.MarkSort.TheVariants.{End, Use, Begin}
+use Rattle.reach_engine_marks.specs.PathPatterns.Switch.{IsOn}
+use Rattle.reach_engine_marks.specs.PathPatterns.inner.Runs as runs
+use Rattle.reach_engine_marks.specs.PathPatterns.inner.Runs.{IsHeld, Sort}
+use Rattle.reach_engine_marks.specs.declared.path_patterns.mark.Mark as pattern
+use Rattle.reach_engine_marks.specs.PathChecks.Entries.{marks_for}
+use Rattle.ownership_kinds_chains.specs.OwnershipChains.Facts.{known_or}
+use Rattle.ownership_kinds_chains.specs.declared.ownership_chains.facts.Facts.{Facts}
+use Rattle.ownership_kinds_chains.specs.OwnershipMarks.Marks.{marks_of}
+use Rattle.ownership_kinds_chains.specs.declared.ownership_marks.mark.Mark.{Mark}
+use Rattle.ownership_kinds_chains.specs.declared.ownership_marks.mark.MarkSort.{MarkSort}
+use Rattle.ownership_kinds_chains.specs.declared.ownership_marks.mark.MarkSort.TheVariants.{End, Use, Begin}
 use Rattle.borrow_scopes.specs.Scopes.{is_scope, scopes_of}
 
 abbrev pub sort_of : MarkSort → Sort

@@ -4,16 +4,16 @@ use Rattle.std.specs.List.{range_with_len}
 use Rattle.std.specs.declared.alloc.Global.{Global}
 use Rattle.std.specs.declared.vec.Vec.{Vec}
 use Rattle.sil_ast.specs.declared.place.ValueId.{ValueId}
-use Rattle.path_checks.specs.declared.entry.Entry as entry
-use Rattle.path_patterns.specs.inner.Reads.{accesses_at}
-use Rattle.path_patterns.specs.declared.mark.Mark as pattern
-use Rattle.ownership_marks.specs.ownership_chains.Facts.{has, is_guaranteed, value_of}
-use Rattle.ownership_marks.specs.ownership_chains.declared.facts.Facts.{Facts}
-use Rattle.value_tables.specs.Borrows.{is_borrow_in, lent_in}
-use Rattle.value_tables.specs.declared.borrows.Borrow.{Borrow}
-use Rattle.ownership_marks.specs.declared.mark.Mark as mark
-use Rattle.ownership_marks.specs.declared.mark.MarkSort.{MarkSort}
-use Rattle.ownership_marks.specs.declared.mark.MarkSort.TheVariants.{End, Use, Begin}
+use Rattle.reach_engine_marks.specs.declared.path_checks.entry.Entry as entry
+use Rattle.reach_engine_marks.specs.PathPatterns.inner.Reads.{accesses_at}
+use Rattle.reach_engine_marks.specs.declared.path_patterns.mark.Mark as pattern
+use Rattle.ownership_kinds_chains.specs.OwnershipChains.Facts.{has, is_guaranteed, value_of}
+use Rattle.ownership_kinds_chains.specs.declared.ownership_chains.facts.Facts.{Facts}
+use Rattle.numbered_form.specs.ValueTables.Borrows.{is_borrow_in, lent_in}
+use Rattle.numbered_form.specs.declared.value_tables.borrows.Borrow.{Borrow}
+use Rattle.ownership_kinds_chains.specs.declared.ownership_marks.mark.Mark as mark
+use Rattle.ownership_kinds_chains.specs.declared.ownership_marks.mark.MarkSort.{MarkSort}
+use Rattle.ownership_kinds_chains.specs.declared.ownership_marks.mark.MarkSort.TheVariants.{End, Use, Begin}
 use Rattle.borrow_scopes.specs.Scopes.{bases_in, entry_of, left_at_return, lost_at_end}
 
 -- the scopes that borrow from the base with this number

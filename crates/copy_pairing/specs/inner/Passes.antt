@@ -6,9 +6,9 @@ use Rattle.sil_ast.specs.declared.inst.Inst.{Inst}
 use Rattle.sil_ast.specs.declared.module.Module.{Module}
 use Rattle.sil_ast.specs.declared.place.PointId.{PointId}
 use Rattle.sil_rules.specs.Order.{NotAfter}
-use Rattle.type_definitions.specs.Declarations.{declarations_of}
-use Rattle.copy_removal.specs.Optimised.{IsOptimised, Rewrites, text_key}
-use Rattle.sil_verifier.specs.accepted_modules.inner.Checked.{IsVerified}
+use Rattle.sil_types_declarations.specs.TypeDefinitions.Declarations.{declarations_of}
+use Rattle.copy_pairing_model.specs.Optimised.{IsOptimised, Rewrites, text_key}
+use Rattle.sil_verifier.specs.sil_verifier_accepted.AcceptedModules.inner.Checked.{IsVerified}
 
 abbrev pub blocks_in : Option Function → List Block
 blocks_in None = []

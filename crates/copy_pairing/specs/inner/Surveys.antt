@@ -5,17 +5,17 @@ use Rattle.sil_ast.specs.declared.module.Module.{Module}
 use Rattle.sil_ast.specs.declared.place.ValueId.{ValueId}
 use Rattle.sil_cfg.specs.inner.Build.{IsGraphOf}
 use Rattle.numbered_form.specs.Numbering.{values_of}
-use Rattle.type_definitions.specs.Declarations.{Declarations}
-use Rattle.value_tables.specs.Borrows.{borrows_of}
-use Rattle.ownership_chains.specs.Facts.{known_or}
-use Rattle.ownership_kinds.specs.Facts.{facts_in}
+use Rattle.sil_types_declarations.specs.TypeDefinitions.Declarations.{Declarations}
+use Rattle.numbered_form.specs.ValueTables.Borrows.{borrows_of}
+use Rattle.ownership_kinds_chains.specs.OwnershipChains.Facts.{known_or}
+use Rattle.ownership_kinds.specs.ownership_kinds_origins.Facts.{facts_in}
 use Rattle.ownership_kinds.specs.inner.Ends.{AreKindsOf}
-use Rattle.ownership_marks.specs.Known.{facts_of}
+use Rattle.ownership_kinds_chains.specs.OwnershipMarks.Known.{facts_of}
 use Rattle.copy_pairing.specs.declared.surveys.Survey.{Survey}
 use Rattle.copy_pairing.specs.declared.notes.Age.{Age}
 use Rattle.copy_pairing.specs.declared.notes.Age.TheVariants.{Current, Moved, Lent}
 use Rattle.copy_pairing.specs.declared.notes.Notes.{Notes}
-use Rattle.borrowable_copies.specs.inner.Answers.{AreAnswers, AreSpared}
+use Rattle.copy_pairing_search.specs.BorrowableCopies.inner.Answers.{AreAnswers, AreSpared}
 
 -- the survey is the function's
 pub record IsSurveyOf (types : Declarations) (f : Function) (s : Survey) : Type 0 where

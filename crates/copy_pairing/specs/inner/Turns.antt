@@ -4,16 +4,16 @@ use Rattle.sil_ast.specs.declared.function.Function.{Function}
 use Rattle.sil_ast.specs.declared.module.Module.{Module}
 use Rattle.sil_ast.specs.declared.place.PointId.{PointId}
 use Rattle.sil_ast.specs.declared.place.ValueId.{ValueId}
-use Rattle.ownership_chains.specs.Facts.{is_owned, told_at}
-use Rattle.ownership_chains.specs.declared.facts.Facts.{Facts}
-use Rattle.ownership_kinds.specs.Facts.{facts_in}
-use Rattle.ownership_marks.specs.Known as known
-use Rattle.ownership_marks.specs.Known.{Known}
-use Rattle.type_definitions.specs.Declarations.{Declarations}
-use Rattle.copy_removal.specs.Copies.{IsCopy}
-use Rattle.copy_removal.specs.Optimised.{Rewrites}
-use Rattle.copy_removal.specs.Removable.{IsBorrowable, IsDestroyedNext, IsMovable}
-use Rattle.copy_removal.specs.Rewritten.{lent, moved, with_function}
+use Rattle.ownership_kinds_chains.specs.OwnershipChains.Facts.{is_owned, told_at}
+use Rattle.ownership_kinds_chains.specs.declared.ownership_chains.facts.Facts.{Facts}
+use Rattle.ownership_kinds.specs.ownership_kinds_origins.Facts.{facts_in}
+use Rattle.ownership_kinds_chains.specs.OwnershipMarks.Known as known
+use Rattle.ownership_kinds_chains.specs.OwnershipMarks.Known.{Known}
+use Rattle.sil_types_declarations.specs.TypeDefinitions.Declarations.{Declarations}
+use Rattle.copy_pairing_model.specs.Copies.{IsCopy}
+use Rattle.copy_pairing_model.specs.Optimised.{Rewrites}
+use Rattle.copy_pairing_model.specs.Removable.{IsBorrowable, IsDestroyedNext, IsMovable}
+use Rattle.copy_pairing_model.specs.Rewritten.{lent, moved, with_function}
 use Rattle.copy_pairing.specs.declared.turns.Turn.{Turn}
 use Rattle.copy_pairing.specs.declared.turns.Turn.TheVariants.{Stay, Lend, Move}
 

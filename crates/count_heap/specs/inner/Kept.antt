@@ -1,13 +1,13 @@
 -- What holds of a heap's memory.
 use Rattle.std.specs.Prelude.{◌≡◌, ◌<◌, ◌≤◌, ◌+◌, ℕ, List, Some, false, is_some, count_by, length, option_map}
-use Rattle.type_definitions.specs.Declarations.{Declarations}
-use Rattle.run_values.specs.Memory.{is_dead_phase}
+use Rattle.sil_types.specs.sil_types_declarations.TypeDefinitions.Declarations.{Declarations}
+use Rattle.holder_model_values.specs.RunValues.Memory.{is_dead_phase}
 use Rattle.weak_unowned.specs.Sides.{idle_count, is_idle_at, sides_at}
 use Rattle.weak_unowned.specs.declared.side.SlotSides.{SlotSides}
-use Rattle.number_table.specs.Numbers.{Numbers, slot_in}
-use Rattle.leaf_pool.specs.Pieces.{Pieces, piece_in}
-use Rattle.class_layouts.specs.ClassFields.{leaves_by_field}
-use Rattle.class_layouts.specs.Layouts.{size_of}
+use Rattle.number_tables.specs.TableByNumber.Numbers.{Numbers, slot_in}
+use Rattle.count_heap.specs.PooledLeaves.Pieces.{Pieces, piece_in}
+use Rattle.count_heap.specs.LayoutsByClass.ClassFields.{leaves_by_field}
+use Rattle.count_heap.specs.LayoutsByClass.Layouts.{size_of}
 use Rattle.count_heap.specs.declared.slot_record.SlotRecord.{SlotRecord}
 use Rattle.count_heap.specs.inner.Objects.{record_at}
 

@@ -1,13 +1,13 @@
 -- What the laws of heaps say.
 use Rattle.std.specs.Prelude.{◌≡◌, ◌≤◌, ◌&&◌, ◌==◌, ℕ, List, [], ◌∷◌, None, false, true, max, not}
 use Rattle.sil_ast.specs.declared.place.ObjectId.{ObjectId}
-use Rattle.type_definitions.specs.Declarations.{Declarations}
-use Rattle.run_values.specs.declared.leaf.Leaf.{Leaf}
-use Rattle.run_values.specs.declared.phase.Phase.TheVariants.{Dead}
-use Rattle.heap_model.specs.HeapCalls.{allocated_in, empty_heap, finished, release_tried, released, retained, started}
-use Rattle.heap_model.specs.HeapCalls.{unowned_named, unowned_unnamed, weakly_named, weakly_unnamed}
-use Rattle.heap_model.specs.HeapCalls.{changed, with_field, with_field_of, with_part}
-use Rattle.heap_model.specs.HeapViews.{HeapView, is_unfreed, phase_in, strong_in, unfreed_count, unowned_in, weak_in}
+use Rattle.sil_types.specs.sil_types_declarations.TypeDefinitions.Declarations.{Declarations}
+use Rattle.holder_model_values.specs.declared.run_values.leaf.Leaf.{Leaf}
+use Rattle.holder_model_values.specs.declared.run_values.phase.Phase.TheVariants.{Dead}
+use Rattle.count_heap.specs.HeapModel.HeapCalls.{allocated_in, empty_heap, finished, release_tried, released, retained, started}
+use Rattle.count_heap.specs.HeapModel.HeapCalls.{unowned_named, unowned_unnamed, weakly_named, weakly_unnamed}
+use Rattle.count_heap.specs.HeapModel.HeapCalls.{changed, with_field, with_field_of, with_part}
+use Rattle.count_heap.specs.HeapModel.HeapViews.{HeapView, is_unfreed, phase_in, strong_in, unfreed_count, unowned_in, weak_in}
 
 pub record IsNothing (h : HeapView) (o : ObjectId) : Type 0 where
   pub phase : phase_in h o ≡ Dead

@@ -1,18 +1,18 @@
 -- The objects of a heap, as they lie in memory: the slot of each, a record and side counts by slot, and pieces of leaves.
 use Rattle.std.specs.Prelude.{ℕ, ◌+◌, List, [], Bool, true, false, cond, Option, Some, None, drop, length, map, option_map, slice_index_or, take, unwrap_or}
-use Rattle.type_definitions.specs.Declarations.{Declarations}
-use Rattle.run_values.specs.Memory.{is_dead_phase}
-use Rattle.run_values.specs.declared.leaf.Leaf.{Leaf}
-use Rattle.run_values.specs.declared.leaf.Leaf.TheVariants.{Blank, Int, Object, Tag}
-use Rattle.run_values.specs.declared.phase.Phase.TheVariants.{Dead}
+use Rattle.sil_types.specs.sil_types_declarations.TypeDefinitions.Declarations.{Declarations}
+use Rattle.holder_model_values.specs.RunValues.Memory.{is_dead_phase}
+use Rattle.holder_model_values.specs.declared.run_values.leaf.Leaf.{Leaf}
+use Rattle.holder_model_values.specs.declared.run_values.leaf.Leaf.TheVariants.{Blank, Int, Object, Tag}
+use Rattle.holder_model_values.specs.declared.run_values.phase.Phase.TheVariants.{Dead}
 use Rattle.weak_unowned.specs.Sides.{sides_at}
 use Rattle.weak_unowned.specs.declared.side.SlotSides.{SlotSides}
-use Rattle.number_table.specs.Numbers.{Numbers}
-use Rattle.leaf_pool.specs.Pieces.{Pieces, piece_in}
-use Rattle.class_layouts.specs.ClassFields.{leaves_by_field}
-use Rattle.class_layouts.specs.Layouts.{places_from}
-use Rattle.class_layouts.specs.declared.field_place.FieldPlace.{FieldPlace}
-use Rattle.heap_model.specs.HeapViews.{HeapObject, HeapView}
+use Rattle.number_tables.specs.TableByNumber.Numbers.{Numbers}
+use Rattle.count_heap.specs.PooledLeaves.Pieces.{Pieces, piece_in}
+use Rattle.count_heap.specs.LayoutsByClass.ClassFields.{leaves_by_field}
+use Rattle.count_heap.specs.LayoutsByClass.Layouts.{places_from}
+use Rattle.count_heap.specs.declared.layouts_by_class.field_place.FieldPlace.{FieldPlace}
+use Rattle.count_heap.specs.HeapModel.HeapViews.{HeapObject, HeapView}
 use Rattle.count_heap.specs.declared.slot_record.SlotRecord.{SlotRecord}
 
 abbrev pub no_record : SlotRecord

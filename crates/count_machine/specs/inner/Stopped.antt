@@ -1,12 +1,12 @@
 -- What is told of the machine when it has stopped.
 use Rattle.std.specs.Prelude.{◌≡◌, ℕ, List, [], Option, Some, None, option_and_then, slice_get, unwrap_or}
 use Rattle.holder_model.specs.States.{Ending}
-use Rattle.item_operands.specs.Parts.{inst_at}
-use Rattle.lowered_run.specs.declared.low_fault.LowFault.{LowFault}
-use Rattle.machine_laws.specs.inner.Told.{IsEnding, outcome_told}
-use Rattle.machine_steps.specs.declared.run_end.RunEnd.{RunEnd}
-use Rattle.machine_steps.specs.Views.{MachineView}
-use Rattle.run_values.specs.Shapes.{Shape}
+use Rattle.sil_cfg_items.specs.Parts.{inst_at}
+use Rattle.holder_model.specs.declared.lowered_run.low_fault.LowFault.{LowFault}
+use Rattle.count_machine_laws.specs.inner.Told.{IsEnding, outcome_told}
+use Rattle.count_machine_model.specs.declared.machine_steps.run_end.RunEnd.{RunEnd}
+use Rattle.count_machine_model.specs.MachineSteps.Views.{MachineView}
+use Rattle.holder_model_values.specs.RunValues.Shapes.{Shape}
 use Rattle.sil_ast.specs.declared.inst.Inst.{Inst}
 use Rattle.sil_ast.specs.declared.module.Module.{Module}
 use Rattle.sil_ast.specs.declared.place.FuncId.{FuncId}

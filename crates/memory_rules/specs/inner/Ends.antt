@@ -2,12 +2,12 @@
 use Rattle.std.specs.Prelude.{⊤, Some, None}
 use Rattle.sil_ast.specs.declared.function.Function.{Function}
 use Rattle.sil_cfg.specs.Layout.{Layout}
-use Rattle.rule_faults.specs.declared.fault.RuleEnd.{RuleEnd}
-use Rattle.rule_faults.specs.declared.fault.RuleEnd.TheVariants.{Fault, Memory}
-use Rattle.rule_faults.specs.declared.fault.RuleFault.{RuleFault}
-use Rattle.type_definitions.specs.Declarations.{Declarations}
-use Rattle.ownership_marks.specs.Known.{Known}
-use Rattle.memory_accesses.specs.Sources.{sources_of}
+use Rattle.sil_rules.specs.declared.rule_faults.fault.RuleEnd.{RuleEnd}
+use Rattle.sil_rules.specs.declared.rule_faults.fault.RuleEnd.TheVariants.{Fault, Memory}
+use Rattle.sil_rules.specs.declared.rule_faults.fault.RuleFault.{RuleFault}
+use Rattle.sil_types.specs.sil_types_declarations.TypeDefinitions.Declarations.{Declarations}
+use Rattle.ownership_kinds_chains.specs.OwnershipMarks.Known.{Known}
+use Rattle.memory_rules_accesses.specs.Sources.{sources_of}
 use Rattle.memory_rules.specs.Broken.{IsFirstBreak}
 
 -- no rule on memory is broken

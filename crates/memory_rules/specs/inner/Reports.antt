@@ -3,17 +3,17 @@ use Rattle.std.specs.Prelude.{◌≡◌, ℕ, List, Option, Some}
 use Rattle.sil_ast.specs.declared.function.Function.{Function}
 use Rattle.sil_ast.specs.declared.place.ValueId.{ValueId}
 use Rattle.sil_cfg.specs.Layout.{Layout}
-use Rattle.rule_faults.specs.declared.fault.RuleFault.{RuleFault}
+use Rattle.sil_rules.specs.declared.rule_faults.fault.RuleFault.{RuleFault}
 use Rattle.sil_rules.specs.Order.{Either, IsFirst}
 use Rattle.sil_rules.specs.declared.rule.Rule.TheVariants as rule
-use Rattle.ownership_marks.specs.ownership_chains.Facts.{known_or}
-use Rattle.ownership_marks.specs.ownership_chains.declared.facts.Facts.{Facts}
-use Rattle.ownership_marks.specs.Known.{AreKindsBy, Known}
-use Rattle.memory_accesses.specs.declared.source.Source.{Source}
-use Rattle.memory_parts.specs.Parts.{parts_of}
-use Rattle.memory_parts.specs.Shown as parts
-use Rattle.memory_slots.specs.Pairs.{IsCrossing}
-use Rattle.memory_slots.specs.declared.crossing.Crossing.{Crossing}
+use Rattle.ownership_kinds_chains.specs.OwnershipChains.Facts.{known_or}
+use Rattle.ownership_kinds_chains.specs.declared.ownership_chains.facts.Facts.{Facts}
+use Rattle.ownership_kinds_chains.specs.OwnershipMarks.Known.{AreKindsBy, Known}
+use Rattle.memory_rules_accesses.specs.declared.source.Source.{Source}
+use Rattle.memory_rules_parts.specs.Parts.{parts_of}
+use Rattle.memory_rules_parts.specs.Shown as parts
+use Rattle.memory_rules_slots.specs.Pairs.{IsCrossing}
+use Rattle.memory_rules_slots.specs.declared.crossing.Crossing.{Crossing}
 use Rattle.memory_rules.specs.Broken.{break_key}
 
 -- two slots that are out of order are reported so: the later one takes part

@@ -8,15 +8,15 @@ use Rattle.sil_ast.specs.declared.place.ValueId.{ValueId}
 use Rattle.sil_rules.specs.Rules.{number_of}
 use Rattle.sil_rules.specs.declared.rule.Rule.{Rule}
 use Rattle.sil_rules.specs.declared.rule.Rule.TheVariants as rule
-use Rattle.point_checks.specs.inner.Faults.{fault_at, fault_where, faults_of}
-use Rattle.point_checks.specs.declared.fault.PointFault.{PointFault}
-use Rattle.memory_accesses.specs.declared.access.Operated.{Operated}
-use Rattle.memory_accesses.specs.declared.columns.AccessKind.{AccessKind}
-use Rattle.memory_accesses.specs.declared.columns.AccessKind.TheVariants.{NoAccess, AllocatesSlot, AllocatesObject, DeallocatesSlot}
-use Rattle.memory_accesses.specs.declared.columns.AccessKind.TheVariants.{LendsValue, Upcasts, LendsLocation, NamesField, NamesMember, NamesElement}
-use Rattle.memory_accesses.specs.declared.columns.AccessKind.TheVariants.{Loads, Stores, Destroys, Passes}
-use Rattle.memory_accesses.specs.declared.source.Source.{Source}
-use Rattle.memory_accesses.specs.Operations.{access_kind_of, addresses_of, deallocates, operations_of}
+use Rattle.numbered_form.specs.PointChecks.inner.Faults.{fault_at, fault_where, faults_of}
+use Rattle.numbered_form.specs.declared.point_checks.fault.PointFault.{PointFault}
+use Rattle.memory_rules_accesses.specs.declared.access.Operated.{Operated}
+use Rattle.memory_rules_accesses.specs.declared.columns.AccessKind.{AccessKind}
+use Rattle.memory_rules_accesses.specs.declared.columns.AccessKind.TheVariants.{NoAccess, AllocatesSlot, AllocatesObject, DeallocatesSlot}
+use Rattle.memory_rules_accesses.specs.declared.columns.AccessKind.TheVariants.{LendsValue, Upcasts, LendsLocation, NamesField, NamesMember, NamesElement}
+use Rattle.memory_rules_accesses.specs.declared.columns.AccessKind.TheVariants.{Loads, Stores, Destroys, Passes}
+use Rattle.memory_rules_accesses.specs.declared.source.Source.{Source}
+use Rattle.memory_rules_accesses.specs.Operations.{access_kind_of, addresses_of, deallocates, operations_of}
 use Rattle.memory_rules.specs.Statics.{AddressPair, crossed_with, do_clash, handed_of, is_no_slot, lacks, pair, pairs_of}
 use Rattle.memory_rules.specs.declared.overlaps.HandedAddress.{HandedAddress}
 

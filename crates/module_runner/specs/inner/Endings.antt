@@ -2,8 +2,8 @@
 use Rattle.std.specs.Prelude.{⊤}
 use Rattle.count_machine.specs.declared.low_run.LowEnd.{LowEnd}
 use Rattle.count_machine.specs.declared.low_run.LowEnd.TheVariants as end
-use Rattle.report_writing.specs.declared.outcome.Ending.{Ending}
-use Rattle.report_writing.specs.declared.outcome.Ending.TheVariants.{Returned, Trap, OutOfTurns}
+use Rattle.module_runner_report.specs.declared.outcome.Ending.{Ending}
+use Rattle.module_runner_report.specs.declared.outcome.Ending.TheVariants.{Returned, Trap, OutOfTurns}
 
 abbrev pub IsNoFault : LowEnd → Type 0
 IsNoFault (end.Returned v) = ⊤

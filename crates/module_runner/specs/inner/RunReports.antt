@@ -1,23 +1,23 @@
 -- What a report tells of a run.
 use Rattle.std.specs.Prelude.{◌≡◌, ℕ, Bool, List}
-use Rattle.copy_pairing.specs.optimised_runs.lockstep_runs.inner.Agreeing.{TellsAsItDid}
+use Rattle.sil_verifier.specs.holder_model_laws.LockstepRuns.inner.Agreeing.{TellsAsItDid}
 use Rattle.holder_model.specs.Faults.{HolderFault}
 use Rattle.holder_model.specs.Outcomes.{EndsSo, Outcome}
-use Rattle.count_machine.specs.lowered_run.LowOutcomes.{LowEndsSo}
-use Rattle.ownership_lowering.specs.lowering_model.LoweredModules.{lowered}
-use Rattle.count_machine.specs.machine_laws.inner.Told.{all_left}
+use Rattle.holder_model.specs.LoweredRun.LowOutcomes.{LowEndsSo}
+use Rattle.ownership_lowering_model.specs.LoweredModules.{lowered}
+use Rattle.count_machine.specs.count_machine_laws.inner.Told.{all_left}
 use Rattle.numbered_form.specs.Names.{Name}
-use Rattle.report_writing.specs.RunOutcomes.{ending_of}
-use Rattle.report_writing.specs.declared.outcome.Ending.TheVariants.{Returned}
-use Rattle.report_writing.specs.run_report.ReportLines.{report}
-use Rattle.report_writing.specs.run_typing.Runnable.{IsRunnable}
-use Rattle.run_values.specs.Shapes.{shape_of}
-use Rattle.run_values.specs.declared.value.Val.{Val}
+use Rattle.module_runner_report.specs.RunOutcomes.{ending_of}
+use Rattle.module_runner_report.specs.declared.outcome.Ending.TheVariants.{Returned}
+use Rattle.holder_model.specs.RunReport.ReportLines.{report}
+use Rattle.holder_model.specs.RunTyping.Runnable.{IsRunnable}
+use Rattle.holder_model_values.specs.RunValues.Shapes.{shape_of}
+use Rattle.holder_model_values.specs.declared.run_values.value.Val.{Val}
 use Rattle.sil_ast.specs.declared.function.Function.{Function}
 use Rattle.sil_ast.specs.declared.module.Module.{Module}
 use Rattle.sil_ast.specs.declared.place.FuncId.{FuncId}
-use Rattle.type_definitions.specs.Declarations.{declarations_of}
-use Rattle.type_definitions.specs.Mentions.{given_type}
+use Rattle.sil_types_declarations.specs.TypeDefinitions.Declarations.{declarations_of}
+use Rattle.sil_types_declarations.specs.TypeDefinitions.Mentions.{given_type}
 use Rattle.module_runner.specs.Entries.{IsEntry}
 use Rattle.module_runner.specs.LoweredRuns.{LoweredNeverFaults}
 use Rattle.module_runner.specs.Optimising.{IsOptimisedIf}

@@ -1,10 +1,10 @@
 -- The limits on reading. Those of names are in `Names`, and those of types in `Types`.
 use Rattle.std.specs.Prelude.{◌+◌, ◌≤◌, ℕ, List, Bool, true, false, length, IfSome}
 use Rattle.std.specs.List.{count_by}
-use Rattle.sil_ast.specs.instruction_table.Forms.{extra_value_of}
+use Rattle.instruction_table.specs.Forms.{extra_value_of}
 use Rattle.sil_ast.specs.declared.decl.Decl.{Decl}
-use Rattle.sil_ast.specs.instruction_table.declared.entries.ExtraValue.{ExtraValue}
-use Rattle.sil_ast.specs.instruction_table.declared.entries.ExtraValue.TheVariants as extra
+use Rattle.instruction_table.specs.declared.entries.ExtraValue.{ExtraValue}
+use Rattle.instruction_table.specs.declared.entries.ExtraValue.TheVariants as extra
 use Rattle.sil_ast.specs.declared.function.Block.{Block}
 use Rattle.sil_ast.specs.declared.function.Function.{Function}
 use Rattle.sil_ast.specs.declared.inst.Edge.{Edge}
@@ -12,7 +12,7 @@ use Rattle.sil_ast.specs.declared.inst.Inst.{Inst}
 use Rattle.sil_ast.specs.declared.inst.Qualifier.{Qualifier}
 use Rattle.sil_ast.specs.declared.inst.Qualifier.TheVariants as qualifier
 use Rattle.sil_ast.specs.declared.module.Module.{Module}
-use Rattle.sil_ast.specs.instruction_table.declared.op.Op.{Op}
+use Rattle.instruction_table.specs.declared.op.Op.{Op}
 use Rattle.sil_ast.specs.declared.signature.Signature.{Signature}
 use Rattle.sil_rules.specs.declared.limits.TheConstants.{ARGUMENTS, BLOCKS, DECLARATIONS, FUNCTIONS, INSTRUCTIONS, MEMBERS, VALUES}
 use Rattle.numbered_form.specs.Lists.{Each}

@@ -1,14 +1,14 @@
 -- Each number is in its range, and each builtin operation has a name that is known.
 use Rattle.std.specs.Prelude.{ℕ, ◌≤◌, ◌-◌, ◌^◌, ℤ, pos, neg_ℤ, int_le, int_lt, List, Option, Some, None, Bool, true, ◌&&◌, IsTrue, IfSome}
-use Rattle.sil_ast.specs.instruction_table.Forms.{detail_of}
-use Rattle.sil_ast.specs.instruction_table.declared.entries.Detail.{Detail}
-use Rattle.sil_ast.specs.instruction_table.declared.entries.Detail.TheVariants as detail
+use Rattle.instruction_table.specs.Forms.{detail_of}
+use Rattle.instruction_table.specs.declared.entries.Detail.{Detail}
+use Rattle.instruction_table.specs.declared.entries.Detail.TheVariants as detail
 use Rattle.sil_ast.specs.declared.inst.Inst.{Inst}
 use Rattle.sil_ast.specs.declared.module.Module.{Module}
-use Rattle.sil_ast.specs.instruction_table.declared.op.Op.{Op}
+use Rattle.instruction_table.specs.declared.op.Op.{Op}
 use Rattle.sil_ast.specs.declared.type_name.TypeName.{TypeName, out-TypeName}
 use Rattle.sil_ast.specs.declared.type_name.TypeName.TheOpen.{TypeName-F, Int}
-use Rattle.builtin_names.specs.BuiltinNames.{is_builtin_name}
+use Rattle.instruction_table.specs.BuiltinNames.BuiltinNames.{is_builtin_name}
 use Rattle.sil_rules.specs.declared.limits.TheConstants.{ARGUMENTS}
 use Rattle.numbered_form.specs.Insts.{EachInst}
 

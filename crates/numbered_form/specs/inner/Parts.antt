@@ -1,14 +1,14 @@
 -- Each instruction has just the parts of its row in the table of instructions.
 use Rattle.std.specs.Prelude.{◌≡◌, List, [], ◌∷◌, length, Bool, true, false, not, ◌&&◌, ◌||◌, ◌==◌, if◌then◌else◌, is_some, is_none, IsTrue, IsFalse}
 use Rattle.std.specs.List.{list_any, list_all}
-use Rattle.sil_ast.specs.instruction_table.Forms.{ending_of, has_one_result, is_terminator, may_lack_operand, parts_of, words_of}
+use Rattle.instruction_table.specs.Forms.{ending_of, has_one_result, is_terminator, may_lack_operand, parts_of, words_of}
 use Rattle.sil_ast.specs.declared.debug.Debug.{Debug}
-use Rattle.sil_ast.specs.instruction_table.declared.entries.Ending.{Ending}
-use Rattle.sil_ast.specs.instruction_table.declared.entries.Ending.TheVariants as ending
-use Rattle.sil_ast.specs.instruction_table.declared.entries.Words.{Words}
-use Rattle.sil_ast.specs.instruction_table.declared.entries.Words.TheVariants as words
-use Rattle.sil_ast.specs.instruction_table.declared.forms.Part.{Part}
-use Rattle.sil_ast.specs.instruction_table.declared.forms.Part.TheVariants as part
+use Rattle.instruction_table.specs.declared.entries.Ending.{Ending}
+use Rattle.instruction_table.specs.declared.entries.Ending.TheVariants as ending
+use Rattle.instruction_table.specs.declared.entries.Words.{Words}
+use Rattle.instruction_table.specs.declared.entries.Words.TheVariants as words
+use Rattle.instruction_table.specs.declared.forms.Part.{Part}
+use Rattle.instruction_table.specs.declared.forms.Part.TheVariants as part
 use Rattle.sil_ast.specs.declared.function.Block.{Block}
 use Rattle.sil_ast.specs.declared.function.Function.{Function}
 use Rattle.sil_ast.specs.declared.inst.Edge.{Edge}
@@ -16,7 +16,7 @@ use Rattle.sil_ast.specs.declared.inst.Inst.{Inst}
 use Rattle.sil_ast.specs.declared.inst.Qualifier.{Qualifier}
 use Rattle.sil_ast.specs.declared.inst.Qualifier.TheVariants as qualifier
 use Rattle.sil_ast.specs.declared.module.Module.{Module}
-use Rattle.sil_ast.specs.instruction_table.declared.op.Op.{Op}
+use Rattle.instruction_table.specs.declared.op.Op.{Op}
 use Rattle.sil_ast.specs.declared.operands.Operand.{Operand}
 use Rattle.sil_ast.specs.declared.place.ValueId.{ValueId}
 use Rattle.numbered_form.specs.Lists.{Each, is_empty}

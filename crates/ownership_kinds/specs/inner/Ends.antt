@@ -2,16 +2,16 @@
 use Rattle.std.specs.Prelude.{◌≡◌, None, length, ⊤}
 use Rattle.sil_ast.specs.declared.function.Function.{Function}
 use Rattle.sil_cfg.specs.Layout.{Layout}
-use Rattle.rule_faults.specs.declared.fault.RuleEnd.{RuleEnd}
-use Rattle.rule_faults.specs.declared.fault.RuleEnd.TheVariants.{Fault, Memory}
-use Rattle.rule_faults.specs.declared.fault.RuleFault.{RuleFault}
-use Rattle.value_tables.specs.numbered_form.Numbering.{values_of}
-use Rattle.point_checks.specs.inner.Reports.{IsReport}
-use Rattle.point_checks.specs.declared.fault.PointFault.{PointFault}
-use Rattle.type_definitions.specs.Declarations.{Declarations}
-use Rattle.value_tables.specs.Borrows.{borrows_of}
-use Rattle.ownership_marks.specs.Known.{AreKindsBy}
-use Rattle.ownership_kinds.specs.Facts.{facts_in}
+use Rattle.sil_rules.specs.declared.rule_faults.fault.RuleEnd.{RuleEnd}
+use Rattle.sil_rules.specs.declared.rule_faults.fault.RuleEnd.TheVariants.{Fault, Memory}
+use Rattle.sil_rules.specs.declared.rule_faults.fault.RuleFault.{RuleFault}
+use Rattle.numbered_form.specs.Numbering.{values_of}
+use Rattle.numbered_form.specs.PointChecks.inner.Reports.{IsReport}
+use Rattle.numbered_form.specs.declared.point_checks.fault.PointFault.{PointFault}
+use Rattle.sil_types_declarations.specs.TypeDefinitions.Declarations.{Declarations}
+use Rattle.numbered_form.specs.ValueTables.Borrows.{borrows_of}
+use Rattle.ownership_kinds_chains.specs.OwnershipMarks.Known.{AreKindsBy}
+use Rattle.ownership_kinds_origins.specs.Facts.{facts_in}
 use Rattle.ownership_kinds.specs.Statics.{IsFirstBroken}
 use Rattle.ownership_kinds.specs.declared.find.FunctionKinds.{FunctionKinds}
 

@@ -8,18 +8,18 @@ use Rattle.sil_ast.specs.declared.function.Function.{Function}
 use Rattle.sil_ast.specs.declared.inst.Inst.{Inst}
 use Rattle.sil_ast.specs.declared.place.ValueId.{ValueId}
 use Rattle.sil_rules.specs.declared.rule.Rule.TheVariants.{CyclicForwarding, MixedForwarding, KindMismatch, ArgumentKind}
-use Rattle.point_checks.specs.inner.Faults.{fault_at, fault_where}
-use Rattle.point_checks.specs.inner.Faults as points
-use Rattle.point_checks.specs.declared.fault.PointFault.{PointFault}
-use Rattle.value_tables.specs.FirstValue.{first_value}
-use Rattle.value_tables.specs.Borrows.{is_borrow_in}
-use Rattle.value_tables.specs.declared.borrows.Borrow.{Borrow}
-use Rattle.item_operands.specs.declared.taken.Taken.{Taken}
-use Rattle.type_definitions.specs.Declarations.{Declarations}
-use Rattle.type_definitions.specs.Measures.{is_trivial}
-use Rattle.type_definitions.specs.declared.kind.Kind.{Kind}
-use Rattle.ownership_origins.specs.Switched.{switch_to}
-use Rattle.ownership_origins.specs.declared.switched.Switched.{Switched}
+use Rattle.numbered_form.specs.PointChecks.inner.Faults.{fault_at, fault_where}
+use Rattle.numbered_form.specs.PointChecks.inner.Faults as points
+use Rattle.numbered_form.specs.declared.point_checks.fault.PointFault.{PointFault}
+use Rattle.numbered_form.specs.ValueTables.FirstValue.{first_value}
+use Rattle.numbered_form.specs.ValueTables.Borrows.{is_borrow_in}
+use Rattle.numbered_form.specs.declared.value_tables.borrows.Borrow.{Borrow}
+use Rattle.sil_cfg_items.specs.declared.taken.Taken.{Taken}
+use Rattle.sil_types_declarations.specs.TypeDefinitions.Declarations.{Declarations}
+use Rattle.sil_types_declarations.specs.TypeDefinitions.Measures.{is_trivial}
+use Rattle.sil_types_declarations.specs.declared.type_definitions.kind.Kind.{Kind}
+use Rattle.ownership_kinds_origins.specs.Switched.{switch_to}
+use Rattle.ownership_kinds_origins.specs.declared.switched.Switched.{Switched}
 use Rattle.ownership_kinds.specs.Statics.{all_taken, is_annotated_well, is_mismatch, lacks_argument, mixed_operand, needs_argument}
 
 abbrev pub is_one : Option ValueId → ValueId → Bool

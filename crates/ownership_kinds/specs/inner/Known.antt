@@ -2,14 +2,14 @@
 use Rattle.std.specs.Prelude.{◌≡◌, ◌<◌, List, Option, Some, None, option_map, length, nat_lt, if◌then◌else◌}
 use Rattle.sil_ast.specs.declared.function.Function.{Function}
 use Rattle.sil_ast.specs.declared.place.ValueId.{ValueId}
-use Rattle.value_tables.specs.numbered_form.Numbering.{values_of}
-use Rattle.ownership_chains.specs.Facts.{told_at}
-use Rattle.ownership_chains.specs.declared.facts.Facts.{Facts}
-use Rattle.type_definitions.specs.Declarations.{Declarations}
-use Rattle.type_definitions.specs.declared.kind.Kind.{Kind}
-use Rattle.ownership_origins.specs.inner.Tables.{AreSwitches}
-use Rattle.ownership_kinds.specs.Facts.{facts_in, kind_of_facts}
-use Rattle.value_tables.specs.Borrows.{borrows_of}
+use Rattle.numbered_form.specs.Numbering.{values_of}
+use Rattle.ownership_kinds_chains.specs.OwnershipChains.Facts.{told_at}
+use Rattle.ownership_kinds_chains.specs.declared.ownership_chains.facts.Facts.{Facts}
+use Rattle.sil_types_declarations.specs.TypeDefinitions.Declarations.{Declarations}
+use Rattle.sil_types_declarations.specs.declared.type_definitions.kind.Kind.{Kind}
+use Rattle.ownership_kinds_origins.specs.inner.Tables.{AreSwitches}
+use Rattle.ownership_kinds_origins.specs.Facts.{facts_in, kind_of_facts}
+use Rattle.numbered_form.specs.ValueTables.Borrows.{borrows_of}
 use Rattle.ownership_kinds.specs.Statics.{IsOnRing}
 use Rattle.ownership_kinds.specs.declared.check.KindCheck.{KindCheck}
 

@@ -2,13 +2,13 @@
 use Rattle.std.specs.Prelude.{◌≡◌, ◌<◌, ◌↔◌, Some, length}
 use Rattle.sil_ast.specs.declared.function.Function.{Function}
 use Rattle.sil_ast.specs.declared.place.ValueId.{ValueId}
-use Rattle.value_tables.specs.numbered_form.Numbering.{values_of}
-use Rattle.point_checks.specs.inner.Numbered.{IsOfNumberedModule}
-use Rattle.ownership_chains.specs.Facts.{AreFactsOf}
-use Rattle.ownership_chains.specs.declared.facts.Facts.{Facts}
-use Rattle.type_definitions.specs.Declarations.{Declarations}
-use Rattle.ownership_origins.specs.Origins.{definitions_of}
-use Rattle.ownership_kinds.specs.Facts.{facts_in}
+use Rattle.numbered_form.specs.Numbering.{values_of}
+use Rattle.numbered_form.specs.PointChecks.inner.Numbered.{IsOfNumberedModule}
+use Rattle.ownership_kinds_chains.specs.OwnershipChains.Facts.{AreFactsOf}
+use Rattle.ownership_kinds_chains.specs.declared.ownership_chains.facts.Facts.{Facts}
+use Rattle.sil_types_declarations.specs.TypeDefinitions.Declarations.{Declarations}
+use Rattle.ownership_kinds_origins.specs.Origins.{definitions_of}
+use Rattle.ownership_kinds_origins.specs.Facts.{facts_in}
 
 -- a value has just the facts that are told by those of its operands, and a number that is no value's has none
 abbrev pub AreFactsTold : Type 0

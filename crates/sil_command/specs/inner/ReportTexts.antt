@@ -5,8 +5,8 @@ use Rattle.sil_ast.specs.declared.module.Module.{Module}
 use Rattle.sil_ast.specs.declared.place.FuncId.{FuncId}
 use Rattle.sil_ast.specs.declared.place.ValueId.{ValueId}
 use Rattle.sil_verifier.specs.declared.refusal.Refusal.{Refusal}
-use Rattle.answer_lines.specs.Texts.{refused_text}
-use Rattle.answer_lines.specs.ValueTexts.{shown_lines}
+use Rattle.sil_command_lines.specs.Texts.{refused_text}
+use Rattle.sil_command_lines.specs.ValueTexts.{shown_lines}
 
 abbrev pub function_in : Module → Option FuncId → Option Function
 function_in m None = None

@@ -1,7 +1,7 @@
 -- The class of a token by its number.
 use Rattle.std.specs.Prelude.{◌≡◌, ℕ, List}
 use Rattle.std.specs.List.{HoldsAt}
-use Rattle.token_classes.specs.declared.classes.Class.{Class}
+use Rattle.sil_grammar_classes.specs.declared.classes.Class.{Class}
 use Rattle.sil_lexer.specs.inner.Lexing.{Lexing, lexeme_of}
 use Rattle.sil_grammar.specs.Classes.{token_class}
 

@@ -2,9 +2,9 @@
 use Rattle.std.specs.Prelude.{ℕ, List, map, take, Option, Some, None}
 use Rattle.sil_lexer.specs.Lexes.{Lexeme}
 use Rattle.sil_lexer.specs.inner.Lexing.{Lexing, lexemes_of}
-use Rattle.sil_shape.specs.declared.steps.Step.{Step}
-use Rattle.written_tree.specs.declared.fault.Fault.{Fault}
-use Rattle.spelled_parts_laws.specs.Reading.{AreFaultless, IsFirstFault}
+use Rattle.sil_grammar_shape.specs.declared.steps.Step.{Step}
+use Rattle.sil_grammar_tree.specs.declared.written_tree.fault.Fault.{Fault}
+use Rattle.sil_grammar.specs.SpelledPartsLaws.Reading.{AreFaultless, IsFirstFault}
 use Rattle.sil_grammar.specs.Classes.{token_class}
 use Rattle.sil_grammar.specs.Completion.{IsShortestFrom}
 

@@ -1,10 +1,10 @@
 -- The laws of what a text spells and why it is refused. No answer rests on them.
 use Rattle.std.specs.Prelude.{◌≡◌, ◌≤◌, ℕ, List, ◌++◌, length}
 use Rattle.sil_ast.specs.declared.module.Module.{Module}
-use Rattle.token_classes.specs.declared.classes.Class.{Class}
-use Rattle.sil_shape.specs.declared.steps.Step.{Step}
-use Rattle.sil_shape.specs.Derivation.{Derives, start}
-use Rattle.sil_shape.specs.inner.Values.{takes_of}
+use Rattle.sil_grammar_classes.specs.declared.classes.Class.{Class}
+use Rattle.sil_grammar_shape.specs.declared.steps.Step.{Step}
+use Rattle.sil_grammar_shape.specs.Derivation.{Derives, start}
+use Rattle.sil_grammar_shape.specs.inner.Values.{takes_of}
 use Rattle.numbered_form.specs.inner.NumberedForm.{IsNumbered}
 use Rattle.sil_grammar.specs.declared.refusal.ReadRefusal.{ReadRefusal}
 use Rattle.sil_grammar.specs.declared.refusal.ReadRefusal.TheVariants as refusal

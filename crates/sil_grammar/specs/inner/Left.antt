@@ -1,12 +1,12 @@
 -- A derivation cut behind the last token that it takes, and what it leaves to be written. No definition of the language rests on it.
 use Rattle.std.specs.Prelude.{◌≡◌, ◌<◌, List, [], ◌∷◌, ◌++◌, drop, reverse}
-use Rattle.grammar_tables.specs.declared.grammar.Symbol.{Symbol}
-use Rattle.sil_shape.specs.declared.steps.Front.{Front}
-use Rattle.sil_shape.specs.declared.steps.Step.{Step}
-use Rattle.sil_shape.specs.declared.steps.Step.TheVariants.{Take, Expand}
-use Rattle.sil_shape.specs.Derivation.{start}
-use Rattle.grammar_tables.specs.Grammar.{body}
-use Rattle.sil_shape.specs.inner.Values.{takes_of}
+use Rattle.sil_grammar_tables.specs.declared.grammar.Symbol.{Symbol}
+use Rattle.sil_grammar_shape.specs.declared.steps.Front.{Front}
+use Rattle.sil_grammar_shape.specs.declared.steps.Step.{Step}
+use Rattle.sil_grammar_shape.specs.declared.steps.Step.TheVariants.{Take, Expand}
+use Rattle.sil_grammar_shape.specs.Derivation.{start}
+use Rattle.sil_grammar_tables.specs.Grammar.{body}
+use Rattle.sil_grammar_shape.specs.inner.Values.{takes_of}
 
 -- what is left to be written after a step
 unfoldable pub after : Step → List Symbol → List Symbol

@@ -1,11 +1,11 @@
 -- How far the tokens of a text have the shape of a module.
 use Rattle.std.specs.Prelude.{◌≡◌, ℕ, ◌+◌, ◌<◌, ◌≤◌, List, length, map, reverse, take, None}
 use Rattle.sil_lexer.specs.inner.Lexing.{Lexing, lexemes_of}
-use Rattle.sil_shape.specs.declared.steps.Step.{Step}
-use Rattle.sil_shape.specs.declared.steps.Front.{Front}
-use Rattle.sil_shape.specs.inner.Begun.{LeadsTo}
-use Rattle.sil_shape.specs.Derivation.{BeginsShape, IsDerivation}
-use Rattle.sil_shape.specs.inner.Values.{takes_of}
+use Rattle.sil_grammar_shape.specs.declared.steps.Step.{Step}
+use Rattle.sil_grammar_shape.specs.declared.steps.Front.{Front}
+use Rattle.sil_grammar_shape.specs.inner.Begun.{LeadsTo}
+use Rattle.sil_grammar_shape.specs.Derivation.{BeginsShape, IsDerivation}
+use Rattle.sil_grammar_shape.specs.inner.Values.{takes_of}
 use Rattle.sil_grammar.specs.declared.first_bad.BadPlace.{BadPlace}
 use Rattle.sil_grammar.specs.declared.first_bad.Shape.{Shape}
 use Rattle.sil_grammar.specs.declared.first_bad.Shape.TheVariants.{Whole, Broken}

@@ -7,7 +7,7 @@ use Rattle.sil_lexer.specs.declared.token.TokenKind.{TokenKind}
 use Rattle.sil_lexer.specs.declared.token.TokenKind.TheVariants.{AtName, Percent}
 use Rattle.sil_lexer.specs.declared.token.Token.{Token}
 use Rattle.sil_lexer.specs.declared.token.LexRefusal.{LexRefusal}
-use Rattle.text_bytes.specs.Bytes.{is_word_start}
+use Rattle.sil_ast.specs.TextBytes.Bytes.{is_word_start}
 use Rattle.sil_lexer.specs.Spelling.{IsSpelled, name_length}
 use Rattle.sil_lexer.specs.Places.{IsPlaceIn}
 use Rattle.sil_lexer.specs.Lexes.{Skips, Stops, begins_skipped}

@@ -4,11 +4,11 @@ use Rattle.std.specs.List.{flat_map}
 use Rattle.std.specs.Str.{bytes_eq}
 use Rattle.sil_ast.specs.declared.type_name.TypeName.{TypeName}
 use Rattle.sil_ast.specs.declared.type_name.TypeName.TheVariants as type
-use Rattle.value_tables.specs.builtin_names.BuiltinNames.{builtin_name, operations, widths}
-use Rattle.value_tables.specs.builtin_names.declared.names.Operation.{Operation}
-use Rattle.value_tables.specs.builtin_names.declared.names.Operation.TheVariants as o
-use Rattle.value_tables.specs.builtin_names.declared.names.Width.{Width}
-use Rattle.value_tables.specs.builtin_names.declared.names.Width.TheVariants as w
+use Rattle.sil_ast.specs.instruction_table.BuiltinNames.BuiltinNames.{builtin_name, operations, widths}
+use Rattle.sil_ast.specs.instruction_table.declared.builtin_names.names.Operation.{Operation}
+use Rattle.sil_ast.specs.instruction_table.declared.builtin_names.names.Operation.TheVariants as o
+use Rattle.sil_ast.specs.instruction_table.declared.builtin_names.names.Width.{Width}
+use Rattle.sil_ast.specs.instruction_table.declared.builtin_names.names.Width.TheVariants as w
 
 abbrev pub bits : Width → ℕ
 bits w.Int1 = 1

@@ -19,7 +19,7 @@ use Rattle.sil_ast.specs.declared.inst.Qualifier.{Qualifier}
 use Rattle.sil_ast.specs.declared.inst.Qualifier.TheVariants as word
 use Rattle.sil_ast.specs.declared.module.Module.{Module}
 use Rattle.sil_ast.specs.declared.type_name.TypeName.{TypeName}
-use Rattle.type_definitions.specs.Declarations.{Declarations}
+use Rattle.sil_types_declarations.specs.TypeDefinitions.Declarations.{Declarations}
 use Rattle.sil_types.specs.Typing.RowTypes.{passes, written}
 use Rattle.sil_types.specs.Typing.Shapes.{is_nontrivial, is_storage, is_trivial_object, target}
 use Rattle.sil_types.specs.Typing.SignatureRules.{is_external}

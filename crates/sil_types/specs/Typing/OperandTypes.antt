@@ -11,7 +11,7 @@ use Rattle.sil_ast.specs.declared.operands.Operand.{Operand}
 use Rattle.sil_ast.specs.declared.signature.Signature.{Signature}
 use Rattle.sil_ast.specs.declared.type_name.TypeName.{TypeName}
 use Rattle.argument_conventions.specs.Arguments.{argument_type, arguments_of}
-use Rattle.type_definitions.specs.Declarations.{Declarations}
+use Rattle.sil_types_declarations.specs.TypeDefinitions.Declarations.{Declarations}
 use Rattle.sil_types.specs.Typing.Builtins.{bit}
 use Rattle.sil_types.specs.Typing.RowTypes.{keeps_row, passes, written}
 use Rattle.sil_types.specs.Typing.Same.{all_pairs, is_same_type}

@@ -4,7 +4,7 @@ use Rattle.sil_ast.specs.instruction_table.Forms.{results_of}
 use Rattle.sil_ast.specs.instruction_table.declared.entries.Results.{Results}
 use Rattle.sil_ast.specs.instruction_table.declared.entries.Results.TheVariants.{NoResult, OneResult, ResultList}
 use Rattle.sil_ast.specs.declared.inst.Inst.{Inst}
-use Rattle.type_definitions.specs.Declarations.{Declarations}
+use Rattle.sil_types_declarations.specs.TypeDefinitions.Declarations.{Declarations}
 use Rattle.sil_types.specs.Typing.RowTypes.{MadeTypes, row_types}
 
 -- as many as the row gives; where what it asks of types isn't kept, there is no number to compare with

@@ -11,11 +11,11 @@ use Rattle.sil_ast.specs.instruction_table.declared.op.Op.TheVariants as op
 use Rattle.sil_ast.specs.declared.operands.Operand.{Operand}
 use Rattle.sil_ast.specs.declared.type_name.TypeName.{TypeName, out-TypeName}
 use Rattle.sil_ast.specs.declared.type_name.TypeName.TheVariants as type
-use Rattle.value_tables.specs.numbered_form.Names.{Name}
-use Rattle.type_definitions.specs.Declarations.{Declarations, inherits}
-use Rattle.type_definitions.specs.Lookups.{Payload}
-use Rattle.type_definitions.specs.Mentions.{given_type}
-use Rattle.type_definitions.specs.Rules.{is_class_type}
+use Rattle.sil_types_declarations.specs.numbered_form.Names.{Name}
+use Rattle.sil_types_declarations.specs.TypeDefinitions.Declarations.{Declarations, inherits}
+use Rattle.sil_types_declarations.specs.TypeDefinitions.Lookups.{Payload}
+use Rattle.sil_types_declarations.specs.TypeDefinitions.Mentions.{given_type}
+use Rattle.sil_types_declarations.specs.TypeDefinitions.Rules.{is_class_type}
 use Rattle.sil_types.specs.Typing.Builtins.{Builtin, builtin_named, builtin_operands, builtin_result}
 use Rattle.sil_types.specs.Typing.Same.{is_same_type, are_same_types}
 use Rattle.sil_types.specs.Typing.Shapes.{where_it, is_object, is_nontrivial, is_storage, is_integer, is_bit, target, object_at, weak_at, unowned_at, elements}

@@ -11,10 +11,10 @@ use Rattle.sil_ast.specs.declared.member.Member.{Member}
 use Rattle.sil_ast.specs.declared.type_name.TypeName.{TypeName, out-TypeName}
 use Rattle.sil_ast.specs.declared.type_name.TypeName.TheOpen.{TypeName-F, Int, Named, Optional, Tuple, Weak, Unowned, Address}
 use Rattle.sil_ast.specs.declared.type_name.TypeName.TheVariants as type
-use Rattle.value_tables.specs.numbered_form.Names.{Name}
-use Rattle.type_definitions.specs.Declarations.{Declarations, decl_of, optional_cases}
-use Rattle.type_definitions.specs.Lookups.{FoundField, Payload, field_of, payload_of}
-use Rattle.type_definitions.specs.Measures.{is_trivial}
+use Rattle.sil_types_declarations.specs.numbered_form.Names.{Name}
+use Rattle.sil_types_declarations.specs.TypeDefinitions.Declarations.{Declarations, decl_of, optional_cases}
+use Rattle.sil_types_declarations.specs.TypeDefinitions.Lookups.{FoundField, Payload, field_of, payload_of}
+use Rattle.sil_types_declarations.specs.TypeDefinitions.Measures.{is_trivial}
 
 -- the value, where it passes the test
 abbrev pub where_it : {A : Type 0} → (A → Bool) → Option A → Option A

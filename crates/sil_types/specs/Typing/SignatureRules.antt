@@ -27,10 +27,10 @@ use Rattle.sil_ast.specs.declared.vtable.Vtable.{Vtable}
 use Rattle.argument_conventions.specs.Arguments.{Told, argument_type, arguments_of, convention_of}
 use Rattle.argument_conventions.specs.declared.convention.ArgumentConvention.{ArgumentConvention}
 use Rattle.argument_conventions.specs.declared.convention.ArgumentConvention.TheVariants as convention
-use Rattle.value_tables.specs.numbered_form.Names.{Name}
-use Rattle.type_definitions.specs.Declarations.{Declarations}
-use Rattle.type_definitions.specs.Measures.{is_trivial}
-use Rattle.type_definitions.specs.Mentions.{given_type}
+use Rattle.sil_types_declarations.specs.numbered_form.Names.{Name}
+use Rattle.sil_types_declarations.specs.TypeDefinitions.Declarations.{Declarations}
+use Rattle.sil_types_declarations.specs.TypeDefinitions.Measures.{is_trivial}
+use Rattle.sil_types_declarations.specs.TypeDefinitions.Mentions.{given_type}
 use Rattle.sil_types.specs.Typing.RowTypes.{passes, written}
 use Rattle.sil_types.specs.Typing.Same.{all_pairs, is_same_flag, is_same_signature, is_same_type}
 use Rattle.sil_types.specs.Typing.Shapes.{is_integer, is_nontrivial, is_object, is_trivial_object}

@@ -13,8 +13,8 @@ use Rattle.sil_ast.specs.declared.function.Function.{Function}
 use Rattle.sil_ast.specs.declared.inst.Edge.{Edge}
 use Rattle.sil_ast.specs.declared.inst.Inst.{Inst}
 use Rattle.sil_ast.specs.declared.type_name.TypeName.{TypeName}
-use Rattle.type_definitions.specs.Declarations.{Declarations}
-use Rattle.type_definitions.specs.Lookups.{Payload}
+use Rattle.sil_types_declarations.specs.TypeDefinitions.Declarations.{Declarations}
+use Rattle.sil_types_declarations.specs.TypeDefinitions.Lookups.{Payload}
 use Rattle.sil_types.specs.Typing.FormRules.{is_lowered}
 use Rattle.sil_types.specs.Typing.RowTypes.{written}
 use Rattle.sil_types.specs.Typing.Same.{are_same_types, is_same_type}

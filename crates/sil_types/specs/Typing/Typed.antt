@@ -4,10 +4,10 @@ use Rattle.sil_ast.specs.declared.function.Function.{Function}
 use Rattle.sil_ast.specs.declared.inst.Inst.{Inst}
 use Rattle.sil_ast.specs.declared.module.Module.{Module}
 use Rattle.sil_ast.specs.declared.vtable.Vtable.{Vtable}
-use Rattle.point_checks.specs.Points.{IsAt}
+use Rattle.sil_types_declarations.specs.numbered_form.PointChecks.Points.{IsAt}
 use Rattle.sil_rules.specs.declared.rule.Rule.{Rule}
 use Rattle.sil_rules.specs.declared.rule.Rule.TheVariants as rule
-use Rattle.type_definitions.specs.Declarations.{declarations_of}
+use Rattle.sil_types_declarations.specs.TypeDefinitions.Declarations.{declarations_of}
 use Rattle.sil_types.specs.Typing.EdgeRules.{goes_to_entry, has_wrong_edge_arguments, lets_address_escape}
 use Rattle.sil_types.specs.Typing.FormRules.{has_wrong_qualifier, is_of_other_form, mixes_forms}
 use Rattle.sil_types.specs.Typing.OperandTypes.{has_wrong_operand_type}

@@ -8,8 +8,8 @@ use Rattle.sil_ast.specs.declared.operands.Operand.{Operand}
 use Rattle.sil_ast.specs.declared.place.FuncId.{FuncId}
 use Rattle.sil_ast.specs.declared.place.ValueId.{ValueId}
 use Rattle.sil_ast.specs.declared.type_name.TypeName.{TypeName}
-use Rattle.value_tables.specs.ValueRows.{value_rows}
-use Rattle.type_definitions.specs.Declarations.{Declarations}
+use Rattle.sil_types_declarations.specs.numbered_form.ValueTables.ValueRows.{value_rows}
+use Rattle.sil_types_declarations.specs.TypeDefinitions.Declarations.{Declarations}
 use Rattle.sil_types.specs.Typing.RowTypes.{made_types}
 
 -- the types of an instruction's results, in order; one that its row doesn't give has none

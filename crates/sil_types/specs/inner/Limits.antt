@@ -3,11 +3,11 @@ use Rattle.std.specs.Prelude.{Bool, true, false, not, nat_le, ◌&&◌, ◌||◌
 use Rattle.std.specs.List.{list_any}
 use Rattle.sil_ast.specs.declared.module.Module.{Module}
 use Rattle.sil_rules.specs.declared.limits.TheConstants.{DEPTH, LEAVES}
-use Rattle.type_definitions.specs.Declarations.{Declarations}
-use Rattle.type_definitions.specs.Measures.{measure_of}
-use Rattle.type_definitions.specs.Mentions.{Mention, mentions_of}
-use Rattle.type_definitions.specs.Rules.{is_too_low}
-use Rattle.type_definitions.specs.declared.measure.Measure.{Measure}
+use Rattle.sil_types_declarations.specs.TypeDefinitions.Declarations.{Declarations}
+use Rattle.sil_types_declarations.specs.TypeDefinitions.Measures.{measure_of}
+use Rattle.sil_types_declarations.specs.TypeDefinitions.Mentions.{Mention, mentions_of}
+use Rattle.sil_types_declarations.specs.TypeDefinitions.Rules.{is_too_low}
+use Rattle.sil_types_declarations.specs.declared.type_definitions.measure.Measure.{Measure}
 use Rattle.sil_types.specs.declared.limits.Limit.{Limit}
 use Rattle.sil_types.specs.declared.limits.Limit.TheVariants.{Depth, Leaves, Either}
 

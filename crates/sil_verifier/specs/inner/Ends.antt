@@ -1,7 +1,7 @@
 -- How the verifier ends with a module that it doesn't accept.
 use Rattle.std.specs.Prelude.{◌≡◌}
 use Rattle.sil_ast.specs.declared.module.Module.{Module}
-use Rattle.accepted_modules.specs.Findings.{Finding, Refusal, limit}
+use Rattle.sil_verifier_accepted.specs.AcceptedModules.Findings.{Finding, Refusal, limit}
 use Rattle.sil_verifier.specs.inner.Reports.{Reported}
 use Rattle.sil_verifier.specs.declared.refusal.Refusal as declared
 use Rattle.sil_verifier.specs.declared.verifier.VerifyEnd.{VerifyEnd}

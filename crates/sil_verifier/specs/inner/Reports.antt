@@ -3,7 +3,7 @@ use Rattle.std.specs.Prelude.{◌≡◌, [], Option, Some, None}
 use Rattle.std.specs.Option.{option_map}
 use Rattle.sil_ast.specs.declared.module.Module.{Module}
 use Rattle.type_check.specs.Refusals.{function_id}
-use Rattle.accepted_modules.specs.Findings.{Finding, item, limit, typing, value, vtable_item}
+use Rattle.sil_verifier_accepted.specs.AcceptedModules.Findings.{Finding, item, limit, typing, value, vtable_item}
 use Rattle.sil_verifier.specs.declared.refusal.Refusal as declared
 
 -- of an item its number; of a broken rule of typing the function and the point, or the vtable's number among the items; of one on values

@@ -7,7 +7,7 @@ use Rattle.numbered_form.specs.Insts.{EachInBlock}
 use Rattle.numbered_form.specs.inner.Limits.{IsDeclInLimits}
 use Rattle.numbered_form.specs.Lists.{Each}
 use Rattle.numbered_form.specs.Numbering.{IsEdgeInRange, values_of}
-use Rattle.type_definitions.specs.Declarations.{declarations_of}
+use Rattle.sil_types.specs.sil_types_declarations.TypeDefinitions.Declarations.{declarations_of}
 use Rattle.type_check.specs.inner.Facts.{AreFactsOf}
 use Rattle.type_check.specs.declared.body.Body.{Body}
 

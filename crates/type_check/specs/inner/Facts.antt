@@ -1,12 +1,12 @@
 -- What the facts of a function are.
 use Rattle.std.specs.Prelude.{◌≡◌, map}
 use Rattle.sil_ast.specs.declared.function.Function.{Function}
-use Rattle.typing_forms.specs.inner.Incoming.{AreIncoming}
+use Rattle.type_check.specs.TypingForms.inner.Incoming.{AreIncoming}
 use Rattle.numbered_form.specs.Insts.{insts_in}
-use Rattle.type_definitions.specs.Declarations.{Declarations}
+use Rattle.sil_types.specs.sil_types_declarations.TypeDefinitions.Declarations.{Declarations}
 use Rattle.sil_types.specs.Typing.Values.{value_functions, value_types}
-use Rattle.typing_values.specs.inner.Given.{given_count}
-use Rattle.typing_values.specs.inner.Told.{types_told}
+use Rattle.type_check_values.specs.TypingValues.inner.Given.{given_count}
+use Rattle.type_check_values.specs.TypingValues.inner.Told.{types_told}
 use Rattle.type_check.specs.declared.function_facts.FunctionFacts.{FunctionFacts}
 
 -- the types and functions are those of the function's values, and the counts those of its instructions' rows and of its blocks

@@ -2,11 +2,11 @@
 use Rattle.std.specs.Prelude.{◌≡◌, ⊤, Some, None}
 use Rattle.sil_ast.specs.declared.function.Function.{Function}
 use Rattle.sil_cfg.specs.declared.item.Item.{Item}
-use Rattle.rule_faults.specs.declared.fault.RuleFault.{RuleFault}
-use Rattle.rule_faults.specs.declared.fault.RuleEnd.{RuleEnd}
-use Rattle.rule_faults.specs.declared.fault.RuleEnd.TheVariants.{Fault, Memory}
-use Rattle.path_checks.specs.First.{IsFirst}
-use Rattle.path_checks.specs.inner.Reported.{found_at}
+use Rattle.sil_rules.specs.declared.rule_faults.fault.RuleFault.{RuleFault}
+use Rattle.sil_rules.specs.declared.rule_faults.fault.RuleEnd.{RuleEnd}
+use Rattle.sil_rules.specs.declared.rule_faults.fault.RuleEnd.TheVariants.{Fault, Memory}
+use Rattle.reach_engine_marks.specs.PathChecks.First.{IsFirst}
+use Rattle.reach_engine_marks.specs.PathChecks.inner.Reported.{found_at}
 use Rattle.value_availability.specs.Accesses.{accesses_of}
 
 -- no walk shows a value that is an operand before its definition

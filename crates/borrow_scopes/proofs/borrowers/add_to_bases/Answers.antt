@@ -1,7 +1,7 @@
 use Rattle.std.proofs.Common.{ap, sym, ◌∙◌, get_or, take}
 use Rattle.std.specs.Prelude.{◌==◌}
 use Rattle.std.proofs.lemmas.List.{take_more}
-use Rattle.ownership_marks.specs.ownership_chains.Facts.{has, value_of}
+use Rattle.ownership_kinds_chains.specs.OwnershipChains.Facts.{has, value_of}
 use Rattle.borrow_scopes.specs.inner.Tables.{borrowers_at, with_last_if}
 use Rattle.borrow_scopes.proofs.Rows.{more_bases}
 use Rattle.borrow_scopes.proofs.borrowers.add_to_bases.Goals as goal

@@ -1,5 +1,5 @@
 use Rattle.std.proofs.Common.{◌≡◌, ℕ, take}
-use Rattle.ownership_marks.specs.ownership_chains.Facts.{has}
+use Rattle.ownership_kinds_chains.specs.OwnershipChains.Facts.{has}
 use Rattle.borrow_scopes.specs.inner.Tables.{borrowers_at, with_last_if}
 use Rattle.borrow_scopes.proofs.borrowers.add_to_bases.Given as goal
 

@@ -1,6 +1,6 @@
 use Rattle.std.proofs.Common.{ap, ◌∙◌}
-use Rattle.ownership_marks.specs.ownership_chains.Facts.{has}
-use Rattle.ownership_marks.specs.Known.{facts_of}
+use Rattle.ownership_kinds_chains.specs.OwnershipChains.Facts.{has}
+use Rattle.ownership_kinds_chains.specs.OwnershipMarks.Known.{facts_of}
 use Rattle.borrow_scopes.specs.inner.Tables.{borrowers_of, lent_bases_in, with_last_if}
 use Rattle.borrow_scopes.proofs.Rows.{more_values}
 use Rattle.borrow_scopes.proofs.borrowers.borrowers_of.Goals as goal

@@ -1,5 +1,5 @@
 use Rattle.std.proofs.Common.{◌≡◌, ℕ}
-use Rattle.ownership_marks.specs.Known.{facts_of}
+use Rattle.ownership_kinds_chains.specs.OwnershipMarks.Known.{facts_of}
 use Rattle.borrow_scopes.specs.inner.Tables.{borrowers_at, borrowers_of}
 use Rattle.borrow_scopes.proofs.borrowers.borrowers_of.Given as goal
 

@@ -1,5 +1,5 @@
 use Rattle.std.proofs.Common.{subst, Option}
-use Rattle.path_checks.specs.declared.fault.PathFault.{PathFault}
+use Rattle.reach_engine_marks.specs.declared.path_checks.fault.PathFault.{PathFault}
 use Rattle.borrow_scopes.specs.inner.Borrows.{IsFirstScope}
 use Rattle.borrow_scopes.proofs.Reported.{reported}
 use Rattle.borrow_scopes.proofs.borrows.find.Goals as goal

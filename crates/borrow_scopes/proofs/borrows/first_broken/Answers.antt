@@ -5,11 +5,11 @@ use Rattle.std.specs.declared.alloc.Global.{Global}
 use Rattle.std.specs.declared.vec.Vec.{Vec}
 use Rattle.std.proofs.lemmas.Result.{IfOk-weaker}
 use Rattle.sil_cfg.specs.declared.item.Item.{Item}
-use Rattle.path_patterns.specs.inner.Reads.{AgreesWith}
-use Rattle.path_checks.specs.First.{IsFirst}
-use Rattle.path_checks.specs.inner.Shared.{entries_with, is_sharing}
-use Rattle.path_checks.specs.declared.entry.Entry.{Entry}
-use Rattle.ownership_marks.specs.Known.{facts_of, marks_at}
+use Rattle.reach_engine_marks.specs.PathPatterns.inner.Reads.{AgreesWith}
+use Rattle.reach_engine_marks.specs.PathChecks.First.{IsFirst}
+use Rattle.reach_engine_marks.specs.PathChecks.inner.Shared.{entries_with, is_sharing}
+use Rattle.reach_engine_marks.specs.declared.path_checks.entry.Entry.{Entry}
+use Rattle.ownership_kinds_chains.specs.OwnershipMarks.Known.{facts_of, marks_at}
 use Rattle.borrow_scopes.specs.inner.Borrows.{IsFirstScope}
 use Rattle.borrow_scopes.specs.Scopes.{scopes_of}
 use Rattle.borrow_scopes.specs.inner.Tables.{borrowers_at, borrowers_of, left_mark, mark_entries_in}

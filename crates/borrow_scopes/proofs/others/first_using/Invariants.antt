@@ -1,6 +1,6 @@
 use Rattle.std.proofs.Common.{◌≡◌, drop, find}
 use Rattle.std.specs.Prelude.{option_map}
-use Rattle.ownership_marks.specs.Known.{facts_of}
+use Rattle.ownership_kinds_chains.specs.OwnershipMarks.Known.{facts_of}
 use Rattle.borrow_scopes.specs.Others.{lies_in, taken_value}
 use Rattle.borrow_scopes.proofs.others.first_using.Given as goal
 

@@ -1,6 +1,6 @@
 use Rattle.std.proofs.Common.{◌≡◌, ◌++◌, take}
 use Rattle.std.specs.List.{flat_map}
-use Rattle.ownership_marks.specs.Known.{facts_of}
+use Rattle.ownership_kinds_chains.specs.OwnershipMarks.Known.{facts_of}
 use Rattle.borrow_scopes.specs.inner.Tables.{mark_entries_in}
 use Rattle.borrow_scopes.proofs.scopes.add_marks.Given as goal
 

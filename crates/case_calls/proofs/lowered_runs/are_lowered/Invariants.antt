@@ -1,7 +1,7 @@
 -- The functions so far aren't in ownership form.
 use Rattle.std.proofs.Common.{drop}
 use Rattle.numbered_form.specs.Lists.{Each}
-use Rattle.report_writing.specs.run_typing.Runnable.{IsNotOwned}
+use Rattle.holder_model.specs.RunTyping.Runnable.{IsNotOwned}
 use Rattle.case_calls.proofs.lowered_runs.are_lowered.Given as goal
 
 abbrev pub invariant-loop-function : goal.invariant-loop-function

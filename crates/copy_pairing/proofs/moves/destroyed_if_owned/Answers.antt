@@ -1,6 +1,6 @@
 use Rattle.std.proofs.Common.{◌≡◌, sym, ap, ◌∙◌, true, false}
 use Rattle.std.proofs.lemmas.Result.{IfOk-weaker}
-use Rattle.ownership_chains.specs.Facts.{is_owned}
+use Rattle.ownership_kinds_chains.specs.OwnershipChains.Facts.{is_owned}
 use Rattle.copy_pairing.proofs.MovedCopies.{owned_none, owned_some}
 use Rattle.copy_pairing.proofs.moves.destroyed_if_owned.Goals as goal
 

@@ -1,5 +1,5 @@
 use Rattle.std.proofs.Common.{◌≡◌, ◌<◌, ◌≤◌, ◌^◌, length, sym, ◌∙◌, true, false, arith}
-use Rattle.ownership_chains.specs.Facts.{told_at}
+use Rattle.ownership_kinds_chains.specs.OwnershipChains.Facts.{told_at}
 use Rattle.copy_pairing.proofs.MovedCopies.{none_behind, none_next, quiet_more}
 use Rattle.copy_pairing.proofs.Sizes.{short_block}
 use Rattle.copy_pairing.proofs.moves.destroyed_in.Goals as goal

@@ -1,4 +1,4 @@
-use Rattle.ownership_chains.specs.Facts.{told_at}
+use Rattle.ownership_kinds_chains.specs.OwnershipChains.Facts.{told_at}
 use Rattle.copy_pairing.proofs.MovedCopies.{IsQuietBefore}
 use Rattle.copy_pairing.proofs.moves.destroyed_in.Given as goal
 

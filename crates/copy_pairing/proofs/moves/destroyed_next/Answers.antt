@@ -1,5 +1,5 @@
 use Rattle.std.proofs.Common.{sym}
-use Rattle.ownership_chains.specs.Facts.{told_at}
+use Rattle.ownership_kinds_chains.specs.OwnershipChains.Facts.{told_at}
 use Rattle.copy_pairing.proofs.MovedCopies.{none_without}
 use Rattle.copy_pairing.proofs.moves.destroyed_next.Goals as goal
 

@@ -1,6 +1,6 @@
 use Rattle.std.proofs.Common.{ap, ◌∙◌}
 use Rattle.std.specs.List.{list_any}
-use Rattle.copy_removal.specs.Removable.{concerns}
+use Rattle.copy_pairing_model.specs.Removable.{concerns}
 use Rattle.copy_pairing.proofs.moves.is_concerned_at.Goals as goal
 
 pub returns : goal.returns

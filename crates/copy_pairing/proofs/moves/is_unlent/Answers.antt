@@ -2,8 +2,8 @@ use Rattle.std.proofs.Common.{length, sym, ap, ◌∙◌}
 use Rattle.std.proofs.lemmas.Bool.{eqb-true}
 use Rattle.std.proofs.lemmas.List.{nil_from_length}
 use Rattle.numbered_form.specs.Numbering.{values_of}
-use Rattle.ownership_chains.specs.Facts.{has}
-use Rattle.ownership_kinds.specs.Facts.{facts_in}
+use Rattle.ownership_kinds_chains.specs.OwnershipChains.Facts.{has}
+use Rattle.ownership_kinds.specs.ownership_kinds_origins.Facts.{facts_in}
 use Rattle.copy_pairing.proofs.MovedCopies.{unlent_by, unlent_without}
 use Rattle.copy_pairing.proofs.Sizes.{borrows_count}
 use Rattle.copy_pairing.proofs.moves.is_unlent.Goals as goal

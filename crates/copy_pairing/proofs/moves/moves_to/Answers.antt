@@ -1,6 +1,6 @@
 use Rattle.std.proofs.Common.{ℕ, subst, Option}
 use Rattle.std.specs.Prelude.{IfNone, IfSome}
-use Rattle.ownership_kinds.specs.Facts.{facts_in}
+use Rattle.ownership_kinds.specs.ownership_kinds_origins.Facts.{facts_in}
 use Rattle.copy_pairing.specs.inner.Turns.{IsOwnedUpTo}
 use Rattle.copy_pairing.proofs.MovedCopies.{moves_by, not_movable}
 use Rattle.copy_pairing.proofs.moves.moves_to.Goals as goal

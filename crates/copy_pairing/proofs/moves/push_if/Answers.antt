@@ -1,5 +1,5 @@
 use Rattle.std.proofs.Common.{ap, ◌∙◌}
-use Rattle.ownership_chains.specs.Facts.{has}
+use Rattle.ownership_kinds_chains.specs.OwnershipChains.Facts.{has}
 use Rattle.copy_pairing.proofs.MovedCopies.{pushed_if, unpushed}
 use Rattle.copy_pairing.proofs.moves.push_if.Goals as goal
 

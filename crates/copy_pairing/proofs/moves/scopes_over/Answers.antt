@@ -1,8 +1,8 @@
 use Rattle.std.proofs.Common.{◌≡◌, length, ap, ◌∙◌, arith}
 use Rattle.std.specs.Prelude.{◌&&◌, ◌||◌, ◌==◌, nat_lt}
-use Rattle.ownership_chains.specs.Facts.{has}
-use Rattle.ownership_marks.specs.Known.{facts_of}
-use Rattle.copy_removal.specs.borrow_scopes.inner.Tables.{lent_bases_in}
+use Rattle.ownership_kinds_chains.specs.OwnershipChains.Facts.{has}
+use Rattle.ownership_kinds_chains.specs.OwnershipMarks.Known.{facts_of}
+use Rattle.borrow_scopes.specs.inner.Tables.{lent_bases_in}
 use Rattle.copy_pairing.proofs.MovedCopies.{none_yet, scopes_more}
 use Rattle.copy_pairing.proofs.moves.scopes_over.Goals as goal
 

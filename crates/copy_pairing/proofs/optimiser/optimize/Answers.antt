@@ -1,5 +1,5 @@
 use Rattle.std.proofs.Common.{ap, ◌∙◌}
-use Rattle.type_definitions.specs.Declarations.{declarations_of}
+use Rattle.sil_types_declarations.specs.TypeDefinitions.Declarations.{declarations_of}
 use Rattle.copy_pairing.proofs.Passed.{declared_again}
 use Rattle.copy_pairing.proofs.optimiser.optimize.Goals as goal
 

@@ -1,8 +1,8 @@
 use Rattle.std.proofs.Common.{sym, ap, ◌∙◌, subst}
-use Rattle.type_definitions.specs.Declarations.{declarations_of}
-use Rattle.copy_removal.specs.Optimised.{IsOptimised}
-use Rattle.sil_verifier.specs.accepted_modules.inner.Checked.{IsVerifiedWith}
-use Rattle.optimised_runs.specs.lockstep_runs.inner.Agreeing.{RunsAsItDid}
+use Rattle.sil_types_declarations.specs.TypeDefinitions.Declarations.{declarations_of}
+use Rattle.copy_pairing_model.specs.Optimised.{IsOptimised}
+use Rattle.sil_verifier.specs.sil_verifier_accepted.AcceptedModules.inner.Checked.{IsVerifiedWith}
+use Rattle.copy_pairing_runs.specs.holder_model_laws.LockstepRuns.inner.Agreeing.{RunsAsItDid}
 use Rattle.copy_pairing.proofs.optimiser.optimized_copy.Goals as goal
 
 pub optimize_in_place-requires : goal.optimize_in_place-requires

@@ -1,5 +1,5 @@
 use Rattle.std.proofs.Common.{sym, subst}
-use Rattle.copy_removal.specs.Rewritten.{lent, moved, with_function}
+use Rattle.copy_pairing_model.specs.Rewritten.{lent, moved, with_function}
 use Rattle.copy_pairing.specs.inner.Surveys.{IsKeptIn}
 use Rattle.copy_pairing.specs.inner.Turns.{IsTurn, IsTurnThere, Turned, stays, turns}
 use Rattle.copy_pairing.proofs.KeptNotes.{lent_kept, moved_kept}

@@ -1,6 +1,6 @@
 use Rattle.std.proofs.Common.{sym}
 use Rattle.std.proofs.lemmas.Result.{IfOk-weaker}
-use Rattle.sil_verifier.proofs.accepted_modules.typed_graph_laws.Functions.{graphs_by_blocks}
+use Rattle.sil_verifier.proofs.sil_verifier_accepted.TypedGraphLaws.Functions.{graphs_by_blocks}
 use Rattle.copy_pairing.proofs.Answered.{contains_at}
 use Rattle.copy_pairing.proofs.KeptNotes.{kept_in}
 use Rattle.copy_pairing.proofs.TurnsThere.{no_turn, no_turn_there, turn_there, turns_there}

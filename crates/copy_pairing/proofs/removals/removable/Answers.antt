@@ -2,8 +2,8 @@ use Rattle.std.proofs.Common.{◌≡◌, sym, ap, ◌∙◌, Some}
 use Rattle.std.specs.List.{slice_get}
 use Rattle.std.proofs.lemmas.Result.{IfOk-weaker}
 use Rattle.sil_ast.specs.declared.module.Module.{Module}
-use Rattle.sil_verifier.proofs.accepted_modules.typed_graph_laws.Functions.{graphs_by_blocks}
-use Rattle.copy_removal.specs.declared.removal.Removal.TheVariants.{No}
+use Rattle.sil_verifier.proofs.sil_verifier_accepted.TypedGraphLaws.Functions.{graphs_by_blocks}
+use Rattle.copy_pairing_model.specs.declared.removal.Removal.TheVariants.{No}
 use Rattle.copy_pairing.proofs.Answered.{answered, contains_at, no_function}
 use Rattle.copy_pairing.proofs.removals.removable.Goals as goal
 

@@ -1,5 +1,5 @@
 use Rattle.std.proofs.lemmas.Result.{IfOk-weaker}
-use Rattle.ownership_kinds.specs.Facts.{facts_in}
+use Rattle.ownership_kinds.specs.ownership_kinds_origins.Facts.{facts_in}
 use Rattle.copy_pairing.proofs.Answered.{body_of_copy, removal_same}
 use Rattle.copy_pairing.proofs.removals.removal_at.Goals as goal
 

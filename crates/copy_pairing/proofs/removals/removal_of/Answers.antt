@@ -1,5 +1,5 @@
 use Rattle.std.proofs.Common.{subst}
-use Rattle.ownership_kinds.specs.Facts.{facts_in}
+use Rattle.ownership_kinds.specs.ownership_kinds_origins.Facts.{facts_in}
 use Rattle.copy_pairing.specs.inner.Turns.{IsTurnOf}
 use Rattle.copy_pairing.proofs.TurnsThere.{lend_removal, move_removal, stay_removal}
 use Rattle.copy_pairing.proofs.removals.removal_of.Goals as goal

@@ -1,6 +1,6 @@
 use Rattle.std.proofs.Common.{length}
 use Rattle.numbered_form.specs.Numbering.{values_of}
-use Rattle.ownership_kinds.specs.Facts.{facts_in}
+use Rattle.ownership_kinds.specs.ownership_kinds_origins.Facts.{facts_in}
 use Rattle.copy_pairing.proofs.turns.asked_anew.Goals as goal
 
 pub returns-clause-borrowable : goal.returns-clause-borrowable

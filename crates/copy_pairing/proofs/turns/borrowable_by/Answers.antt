@@ -1,7 +1,7 @@
 use Rattle.std.proofs.Common.{sym, subst}
-use Rattle.ownership_kinds.specs.Facts.{facts_in}
-use Rattle.borrowable_copies.specs.inner.Answers.{AreAnswers}
-use Rattle.borrowable_copies.proofs.Answering.{told_some}
+use Rattle.ownership_kinds.specs.ownership_kinds_origins.Facts.{facts_in}
+use Rattle.copy_pairing_search.specs.BorrowableCopies.inner.Answers.{AreAnswers}
+use Rattle.copy_pairing_search.proofs.BorrowableCopies.Answering.{told_some}
 use Rattle.copy_pairing.proofs.turns.borrowable_by.Goals as goal
 
 pub returns-in-Some-clause-borrowable : goal.returns-in-Some-clause-borrowable

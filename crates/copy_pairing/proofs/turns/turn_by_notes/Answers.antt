@@ -1,7 +1,7 @@
 use Rattle.std.proofs.Common.{◌≡◌, ℕ, refl, subst, true, false, Option}
 use Rattle.std.specs.Prelude.{IfNone, IfSome}
-use Rattle.ownership_kinds.specs.Facts.{facts_in}
-use Rattle.copy_removal.specs.Removable.{IsMovable}
+use Rattle.ownership_kinds.specs.ownership_kinds_origins.Facts.{facts_in}
+use Rattle.copy_pairing_model.specs.Removable.{IsMovable}
 use Rattle.copy_pairing.specs.inner.Turns.{IsMovableTo}
 use Rattle.copy_pairing.proofs.turns.turn_by_notes.Goals as goal
 

@@ -1,4 +1,4 @@
-use Rattle.ownership_kinds.specs.Facts.{facts_in}
+use Rattle.ownership_kinds.specs.ownership_kinds_origins.Facts.{facts_in}
 use Rattle.copy_pairing.proofs.Answered.{body_of_copy}
 use Rattle.copy_pairing.proofs.TurnsThere.{turn_of_copy}
 use Rattle.copy_pairing.proofs.turns.turn_in.Goals as goal

@@ -1,8 +1,8 @@
 use Rattle.std.proofs.Common.{sym, subst}
 use Rattle.holder_model.specs.declared.trap.Trap.TheVariants as trap
-use Rattle.run_typing_laws.specs.run_typing.Forms.{given_shape}
-use Rattle.type_definitions.specs.Declarations.{declarations_of}
-use Rattle.value_reading.specs.inner.Reading.{IsValueOf}
+use Rattle.holder_model.specs.RunTyping.Forms.{given_shape}
+use Rattle.sil_types_declarations.specs.TypeDefinitions.Declarations.{declarations_of}
+use Rattle.count_machine.specs.ValueReading.inner.Reading.{IsValueOf}
 use Rattle.count_machine.specs.declared.low_run.LowEnd.TheVariants as end
 use Rattle.count_machine.specs.inner.Stopped.{IsToldAs}
 use Rattle.count_machine.proofs.Endings.{message_told, returned_told}

@@ -1,5 +1,5 @@
 use Rattle.std.proofs.Common.{◌≡◌, ◌∙◌, true, false}
-use Rattle.count_heap.specs.heap_model.HeapViews.{is_unfreed}
+use Rattle.count_heap.specs.HeapModel.HeapViews.{is_unfreed}
 use Rattle.holder_model.specs.Outcomes.{object_number}
 use Rattle.count_machine.proofs.Leaving.{freed_next, left_next}
 use Rattle.count_machine.proofs.left.all_left.Goals as goal

@@ -3,9 +3,9 @@ use Rattle.std.specs.Prelude.{slice_get}
 use Rattle.std.proofs.lemmas.Option.{get_or_from_slice_get, slice_get_within}
 use Rattle.std.proofs.lemmas.Result.{IfOk-weaker}
 use Rattle.holder_model.specs.Outcomes.{may_start}
-use Rattle.run_typing_laws.specs.run_typing.Forms.{given_shape}
+use Rattle.holder_model.specs.RunTyping.Forms.{given_shape}
 use Rattle.sil_ast.specs.declared.function.Function.{Function}
-use Rattle.type_definitions.specs.Declarations.{declarations_of}
+use Rattle.sil_types_declarations.specs.TypeDefinitions.Declarations.{declarations_of}
 use Rattle.count_machine.specs.LowRuns.{EndsAsTold, MayStartAt}
 use Rattle.count_machine.specs.inner.Stopped.{TellsOf}
 use Rattle.count_machine.proofs.Starting.{ends_told}

@@ -1,6 +1,6 @@
 use Rattle.std.proofs.Common.{sym}
-use Rattle.run_typing_laws.specs.run_typing.Forms.{given_shape}
-use Rattle.type_definitions.specs.Declarations.{declarations_of}
+use Rattle.holder_model.specs.RunTyping.Forms.{given_shape}
+use Rattle.sil_types_declarations.specs.TypeDefinitions.Declarations.{declarations_of}
 use Rattle.count_machine.specs.declared.low_run.LowRun.{LowRun}
 use Rattle.count_machine.specs.LowRuns.{HeapIsAsTold}
 use Rattle.count_machine.proofs.Endings.{outcome_told_so}

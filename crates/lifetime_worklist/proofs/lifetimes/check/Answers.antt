@@ -1,5 +1,5 @@
 use Rattle.std.proofs.Common.{sym, subst, Option, Some, None}
-use Rattle.path_checks.specs.declared.fault.PathFault.{PathFault}
+use Rattle.reach_engine_marks.specs.declared.path_checks.fault.PathFault.{PathFault}
 use Rattle.lifetime_worklist.specs.inner.Lifetimes.{IsFirstLife}
 use Rattle.lifetime_worklist.proofs.lifetimes.check.Goals as goal
 

@@ -3,12 +3,12 @@ use Rattle.std.specs.List.{range_with_len}
 use Rattle.std.specs.Prelude.{Bool}
 use Rattle.std.proofs.lemmas.Result.{IfOk-weaker}
 use Rattle.sil_cfg.specs.declared.item.Item.{Item}
-use Rattle.path_patterns.specs.inner.Reads.{AgreesWith}
-use Rattle.path_checks.specs.First.{IsFirst}
-use Rattle.path_checks.specs.inner.Shared.{entries_with, is_sharing}
-use Rattle.path_checks.specs.declared.entry.Entry.{Entry}
+use Rattle.reach_engine_marks.specs.PathPatterns.inner.Reads.{AgreesWith}
+use Rattle.reach_engine_marks.specs.PathChecks.First.{IsFirst}
+use Rattle.reach_engine_marks.specs.PathChecks.inner.Shared.{entries_with, is_sharing}
+use Rattle.reach_engine_marks.specs.declared.path_checks.entry.Entry.{Entry}
 use Rattle.lifetime_worklist.specs.inner.Lifetimes.{IsFirstLife}
-use Rattle.ownership_marks.specs.Known.{facts_of}
+use Rattle.ownership_kinds_chains.specs.OwnershipMarks.Known.{facts_of}
 use Rattle.lifetime_worklist.specs.Lives.{left_mark, lives_of}
 use Rattle.lifetime_worklist.proofs.Tables.{lives_agree}
 use Rattle.lifetime_worklist.proofs.lifetimes.first_broken.Goals as goal

@@ -1,6 +1,6 @@
 use Rattle.std.proofs.Common.{◌≡◌, ◌++◌, take}
 use Rattle.std.specs.List.{flat_map}
-use Rattle.ownership_marks.specs.Known.{facts_of}
+use Rattle.ownership_kinds_chains.specs.OwnershipMarks.Known.{facts_of}
 use Rattle.lifetime_worklist.specs.Lives.{lives_by}
 use Rattle.lifetime_worklist.proofs.lives.add_marks.Given as goal
 

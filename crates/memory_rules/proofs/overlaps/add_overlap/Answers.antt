@@ -1,6 +1,6 @@
 use Rattle.std.proofs.Common.{sym, ap, ◌∙◌}
 use Rattle.sil_rules.specs.declared.rule.Rule.TheVariants.{InoutOverlap}
-use Rattle.point_checks.specs.inner.Faults.{fault_at, fault_where, least}
+use Rattle.numbered_form.specs.PointChecks.inner.Faults.{fault_at, fault_where, least}
 use Rattle.memory_rules.proofs.overlaps.add_overlap.Goals as goal
 
 pub returns-then-do_clash : goal.returns-then-do_clash

@@ -1,6 +1,6 @@
 use Rattle.std.proofs.Common.{◌+◌, ◌-◌, drop, length, take, arith}
 use Rattle.std.specs.List.{flat_map}
-use Rattle.point_checks.specs.inner.Faults.{least}
+use Rattle.numbered_form.specs.PointChecks.inner.Faults.{least}
 use Rattle.memory_rules.specs.inner.StaticFaults.{pair_faults}
 use Rattle.memory_rules.specs.Statics.{pairs_of}
 use Rattle.memory_rules.proofs.Crossed.{pairs_step, rest_from, some_address}

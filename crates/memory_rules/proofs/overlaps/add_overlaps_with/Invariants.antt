@@ -1,6 +1,6 @@
 use Rattle.std.proofs.Common.{◌≡◌, drop}
 use Rattle.std.specs.List.{flat_map}
-use Rattle.point_checks.specs.inner.Faults.{least}
+use Rattle.numbered_form.specs.PointChecks.inner.Faults.{least}
 use Rattle.memory_rules.specs.inner.StaticFaults.{faults_with}
 use Rattle.memory_rules.proofs.overlaps.add_overlaps_with.Given as goal
 

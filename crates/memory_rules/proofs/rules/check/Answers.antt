@@ -1,5 +1,5 @@
 use Rattle.std.proofs.Common.{subst}
-use Rattle.memory_accesses.specs.Sources.{sources_of}
+use Rattle.memory_rules_accesses.specs.Sources.{sources_of}
 use Rattle.memory_rules.specs.Broken.{IsFirstBreak}
 use Rattle.memory_rules.proofs.rules.check.Goals as goal
 

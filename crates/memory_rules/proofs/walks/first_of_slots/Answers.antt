@@ -1,11 +1,11 @@
 use Rattle.std.proofs.Common.{◌∙◌, List, sym, subst, ap, Some, None}
 use Rattle.std.specs.List.{list_any}
-use Rattle.path_patterns.specs.inner.Reads.{AgreesWith, accesses_at}
-use Rattle.memory_accesses.specs.Accesses.{accesses_of}
-use Rattle.memory_accesses.specs.declared.access.Access.{Access}
-use Rattle.memory_accesses.specs.declared.source.Source.{Source}
-use Rattle.memory_accesses.specs.Sources.{is_slot_source}
-use Rattle.memory_slots.specs.Pairs.{IsFirstCrossing}
+use Rattle.memory_rules_accesses.specs.reach_engine_marks.PathPatterns.inner.Reads.{AgreesWith, accesses_at}
+use Rattle.memory_rules_accesses.specs.Accesses.{accesses_of}
+use Rattle.memory_rules_accesses.specs.declared.access.Access.{Access}
+use Rattle.memory_rules_accesses.specs.declared.source.Source.{Source}
+use Rattle.memory_rules_accesses.specs.Sources.{is_slot_source}
+use Rattle.memory_rules_slots.specs.Pairs.{IsFirstCrossing}
 use Rattle.memory_rules.specs.inner.Reports.{IsFirstShown, IsOrderBreak}
 use Rattle.memory_rules.proofs.FirstShown.{first_order, no_crossing, no_order}
 use Rattle.memory_rules.proofs.walks.first_of_slots.Goals as goal

@@ -1,6 +1,6 @@
 -- The types of the direct results so far are there.
 use Rattle.std.proofs.Common.{◌≡◌, ◌++◌, drop}
-use Rattle.type_definitions.specs.Mentions.{direct_types}
+use Rattle.sil_types_declarations.specs.TypeDefinitions.Mentions.{direct_types}
 use Rattle.module_runner.proofs.runner.direct_types.Given as goal
 
 abbrev pub invariant-loop-given : goal.invariant-loop-given

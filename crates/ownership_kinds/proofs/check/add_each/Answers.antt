@@ -1,6 +1,6 @@
 use Rattle.std.specs.List.{flat_map}
-use Rattle.point_checks.specs.inner.Faults.{least}
-use Rattle.point_checks.proofs.Least.{least_item, least_two}
+use Rattle.numbered_form.specs.PointChecks.inner.Faults.{least}
+use Rattle.numbered_form.proofs.PointChecks.Least.{least_item, least_two}
 use Rattle.ownership_kinds.specs.inner.Faults.{annotation_faults, arg_faults, ring_faults}
 use Rattle.ownership_kinds.specs.inner.Known.{kind_told}
 use Rattle.ownership_kinds.proofs.check.add_each.Goals as goal

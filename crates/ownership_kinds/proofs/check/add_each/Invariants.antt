@@ -1,6 +1,6 @@
 use Rattle.std.proofs.Common.{◌≡◌, drop}
 use Rattle.std.specs.List.{flat_map}
-use Rattle.point_checks.specs.inner.Faults.{least}
+use Rattle.numbered_form.specs.PointChecks.inner.Faults.{least}
 use Rattle.ownership_kinds.specs.inner.Faults.{arg_faults}
 use Rattle.ownership_kinds.specs.inner.Known.{kind_told}
 use Rattle.ownership_kinds.proofs.check.add_each.Given as goal

@@ -1,6 +1,6 @@
 use Rattle.std.proofs.Common.{◌≡◌, IfNone, IfSome, None, ap, ◌∙◌}
-use Rattle.point_checks.specs.inner.Faults.{least}
-use Rattle.point_checks.proofs.Least.{ok_along}
+use Rattle.numbered_form.specs.PointChecks.inner.Faults.{least}
+use Rattle.numbered_form.proofs.PointChecks.Least.{ok_along}
 use Rattle.ownership_kinds.specs.inner.Ends.{IsFirstFault}
 use Rattle.ownership_kinds.specs.inner.Faults.{faults_of}
 use Rattle.ownership_kinds.specs.inner.Known.{kind_told}

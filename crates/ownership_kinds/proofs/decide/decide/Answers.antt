@@ -1,6 +1,6 @@
 use Rattle.std.proofs.Common.{ap, ◌∙◌}
-use Rattle.ownership_chains.specs.Facts.{told_at}
-use Rattle.ownership_kinds.specs.Facts.{facts_by}
+use Rattle.ownership_kinds_chains.specs.OwnershipChains.Facts.{told_at}
+use Rattle.ownership_kinds_origins.specs.Facts.{facts_by}
 use Rattle.ownership_kinds.proofs.FirstRing.{kinds_told, told_everywhere}
 use Rattle.ownership_kinds.proofs.decide.decide.Goals as goal
 

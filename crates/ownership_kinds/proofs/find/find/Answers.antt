@@ -1,7 +1,7 @@
 use Rattle.std.proofs.Common.{ap, length, subst, sym, ◌∙◌}
-use Rattle.ownership_chains.specs.Chains.{IsInRange}
-use Rattle.ownership_origins.proofs.Counts.{are_of_values}
-use Rattle.ownership_origins.proofs.Ranges.{are_in_range}
+use Rattle.ownership_kinds_chains.specs.OwnershipChains.Chains.{IsInRange}
+use Rattle.ownership_kinds_origins.proofs.Counts.{are_of_values}
+use Rattle.ownership_kinds_origins.proofs.Ranges.{are_in_range}
 use Rattle.ownership_kinds.proofs.find.find.Goals as goal
 
 pub first_renamed-requires-clause-range : goal.first_renamed-requires-clause-range

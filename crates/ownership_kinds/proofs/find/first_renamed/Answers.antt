@@ -1,6 +1,6 @@
 use Rattle.std.proofs.Common.{◌∙◌, subst, sym}
 use Rattle.std.specs.Prelude.{IfNone, IfOk, IfSome}
-use Rattle.ownership_chains.specs.Chains.{HasNoRing, IsFirstCyclic, IsInRange}
+use Rattle.ownership_kinds_chains.specs.OwnershipChains.Chains.{HasNoRing, IsFirstCyclic, IsInRange}
 use Rattle.ownership_kinds.proofs.find.first_renamed.Goals as goal
 
 pub first_cyclic-requires : goal.first_cyclic-requires

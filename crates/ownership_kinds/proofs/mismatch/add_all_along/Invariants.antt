@@ -1,6 +1,6 @@
 use Rattle.std.proofs.Common.{◌≡◌, ◌++◌, take}
 use Rattle.std.specs.List.{flat_map}
-use Rattle.item_operands.specs.Roles.{taken_along}
+use Rattle.sil_cfg_items.specs.Roles.{taken_along}
 use Rattle.ownership_kinds.proofs.mismatch.add_all_along.Given as goal
 
 abbrev pub invariant-loop-edge : goal.invariant-loop-edge

@@ -1,5 +1,5 @@
 use Rattle.std.proofs.Common.{◌≡◌, drop, find, map}
-use Rattle.value_tables.specs.FirstValue.{value_of}
+use Rattle.numbered_form.specs.ValueTables.FirstValue.{value_of}
 use Rattle.ownership_kinds.specs.inner.Known.{kind_told}
 use Rattle.ownership_kinds.specs.Statics.{is_guaranteed}
 use Rattle.ownership_kinds.proofs.mixed.first_guaranteed.Given as goal

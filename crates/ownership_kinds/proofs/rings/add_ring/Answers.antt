@@ -1,6 +1,6 @@
 use Rattle.std.proofs.Common.{sym, ap, ◌∙◌}
 use Rattle.sil_rules.specs.declared.rule.Rule.TheVariants.{CyclicForwarding}
-use Rattle.point_checks.specs.inner.Faults.{fault_at, fault_where, least}
+use Rattle.numbered_form.specs.PointChecks.inner.Faults.{fault_at, fault_where, least}
 use Rattle.ownership_kinds.proofs.rings.add_ring.Goals as goal
 
 pub returns-then-is_one : goal.returns-then-is_one

@@ -1,7 +1,7 @@
 use Rattle.std.proofs.Common.{◌∙◌, ap, subst, sym}
-use Rattle.type_definitions.specs.Declarations.{declarations_of}
-use Rattle.sil_verifier.specs.accepted_modules.inner.Checked.{IsVerifiedWith}
-use Rattle.lowering_laws.specs.lowering_model.LoweredModules.{lowered}
+use Rattle.sil_types_declarations.specs.TypeDefinitions.Declarations.{declarations_of}
+use Rattle.sil_verifier.specs.sil_verifier_accepted.AcceptedModules.inner.Checked.{IsVerifiedWith}
+use Rattle.ownership_lowering_laws.specs.ownership_lowering_model.LoweredModules.{lowered}
 use Rattle.ownership_lowering.proofs.lowering.lower.Goals as goal
 
 pub lower_in_place-requires : goal.lower_in_place-requires

@@ -1,8 +1,8 @@
 use Rattle.std.proofs.Common.{◌∙◌, ap, subst, sym}
 use Rattle.std.proofs.lemmas.Result.{on_ok_weaker}
-use Rattle.function_lowering.specs.inner.Lowerable.{AreLowerable}
-use Rattle.lowering_laws.specs.run_typing.Runnable.{IsRunnable}
-use Rattle.type_definitions.specs.Declarations.{declarations_of}
+use Rattle.ownership_lowering_functions.specs.FunctionLowering.inner.Lowerable.{AreLowerable}
+use Rattle.sil_verifier.specs.holder_model.RunTyping.Runnable.{IsRunnable}
+use Rattle.sil_types_declarations.specs.TypeDefinitions.Declarations.{declarations_of}
 use Rattle.ownership_lowering.proofs.Accepted.{all_lowerable}
 use Rattle.ownership_lowering.proofs.InPlace.{lowered_there}
 use Rattle.ownership_lowering.proofs.lowering.lower_in_place.Goals as goal

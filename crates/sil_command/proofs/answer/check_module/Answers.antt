@@ -3,7 +3,7 @@ use Rattle.std.proofs.Common.{sym, subst, ◌∙◌}
 use Rattle.sil_command.specs.declared.status.Status.TheVariants.{Done}
 use Rattle.sil_command.specs.Statuses.{code_of}
 use Rattle.sil_command.specs.Answers.{Writes, accepted, written}
-use Rattle.answer_lines.specs.Texts.{accepted_text}
+use Rattle.sil_command_lines.specs.Texts.{accepted_text}
 use Rattle.sil_command.proofs.AnswerLemmas.{wrong_answer}
 use Rattle.sil_command.proofs.answer.check_module.Goals as goal
 

@@ -1,5 +1,5 @@
 -- The answer of `lower` to a module.
-use Rattle.module_runner.specs.LoweredModules.{lowered}
+use Rattle.ownership_lowering_model.specs.LoweredModules.{lowered}
 use Rattle.sil_printer.specs.CanonicalModules.{canonical_text}
 use Rattle.sil_command.specs.Answers.{WritesOf}
 use Rattle.sil_command.proofs.AnswerLemmas.{accepted_answer, wrong_answer}

@@ -1,5 +1,5 @@
 -- What `lower` writes of an accepted module.
-use Rattle.module_runner.specs.LoweredModules.{lowered}
+use Rattle.ownership_lowering_model.specs.LoweredModules.{lowered}
 use Rattle.sil_printer.specs.CanonicalModules.{canonical_text}
 use Rattle.sil_command.proofs.AnswerLemmas.{written_of}
 use Rattle.sil_command.proofs.answer.write_lowered.Goals as goal

@@ -1,6 +1,6 @@
 -- The lines are on a run of the optimised module.
 use Rattle.std.proofs.Common.{◌∙◌, ap}
-use Rattle.answer_lines.specs.Summaries.{summary_text}
+use Rattle.sil_command_lines.specs.Summaries.{summary_text}
 use Rattle.sil_command.proofs.GeneratedRuns.{both_kept}
 use Rattle.sil_command.proofs.generate.write_both.Goals as goal
 

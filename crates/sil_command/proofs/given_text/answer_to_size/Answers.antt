@@ -1,7 +1,7 @@
 -- The text is the generated one. It is answered as the texts of sources are.
 use Rattle.std.proofs.Common.{◌<◌, ◌∙◌, length, subst, arith}
 use Rattle.std.specs.Prelude.{IfOk}
-use Rattle.module_generator.specs.GeneratedModules.{generated}
+use Rattle.sil_command_generator.specs.GeneratedModules.{generated}
 use Rattle.sil_rules.specs.declared.limits.TheConstants.{TEXT_BYTES}
 use Rattle.sil_command.specs.Answers.{AnswersText, too_long}
 use Rattle.sil_command.specs.Statuses.{code_of}

@@ -1,9 +1,9 @@
 -- For `cut_at_last_token`: the steps up to the last token, and the others behind them.
 use Rattle.std.proofs.Common.{◌≡◌, List, ◌++◌, ap, drop, subst, sym, take, ◌∙◌}
 use Rattle.std.proofs.lemmas.List.{take-append-drop}
-use Rattle.sil_shape.specs.declared.steps.Step.{Step}
-use Rattle.sil_shape.specs.Derivation.{start}
-use Rattle.sil_shape.specs.inner.Values.{takes_of}
+use Rattle.sil_grammar_shape.specs.declared.steps.Step.{Step}
+use Rattle.sil_grammar_shape.specs.Derivation.{start}
+use Rattle.sil_grammar_shape.specs.inner.Values.{takes_of}
 use Rattle.sil_grammar.specs.inner.Left.{left_after, AreDecided}
 use Rattle.sil_grammar.proofs.cutting.cut_at_last_token.Goals as goal
 

@@ -1,5 +1,5 @@
 -- For `follow`: what stood first is gone, and the body stands in its place.
-use Rattle.sil_shape.proofs.TurnLemmas.{rest_popped}
+use Rattle.sil_grammar_shape.proofs.TurnLemmas.{rest_popped}
 use Rattle.sil_grammar.proofs.CutLemmas.{after_expand, after_take}
 use Rattle.sil_grammar.proofs.cutting.follow.Goals as goal
 

@@ -1,7 +1,7 @@
 -- For `bad_token`: the bad token stands before any stop, and a bad end where there is none.
 use Rattle.std.proofs.Common.{subst, sym}
-use Rattle.sil_shape.specs.Derivation.{IsFirstBad}
-use Rattle.sil_shape.specs.Unsupported.{IsUnsupported}
+use Rattle.sil_grammar_shape.specs.Derivation.{IsFirstBad}
+use Rattle.sil_grammar_shape.specs.Unsupported.{IsUnsupported}
 use Rattle.sil_grammar.proofs.FirstBadLemmas.{unsupported_first, unexpected_first}
 use Rattle.sil_grammar.proofs.first_bad.bad_token.Goals as goal
 

@@ -1,9 +1,9 @@
 -- For `bad_token_or_stop`: where the end comes too early, the stop is what is bad.
 use Rattle.std.proofs.Common.{◌≡◌, subst, sym, ◌∙◌}
 use Rattle.std.specs.Prelude.{Some}
-use Rattle.sil_shape.specs.Derivation.{IsFirstBad}
+use Rattle.sil_grammar_shape.specs.Derivation.{IsFirstBad}
 use Rattle.sil_grammar.specs.FirstBad.{IsFirstBadPlace}
-use Rattle.sil_shape.proofs.DerivedOnce.{first_bad_once}
+use Rattle.sil_grammar_shape.proofs.DerivedOnce.{first_bad_once}
 use Rattle.sil_grammar.proofs.FirstBadLemmas.{stop_first}
 use Rattle.sil_grammar.proofs.first_bad.bad_token_or_stop.Goals as goal
 

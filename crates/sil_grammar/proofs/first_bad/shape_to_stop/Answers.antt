@@ -1,6 +1,6 @@
 -- For `shape_to_stop`: nothing is left at the stop.
 use Rattle.std.proofs.Common.{◌≡◌, Some, length, refl}
-use Rattle.sil_shape.specs.declared.steps.Front.{Front}
+use Rattle.sil_grammar_shape.specs.declared.steps.Front.{Front}
 use Rattle.sil_grammar.specs.declared.first_bad.Shape.TheVariants.{Broken}
 use Rattle.sil_grammar.specs.FirstBad.{bad_stop}
 use Rattle.sil_grammar.proofs.first_bad.shape_to_stop.Goals as goal

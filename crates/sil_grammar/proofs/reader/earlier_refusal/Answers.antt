@@ -1,6 +1,6 @@
 -- For `earlier_refusal`: of a fault and a bad place the one that stands first.
 use Rattle.std.proofs.Common.{◌≡◌, ◌≤◌, Some, subst, sym, ◌∙◌, arith}
-use Rattle.written_tree.specs.declared.fault.Fault.{Fault}
+use Rattle.sil_grammar_tree.specs.declared.written_tree.fault.Fault.{Fault}
 use Rattle.sil_grammar.specs.Refusals.{IsRefusalOf, shapeless, faulty}
 use Rattle.sil_grammar.proofs.ReadLemmas.{bad_spells_none, clear_front, faulty_front}
 use Rattle.sil_grammar.proofs.reader.earlier_refusal.Goals.{in_default-via-in-Some+else-fault-bad, in_default-via-in_default}

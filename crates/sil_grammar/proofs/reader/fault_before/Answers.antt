@@ -1,10 +1,10 @@
 -- For `fault_before`: the front is cut behind its last token, and what is left is written in the shortest way.
 use Rattle.std.proofs.Common.{◌≡◌, ◌++◌, List, map, reverse, subst, sym, take}
 use Rattle.sil_lexer.specs.inner.Lexing.{lexemes_of, IsLexingOf}
-use Rattle.token_classes.specs.declared.classes.Class.{Class}
-use Rattle.sil_shape.specs.declared.steps.Step.{Step}
-use Rattle.sil_shape.specs.Shortest.{Shortens}
-use Rattle.written_modules.specs.inner.Replay.{first_fault}
+use Rattle.sil_grammar_classes.specs.declared.classes.Class.{Class}
+use Rattle.sil_grammar_shape.specs.declared.steps.Step.{Step}
+use Rattle.sil_grammar_shape.specs.Shortest.{Shortens}
+use Rattle.sil_grammar_modules.specs.inner.Replay.{first_fault}
 use Rattle.sil_grammar.specs.Classes.{token_class}
 use Rattle.sil_grammar.proofs.CutLemmas.{cut_leads}
 use Rattle.sil_grammar.proofs.ShapeLemmas.{length-front}

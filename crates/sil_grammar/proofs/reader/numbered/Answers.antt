@@ -1,6 +1,6 @@
 -- For `numbered`: the name is the first that is wrong in what the text writes.
 use Rattle.std.proofs.Common.{◌≡◌, Some, subst, sym}
-use Rattle.name_scopes.specs.NameFaults.{name_fault}
+use Rattle.sil_grammar_names.specs.NameScopes.NameFaults.{name_fault}
 use Rattle.sil_grammar.specs.Refusals.{IsRefusalOf, misnamed, exhausted}
 use Rattle.sil_grammar.proofs.ReadLemmas.{misnamed_spells_none}
 use Rattle.sil_grammar.proofs.reader.numbered.Goals as goal

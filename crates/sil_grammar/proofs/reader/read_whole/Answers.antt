@@ -2,7 +2,7 @@
 use Rattle.std.proofs.Common.{◌≡◌, Some, ap, subst, sym, ◌∙◌}
 use Rattle.sil_lexer.specs.inner.Lexing.{lexemes_of, IsLexingOf}
 use Rattle.std.proofs.lemmas.Result.{IfErr-weaker, IfOk-weaker}
-use Rattle.written_modules.specs.inner.Replay.{first_fault, Writes}
+use Rattle.sil_grammar_modules.specs.inner.Replay.{first_fault, Writes}
 use Rattle.sil_grammar.specs.Refusals.{IsRefusalOf, faulty}
 use Rattle.sil_grammar.specs.Spells.{Spells}
 use Rattle.sil_grammar.proofs.ReadLemmas.{fault_spells_none, faultless_whole, faulty_whole, out_of_memory}

@@ -2,7 +2,7 @@
 use Rattle.std.proofs.Common.{◌≡◌, ℕ, ◌<◌, true, not, nat_eq, get_or, List, refl, arith}
 use Rattle.std.proofs.lemmas.Bool.{agree_below, agree_below_at}
 use Rattle.sil_lexer.specs.declared.bytes.TheConstants.{NAME_BYTES}
-use Rattle.text_bytes.specs.Bytes.{is_name_byte}
+use Rattle.sil_ast.specs.TextBytes.Bytes.{is_name_byte}
 use Rattle.sil_lexer.proofs.bytes.is_name_byte.Goals as goal
 
 from_table : (table : List ℕ) (b : ℕ) → b < 256

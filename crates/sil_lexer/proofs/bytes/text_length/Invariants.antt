@@ -1,6 +1,6 @@
 use Rattle.std.proofs.Common.{◌≡◌, ◌+◌, drop}
 use Rattle.std.specs.List.{prefix_len}
-use Rattle.text_bytes.specs.Bytes.{is_text_byte}
+use Rattle.sil_ast.specs.TextBytes.Bytes.{is_text_byte}
 use Rattle.sil_lexer.proofs.bytes.text_length.Given as goal
 
 abbrev pub invariant-loop-i : goal.invariant-loop-i

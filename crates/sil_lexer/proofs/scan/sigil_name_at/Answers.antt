@@ -2,7 +2,7 @@ use Rattle.std.proofs.Common.{◌+◌, drop, arith, sym, ◌∙◌, length-drop}
 use Rattle.std.specs.List.{prefix_len}
 use Rattle.std.proofs.lemmas.List.{take_rest}
 use Rattle.std.proofs.lemmas.List.Sums.{prefix_len-le-length}
-use Rattle.text_bytes.specs.Bytes.{is_name_byte}
+use Rattle.sil_ast.specs.TextBytes.Bytes.{is_name_byte}
 use Rattle.sil_lexer.proofs.SpellLemmas.{takes_sigil_name, length_of_sigil_name, token_is}
 use Rattle.sil_lexer.proofs.StopLemmas.{stops_at_sigil, stops_at_long_name}
 use Rattle.sil_lexer.proofs.scan.sigil_name_at.Goals as goal

@@ -3,7 +3,7 @@ use Rattle.std.proofs.lemmas.List.{take_rest}
 use Rattle.std.proofs.lemmas.List.Sums.{prefix_len-le-length}
 use Rattle.sil_lexer.specs.declared.token.TokenKind.TheVariants.{Text}
 use Rattle.sil_lexer.specs.declared.token.LexRefusal.TheVariants.{BadByte}
-use Rattle.text_bytes.specs.Bytes.{is_text_byte}
+use Rattle.sil_ast.specs.TextBytes.Bytes.{is_text_byte}
 use Rattle.sil_lexer.proofs.RunLemmas.{first_some}
 use Rattle.sil_lexer.proofs.SpellLemmas.{takes_text, token_is}
 use Rattle.sil_lexer.proofs.StopLemmas.{StopsAt, stops_at_end, stops_at_line_end, stops_at_bad_text_byte}

@@ -1,7 +1,7 @@
 use Rattle.std.proofs.Common.{arith, length-take-le}
 use Rattle.std.specs.List.{prefix_len}
 use Rattle.sil_lexer.specs.declared.token.TokenKind.TheVariants.{Word}
-use Rattle.text_bytes.specs.Bytes.{is_name_byte}
+use Rattle.sil_ast.specs.TextBytes.Bytes.{is_name_byte}
 use Rattle.sil_lexer.proofs.SpellLemmas.{takes_word, token_is}
 use Rattle.sil_lexer.proofs.StopLemmas.{stops_at_long_name}
 use Rattle.sil_lexer.proofs.scan.word_at.Goals as goal

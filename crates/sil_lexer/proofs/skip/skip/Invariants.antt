@@ -1,5 +1,5 @@
 use Rattle.std.proofs.Common.{◌≡◌, ◌-◌, ◌≤◌, false, length, drop}
-use Rattle.text_bytes.specs.Bytes.{is_blank}
+use Rattle.sil_ast.specs.TextBytes.Bytes.{is_blank}
 use Rattle.sil_lexer.specs.Spelling.{begins_with}
 use Rattle.sil_lexer.specs.Lexes.{Skips}
 use Rattle.sil_lexer.specs.Places.{IsPlaceIn}

@@ -1,7 +1,7 @@
 use Rattle.std.proofs.Common.{◌≡◌, ◌+◌, true, false, get_or, ap, sym, subst, arith}
 use Rattle.std.proofs.lemmas.Grind.{common_steps}
 use Rattle.sil_ast.specs.declared.place.Place.{Place}
-use Rattle.text_bytes.specs.Bytes.{is_blank, is_line_feed}
+use Rattle.sil_ast.specs.TextBytes.Bytes.{is_blank, is_line_feed}
 use Rattle.sil_lexer.specs.Places.{IsPlaceIn}
 use Rattle.sil_lexer.specs.Lexes.{nothing}
 use Rattle.sil_lexer.proofs.PlaceLemmas.{bounds, place_behind}

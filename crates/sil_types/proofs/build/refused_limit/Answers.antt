@@ -1,5 +1,5 @@
 use Rattle.std.proofs.Common.{◌≡◌, sym, ap, ◌∙◌, true, false}
-use Rattle.type_definitions.specs.Rules.{exceeds_depth, exceeds_leaves}
+use Rattle.sil_types_declarations.specs.TypeDefinitions.Rules.{exceeds_depth, exceeds_leaves}
 use Rattle.sil_types.specs.inner.Limits.{any_past}
 use Rattle.sil_types.specs.declared.limits.Limit.TheVariants.{Depth}
 use Rattle.sil_types.proofs.FirstRefusals.{first_deep, first_wide}

@@ -1,6 +1,6 @@
 use Rattle.std.proofs.Common.{subst}
 use Rattle.sil_rules.specs.Order.{IsLeast}
-use Rattle.type_item_rules.specs.Faults.{BreaksIn, fault_key}
+use Rattle.sil_types_items.specs.TypeItemRules.Faults.{BreaksIn, fault_key}
 use Rattle.sil_types.proofs.FirstRefusals.{first_item, refused_rule}
 use Rattle.sil_types.proofs.items.check_items.Goals as goal
 

@@ -1,9 +1,9 @@
 use Rattle.std.proofs.Common.{◌-◌, subst, ap, ◌∙◌, length}
-use Rattle.containment.specs.Chains.{IsFirstCyclic}
-use Rattle.containment.specs.inner.Outcome.{IsFound}
+use Rattle.number_tables.specs.ContainmentOrder.Chains.{IsFirstCyclic}
+use Rattle.number_tables.specs.ContainmentOrder.inner.Outcome.{IsFound}
 use Rattle.sil_rules.specs.declared.rule.Rule.TheVariants.{InfiniteType}
-use Rattle.type_definitions.specs.Contained.{containment}
-use Rattle.type_definitions.specs.Declarations.{swift_structs}
+use Rattle.sil_types_declarations.specs.TypeDefinitions.Contained.{containment}
+use Rattle.sil_types_declarations.specs.TypeDefinitions.Declarations.{swift_structs}
 use Rattle.sil_types.specs.Refusals.{IsRule}
 use Rattle.sil_types.proofs.FirstRefusals.{first_ring, refused_rule}
 use Rattle.sil_types.proofs.ring.order_of.Goals as goal

@@ -3,11 +3,11 @@ use Rattle.std.specs.List.{flat_map, list_any}
 use Rattle.std.specs.Prelude.{◌||◌, is_some}
 use Rattle.sil_types.specs.inner.Limits.{exceeds}
 use Rattle.sil_types.specs.declared.limits.Limit.TheVariants.{Either}
-use Rattle.type_definitions.specs.Declarations.{declarations_of}
-use Rattle.type_definitions.specs.Mentions.{decl, function_members, mentions_of, vtable}
-use Rattle.type_definitions.specs.Rules.{is_no_member, is_of_unknown_class, is_too_low}
-use Rattle.type_item_rules.specs.Faults.{fault_from, is_wrong_type}
-use Rattle.type_item_rules.proofs.NoFaults.{none_broken}
+use Rattle.sil_types_declarations.specs.TypeDefinitions.Declarations.{declarations_of}
+use Rattle.sil_types_declarations.specs.TypeDefinitions.Mentions.{decl, function_members, mentions_of, vtable}
+use Rattle.sil_types_declarations.specs.TypeDefinitions.Rules.{is_no_member, is_of_unknown_class, is_too_low}
+use Rattle.sil_types_items.specs.TypeItemRules.Faults.{fault_from, is_wrong_type}
+use Rattle.sil_types_items.proofs.TypeItemRules.NoFaults.{none_broken}
 use Rattle.sil_types.proofs.PastLimits.{no_wrong_type, none_past_limit}
 use Rattle.sil_types.proofs.wrong.any_wrong.Goals as goal
 

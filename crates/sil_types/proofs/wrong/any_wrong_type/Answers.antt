@@ -2,8 +2,8 @@ use Rattle.std.proofs.Common.{ap, ◌∙◌}
 use Rattle.std.specs.List.{list_any}
 use Rattle.std.specs.Prelude.{◌||◌}
 use Rattle.sil_types.specs.inner.Limits.{exceeds}
-use Rattle.type_definitions.specs.Mentions.{mentions_of}
-use Rattle.type_item_rules.specs.Faults.{is_wrong_type}
+use Rattle.sil_types_declarations.specs.TypeDefinitions.Mentions.{mentions_of}
+use Rattle.sil_types_items.specs.TypeItemRules.Faults.{is_wrong_type}
 use Rattle.sil_types.proofs.wrong.any_wrong_type.Goals as goal
 
 pub returns : goal.returns

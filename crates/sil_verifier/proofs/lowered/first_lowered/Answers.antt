@@ -3,7 +3,7 @@ use Rattle.sil_rules.specs.Order.{IsFirst}
 use Rattle.type_check.specs.Refusals.{fault_key}
 use Rattle.sil_verifier.proofs.FirstFaults.{first_function}
 use Rattle.sil_verifier.specs.inner.Lowered as lowering
-use Rattle.accepted_modules.specs.Refusals.{IsLowered}
+use Rattle.sil_verifier_accepted.specs.AcceptedModules.Refusals.{IsLowered}
 use Rattle.sil_verifier.proofs.lowered.first_lowered.Goals as goal
 
 -- src/lowered.rt:33:1

@@ -3,7 +3,7 @@ use Rattle.sil_rules.specs.Order.{IsFirst}
 use Rattle.sil_types.specs.Typing.Typed.{Typed}
 use Rattle.type_check.specs.Refusals.{fault_at, fault_key}
 use Rattle.type_check.specs.Refusals.IsBroken.{broken}
-use Rattle.accepted_modules.specs.Refusals.{IsWrong}
+use Rattle.sil_verifier_accepted.specs.AcceptedModules.Refusals.{IsWrong}
 use Rattle.sil_verifier.proofs.types.check_types.Goals as goal
 
 -- src/types.rt:16:1

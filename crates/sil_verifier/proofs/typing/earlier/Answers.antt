@@ -3,7 +3,7 @@ use Rattle.std.specs.Prelude.{IfSome}
 use Rattle.sil_rules.specs.Order.{IsEarlier}
 use Rattle.type_check.specs.Refusals.{IsBroken, fault_key}
 use Rattle.sil_verifier.proofs.FirstFaults.{first_where_before, behind_where_not}
-use Rattle.accepted_modules.specs.Refusals.{IsLowered}
+use Rattle.sil_verifier_accepted.specs.AcceptedModules.Refusals.{IsLowered}
 use Rattle.sil_verifier.proofs.typing.earlier.Goals as goal
 
 pub returns-then-is_before : goal.returns-then-is_before

@@ -4,7 +4,7 @@ use Rattle.sil_rules.specs.Order.{IsFirst}
 use Rattle.sil_rules.proofs.Firsts.{first_earlier}
 use Rattle.type_check.specs.Refusals.{IsBroken, fault_key}
 use Rattle.type_check.specs.declared.fault.TypingFault.{TypingFault}
-use Rattle.accepted_modules.specs.Refusals.{IsLowered}
+use Rattle.sil_verifier_accepted.specs.AcceptedModules.Refusals.{IsLowered}
 use Rattle.sil_verifier.proofs.typing.first_fault.Goals as goal
 
 -- what is found is shown

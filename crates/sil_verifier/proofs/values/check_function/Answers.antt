@@ -1,8 +1,8 @@
 use Rattle.std.proofs.Common.{rules, Result, Ok, Err}
 use Rattle.std.specs.Prelude.{IfErr, OnOk}
-use Rattle.rule_faults.specs.declared.fault.RuleEnd.{RuleEnd}
+use Rattle.sil_rules.specs.declared.rule_faults.fault.RuleEnd.{RuleEnd}
 use Rattle.sil_verifier.proofs.FirstShown.{clean_in, end_kind, end_life, end_memory, end_scope, end_undefined}
-use Rattle.accepted_modules.specs.Values.{IsEndIn}
+use Rattle.sil_verifier_accepted.specs.AcceptedModules.Values.{IsEndIn}
 use Rattle.sil_verifier.proofs.values.check_function.Goals as goal
 
 along : {A : Type 0} (r : Result A RuleEnd) (P Q : RuleEnd → Type 0) → ((e : RuleEnd) → P e → Q e) → IfErr r P → IfErr r Q

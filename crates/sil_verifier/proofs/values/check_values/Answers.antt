@@ -1,9 +1,9 @@
 use Rattle.std.proofs.Common.{rules, ◌≡◌, ◌+◌, length, refl, ap, subst, Some}
 use Rattle.std.specs.Prelude.{slice_get}
-use Rattle.type_definitions.specs.Declarations.{declarations_of}
-use Rattle.accepted_modules.proofs.typed_graph_laws.Functions.{graphs_by_blocks}
+use Rattle.sil_types_declarations.specs.TypeDefinitions.Declarations.{declarations_of}
+use Rattle.sil_verifier_accepted.proofs.TypedGraphLaws.Functions.{graphs_by_blocks}
 use Rattle.sil_cfg.specs.Items.{HasBlocks}
-use Rattle.accepted_modules.specs.Values.{IsCleanIn, IsRefusalIn, IsValueRefusal}
+use Rattle.sil_verifier_accepted.specs.AcceptedModules.Values.{IsCleanIn, IsRefusalIn, IsValueRefusal}
 use Rattle.sil_verifier.proofs.Functions.{all_clean, clean_more, first_refusal, is_there}
 use Rattle.sil_verifier.proofs.values.check_values.Goals as goal
 

@@ -1,7 +1,7 @@
 -- The first that is wrong with items, with a type's size or with typing is the first of all.
 use Rattle.std.proofs.Common.{refl, subst}
-use Rattle.accepted_modules.specs.Findings.{item}
-use Rattle.accepted_modules.specs.Refusals as types
+use Rattle.sil_verifier_accepted.specs.AcceptedModules.Findings.{item}
+use Rattle.sil_verifier_accepted.specs.AcceptedModules.Refusals as types
 use Rattle.sil_verifier.proofs.Stages.{first_item, first_limit}
 use Rattle.sil_verifier.proofs.verifier.end_of_types.Goals as goal
 

@@ -1,6 +1,6 @@
 -- The first fault of typing is the first of all that is wrong.
 use Rattle.std.proofs.Common.{refl}
-use Rattle.accepted_modules.specs.Findings.{typing}
+use Rattle.sil_verifier_accepted.specs.AcceptedModules.Findings.{typing}
 use Rattle.sil_verifier.proofs.Stages.{first_typing}
 use Rattle.sil_verifier.proofs.verifier.end_of_typing.Goals as goal
 

@@ -1,7 +1,7 @@
 -- The first broken rule on values is the first of all that is wrong.
 use Rattle.std.proofs.Common.{refl, subst}
-use Rattle.accepted_modules.specs.Findings.{value}
-use Rattle.accepted_modules.specs.Values.{IsValueRefusal}
+use Rattle.sil_verifier_accepted.specs.AcceptedModules.Findings.{value}
+use Rattle.sil_verifier_accepted.specs.AcceptedModules.Values.{IsValueRefusal}
 use Rattle.sil_verifier.proofs.Stages.{first_value}
 use Rattle.sil_verifier.proofs.verifier.end_of_values.Goals as goal
 

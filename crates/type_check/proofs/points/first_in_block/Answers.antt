@@ -1,7 +1,7 @@
 use Rattle.std.proofs.Common.{◌≡◌, ◌+◌, ◌%◌, ◌^◌, sym, ap, ◌∙◌, arith, length, [], ◌∷◌, ◌++◌, Option, None}
 use Rattle.std.specs.Option.{option_or}
 use Rattle.std.proofs.Common.{ℕ, get_or, map, take}
-use Rattle.typing_values.specs.inner.Given.{given_count}
+use Rattle.type_check_values.specs.TypingValues.inner.Given.{given_count}
 use Rattle.type_check.proofs.Counts.{before_last, last}
 use Rattle.sil_ast.specs.declared.inst.Inst.{Inst}
 use Rattle.type_check.proofs.Firsts.{first_behind_all}

@@ -3,7 +3,7 @@ use Rattle.std.specs.Prelude.{ℕ, Option}
 use Rattle.sil_ast.specs.declared.function.Block.{Block}
 use Rattle.sil_ast.specs.declared.inst.Inst.{Inst}
 use Rattle.numbered_form.specs.Insts.{insts_in}
-use Rattle.typing_values.specs.inner.Given.{given_count}
+use Rattle.type_check_values.specs.TypingValues.inner.Given.{given_count}
 use Rattle.std.specs.Option.{option_or}
 use Rattle.type_check.specs.inner.FirstFault.{fault_of_block}
 use Rattle.type_check.specs.inner.Firsts.{first_from}

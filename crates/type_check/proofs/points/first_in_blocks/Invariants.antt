@@ -3,7 +3,7 @@ use Rattle.std.proofs.Common.{◌≡◌, drop, map}
 use Rattle.numbered_form.specs.Insts.{insts_in}
 use Rattle.type_check.specs.inner.FirstFault.{fault_of_block}
 use Rattle.type_check.specs.inner.Firsts.{first_from}
-use Rattle.typing_values.specs.inner.Given.{given_count}
+use Rattle.type_check_values.specs.TypingValues.inner.Given.{given_count}
 use Rattle.type_check.proofs.points.first_in_blocks.Given as goal
 
 abbrev pub invariant-loop-block : goal.invariant-loop-block

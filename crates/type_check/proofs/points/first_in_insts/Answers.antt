@@ -1,5 +1,5 @@
 use Rattle.std.proofs.Common.{ap, sym, ◌∙◌}
-use Rattle.typing_values.specs.inner.Given.{given_count}
+use Rattle.type_check_values.specs.TypingValues.inner.Given.{given_count}
 use Rattle.type_check.proofs.Counts.{at_index}
 use Rattle.type_check.proofs.points.first_in_insts.Goals as goal
 

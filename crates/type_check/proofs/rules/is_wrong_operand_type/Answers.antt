@@ -1,8 +1,8 @@
 use Rattle.std.proofs.Common.{◌≡◌, ap, ◌∙◌}
-use Rattle.type_definitions.specs.Declarations.{declarations_of}
+use Rattle.sil_types.specs.sil_types_declarations.TypeDefinitions.Declarations.{declarations_of}
 use Rattle.sil_types.specs.Typing.OperandTypes as operands
 use Rattle.sil_types.specs.Typing.Values.{value_types}
-use Rattle.typing_values.specs.inner.Told.{types_told}
+use Rattle.type_check_values.specs.TypingValues.inner.Told.{types_told}
 use Rattle.type_check.proofs.rules.is_wrong_operand_type.Goals as goal
 
 pub returns : goal.returns

@@ -1,6 +1,6 @@
 use Rattle.std.proofs.Common.{sym, subst, Option, Some}
-use Rattle.path_checks.specs.First.{IsFirst}
-use Rattle.path_checks.specs.declared.fault.PathFault.{PathFault}
+use Rattle.reach_engine_marks.specs.PathChecks.First.{IsFirst}
+use Rattle.reach_engine_marks.specs.declared.path_checks.fault.PathFault.{PathFault}
 use Rattle.value_availability.specs.Accesses.{accesses_of}
 use Rattle.value_availability.proofs.availability.check.Goals as goal
 

@@ -1,7 +1,7 @@
 use Rattle.std.proofs.Common.{set, sym, ap, ◌∙◌, subst}
-use Rattle.run_values.specs.declared.phase.Phase.TheVariants.{Live}
-use Rattle.heap_model.specs.HeapCalls.{allocated_in}
-use Rattle.heap_model.specs.HeapViews.{HeapView}
+use Rattle.holder_model_values.specs.declared.run_values.phase.Phase.TheVariants.{Live}
+use Rattle.count_heap.specs.HeapModel.HeapCalls.{allocated_in}
+use Rattle.count_heap.specs.HeapModel.HeapViews.{HeapView}
 use Rattle.count_heap.specs.inner.Kept.{IsHeap}
 use Rattle.count_heap.specs.inner.Objects.{heap_of}
 use Rattle.count_heap.proofs.Allocation.{allocated_heap, allocated_view, given_back, same_heap}

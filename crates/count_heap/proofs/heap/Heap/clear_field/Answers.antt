@@ -1,13 +1,13 @@
 use Rattle.std.proofs.Common.{◌≡◌, ◌+◌, ◌<◌, ◌≤◌, ◌∷◌, [], None, false, length, sym, ap, ◌∙◌, subst}
 use Rattle.std.specs.Prelude.{IfSome, option_map, slice_index_or}
-use Rattle.run_values.specs.declared.leaf.Leaf.TheVariants.{Blank}
-use Rattle.leaf_pool.specs.Pieces.{IsChanged, piece_in, put_leaves}
-use Rattle.class_layouts.specs.ClassFields.{leaves_by_field}
-use Rattle.class_layouts.specs.declared.field_place.FieldPlace.{FieldPlace}
-use Rattle.class_layouts.proofs.PlacesApart.{no_place, place_at}
-use Rattle.heap_model.specs.HeapCalls as calls
-use Rattle.heap_model.specs.HeapViews as views
-use Rattle.heap_model.specs.HeapViews.{HeapView}
+use Rattle.holder_model_values.specs.declared.run_values.leaf.Leaf.TheVariants.{Blank}
+use Rattle.count_heap.specs.PooledLeaves.Pieces.{IsChanged, piece_in, put_leaves}
+use Rattle.count_heap.specs.LayoutsByClass.ClassFields.{leaves_by_field}
+use Rattle.count_heap.specs.declared.layouts_by_class.field_place.FieldPlace.{FieldPlace}
+use Rattle.count_heap.proofs.LayoutsByClass.PlacesApart.{no_place, place_at}
+use Rattle.count_heap.specs.HeapModel.HeapCalls as calls
+use Rattle.count_heap.specs.HeapModel.HeapViews as views
+use Rattle.count_heap.specs.HeapModel.HeapViews.{HeapView}
 use Rattle.count_heap.specs.declared.slot_record.SlotRecord.{SlotRecord}
 use Rattle.count_heap.specs.inner.Objects.{heap_of, places_of, record_at}
 use Rattle.count_heap.proofs.Calls.{read_record}

@@ -1,7 +1,7 @@
 use Rattle.std.proofs.Common.{sym, ap, ◌∙◌}
 use Rattle.weak_unowned.specs.declared.side.Side.{Side}
-use Rattle.heap_model.specs.HeapViews as views
-use Rattle.heap_model.specs.HeapViews.{HeapView}
+use Rattle.count_heap.specs.HeapModel.HeapViews as views
+use Rattle.count_heap.specs.HeapModel.HeapViews.{HeapView}
 use Rattle.count_heap.proofs.Calls.{named_is, no_object_seen, none_named, object_seen}
 use Rattle.count_heap.proofs.heap.Heap.counts.Goals as goal
 

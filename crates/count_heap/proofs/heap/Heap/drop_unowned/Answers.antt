@@ -1,11 +1,11 @@
 use Rattle.std.proofs.Common.{◌≡◌, refl, sym, ap, ◌∙◌, subst}
-use Rattle.heap_model.specs.HeapCalls as calls
-use Rattle.heap_model.specs.HeapViews.{HeapView}
+use Rattle.count_heap.specs.HeapModel.HeapCalls as calls
+use Rattle.count_heap.specs.HeapModel.HeapViews.{HeapView}
 use Rattle.count_heap.specs.inner.Objects.{heap_of}
 use Rattle.count_heap.proofs.Calls.{changed_idle, sides_gone, sides_gone_inv, sides_inv, sides_left}
 use Rattle.weak_unowned.specs.Sides as side
 use Rattle.weak_unowned.specs.Sides.{is_idle, is_idle_at, sides_at}
-use Rattle.number_table.specs.Numbers.{without}
+use Rattle.number_tables.specs.TableByNumber.Numbers.{without}
 use Rattle.count_heap.specs.inner.Kept.{IsHeap}
 use Rattle.count_heap.proofs.heap.Heap.drop_unowned.Goals as goal
 

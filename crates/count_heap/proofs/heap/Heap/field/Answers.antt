@@ -1,17 +1,17 @@
 use Rattle.std.proofs.Common.{◌≡◌, ◌+◌, ◌<◌, ◌≤◌, Some, true, is_some, length, sym, ap, ◌∙◌, subst}
 use Rattle.std.specs.Prelude.{slice_index_or}
-use Rattle.heap_model.specs.HeapViews as views
-use Rattle.heap_model.specs.HeapViews.{HeapView}
+use Rattle.count_heap.specs.HeapModel.HeapViews as views
+use Rattle.count_heap.specs.HeapModel.HeapViews.{HeapView}
 use Rattle.count_heap.specs.declared.slot_record.SlotRecord.{SlotRecord}
 use Rattle.count_heap.specs.inner.Objects.{record_at}
 use Rattle.count_heap.proofs.Calls.{read_record}
 use Rattle.std.specs.Prelude.{List}
-use Rattle.leaf_pool.specs.Pieces.{piece_in}
-use Rattle.class_layouts.specs.ClassFields.{leaves_by_field}
-use Rattle.class_layouts.specs.declared.field_place.FieldPlace.{FieldPlace}
-use Rattle.class_layouts.proofs.PlacesApart.{no_place, place_at}
+use Rattle.count_heap.specs.PooledLeaves.Pieces.{piece_in}
+use Rattle.count_heap.specs.LayoutsByClass.ClassFields.{leaves_by_field}
+use Rattle.count_heap.specs.declared.layouts_by_class.field_place.FieldPlace.{FieldPlace}
+use Rattle.count_heap.proofs.LayoutsByClass.PlacesApart.{no_place, place_at}
 use Rattle.count_heap.specs.inner.Objects.{field_at, leaves_in, places_of}
-use Rattle.run_values.specs.declared.leaf.Leaf.{Leaf}
+use Rattle.holder_model_values.specs.declared.run_values.leaf.Leaf.{Leaf}
 use Rattle.count_heap.proofs.FieldCalls.{field_count_is, field_seen, piece_is, piece_there, place_fits}
 use Rattle.count_heap.proofs.heap.Heap.field.Goals as goal
 

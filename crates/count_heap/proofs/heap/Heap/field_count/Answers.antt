@@ -1,9 +1,9 @@
 use Rattle.std.proofs.Common.{length, sym, ap, ◌∙◌}
-use Rattle.heap_model.specs.HeapViews as views
-use Rattle.heap_model.specs.HeapViews.{HeapView}
+use Rattle.count_heap.specs.HeapModel.HeapViews as views
+use Rattle.count_heap.specs.HeapModel.HeapViews.{HeapView}
 use Rattle.count_heap.specs.declared.slot_record.SlotRecord.{SlotRecord}
 use Rattle.count_heap.proofs.Calls.{read_record}
-use Rattle.class_layouts.specs.ClassFields.{leaves_by_field}
+use Rattle.count_heap.specs.LayoutsByClass.ClassFields.{leaves_by_field}
 use Rattle.count_heap.proofs.FieldCalls.{field_count_is}
 use Rattle.count_heap.proofs.heap.Heap.field_count.Goals as goal
 

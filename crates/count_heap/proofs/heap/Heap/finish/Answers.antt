@@ -1,17 +1,17 @@
 use Rattle.std.proofs.Common.{◌≡◌, None, false, sym, ap, ◌∙◌, subst}
-use Rattle.run_values.specs.Memory.{is_dead_phase}
-use Rattle.run_values.specs.declared.phase.Phase.TheVariants.{Dead, Deiniting}
-use Rattle.heap_model.specs.HeapCalls as calls
-use Rattle.heap_model.specs.HeapViews as views
-use Rattle.heap_model.specs.HeapViews.{HeapView}
+use Rattle.holder_model_values.specs.RunValues.Memory.{is_dead_phase}
+use Rattle.holder_model_values.specs.declared.run_values.phase.Phase.TheVariants.{Dead, Deiniting}
+use Rattle.count_heap.specs.HeapModel.HeapCalls as calls
+use Rattle.count_heap.specs.HeapModel.HeapViews as views
+use Rattle.count_heap.specs.HeapModel.HeapViews.{HeapView}
 use Rattle.count_heap.specs.declared.slot_record.SlotRecord.{SlotRecord}
 use Rattle.count_heap.specs.inner.Objects.{heap_of, record_at}
 use Rattle.count_heap.proofs.Calls.{changed_idle, death_gone, death_gone_inv, death_inv, death_left, object_seen, read_record}
 use Rattle.std.specs.Prelude.{set}
 use Rattle.weak_unowned.specs.Sides as side
 use Rattle.weak_unowned.specs.Sides.{is_idle, is_idle_at, sides_at}
-use Rattle.number_table.specs.Numbers.{without}
-use Rattle.leaf_pool.specs.Pieces.{IsChanged}
+use Rattle.number_tables.specs.TableByNumber.Numbers.{without}
+use Rattle.count_heap.specs.PooledLeaves.Pieces.{IsChanged}
 use Rattle.count_heap.specs.inner.Kept.{IsHeap}
 use Rattle.count_heap.proofs.heap.Heap.finish.Goals as goal
 

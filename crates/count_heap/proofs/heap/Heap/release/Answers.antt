@@ -1,7 +1,7 @@
 use Rattle.std.proofs.Common.{◌-◌, ◌≤◌, refl, sym, ap, ◌∙◌, subst}
-use Rattle.heap_model.specs.HeapCalls as calls
-use Rattle.heap_model.specs.HeapViews as views
-use Rattle.heap_model.specs.HeapViews.{HeapView}
+use Rattle.count_heap.specs.HeapModel.HeapCalls as calls
+use Rattle.count_heap.specs.HeapModel.HeapViews as views
+use Rattle.count_heap.specs.HeapModel.HeapViews.{HeapView}
 use Rattle.count_heap.specs.declared.slot_record.SlotRecord.{SlotRecord}
 use Rattle.count_heap.specs.inner.Objects.{record_at}
 use Rattle.count_heap.proofs.Calls.{answer_is, read_record, record_inv, released_is, strong_is}

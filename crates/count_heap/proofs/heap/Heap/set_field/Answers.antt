@@ -1,17 +1,17 @@
 use Rattle.std.proofs.Common.{◌≡◌, ◌+◌, ◌<◌, ◌≤◌, true, is_some, length, sym, ap, ◌∙◌, subst, arith}
 use Rattle.std.specs.Prelude.{slice_index_or}
-use Rattle.heap_model.specs.HeapCalls as calls
-use Rattle.heap_model.specs.HeapViews as views
-use Rattle.heap_model.specs.HeapViews.{HeapView}
+use Rattle.count_heap.specs.HeapModel.HeapCalls as calls
+use Rattle.count_heap.specs.HeapModel.HeapViews as views
+use Rattle.count_heap.specs.HeapModel.HeapViews.{HeapView}
 use Rattle.count_heap.specs.declared.slot_record.SlotRecord.{SlotRecord}
 use Rattle.count_heap.specs.inner.Objects.{record_at}
 use Rattle.count_heap.proofs.Calls.{read_record}
 use Rattle.std.specs.Prelude.{IfSome, option_map}
-use Rattle.leaf_pool.specs.Pieces.{IsChanged, piece_in}
-use Rattle.class_layouts.specs.ClassFields.{leaves_by_field}
-use Rattle.class_layouts.specs.declared.field_place.FieldPlace.{FieldPlace}
-use Rattle.class_layouts.proofs.Lists.{length_places}
-use Rattle.class_layouts.proofs.PlacesApart.{no_place, place_at}
+use Rattle.count_heap.specs.PooledLeaves.Pieces.{IsChanged, piece_in}
+use Rattle.count_heap.specs.LayoutsByClass.ClassFields.{leaves_by_field}
+use Rattle.count_heap.specs.declared.layouts_by_class.field_place.FieldPlace.{FieldPlace}
+use Rattle.count_heap.proofs.LayoutsByClass.Lists.{length_places}
+use Rattle.count_heap.proofs.LayoutsByClass.PlacesApart.{no_place, place_at}
 use Rattle.count_heap.specs.inner.Objects.{places_of}
 use Rattle.count_heap.specs.inner.Written.{written}
 use Rattle.count_heap.proofs.FieldCalls.{field_fits, index_there, piece_there, set_field_inv, set_field_is}

@@ -1,9 +1,9 @@
 use Rattle.std.proofs.Common.{◌≡◌, refl, sym, ap, ◌∙◌}
-use Rattle.run_values.specs.Memory.{is_dead_phase}
-use Rattle.run_values.specs.declared.phase.Phase.TheVariants.{Deiniting, Live}
-use Rattle.heap_model.specs.HeapCalls as calls
-use Rattle.heap_model.specs.HeapViews as views
-use Rattle.heap_model.specs.HeapViews.{HeapView}
+use Rattle.holder_model_values.specs.RunValues.Memory.{is_dead_phase}
+use Rattle.holder_model_values.specs.declared.run_values.phase.Phase.TheVariants.{Deiniting, Live}
+use Rattle.count_heap.specs.HeapModel.HeapCalls as calls
+use Rattle.count_heap.specs.HeapModel.HeapViews as views
+use Rattle.count_heap.specs.HeapModel.HeapViews.{HeapView}
 use Rattle.count_heap.specs.declared.slot_record.SlotRecord.{SlotRecord}
 use Rattle.count_heap.specs.inner.Objects.{record_at}
 use Rattle.count_heap.proofs.Calls.{object_seen, read_record, record_inv, started_is}

@@ -1,9 +1,9 @@
 use Rattle.std.proofs.Common.{◌≡◌, [], ◌++◌, ap, false, sym, ◌∙◌}
 use Rattle.std.specs.Prelude.{cond}
 use Rattle.std.specs.List.{flat_map}
-use Rattle.point_checks.specs.inner.Faults.{least}
-use Rattle.point_checks.proofs.Least.{least_two, ok_along}
-use Rattle.memory_accesses.specs.Operations.{addresses_of, deallocates, operations_of}
+use Rattle.numbered_form.specs.PointChecks.inner.Faults.{least}
+use Rattle.numbered_form.proofs.PointChecks.Least.{least_two, ok_along}
+use Rattle.memory_rules_accesses.specs.Operations.{addresses_of, deallocates, operations_of}
 use Rattle.memory_rules.specs.inner.StaticFaults.{deallocation_faults, no_slot_faults, operated_faults, pair_faults, statics_at}
 use Rattle.memory_rules.specs.Statics.{handed, handed_of, pairs_of}
 use Rattle.memory_rules.proofs.Idle.{idle}

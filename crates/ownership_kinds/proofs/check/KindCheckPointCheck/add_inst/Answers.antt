@@ -1,7 +1,7 @@
 use Rattle.std.proofs.Common.{ap, ◌∙◌}
 use Rattle.std.specs.List.{flat_map}
-use Rattle.point_checks.specs.inner.Faults.{least}
-use Rattle.point_checks.proofs.Least.{least_four}
+use Rattle.numbered_form.specs.PointChecks.inner.Faults.{least}
+use Rattle.numbered_form.proofs.PointChecks.Least.{least_four}
 use Rattle.ownership_kinds.specs.inner.Faults.{lacking_faults, mixed_faults, ring_faults, taken_faults}
 use Rattle.ownership_kinds.specs.inner.Known.{kind_told}
 use Rattle.ownership_kinds.specs.Statics.{all_taken}

@@ -1,4 +1,4 @@
-use Rattle.type_measures.proofs.ByParts.{by_parts}
+use Rattle.sil_types_items.proofs.TypeMeasures.ByParts.{by_parts}
 use Rattle.sil_types.proofs.FirstRefusals.{all_declared}
 use Rattle.sil_types.proofs.table.TypeTable.build.Goals as goal
 

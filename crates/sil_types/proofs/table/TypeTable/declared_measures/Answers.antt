@@ -1,6 +1,6 @@
 use Rattle.std.proofs.Common.{ap, map, ◌∙◌}
-use Rattle.type_definitions.specs.Measures.{measures_of}
-use Rattle.type_measures.specs.inner.Gathered.{capped}
+use Rattle.sil_types_declarations.specs.TypeDefinitions.Measures.{measures_of}
+use Rattle.sil_types_items.specs.TypeMeasures.inner.Gathered.{capped}
 use Rattle.sil_types.proofs.table.TypeTable.declared_measures.Goals as goal
 
 pub returns : goal.returns

@@ -1,10 +1,10 @@
 use Rattle.std.proofs.Common.{ap, sym, ◌∙◌}
-use Rattle.type_definitions.specs.Declarations.{all_names}
-use Rattle.type_definitions.specs.Measures.{measure_at, measure_of}
+use Rattle.sil_types_declarations.specs.TypeDefinitions.Declarations.{all_names}
+use Rattle.sil_types_declarations.specs.TypeDefinitions.Measures.{measure_at, measure_of}
 use Rattle.sil_ast.specs.declared.type_name.TypeName.TheVariants.{Named}
-use Rattle.type_measures.proofs.Agreement.{measure-Named}
-use Rattle.type_measures.specs.inner.Gathered.{capped}
-use Rattle.type_measures.proofs.Ordered.{kept_serves}
+use Rattle.sil_types_items.proofs.TypeMeasures.Agreement.{measure-Named}
+use Rattle.sil_types_items.specs.TypeMeasures.inner.Gathered.{capped}
+use Rattle.sil_types_items.proofs.TypeMeasures.Ordered.{kept_serves}
 use Rattle.sil_types.proofs.table.TypeTable.measure_name.Goals as goal
 
 pub returns : goal.returns

@@ -1,9 +1,9 @@
 use Rattle.std.proofs.Common.{ap, ◌∙◌}
 use Rattle.std.specs.List.{flat_map}
-use Rattle.type_definitions.specs.Measures.{measure_of}
-use Rattle.type_definitions.specs.Mentions.{together, operand_types}
-use Rattle.type_measures.specs.inner.Gathered.{capped}
-use Rattle.type_measures.proofs.Ordered.{kept_serves}
+use Rattle.sil_types_declarations.specs.TypeDefinitions.Measures.{measure_of}
+use Rattle.sil_types_declarations.specs.TypeDefinitions.Mentions.{together, operand_types}
+use Rattle.sil_types_items.specs.TypeMeasures.inner.Gathered.{capped}
+use Rattle.sil_types_items.proofs.TypeMeasures.Ordered.{kept_serves}
 use Rattle.sil_types.proofs.table.TypeTable.measure_operands.Goals as goal
 
 pub returns : goal.returns

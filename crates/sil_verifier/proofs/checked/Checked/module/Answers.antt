@@ -1,5 +1,5 @@
 use Rattle.std.proofs.Common.{◌≡◌, subst}
-use Rattle.accepted_modules.specs.inner.Checked.{IsVerified}
+use Rattle.sil_verifier_accepted.specs.AcceptedModules.inner.Checked.{IsVerified}
 use Rattle.sil_verifier.proofs.checked.Checked.module.Goals as goal
 
 pub returns-clause-runs : goal.returns-clause-runs

@@ -1,5 +1,0 @@
-use Rattle.accepted_runs.proofs.RightRuns.{no_outcome_faults}
-use Rattle.accepted_runs.proofs.laws.no_outcome_faults.Goals as goal
-
-pub returns : goal.returns
-returns c = no_outcome_faults

@@ -1,5 +1,0 @@
-use Rattle.accepted_runs.proofs.RightRuns.{no_run_faults}
-use Rattle.accepted_runs.proofs.laws.no_run_faults.Goals as goal
-
-pub returns : goal.returns
-returns c = no_run_faults

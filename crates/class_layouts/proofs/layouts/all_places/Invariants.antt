@@ -1,6 +1,0 @@
-use Rattle.std.proofs.Common.{◌≡◌}
-use Rattle.class_layouts.specs.inner.Kept.{places_until, sizes_until}
-use Rattle.class_layouts.proofs.layouts.all_places.Given as goal
-
-abbrev pub invariant-loop-decl : goal.invariant-loop-decl
-invariant-loop-decl l = (l.places ≡ places_until l.table l.decl-index) × (l.sizes.items ≡ sizes_until l.table l.decl-index)

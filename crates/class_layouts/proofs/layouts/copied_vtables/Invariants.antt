@@ -1,5 +1,0 @@
-use Rattle.std.proofs.Common.{◌≡◌, take}
-use Rattle.class_layouts.proofs.layouts.copied_vtables.Given as goal
-
-abbrev pub invariant-loop-vtable : goal.invariant-loop-vtable
-invariant-loop-vtable l = l.copies ≡ take l.vtable-index l.vtables

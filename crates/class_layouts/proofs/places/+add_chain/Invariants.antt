@@ -1,4 +1,0 @@
-use Rattle.class_layouts.proofs.places.+add_chain.Given as goal
-
-abbrev pub decreases-add_chain : goal.decreases-add_chain
-decreases-add_chain l = l.most

@@ -1,9 +1,0 @@
-use Rattle.std.proofs.Common.{◌≡◌, ◌+◌, ◌++◌, map, take}
-use Rattle.class_layouts.specs.ClassFields.{field_leaves}
-use Rattle.class_layouts.specs.Layouts.{places_from, size_of}
-use Rattle.class_layouts.proofs.places.add_fields.Given as goal
-
-abbrev pub invariant-loop-field : goal.invariant-loop-field
-invariant-loop-field l =
-    (l.places.places.items ≡ l.fn.places.places.items ++ places_from l.fn.places.size (map (field_leaves l.table) (take l.field-index l.fields)))
-    × (l.places.size ≡ l.fn.places.size + size_of (map (field_leaves l.table) (take l.field-index l.fields)))

@@ -1,2 +1,0 @@
--- How many leaves the fields of a class have.
-pub use Rattle.heap_model.specs.HeapViews.{class_fields, field_leaves, leaves_by_field, named_fields, stored_type}

@@ -1,3 +1,0 @@
-mod Chaining
-mod Settled
-pub mod RingLemmas

@@ -1,6 +1,0 @@
-use Rattle.std.proofs.Common.{◌≡◌, ℕ, ◌<◌, length}
-use Rattle.containment.specs.Chains.{IsCyclic}
-use Rattle.containment.proofs.rings.first_on_ring.Given as goal
-
-abbrev pub invariant-loop-value : goal.invariant-loop-value
-invariant-loop-value l = (length l.marks.items ≡ length l.graph) × ((v : ℕ) → v < l.value → IsCyclic l.graph v → ⊥)

@@ -1,6 +1,0 @@
-use Rattle.std.proofs.Common.{take}
-use Rattle.containment.specs.inner.Search.{Visits}
-use Rattle.containment.proofs.search.visit.Given as goal
-
-abbrev pub invariant-loop-part : goal.invariant-loop-part
-invariant-loop-part l = Visits (take l.part-index l.parts) l.initial.marks l.initial.stack.items l.marks l.stack.items

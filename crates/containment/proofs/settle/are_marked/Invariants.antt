@@ -1,7 +1,0 @@
-use Rattle.std.proofs.Common.{◌≡◌, take, true}
-use Rattle.std.specs.List.{list_all}
-use Rattle.containment.specs.inner.Settling.{is_marked}
-use Rattle.containment.proofs.settle.are_marked.Given as goal
-
-abbrev pub invariant-loop-part : goal.invariant-loop-part
-invariant-loop-part l = list_all (is_marked l.marks) (take l.part-index l.parts) ≡ true

@@ -1,0 +1,16 @@
+pub mod Lists
+pub mod Insts
+pub mod Graph
+pub mod Parts
+pub mod Ready
+pub mod Rows
+pub mod ValueRows
+pub mod Roles
+pub mod Avoided
+pub mod Facts
+pub mod Marks
+pub mod KindRules
+pub mod Kept
+pub mod Tables
+pub mod CopyScope
+pub mod Clean

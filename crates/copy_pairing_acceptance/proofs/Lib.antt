@@ -1,0 +1,7 @@
+pub mod RewrittenTypingLaws
+pub mod LentFunctions
+pub mod LentMemory
+pub mod MovedFunctions
+pub mod MovedMemory
+pub mod RewritingLaws
+pub mod RewritingOrder

@@ -1,0 +1,13 @@
+pub mod Watched
+pub mod WalksBack
+pub mod LentBack
+pub mod Order
+pub mod Apart
+pub mod Turning
+pub mod ItemsBack
+pub mod MovedBack
+pub mod Later
+pub mod Ends
+pub mod LentForth
+pub mod Lending
+pub mod MovedForth

@@ -1,0 +1,9 @@
+pub mod Lists
+pub mod Alike
+pub mod Rows
+pub mod Made
+pub mod Numbered
+pub mod Mentioned
+pub mod Points
+pub mod Rules
+pub mod Kept

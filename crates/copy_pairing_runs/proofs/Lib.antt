@@ -1,0 +1,3 @@
+pub mod LentRuns
+pub mod MovedRuns
+pub mod OptimisedRuns

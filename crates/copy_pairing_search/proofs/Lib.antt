@@ -1,0 +1,2 @@
+pub mod BorrowableCopies
+pub mod CopyRewriting

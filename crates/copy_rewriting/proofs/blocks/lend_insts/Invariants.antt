@@ -1,7 +1,0 @@
-use Rattle.std.proofs.Common.{◌≡◌, ◌++◌, take, drop}
-use Rattle.std.specs.Prelude.{map}
-use Rattle.copy_removal.specs.Rewritten.{lent_inst}
-use Rattle.copy_rewriting.proofs.blocks.lend_insts.Given as goal
-
-abbrev pub invariant-loop-k : goal.invariant-loop-k
-invariant-loop-k l = l.insts.items ≡ map (lent_inst l.value) (take l.k l.initial.insts.items) ++ drop l.k l.initial.insts.items

@@ -1,7 +1,0 @@
-use Rattle.std.proofs.Common.{◌≡◌, ◌++◌, take, drop}
-use Rattle.std.specs.Prelude.{map}
-use Rattle.copy_removal.specs.Rewritten.{lent_block}
-use Rattle.copy_rewriting.proofs.functions.lend_blocks.Given as goal
-
-abbrev pub invariant-loop-b : goal.invariant-loop-b
-invariant-loop-b l = l.blocks.items ≡ map (lent_block l.value) (take l.b l.initial.blocks.items) ++ drop l.b l.initial.blocks.items

@@ -1,0 +1,2 @@
+pub mod HeapViews
+pub mod HeapCalls

@@ -1,0 +1,9 @@
+pub mod Heights
+pub mod Members
+pub mod Sized
+pub mod Parts
+pub mod Shaped
+pub mod Loops
+pub mod Cases
+pub mod Below
+pub mod GivenTypes

@@ -1,0 +1,142 @@
+-- However the machine stops, the run of lowered code ends so: the states at the start agree, and each step of the machine is followed.
+use Rattle.std.proofs.Common.{◌≡◌, ◌∙◌, ℕ, zero, suc, List, [], not, Some, refl, sym, ap, subst}
+use Rattle.std.specs.Prelude.{option_and_then}
+use Rattle.std.proofs.lemmas.Bool.{and_parts}
+use Rattle.std.proofs.lemmas.Option.{none-some, same_Some}
+use Rattle.argument_conventions.specs.Arguments.{arguments_of}
+use Rattle.count_machine_model.specs.holder_model.Calling.{value_count}
+use Rattle.count_machine_model.specs.holder_model.Frames.{has_any}
+use Rattle.count_machine_model.specs.holder_model.ModuleShapes.{shapes_of}
+use Rattle.count_machine_model.specs.holder_model.Outcomes.{run}
+use Rattle.count_machine_model.specs.holder_model.States as low
+use Rattle.count_machine_model.specs.holder_model.States.{Ending, Next}
+use Rattle.count_machine_model.specs.holder_model.declared.lowered_run.low_fault.LowFault.{LowFault}
+use Rattle.count_machine_model.specs.holder_model.LoweredRun.LowFrames.{no_values}
+use Rattle.count_machine_model.specs.holder_model.LoweredRun.LowOutcomes.{low_begins, low_outcome_after, low_outcome_at}
+use Rattle.count_machine_model.specs.holder_model.LoweredRun.LowStepParts.{LowState, new_frame}
+use Rattle.count_machine_model.specs.holder_model.LoweredRun.LowSteps.{low_step}
+use Rattle.count_machine_model.specs.declared.machine_steps.run_end.RunEnd.{RunEnd}
+use Rattle.count_machine_model.specs.MachineSteps.Calling as machine
+use Rattle.count_machine_model.specs.MachineSteps.Runs.{begins, no_tasks, steps, went_on}
+use Rattle.count_machine_model.specs.MachineSteps.Steps.{machine_step}
+use Rattle.count_machine_model.specs.MachineSteps.Views.{MachineView, Stops, Went}
+use Rattle.count_machine_model.specs.declared.ready_code.function.ReadyModule.{ReadyModule}
+use Rattle.count_machine_model.specs.ReadyCode.ReadyModules.{IsReadyFunction, IsReadyModule}
+use Rattle.count_machine_model.specs.holder_model.RunTyping.Forms.{given_shape}
+use Rattle.count_machine_model.specs.holder_model.RunTyping.RunTyped.{RunTyped}
+use Rattle.holder_model_values.specs.RunValues.Memory.{Memory}
+use Rattle.sil_ast.specs.declared.module.Module.{Module}
+use Rattle.sil_ast.specs.declared.place.FuncId.{FuncId}
+use Rattle.sil_types_declarations.specs.TypeDefinitions.Declarations.{declarations_of}
+use Rattle.count_machine_laws.specs.inner.MachineRuns.{MachineRunsSo, Started}
+use Rattle.count_machine_laws.specs.inner.Told.{IsEnding, outcome_told}
+use Rattle.count_machine_laws.proofs.Agreement.{Agrees, Follows, ends_of, goes, stops}
+use Rattle.count_machine_laws.proofs.Assembly.{steps_follow}
+use Rattle.count_machine_laws.proofs.Memories.{MemoryAgrees}
+use Rattle.count_machine_laws.proofs.Pushes.{frame_made}
+use Rattle.count_machine_laws.proofs.Slots.{Made}
+use Rattle.count_machine_laws.proofs.Tasks.{Beginning, bottom, no_ends, runs}
+
+-- some steps, and then others
+steps_then : {X S : Type 0} (step : S → Next X S) (j : ℕ) (s s' : S) → run step j s ≡ low.Goes s' → (n : ℕ) (end : Next X S) → run step n s' ≡ end → (k : ℕ) × (run step k s ≡ end)
+steps_then step zero s s' first n end then = let same : s ≡ s' = cc in (n, ap (run step n) same ∙ then)
+steps_then {X = X} {S = S} step (suc j) s s' first n end then = by (step s) refl first (λ t e. steps_then step j t s' e n end then)
+  where
+    by : (next : Next X S) → step s ≡ next → low.step_on (run step j) next ≡ low.Goes s' → ((t : S) → run step j t ≡ low.Goes s' → (k : ℕ) × (run step k t ≡ end))
+        → (k : ℕ) × (run step k s ≡ end)
+    by (low.Goes t) is goes_on later = let rest = later t goes_on in (suc rest.0, ap (low.step_on (run step rest.0)) is ∙ rest.1)
+    by (low.Ends e t) is goes_on later = absurd (cc)
+
+-- where the run begins
+abbrev beginning : (m : Module) (ready : ReadyModule) (e : FuncId) (bound : ℕ) → Started m ready e bound → Beginning
+beginning m ready e bound started = record { gives = given_shape (declarations_of m) started.entry; reached = started.reached }
+
+-- the states at the start
+module _ (m : Module) (ready : ReadyModule) (e : FuncId) (bound : ℕ) (started : Started m ready e bound) where
+  abbrev first : MachineView
+  first = begins (declarations_of m) e started.code
+
+  abbrev entry : Beginning
+  entry = beginning m ready e bound started
+
+  abbrev nothing : Memory
+  nothing = record { stack = []; objects = [] }
+
+  code_is : IsReadyFunction m started.entry started.code
+  code_is =
+      let code = started.made.functions e started.entry started.comes_to_entry started.there in
+      subst (IsReadyFunction m started.entry) (same_Some code.0 started.code (sym code.1 ∙ started.ready_there)) code.2
+
+  memory_begins : MemoryAgrees m [] nothing [] first
+  memory_begins = record {
+    stack = refl;
+    serials = refl;
+    slots = record {
+      each = λ j slot there. absurd (none-some slot there);
+      all = λ k x there open_. absurd (none-some x there);
+      shapes = λ k x there. absurd (none-some x there);
+      suit = λ k x v there full. absurd (none-some x there);
+    };
+    objects = record {
+      numbered = refl;
+      kept = refl;
+      classes = λ k x there. absurd (none-some x there);
+      each = λ k x n h there numbered kept. absurd (none-some x there);
+    };
+    declared = refl;
+  }
+
+  begins_agree : Agrees m entry [] (low_begins e started.entry) first
+  begins_agree = record {
+    parts = record { memory = memory_begins; events = refl; turns = refl; retains = refl; releases = refl };
+    tasks = runs started.entry (new_frame e (no_values (value_count started.entry))) (machine.new_frame (no_tasks (declarations_of m)) e) no_ends (ends_of first) [] [] started.comes_to_entry
+        (frame_made m [] nothing (no_tasks (declarations_of m)) e started.entry started.code started.there
+        (and_parts (has_any started.entry.blocks) (not (has_any (arguments_of started.entry.signature))) started.starts).0 code_is) bottom;
+  }
+
+-- how the run has ended, where the machine has stopped
+pub record EndsAs (m : Module) (entry : Beginning) (bound : ℕ) (s : LowState) (end : RunEnd) (st : MachineView) : Type 0 where
+  pub ending : Ending LowFault
+  pub is_ending : IsEnding m entry.gives st end ending
+  pub count : ℕ
+  pub last : LowState
+  pub ends : run (low_step m (shapes_of m) bound) count s ≡ low.Ends ending last
+  pub told : low_outcome_at ending last ≡ outcome_told st end ending
+
+module _ (m : Module) (ready : ReadyModule) (entry : Beginning) (bound : ℕ) (typed : RunTyped m) (is_ready : IsReadyModule m entry.reached ready) (end : RunEnd) (last : MachineView) where
+  follow : (k : ℕ) (made : List Made) (s : LowState) (st : MachineView) → Agrees m entry made s st → steps ready bound k st ≡ Stops end last → EndsAs m entry bound s end last
+  follow zero made s st agrees leads = absurd (cc)
+  follow (suc k) made s st agrees leads =
+      by (machine_step ready bound st) (steps_follow m ready entry bound typed is_ready made s st agrees) leads (λ made' s' st' agrees' leads'. follow k made' s' st' agrees' leads')
+    where
+      by : (w : Went) → Follows m entry bound s w → went_on (steps ready bound k) w ≡ Stops end last
+          → ((made' : List Made) (s' : LowState) (st' : MachineView) → Agrees m entry made' s' st' → steps ready bound k st' ≡ Stops end last → EndsAs m entry bound s' end last)
+          → EndsAs m entry bound s end last
+      by _ (goes made' j s' st' goes_to agrees') leads later =
+          let rest = later made' s' st' agrees' leads in
+          let all = steps_then (low_step m (shapes_of m) bound) j s s' goes_to rest.count (low.Ends rest.ending rest.last) rest.ends in
+          record { ending = rest.ending; is_ending = rest.is_ending; count = all.0; last = rest.last; ends = all.1; told = rest.told }
+      by _ (stops j s' st' end' ending ends_in is_ending told) leads later =
+          let same_end : end' ≡ end = cc in
+          let same_view : st' ≡ last = cc in
+          record {
+            ending = ending;
+            is_ending = subst (λ x. IsEnding m entry.gives last x ending) same_end (subst (λ v. IsEnding m entry.gives v end' ending) same_view is_ending);
+            count = j;
+            last = s';
+            ends = ends_in;
+            told = told ∙ ap (λ v. outcome_told v end' ending) same_view ∙ ap (λ x. outcome_told last x ending) same_end;
+          }
+
+pub machine_runs_so : MachineRunsSo
+machine_runs_so m ready e bound started end st leads =
+    let ended = follow m ready (beginning m ready e bound started) bound started.typed started.made end st leads.0 [] (low_begins e started.entry)
+    (begins (declarations_of m) e started.code) (begins_agree m ready e bound started) leads.1 in (
+      ended.ending,
+      ended.is_ending,
+      (
+        ended.count,
+        ap (option_and_then (λ f. low_outcome_after (run (low_step m (shapes_of m) bound) ended.count (low_begins e f)))) started.there
+            ∙ ap low_outcome_after ended.ends ∙ ap (λ x. Some x) ended.told,
+      ),
+    )

@@ -1,0 +1,2 @@
+pub mod ReachedFunctions
+pub mod FrameLayouts

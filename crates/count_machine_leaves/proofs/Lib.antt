@@ -1,0 +1,2 @@
+pub mod LeafWindows
+pub mod HeapLeaves

@@ -1,0 +1,12 @@
+pub mod Views
+pub mod Operands
+pub mod Held
+pub mod Naming
+pub mod Turning
+pub mod Calling
+pub mod Computing
+pub mod Places
+pub mod Rows
+pub mod Ends
+pub mod Steps
+pub mod Runs

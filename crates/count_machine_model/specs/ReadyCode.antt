@@ -1,0 +1,5 @@
+pub mod Matched
+pub mod Layout
+pub mod ReadyOps
+pub mod ReadyEnds
+pub mod ReadyModules

@@ -1,0 +1,18 @@
+use Rattle.std.proofs.Common.{sym, ◌∙◌}
+use Rattle.instruction_table.specs.declared.builtin_names.names.Operation.TheVariants.{AddWithOverflow}
+use Rattle.sil_types.specs.Typing.Builtins.{at_widths, is_named}
+use Rattle.count_machine_ready.specs.inner.BuiltinsTold.{builtin_told}
+use Rattle.count_machine_ready.proofs.Finding.{found_here, not_found_here}
+use Rattle.count_machine_ready.proofs.builtins.named_among.Goals as goal
+
+pub returns-in-Some : goal.returns-in-Some
+returns-in-Some c =
+    found_here (is_named c.args.name.now) at_widths c.args.operations.now c.loop-operation.operation-index AddWithOverflow
+    (builtin_told c.in-Some.found) c.loop-operation-test.true c.in-Some.ensures
+    ∙ sym c.loop-operation.invariant
+
+pub loop-operation-preserved : goal.loop-operation-preserved
+loop-operation-preserved c =
+    c.loop-operation.invariant
+    ∙ not_found_here (is_named c.args.name.now) at_widths c.args.operations.now c.loop-operation.operation-index
+    AddWithOverflow c.loop-operation-test.true c.in_default.ensures

@@ -1,0 +1,11 @@
+use Rattle.std.proofs.Common.{sym, ap, ◌∙◌}
+use Rattle.count_machine_layouts.specs.declared.frame_layouts.layout.Kept.TheVariants as kept
+use Rattle.count_machine_ready.proofs.MadeOps.{load_name_made}
+use Rattle.count_machine_ready.proofs.ops.load_name.Goals as goal
+
+pub returns : goal.returns
+returns c =
+    load_name_made c.args.body.now.m.now c.args.body.now.function.now c.args.inst.now c.requires.has
+    c.operand-place.result c.first_result.result c.in-Address-default-Some.size c.in-Address-default-Some.storage c.takes.result c.address.result c.local.result
+    c.operand-place.ensures c.first_result.ensures (ap (kept.Address c.in-Address-default-Some.size) (sym c.in-Address-default-Some.storage-is)
+    ∙ c.in-Address-default-Some.ensures) c.takes.ensures c.address.ensures c.local.ensures

@@ -1,0 +1,5 @@
+use Rattle.count_machine_state.proofs.GoingOn.{goes_on_in}
+use Rattle.count_machine_rows.proofs.group_rows.give_case.Goals as goal
+
+pub returns : goal.returns
+returns c = goes_on_in _ _ _ _ _ c.put_case.ensures (c.go_on.ensures c.args.frame.now)

@@ -1,0 +1,9 @@
+use Rattle.std.proofs.Common.{◌≡◌, drop}
+use Rattle.count_machine_model.specs.MachineSteps.Operands.{objects_among}
+use Rattle.count_machine_model.specs.MachineSteps.Turning.{retains_all}
+use Rattle.count_machine_model.specs.MachineSteps.Views.{Goes, MachineView}
+use Rattle.count_machine_state.proofs.retaining.retain_all.Given as goal
+
+abbrev pub invariant-loop-leaf : goal.invariant-loop-leaf
+invariant-loop-leaf l = (st : MachineView) → st.heap ≡ l.initial.heap →
+    retains_all (objects_among (drop l.leaf-index l.leaves)) (record st { heap = l.heap }) Goes ≡ retains_all (objects_among l.leaves) st Goes

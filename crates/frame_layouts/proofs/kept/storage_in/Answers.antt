@@ -1,7 +1,0 @@
-use Rattle.std.proofs.Common.{sym, ap, ◌∙◌}
-use Rattle.run_values.specs.Shapes.{shape_of, storage_in}
-use Rattle.frame_layouts.proofs.StoredShapes.{name_unstored}
-use Rattle.frame_layouts.proofs.kept.storage_in.Goals as goal
-
-pub returns-in-Named : goal.returns-in-Named
-returns-in-Named c = λ d. sym (ap (λ t. storage_in (shape_of d t)) c.in-Named.is ∙ name_unstored d c.in-Named.field-0)

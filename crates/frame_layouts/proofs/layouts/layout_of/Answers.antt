@@ -1,8 +1,0 @@
-use Rattle.std.proofs.Common.{sym, ap, ◌∙◌, subst}
-use Rattle.typing_values.specs.inner.Told.{types_told}
-use Rattle.frame_layouts.specs.inner.Sized.{HaveSizes}
-use Rattle.frame_layouts.proofs.layouts.layout_of.Goals as goal
-
-pub lay_out-requires-clause-sizes : goal.lay_out-requires-clause-sizes
-lay_out-requires-clause-sizes c =
-    subst (HaveSizes c.args.table.now) (sym (ap types_told c.as_slice.ensures.value ∙ c.in_ok-find_types.ensures)) c.requires.sizes

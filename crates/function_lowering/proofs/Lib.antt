@@ -1,6 +1,0 @@
-mod Chains
-mod FewValues
-mod Steps
-mod Noting
-mod Numbering
-mod Told

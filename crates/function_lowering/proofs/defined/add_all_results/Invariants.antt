@@ -1,7 +1,0 @@
-use Rattle.std.proofs.Common.{◌≡◌, ◌++◌, take}
-use Rattle.std.specs.List.{flat_map}
-use Rattle.function_lowering.specs.inner.Drafts.{results_told}
-use Rattle.function_lowering.proofs.defined.add_all_results.Given as goal
-
-abbrev pub invariant-loop-draft : goal.invariant-loop-draft
-invariant-loop-draft l = l.values ≡ l.initial.values ++ flat_map results_told (take l.draft-index l.drafts)

@@ -1,9 +1,0 @@
-use Rattle.std.proofs.Common.{◌++◌, ◌∙◌, ap}
-use Rattle.std.proofs.lemmas.Result.{on_ok_weaker}
-use Rattle.lowering_model.specs.LoweredInsts.{becomes_by}
-use Rattle.function_lowering.specs.inner.Drafts.{told_insts}
-use Rattle.function_lowering.proofs.drafting.add_inst.Goals as goal
-
-pub returns-in-Loads : goal.returns-in-Loads
-returns-in-Loads c = on_ok_weaker c.add_load.result (λ made.
-    made c.args.spare ∙ ap (λ l. told_insts c.args.drafts.now ++ becomes_by c.args.table.now c.args.spare l c.args.inst.now) c.in-Loads.ensures) c.add_load.ensures

@@ -1,9 +1,0 @@
-use Rattle.std.proofs.Common.{◌≡◌, ◌++◌, drop, map}
-use Rattle.lowering_model.specs.Extracts.{field_extracts, member_of}
-use Rattle.function_lowering.specs.inner.Drafts.{told_insts}
-use Rattle.function_lowering.proofs.extracts.add_fields.Given as goal
-
-abbrev pub invariant-loop-index : goal.invariant-loop-index
-invariant-loop-index l =
-    told_insts l.drafts ++ field_extracts l.whole (map (member_of l.owner) (drop l.index l.fields)) (drop l.index l.values)
-    ≡ told_insts l.initial.drafts ++ field_extracts l.whole (map (member_of l.owner) l.fields) l.values

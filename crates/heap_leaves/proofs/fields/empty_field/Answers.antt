@@ -1,6 +1,0 @@
-use Rattle.std.proofs.Common.{arith}
-use Rattle.heap_leaves.proofs.HeapChanges.{emptied_past}
-use Rattle.heap_leaves.proofs.fields.empty_field.Goals as goal
-
-pub returns-else-field-field_count : goal.returns-else-field-field_count
-returns-else-field-field_count c = emptied_past c.args.heap.now c.args.object c.args.field (omega arith)

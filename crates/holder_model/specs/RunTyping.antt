@@ -1,0 +1,9 @@
+pub mod Runnable
+pub mod Forms
+pub mod StorageForms
+pub mod RowForms
+pub mod EndForms
+pub mod CallForms
+pub mod Classes
+pub mod FieldForms
+pub mod RunTyped

@@ -1,0 +1,4 @@
+pub mod OwnedRows
+pub mod OwnedInsts
+pub mod OwnedEndForms
+pub mod OwnedIsTyped

@@ -1,0 +1,2 @@
+pub mod RunValues
+pub mod ValueParts

@@ -1,0 +1,9 @@
+pub mod Layers
+pub mod Shapes
+pub mod Values
+pub mod Trivial
+pub mod Leaves
+pub mod Cells
+pub mod Memory
+pub mod Places
+pub mod inner

@@ -1,7 +1,0 @@
-use Rattle.std.proofs.Common.{◌≡◌, take}
-use Rattle.std.specs.List.{flat_map}
-use Rattle.leaf_windows.specs.inner.Grouped.{leaves_from}
-use Rattle.leaf_windows.proofs.gathering.gather_group.Given as goal
-
-abbrev pub invariant-loop-local : goal.invariant-loop-local
-invariant-loop-local l = l.moving.items ≡ flat_map (leaves_from l.base l.leaves) (take l.local-index l.operands)

@@ -1,8 +1,0 @@
-use Rattle.std.proofs.Common.{arith, sym}
-use Rattle.leaf_windows.proofs.LaidOver.{laid_more}
-use Rattle.leaf_windows.proofs.leaf_lists.lay_over.Goals as goal
-
-pub loop-leaf-preserved : goal.loop-leaf-preserved
-loop-leaf-preserved c =
-    let more = laid_more c.args.from c.loop-leaf.leaf-index c.args.new.now c.args.leaves.now _ c.loop-leaf-test.true in
-    (omega arith, rw (c.loop-leaf.invariant.0, c.loop-leaf.invariant.1) (sym more))

@@ -1,9 +1,0 @@
-use Rattle.std.proofs.Common.{◌≡◌, ◌+◌, ◌≤◌, take, drop}
-use Rattle.machine_steps.specs.Operands.{laid_over}
-use Rattle.leaf_windows.proofs.leaf_lists.move_up.Given as goal
-
-abbrev pub invariant-loop-i : goal.invariant-loop-i
-invariant-loop-i l = (l.i ≤ l.count) × (l.leaves ≡ laid_over (l.to + l.i) (drop l.i (take l.count (drop l.from l.initial.leaves))) l.initial.leaves)
-
-abbrev pub decreases-loop-i : goal.decreases-loop-i
-decreases-loop-i l = l.i

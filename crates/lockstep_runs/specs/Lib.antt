@@ -1,2 +1,0 @@
-pub mod inner
-pub use Rattle.holder_laws.specs as holder_laws

@@ -1,2 +1,0 @@
-pub mod inner
-pub use Rattle.lowering_laws.specs as lowering_laws

@@ -1,2 +1,0 @@
-pub mod inner
-pub use Rattle.lowered_run.specs as lowered_run

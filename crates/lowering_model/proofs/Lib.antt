@@ -1,1 +1,0 @@
-pub use Rattle.ownership_origins.proofs as ownership_origins

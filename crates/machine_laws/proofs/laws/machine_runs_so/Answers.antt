@@ -1,5 +1,0 @@
-use Rattle.machine_laws.proofs.Runs.{machine_runs_so}
-use Rattle.machine_laws.proofs.laws.machine_runs_so.Goals as goal
-
-pub returns : goal.returns
-returns c = machine_runs_so

@@ -1,9 +1,0 @@
-use Rattle.std.proofs.Common.{◌≡◌, drop}
-use Rattle.machine_steps.specs.Operands.{objects_among}
-use Rattle.machine_steps.specs.Turning.{retains_all}
-use Rattle.machine_steps.specs.Views.{Goes, MachineView}
-use Rattle.machine_state.proofs.retaining.retain_all.Given as goal
-
-abbrev pub invariant-loop-leaf : goal.invariant-loop-leaf
-invariant-loop-leaf l = (st : MachineView) → st.heap ≡ l.initial.heap →
-    retains_all (objects_among (drop l.leaf-index l.leaves)) (record st { heap = l.heap }) Goes ≡ retains_all (objects_among l.leaves) st Goes

@@ -1,7 +1,0 @@
-use Rattle.std.proofs.Common.{◌∙◌}
-use Rattle.frame_layouts.proofs.Spots.{local_told}
-use Rattle.make_ready.specs.inner.Bodies.{declared}
-use Rattle.make_ready.proofs.body.Body.local.Goals as goal
-
-pub returns : goal.returns
-returns c = c.local.ensures ∙ local_told (declared c.args.self.now) c.args.self.now.function.now c.args.self.now.layout.now c.requires.layout c.args.value

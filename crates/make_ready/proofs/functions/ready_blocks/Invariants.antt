@@ -1,7 +1,0 @@
-use Rattle.std.proofs.Common.{take}
-use Rattle.ready_code.specs.Matched.{Matched}
-use Rattle.ready_code.specs.ReadyModules.{IsReadyBlock}
-use Rattle.make_ready.proofs.functions.ready_blocks.Given as goal
-
-abbrev pub invariant-loop-block : goal.invariant-loop-block
-invariant-loop-block l = Matched (IsReadyBlock l.body.m.now l.body.function.now) (take l.block-index l.body.function.now.blocks) l.blocks

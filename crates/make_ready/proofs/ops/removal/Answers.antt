@@ -1,6 +1,0 @@
-use Rattle.make_ready.proofs.MadeOps.{removal_made}
-use Rattle.make_ready.proofs.ops.removal.Goals as goal
-
-pub returns : goal.returns
-returns c = removal_made c.args.body.now.m.now c.args.body.now.function.now c.args.inst.now c.requires.has
-    c.operand.result c.address.result c.operand.ensures c.address.ensures

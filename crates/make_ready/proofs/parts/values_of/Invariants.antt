@@ -1,6 +1,0 @@
-use Rattle.std.proofs.Common.{◌≡◌, map, take}
-use Rattle.ready_code.specs.run_typing.EndForms.{value_in}
-use Rattle.make_ready.proofs.parts.values_of.Given as goal
-
-abbrev pub invariant-loop-operand : goal.invariant-loop-operand
-invariant-loop-operand l = l.values ≡ map value_in (take l.operand-index l.operands)

@@ -1,7 +1,0 @@
-use Rattle.std.proofs.Common.{◌≡◌, ◌++◌, take}
-use Rattle.std.specs.List.{flat_map}
-use Rattle.memory_accesses.specs.Accesses.{begun}
-use Rattle.memory_accesses.proofs.item_accesses.add_begins.Given as goal
-
-abbrev pub invariant-loop-mark : goal.invariant-loop-mark
-invariant-loop-mark l = l.accesses.items ≡ l.initial.accesses.items ++ flat_map begun (take l.mark-index l.marks)

@@ -1,9 +1,0 @@
-pub mod Switches
-pub mod Contents
-pub mod Allocations
-pub mod Loans
-pub mod Building
-pub mod Addresses
-pub mod Parts
-pub mod Shown
-pub mod inner

@@ -1,9 +1,0 @@
-use Rattle.std.proofs.Common.{◌≢◌, ◌<◌, ℕ, All}
-use Rattle.sil_ast.specs.declared.place.ValueId.{ValueId}
-use Rattle.memory_accesses.specs.declared.access.Access.TheVariants.{Deallocates}
-use Rattle.path_patterns.specs.inner.Reads.{accesses_at}
-use Rattle.memory_slots.specs.inner.Trust.{IsTrusted}
-use Rattle.memory_slots.proofs.deallocated.deallocated_slots.Given as goal
-
-abbrev pub invariant-loop-item : goal.invariant-loop-item
-invariant-loop-item l = (v : ValueId) → IsTrusted l.found v → (i : ℕ) → i < l.item-index → All (λ x. x ≢ Deallocates v) (accesses_at l.accesses i)

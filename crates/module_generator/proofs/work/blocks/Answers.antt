@@ -1,7 +1,0 @@
--- The blocks are those of a function that does the work.
-use Rattle.std.proofs.Common.{sym}
-use Rattle.module_generator.proofs.WorkLines.{work_text}
-use Rattle.module_generator.proofs.work.blocks.Goals as goal
-
-pub returns : goal.returns
-returns c = λ fs. sym (work_text fs)

@@ -1,0 +1,274 @@
+-- The lowered run takes no weak number away, so the dead object stays.
+use Rattle.std.proofs.Common.{◌≡◌, refl, List, [], ◌∷◌, Some, true, false, Option, ap, ◌∙◌}
+use Rattle.std.specs.Prelude.{codes, slice_get, map}
+use Rattle.std.specs.List.{flat_map, range_with_len}
+use Rattle.std.specs.Fmt.{digits}
+use Rattle.holder_model.specs.Calling.{value_count}
+use Rattle.holder_model.specs.Faults as holder
+use Rattle.holder_model.specs.ModuleFacts.{ModuleFacts, facts_of, function_facts}
+use Rattle.holder_model.specs.ModuleShapes.{value_shape, ClassShape, ModuleShapes, class_shape, function_shapes, shapes_of}
+use Rattle.holder_model.specs.Outcomes.{outcome_with}
+use Rattle.instruction_table.specs.Forms.{result_kind_of}
+use Rattle.instruction_table.specs.declared.op.Op.TheVariants as op
+use Rattle.holder_model.specs.LoweredRun.LowOutcomes.{low_outcome_with}
+use Rattle.ownership_lowering_model.specs.LoweredModules.{lowered, lowered_function}
+use Rattle.ownership_kinds_chains.specs.OwnershipChains.Facts.{value_of}
+use Rattle.ownership_kinds_chains.specs.declared.ownership_chains.definition.Definition.{Definition}
+use Rattle.ownership_kinds_chains.specs.declared.ownership_chains.facts.Facts.{Facts}
+use Rattle.ownership_kinds_origins.specs.Facts.{facts_by}
+use Rattle.ownership_kinds_origins.specs.Origins.{definitions_of, result_definition_by}
+use Rattle.module_runner_examples.proofs.Computed.{both, lowered_with, shapes_told, facts_told, of_lowered, fault_by_holders}
+use Rattle.module_runner_examples.proofs.Opened.{opened}
+use Rattle.module_runner_examples.proofs.Told.{seen, seen_named, seen_optional, seen_tuple, seen_weak, at_named, at_optional, at_tuple, at_address, weighed}
+use Rattle.module_runner_examples.proofs.Told.{weighed_named, weighed_optional, weighed_tuple, weighed_weak, weighed_address, definition_by, compared}
+use Rattle.module_runner_examples.specs.Parts.{v, fn, typed, bare, member, inst, owned, plain, optional, class_with, shapes_with, facts_with}
+use Rattle.module_runner_examples.specs.inner.FullWeakSlotDeallocated.{FullWeakSlotDeallocated, fn_main, full_weak_slot_deallocated}
+use Rattle.module_runner_examples.specs.inner.FullWeakSlotDeallocated.{full_weak_slot_deallocated_answer, sig_main, ty_C}
+use Rattle.module_runner_examples.specs.inner.Reported.{HasReport, HasFault, returned_shape}
+use Rattle.holder_model_values.specs.RunValues.Shapes as shape
+use Rattle.holder_model_values.specs.RunValues.Shapes.{Shape}
+use Rattle.sil_ast.specs.declared.decl.Storage.TheVariants as storage
+use Rattle.sil_ast.specs.declared.function.Block.{Block}
+use Rattle.sil_ast.specs.declared.function.Form.TheVariants as form
+use Rattle.sil_ast.specs.declared.function.Function.{Function}
+use Rattle.sil_ast.specs.declared.function.Linkage.TheVariants as linkage
+use Rattle.sil_ast.specs.declared.inst.Inst.{Inst}
+use Rattle.sil_ast.specs.declared.inst.Qualifier.TheVariants as qualifier
+use Rattle.sil_ast.specs.declared.module.Module.{Module}
+use Rattle.sil_ast.specs.declared.type_name.TypeName.TheVariants as type
+use Rattle.sil_ast.specs.declared.type_name.TypeName.{TypeName}
+use Rattle.sil_types.specs.Typing.RowTypes.{made_types}
+use Rattle.sil_types.specs.Typing.Values.{value_types}
+use Rattle.sil_types_declarations.specs.TypeDefinitions.Declarations.{ancestors_of, declarations_of}
+use Rattle.sil_types_declarations.specs.TypeDefinitions.Measures.{of_payloads, of_storage, of_reference, is_trivial, is_trivial_measure}
+use Rattle.sil_types_declarations.specs.declared.type_definitions.measure.Measure.{Measure}
+
+abbrev shape_C : Shape
+shape_C = shape.Reference (codes "C")
+
+abbrev measure_C : Measure
+measure_C = of_reference
+
+abbrev classes : List ClassShape
+classes = class_with (codes "C") [] ∷ []
+
+classes_told : flat_map (class_shape (declarations_of full_weak_slot_deallocated)) full_weak_slot_deallocated.decls ≡ classes
+unfolding digits ancestors_of
+classes_told = (both (ap (class_with (codes "C")) refl) refl)
+
+abbrev inst_main_0_0 : Inst
+inst_main_0_0 = record (inst op.AllocRef (v 0 ∷ []) []) { ty = Some ty_C }
+
+made_main_0_0 : made_types (declarations_of full_weak_slot_deallocated) inst_main_0_0 ≡ (ty_C ∷ [])
+unfolding digits ancestors_of
+made_main_0_0 = simp (opened) refl
+
+abbrev inst_main_0_1 : Inst
+inst_main_0_1 = record (inst op.Enum (v 1 ∷ []) (typed 0 ty_C ∷ [])) { ty = Some (type.Optional ty_C); member = Some (member (codes "Optional") (codes "some")) }
+
+made_main_0_1 : made_types (declarations_of full_weak_slot_deallocated) inst_main_0_1 ≡ ((type.Optional ty_C) ∷ [])
+unfolding digits ancestors_of
+made_main_0_1 = simp (opened, compared) refl
+
+abbrev inst_main_0_2 : Inst
+inst_main_0_2 = record (inst op.AllocStack (v 2 ∷ []) []) { ty = Some (type.Weak (type.Optional ty_C)) }
+
+made_main_0_2 : made_types (declarations_of full_weak_slot_deallocated) inst_main_0_2 ≡ ((type.Address (type.Weak (type.Optional ty_C))) ∷ [])
+unfolding digits ancestors_of
+made_main_0_2 = refl
+
+abbrev inst_main_0_6 : Inst
+inst_main_0_6 = inst op.Tuple (v 3 ∷ []) []
+
+made_main_0_6 : made_types (declarations_of full_weak_slot_deallocated) inst_main_0_6 ≡ ((type.Tuple []) ∷ [])
+unfolding digits ancestors_of
+made_main_0_6 = refl
+
+abbrev types_main : List (Option TypeName)
+types_main = Some ty_C ∷ Some (type.Optional ty_C) ∷ Some (type.Address (type.Weak (type.Optional ty_C))) ∷ Some (type.Tuple []) ∷ []
+
+types_main_told : value_types (declarations_of full_weak_slot_deallocated) fn_main ≡ types_main
+unfolding digits ancestors_of
+types_main_told = (both (ap (λ ts. slice_get ts 0) made_main_0_0) (both (ap (λ ts. slice_get ts 0) made_main_0_1) (both (ap (λ ts. slice_get ts 0) made_main_0_2) (both (ap (λ ts. slice_get
+    ts 0) made_main_0_6) refl))))
+
+abbrev shapes_main : List Shape
+shapes_main = (shape_C ∷ (optional shape_C) ∷ (shape.Stored storage.Weak (optional shape_C)) ∷ (shape.Tuple shape.NoMember) ∷ [])
+
+seen_C_3 : seen (declarations_of full_weak_slot_deallocated) 3 ty_C ≡ shape_C
+unfolding digits ancestors_of
+seen_C_3 = seen_named (declarations_of full_weak_slot_deallocated) 3 (codes "C")
+
+shapes_main_told : function_shapes (declarations_of full_weak_slot_deallocated) fn_main ≡ shapes_main
+unfolding digits ancestors_of
+shapes_main_told = ap (map (value_shape (declarations_of full_weak_slot_deallocated))) types_main_told ∙ (both (at_named (declarations_of full_weak_slot_deallocated) (codes "C") ∙ seen_C_3)
+    (both (at_optional (declarations_of full_weak_slot_deallocated) ty_C ∙ (seen_optional (declarations_of full_weak_slot_deallocated) 3 ty_C shape_C seen_C_3)) (both (at_address
+    (declarations_of full_weak_slot_deallocated) (type.Weak (type.Optional ty_C)) ∙ (seen_weak (declarations_of full_weak_slot_deallocated) 3 (type.Optional ty_C) (optional shape_C)
+    (seen_optional (declarations_of full_weak_slot_deallocated) 3 ty_C shape_C seen_C_3))) (both (at_tuple (declarations_of full_weak_slot_deallocated) [] ∙ (seen_tuple (declarations_of
+    full_weak_slot_deallocated) 3 [] [] refl)) refl))))
+
+weighed_C_3 : weighed (declarations_of full_weak_slot_deallocated) 3 ty_C ≡ measure_C
+unfolding digits ancestors_of
+weighed_C_3 = weighed_named (declarations_of full_weak_slot_deallocated) 3 (codes "C")
+
+trivial_0 : is_trivial (declarations_of full_weak_slot_deallocated) ty_C ≡ false
+unfolding digits ancestors_of
+trivial_0 = ap is_trivial_measure weighed_C_3
+
+trivial_1 : is_trivial (declarations_of full_weak_slot_deallocated) (type.Optional ty_C) ≡ false
+unfolding digits ancestors_of
+trivial_1 = ap is_trivial_measure (weighed_optional (declarations_of full_weak_slot_deallocated) 3 ty_C measure_C weighed_C_3)
+
+trivial_2 : is_trivial (declarations_of full_weak_slot_deallocated) (type.Address (type.Weak (type.Optional ty_C))) ≡ false
+unfolding digits ancestors_of
+trivial_2 = ap is_trivial_measure (weighed_address (declarations_of full_weak_slot_deallocated) 3 (type.Weak (type.Optional ty_C)) (of_storage (of_payloads (measure_C ∷ []))) (weighed_weak
+    (declarations_of full_weak_slot_deallocated) 3 (type.Optional ty_C) (of_payloads (measure_C ∷ [])) (weighed_optional (declarations_of full_weak_slot_deallocated) 3 ty_C measure_C
+    weighed_C_3)))
+
+trivial_3 : is_trivial (declarations_of full_weak_slot_deallocated) (type.Tuple []) ≡ true
+unfolding digits ancestors_of
+trivial_3 = ap is_trivial_measure (weighed_tuple (declarations_of full_weak_slot_deallocated) 3 [] [] refl)
+
+abbrev definitions_main : List Definition
+definitions_main = result_definition_by (result_kind_of inst_main_0_0.op) inst_main_0_0 false ∷ result_definition_by (result_kind_of inst_main_0_1.op) inst_main_0_1 false ∷
+    result_definition_by (result_kind_of inst_main_0_2.op) inst_main_0_2 false ∷ result_definition_by (result_kind_of inst_main_0_6.op) inst_main_0_6 true ∷ []
+
+definitions_main_told : definitions_of (declarations_of full_weak_slot_deallocated) fn_main ≡ definitions_main
+unfolding digits ancestors_of
+definitions_main_told = (both (definition_by (declarations_of full_weak_slot_deallocated) inst_main_0_0 0 (ty_C ∷ []) false made_main_0_0 trivial_0) (both (definition_by (declarations_of
+    full_weak_slot_deallocated) inst_main_0_1 0 ((type.Optional ty_C) ∷ []) false made_main_0_1 trivial_1) (both (definition_by (declarations_of full_weak_slot_deallocated) inst_main_0_2 0
+    ((type.Address (type.Weak (type.Optional ty_C))) ∷ []) false made_main_0_2 trivial_2) (both (definition_by (declarations_of full_weak_slot_deallocated) inst_main_0_6 0 ((type.Tuple []) ∷
+    []) true made_main_0_6 trivial_3) refl))))
+
+abbrev shapes : ModuleShapes
+shapes = shapes_with classes (shapes_main ∷ [])
+
+told : shapes_of full_weak_slot_deallocated ≡ shapes
+unfolding digits ancestors_of
+told = shapes_told full_weak_slot_deallocated classes_told (both shapes_main_told refl)
+
+abbrev facts_main : List (Option Facts)
+facts_main = (owned 0 ∷ owned 1 ∷ plain [] ∷ plain [] ∷ [])
+
+facts_main_told : function_facts (declarations_of full_weak_slot_deallocated) fn_main ≡ facts_main
+unfolding digits ancestors_of
+facts_main_told = ap (λ defs. map (λ v. facts_by defs (value_of v)) (range_with_len 0 (value_count fn_main))) definitions_main_told
+
+abbrev facts : ModuleFacts
+facts = facts_with shapes (facts_main ∷ [])
+
+all_told : facts_of full_weak_slot_deallocated ≡ facts
+unfolding digits ancestors_of
+all_told = facts_told full_weak_slot_deallocated told (both facts_main_told refl)
+
+abbrev low_bb_main_0 : Block
+low_bb_main_0 = record {
+  args = [];
+  insts =
+      record (inst op.AllocRef (v 0 ∷ []) []) { ty = Some ty_C }
+      ∷ record (inst op.Enum (v 1 ∷ []) (typed 0 ty_C ∷ [])) { ty = Some (type.Optional ty_C); member = Some (member (codes "Optional") (codes "some")) }
+      ∷ record (inst op.AllocStack (v 2 ∷ []) []) { ty = Some (type.Weak (type.Optional ty_C)) }
+      ∷ record (inst op.StoreWeak [] (bare 1 ∷ typed 2 (type.Address (type.Weak (type.Optional ty_C))) ∷ [])) { qualifier = qualifier.Init }
+      ∷ inst op.DeallocStack [] (typed 2 (type.Address (type.Weak (type.Optional ty_C))) ∷ [])
+      ∷ inst op.ReleaseValue [] (typed 1 (type.Optional ty_C) ∷ [])
+      ∷ inst op.Tuple (v 3 ∷ []) []
+      ∷ [];
+  terminator = inst op.Return [] (typed 3 (type.Tuple []) ∷ []);
+}
+
+abbrev low_fn_main : Function
+low_fn_main = record {
+  name = codes "main";
+  form = form.Lowered;
+  linkage = linkage.Plain;
+  attributes = [];
+  signature = sig_main;
+  blocks = low_bb_main_0 ∷ [];
+}
+
+abbrev low : Module
+low = record full_weak_slot_deallocated { functions = low_fn_main ∷ [] }
+
+low_main_is : lowered_function (declarations_of full_weak_slot_deallocated) fn_main ≡ low_fn_main
+unfolding digits ancestors_of
+low_main_is = simp (opened) refl
+
+lowers : lowered full_weak_slot_deallocated ≡ low
+unfolding digits ancestors_of
+lowers = lowered_with full_weak_slot_deallocated (both low_main_is refl)
+
+abbrev inst_low_main_0_0 : Inst
+inst_low_main_0_0 = record (inst op.AllocRef (v 0 ∷ []) []) { ty = Some ty_C }
+
+made_low_main_0_0 : made_types (declarations_of full_weak_slot_deallocated) inst_low_main_0_0 ≡ (ty_C ∷ [])
+unfolding digits ancestors_of
+made_low_main_0_0 = simp (opened) refl
+
+abbrev inst_low_main_0_1 : Inst
+inst_low_main_0_1 = record (inst op.Enum (v 1 ∷ []) (typed 0 ty_C ∷ [])) { ty = Some (type.Optional ty_C); member = Some (member (codes "Optional") (codes "some")) }
+
+made_low_main_0_1 : made_types (declarations_of full_weak_slot_deallocated) inst_low_main_0_1 ≡ ((type.Optional ty_C) ∷ [])
+unfolding digits ancestors_of
+made_low_main_0_1 = simp (opened, compared) refl
+
+abbrev inst_low_main_0_2 : Inst
+inst_low_main_0_2 = record (inst op.AllocStack (v 2 ∷ []) []) { ty = Some (type.Weak (type.Optional ty_C)) }
+
+made_low_main_0_2 : made_types (declarations_of full_weak_slot_deallocated) inst_low_main_0_2 ≡ ((type.Address (type.Weak (type.Optional ty_C))) ∷ [])
+unfolding digits ancestors_of
+made_low_main_0_2 = refl
+
+abbrev inst_low_main_0_6 : Inst
+inst_low_main_0_6 = inst op.Tuple (v 3 ∷ []) []
+
+made_low_main_0_6 : made_types (declarations_of full_weak_slot_deallocated) inst_low_main_0_6 ≡ ((type.Tuple []) ∷ [])
+unfolding digits ancestors_of
+made_low_main_0_6 = refl
+
+abbrev low_types_main : List (Option TypeName)
+low_types_main = Some ty_C ∷ Some (type.Optional ty_C) ∷ Some (type.Address (type.Weak (type.Optional ty_C))) ∷ Some (type.Tuple []) ∷ []
+
+low_types_main_told : value_types (declarations_of full_weak_slot_deallocated) low_fn_main ≡ low_types_main
+unfolding digits ancestors_of
+low_types_main_told = (both (ap (λ ts. slice_get ts 0) made_low_main_0_0) (both (ap (λ ts. slice_get ts 0) made_low_main_0_1) (both (ap (λ ts. slice_get ts 0) made_low_main_0_2) (both (ap (λ
+    ts. slice_get ts 0) made_low_main_0_6) refl))))
+
+abbrev low_shapes_main : List Shape
+low_shapes_main = (shape_C ∷ (optional shape_C) ∷ (shape.Stored storage.Weak (optional shape_C)) ∷ (shape.Tuple shape.NoMember) ∷ [])
+
+low_shapes_main_told : function_shapes (declarations_of full_weak_slot_deallocated) low_fn_main ≡ low_shapes_main
+unfolding digits ancestors_of
+low_shapes_main_told = ap (map (value_shape (declarations_of full_weak_slot_deallocated))) low_types_main_told ∙ (both (at_named (declarations_of full_weak_slot_deallocated) (codes "C") ∙
+    seen_C_3) (both (at_optional (declarations_of full_weak_slot_deallocated) ty_C ∙ (seen_optional (declarations_of full_weak_slot_deallocated) 3 ty_C shape_C seen_C_3)) (both (at_address
+    (declarations_of full_weak_slot_deallocated) (type.Weak (type.Optional ty_C)) ∙ (seen_weak (declarations_of full_weak_slot_deallocated) 3 (type.Optional ty_C) (optional shape_C)
+    (seen_optional (declarations_of full_weak_slot_deallocated) 3 ty_C shape_C seen_C_3))) (both (at_tuple (declarations_of full_weak_slot_deallocated) [] ∙ (seen_tuple (declarations_of
+    full_weak_slot_deallocated) 3 [] [] refl)) refl))))
+
+abbrev low_shapes : ModuleShapes
+low_shapes = shapes_with classes (low_shapes_main ∷ [])
+
+low_told : shapes_of low ≡ low_shapes
+unfolding digits ancestors_of
+low_told = shapes_told low classes_told (both low_shapes_main_told refl)
+
+abbrev given_shape : Shape
+given_shape = (shape.Tuple shape.NoMember)
+
+given_told : returned_shape full_weak_slot_deallocated (fn 0) ≡ given_shape
+unfolding digits ancestors_of
+given_told = (seen_tuple (declarations_of full_weak_slot_deallocated) 3 [] [] refl)
+
+runs : HasFault (outcome_with full_weak_slot_deallocated facts (fn 0) 100000 300) holder.FullPlace
+unfolding digits ancestors_of
+runs = refl
+
+lowered_runs : HasReport full_weak_slot_deallocated given_shape (low_outcome_with low low_shapes (fn 0) 100000 300) full_weak_slot_deallocated_answer
+unfolding digits ancestors_of
+lowered_runs = refl
+
+pub full_weak_slot_deallocated_proved : FullWeakSlotDeallocated
+unfolding digits ancestors_of
+full_weak_slot_deallocated_proved = (
+  fault_by_holders full_weak_slot_deallocated (fn 0) 100000 300 holder.FullPlace all_told runs,
+  of_lowered full_weak_slot_deallocated (fn 0) 100000 300 full_weak_slot_deallocated_answer given_told lowers low_told lowered_runs,
+)

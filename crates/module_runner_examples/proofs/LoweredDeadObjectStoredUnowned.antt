@@ -1,0 +1,95 @@
+-- Lowered text: store_unowned of a dead object.
+use Rattle.std.proofs.Common.{◌≡◌, refl, List, [], ◌∷◌, Some, Option, ap, ◌∙◌}
+use Rattle.std.specs.Prelude.{codes, slice_get, map}
+use Rattle.std.specs.List.{flat_map}
+use Rattle.std.specs.Fmt.{digits}
+use Rattle.holder_model.specs.ModuleShapes.{value_shape, ClassShape, ModuleShapes, class_shape, function_shapes, shapes_of}
+use Rattle.instruction_table.specs.declared.op.Op.TheVariants as op
+use Rattle.holder_model.specs.LoweredRun.LowOutcomes.{low_outcome_with}
+use Rattle.holder_model.specs.declared.lowered_run.low_fault.LowFault.TheVariants as fault
+use Rattle.module_runner_examples.proofs.Computed.{both, shapes_told, fault_of_lowered_text}
+use Rattle.module_runner_examples.proofs.Opened.{opened}
+use Rattle.module_runner_examples.proofs.Told.{seen, seen_named, seen_tuple, seen_unowned, at_named, at_tuple, at_address}
+use Rattle.module_runner_examples.specs.Parts.{v, fn, inst, class_with, shapes_with}
+use Rattle.module_runner_examples.specs.inner.LoweredDeadObjectStoredUnowned.{LoweredDeadObjectStoredUnowned, fn_main, lowered_dead_object_stored_unowned, ty_C}
+use Rattle.module_runner_examples.specs.inner.Reported.{HasFault}
+use Rattle.holder_model_values.specs.RunValues.Shapes as shape
+use Rattle.holder_model_values.specs.RunValues.Shapes.{Shape}
+use Rattle.sil_ast.specs.declared.decl.Storage.TheVariants as storage
+use Rattle.sil_ast.specs.declared.inst.Inst.{Inst}
+use Rattle.sil_ast.specs.declared.type_name.TypeName.TheVariants as type
+use Rattle.sil_ast.specs.declared.type_name.TypeName.{TypeName}
+use Rattle.sil_types.specs.Typing.RowTypes.{made_types}
+use Rattle.sil_types.specs.Typing.Values.{value_types}
+use Rattle.sil_types_declarations.specs.TypeDefinitions.Declarations.{ancestors_of, declarations_of}
+use Rattle.sil_types_declarations.specs.TypeDefinitions.Measures.{of_reference}
+use Rattle.sil_types_declarations.specs.declared.type_definitions.measure.Measure.{Measure}
+
+abbrev shape_C : Shape
+shape_C = shape.Reference (codes "C")
+
+abbrev measure_C : Measure
+measure_C = of_reference
+
+abbrev classes : List ClassShape
+classes = class_with (codes "C") [] ∷ []
+
+classes_told : flat_map (class_shape (declarations_of lowered_dead_object_stored_unowned)) lowered_dead_object_stored_unowned.decls ≡ classes
+unfolding digits ancestors_of
+classes_told = (both (ap (class_with (codes "C")) refl) refl)
+
+abbrev inst_main_0_0 : Inst
+inst_main_0_0 = record (inst op.AllocRef (v 0 ∷ []) []) { ty = Some ty_C }
+
+made_main_0_0 : made_types (declarations_of lowered_dead_object_stored_unowned) inst_main_0_0 ≡ (ty_C ∷ [])
+unfolding digits ancestors_of
+made_main_0_0 = simp (opened) refl
+
+abbrev inst_main_0_1 : Inst
+inst_main_0_1 = record (inst op.AllocStack (v 1 ∷ []) []) { ty = Some (type.Unowned ty_C) }
+
+made_main_0_1 : made_types (declarations_of lowered_dead_object_stored_unowned) inst_main_0_1 ≡ ((type.Address (type.Unowned ty_C)) ∷ [])
+unfolding digits ancestors_of
+made_main_0_1 = refl
+
+abbrev inst_main_0_4 : Inst
+inst_main_0_4 = inst op.Tuple (v 2 ∷ []) []
+
+made_main_0_4 : made_types (declarations_of lowered_dead_object_stored_unowned) inst_main_0_4 ≡ ((type.Tuple []) ∷ [])
+unfolding digits ancestors_of
+made_main_0_4 = refl
+
+abbrev types_main : List (Option TypeName)
+types_main = Some ty_C ∷ Some (type.Address (type.Unowned ty_C)) ∷ Some (type.Tuple []) ∷ []
+
+types_main_told : value_types (declarations_of lowered_dead_object_stored_unowned) fn_main ≡ types_main
+unfolding digits ancestors_of
+types_main_told = (both (ap (λ ts. slice_get ts 0) made_main_0_0) (both (ap (λ ts. slice_get ts 0) made_main_0_1) (both (ap (λ ts. slice_get ts 0) made_main_0_4) refl)))
+
+abbrev shapes_main : List Shape
+shapes_main = (shape_C ∷ (shape.Stored storage.Unowned shape_C) ∷ (shape.Tuple shape.NoMember) ∷ [])
+
+seen_C_1 : seen (declarations_of lowered_dead_object_stored_unowned) 1 ty_C ≡ shape_C
+unfolding digits ancestors_of
+seen_C_1 = seen_named (declarations_of lowered_dead_object_stored_unowned) 1 (codes "C")
+
+shapes_main_told : function_shapes (declarations_of lowered_dead_object_stored_unowned) fn_main ≡ shapes_main
+unfolding digits ancestors_of
+shapes_main_told = ap (map (value_shape (declarations_of lowered_dead_object_stored_unowned))) types_main_told ∙ (both (at_named (declarations_of lowered_dead_object_stored_unowned) (codes
+    "C") ∙ seen_C_1) (both (at_address (declarations_of lowered_dead_object_stored_unowned) (type.Unowned ty_C) ∙ (seen_unowned (declarations_of lowered_dead_object_stored_unowned) 1 ty_C
+    shape_C seen_C_1)) (both (at_tuple (declarations_of lowered_dead_object_stored_unowned) [] ∙ (seen_tuple (declarations_of lowered_dead_object_stored_unowned) 1 [] [] refl)) refl)))
+
+abbrev shapes : ModuleShapes
+shapes = shapes_with classes (shapes_main ∷ [])
+
+told : shapes_of lowered_dead_object_stored_unowned ≡ shapes
+unfolding digits ancestors_of
+told = shapes_told lowered_dead_object_stored_unowned classes_told (both shapes_main_told refl)
+
+lowered_runs : HasFault (low_outcome_with lowered_dead_object_stored_unowned shapes (fn 0) 100000 300) (fault.Dead (record { 0 = 0 }))
+unfolding digits ancestors_of
+lowered_runs = refl
+
+pub lowered_dead_object_stored_unowned_proved : LoweredDeadObjectStoredUnowned
+unfolding digits ancestors_of
+lowered_dead_object_stored_unowned_proved = fault_of_lowered_text lowered_dead_object_stored_unowned (fn 0) 100000 300 (fault.Dead (record { 0 = 0 })) told lowered_runs

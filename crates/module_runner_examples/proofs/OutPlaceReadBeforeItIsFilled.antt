@@ -1,0 +1,373 @@
+-- An @out place counts as empty at the callee's entry, whatever it held. The lowered run still finds what it held.
+use Rattle.std.proofs.Common.{◌≡◌, refl, List, [], ◌∷◌, Some, None, true, Option, ap, ◌∙◌}
+use Rattle.std.specs.Prelude.{codes, pos, slice_get, map}
+use Rattle.std.specs.List.{flat_map, range_with_len}
+use Rattle.std.specs.Fmt.{digits}
+use Rattle.holder_model.specs.Calling.{value_count}
+use Rattle.holder_model.specs.Faults as holder
+use Rattle.holder_model.specs.ModuleFacts.{ModuleFacts, facts_of, function_facts}
+use Rattle.holder_model.specs.ModuleShapes.{value_shape, ClassShape, ModuleShapes, class_shape, function_shapes, shapes_of}
+use Rattle.holder_model.specs.Outcomes.{outcome_with}
+use Rattle.instruction_table.specs.Forms.{result_kind_of}
+use Rattle.instruction_table.specs.declared.op.Op.TheVariants as op
+use Rattle.holder_model.specs.LoweredRun.LowOutcomes.{low_outcome_with}
+use Rattle.ownership_lowering_model.specs.LoweredModules.{lowered, lowered_function}
+use Rattle.ownership_kinds_chains.specs.OwnershipChains.Facts.{value_of}
+use Rattle.ownership_kinds_chains.specs.declared.ownership_chains.definition.Definition.{Definition}
+use Rattle.ownership_kinds_chains.specs.declared.ownership_chains.facts.Facts.{Facts}
+use Rattle.ownership_kinds_origins.specs.Facts.{facts_by}
+use Rattle.ownership_kinds_origins.specs.Origins.{definitions_of, arg_definition_by, result_definition_by}
+use Rattle.ownership_kinds_origins.specs.Switched.{switch_to}
+use Rattle.module_runner_examples.proofs.Computed.{both, lowered_with, shapes_told, facts_told, of_lowered, fault_by_holders}
+use Rattle.module_runner_examples.proofs.Opened.{opened}
+use Rattle.module_runner_examples.proofs.Told.{seen_int, seen_tuple, at_int, at_tuple, at_address, weighed_int, weighed_tuple, weighed_address, definition_by}
+use Rattle.module_runner_examples.specs.Parts.{v, fn, typed, bare, inst, arg, plain, shapes_with, facts_with}
+use Rattle.module_runner_examples.specs.inner.OutPlaceReadBeforeItIsFilled.{OutPlaceReadBeforeItIsFilled, fn_f, fn_main, out_place_read_before_it_is_filled}
+use Rattle.module_runner_examples.specs.inner.OutPlaceReadBeforeItIsFilled.{out_place_read_before_it_is_filled_answer, sig_f, sig_main}
+use Rattle.module_runner_examples.specs.inner.Reported.{HasReport, HasFault, returned_shape}
+use Rattle.holder_model_values.specs.RunValues.Shapes as shape
+use Rattle.holder_model_values.specs.RunValues.Shapes.{Shape}
+use Rattle.sil_ast.specs.declared.function.ArgKind.TheVariants as kind
+use Rattle.sil_ast.specs.declared.function.Block.{Block}
+use Rattle.sil_ast.specs.declared.function.Form.TheVariants as form
+use Rattle.sil_ast.specs.declared.function.Function.{Function}
+use Rattle.sil_ast.specs.declared.function.Linkage.TheVariants as linkage
+use Rattle.sil_ast.specs.declared.inst.Inst.{Inst}
+use Rattle.sil_ast.specs.declared.inst.Qualifier.TheVariants as qualifier
+use Rattle.sil_ast.specs.declared.module.Module.{Module}
+use Rattle.sil_ast.specs.declared.type_name.TypeName.TheVariants as type
+use Rattle.sil_ast.specs.declared.type_name.TypeName.{TypeName}
+use Rattle.sil_types.specs.Typing.RowTypes.{made_types}
+use Rattle.sil_types.specs.Typing.Values.{value_types}
+use Rattle.sil_types_declarations.specs.TypeDefinitions.Declarations.{ancestors_of, declarations_of}
+use Rattle.sil_types_declarations.specs.TypeDefinitions.Measures.{measured, is_trivial, is_trivial_measure}
+
+abbrev classes : List ClassShape
+classes = []
+
+classes_told : flat_map (class_shape (declarations_of out_place_read_before_it_is_filled)) out_place_read_before_it_is_filled.decls ≡ classes
+unfolding digits ancestors_of
+classes_told = refl
+
+abbrev inst_f_0_0 : Inst
+inst_f_0_0 = record (inst op.Load (v 1 ∷ []) (typed 0 (type.Address (type.Int 8)) ∷ [])) { qualifier = qualifier.Trivial }
+
+made_f_0_0 : made_types (declarations_of out_place_read_before_it_is_filled) inst_f_0_0 ≡ ((type.Int 8) ∷ [])
+unfolding digits ancestors_of
+made_f_0_0 = simp (opened) refl
+
+abbrev inst_f_0_2 : Inst
+inst_f_0_2 = inst op.Tuple (v 2 ∷ []) []
+
+made_f_0_2 : made_types (declarations_of out_place_read_before_it_is_filled) inst_f_0_2 ≡ ((type.Tuple []) ∷ [])
+unfolding digits ancestors_of
+made_f_0_2 = refl
+
+abbrev types_f : List (Option TypeName)
+types_f = Some (type.Address (type.Int 8)) ∷ Some (type.Int 8) ∷ Some (type.Tuple []) ∷ []
+
+types_f_told : value_types (declarations_of out_place_read_before_it_is_filled) fn_f ≡ types_f
+unfolding digits ancestors_of
+types_f_told = (both refl (both (ap (λ ts. slice_get ts 0) made_f_0_0) (both (ap (λ ts. slice_get ts 0) made_f_0_2) refl)))
+
+abbrev shapes_f : List Shape
+shapes_f = ((shape.Integer 8) ∷ (shape.Integer 8) ∷ (shape.Tuple shape.NoMember) ∷ [])
+
+shapes_f_told : function_shapes (declarations_of out_place_read_before_it_is_filled) fn_f ≡ shapes_f
+unfolding digits ancestors_of
+shapes_f_told = ap (map (value_shape (declarations_of out_place_read_before_it_is_filled))) types_f_told ∙ (both (at_address (declarations_of out_place_read_before_it_is_filled) (type.Int 8)
+    ∙ (seen_int (declarations_of out_place_read_before_it_is_filled) 0 8)) (both (at_int (declarations_of out_place_read_before_it_is_filled) 8 ∙ (seen_int (declarations_of
+    out_place_read_before_it_is_filled) 0 8)) (both (at_tuple (declarations_of out_place_read_before_it_is_filled) [] ∙ (seen_tuple (declarations_of out_place_read_before_it_is_filled) 0 []
+    [] refl)) refl)))
+
+trivial_0 : is_trivial (declarations_of out_place_read_before_it_is_filled) (type.Address (type.Int 8)) ≡ true
+unfolding digits ancestors_of
+trivial_0 = ap is_trivial_measure (weighed_address (declarations_of out_place_read_before_it_is_filled) 0 (type.Int 8) (measured true 1 1) (weighed_int (declarations_of
+    out_place_read_before_it_is_filled) 0 8))
+
+trivial_1 : is_trivial (declarations_of out_place_read_before_it_is_filled) (type.Int 8) ≡ true
+unfolding digits ancestors_of
+trivial_1 = ap is_trivial_measure (weighed_int (declarations_of out_place_read_before_it_is_filled) 0 8)
+
+trivial_2 : is_trivial (declarations_of out_place_read_before_it_is_filled) (type.Tuple []) ≡ true
+unfolding digits ancestors_of
+trivial_2 = ap is_trivial_measure (weighed_tuple (declarations_of out_place_read_before_it_is_filled) 0 [] [] refl)
+
+abbrev definitions_f : List Definition
+definitions_f = arg_definition_by true (switch_to fn_f 0) kind.Plain true ∷ result_definition_by (result_kind_of inst_f_0_0.op) inst_f_0_0 true ∷ result_definition_by (result_kind_of
+    inst_f_0_2.op) inst_f_0_2 true ∷ []
+
+definitions_f_told : definitions_of (declarations_of out_place_read_before_it_is_filled) fn_f ≡ definitions_f
+unfolding digits ancestors_of
+definitions_f_told = (both (ap (arg_definition_by true (switch_to fn_f 0) kind.Plain) trivial_0) (both (definition_by (declarations_of out_place_read_before_it_is_filled) inst_f_0_0 0
+    ((type.Int 8) ∷ []) true made_f_0_0 trivial_1) (both (definition_by (declarations_of out_place_read_before_it_is_filled) inst_f_0_2 0 ((type.Tuple []) ∷ []) true made_f_0_2 trivial_2)
+    refl)))
+
+abbrev inst_main_0_0 : Inst
+inst_main_0_0 = record (inst op.AllocStack (v 0 ∷ []) []) { ty = Some (type.Int 8) }
+
+made_main_0_0 : made_types (declarations_of out_place_read_before_it_is_filled) inst_main_0_0 ≡ ((type.Address (type.Int 8)) ∷ [])
+unfolding digits ancestors_of
+made_main_0_0 = refl
+
+abbrev inst_main_0_1 : Inst
+inst_main_0_1 = record (inst op.IntegerLiteral (v 1 ∷ []) []) { ty = Some (type.Int 8); number = Some (pos 7) }
+
+made_main_0_1 : made_types (declarations_of out_place_read_before_it_is_filled) inst_main_0_1 ≡ ((type.Int 8) ∷ [])
+unfolding digits ancestors_of
+made_main_0_1 = simp (opened) refl
+
+abbrev inst_main_0_3 : Inst
+inst_main_0_3 = record (inst op.FunctionRef (v 2 ∷ []) []) { function = Some (fn 0); signature = Some sig_f }
+
+made_main_0_3 : made_types (declarations_of out_place_read_before_it_is_filled) inst_main_0_3 ≡ []
+unfolding digits ancestors_of
+made_main_0_3 = refl
+
+abbrev inst_main_0_4 : Inst
+inst_main_0_4 = record (inst op.Apply (v 3 ∷ []) (bare 2 ∷ bare 0 ∷ [])) { signature = Some sig_f }
+
+made_main_0_4 : made_types (declarations_of out_place_read_before_it_is_filled) inst_main_0_4 ≡ ((type.Tuple []) ∷ [])
+unfolding digits ancestors_of
+made_main_0_4 = refl
+
+abbrev inst_main_0_5 : Inst
+inst_main_0_5 = record (inst op.Load (v 4 ∷ []) (typed 0 (type.Address (type.Int 8)) ∷ [])) { qualifier = qualifier.Trivial }
+
+made_main_0_5 : made_types (declarations_of out_place_read_before_it_is_filled) inst_main_0_5 ≡ ((type.Int 8) ∷ [])
+unfolding digits ancestors_of
+made_main_0_5 = simp (opened) refl
+
+abbrev types_main : List (Option TypeName)
+types_main = Some (type.Address (type.Int 8)) ∷ Some (type.Int 8) ∷ None ∷ Some (type.Tuple []) ∷ Some (type.Int 8) ∷ []
+
+types_main_told : value_types (declarations_of out_place_read_before_it_is_filled) fn_main ≡ types_main
+unfolding digits ancestors_of
+types_main_told = (both (ap (λ ts. slice_get ts 0) made_main_0_0) (both (ap (λ ts. slice_get ts 0) made_main_0_1) (both (ap (λ ts. slice_get ts 0) made_main_0_3) (both (ap (λ ts. slice_get
+    ts 0) made_main_0_4) (both (ap (λ ts. slice_get ts 0) made_main_0_5) refl)))))
+
+abbrev shapes_main : List Shape
+shapes_main = ((shape.Integer 8) ∷ (shape.Integer 8) ∷ shape.Unknown ∷ (shape.Tuple shape.NoMember) ∷ (shape.Integer 8) ∷ [])
+
+shapes_main_told : function_shapes (declarations_of out_place_read_before_it_is_filled) fn_main ≡ shapes_main
+unfolding digits ancestors_of
+shapes_main_told = ap (map (value_shape (declarations_of out_place_read_before_it_is_filled))) types_main_told ∙ (both (at_address (declarations_of out_place_read_before_it_is_filled)
+    (type.Int 8) ∙ (seen_int (declarations_of out_place_read_before_it_is_filled) 0 8)) (both (at_int (declarations_of out_place_read_before_it_is_filled) 8 ∙ (seen_int (declarations_of
+    out_place_read_before_it_is_filled) 0 8)) (both refl (both (at_tuple (declarations_of out_place_read_before_it_is_filled) [] ∙ (seen_tuple (declarations_of
+    out_place_read_before_it_is_filled) 0 [] [] refl)) (both (at_int (declarations_of out_place_read_before_it_is_filled) 8 ∙ (seen_int (declarations_of out_place_read_before_it_is_filled) 0
+    8)) refl)))))
+
+abbrev definitions_main : List Definition
+definitions_main = result_definition_by (result_kind_of inst_main_0_0.op) inst_main_0_0 true ∷ result_definition_by (result_kind_of inst_main_0_1.op) inst_main_0_1 true ∷
+    result_definition_by (result_kind_of inst_main_0_3.op) inst_main_0_3 true ∷ result_definition_by (result_kind_of inst_main_0_4.op) inst_main_0_4 true ∷ result_definition_by
+    (result_kind_of inst_main_0_5.op) inst_main_0_5 true ∷ []
+
+definitions_main_told : definitions_of (declarations_of out_place_read_before_it_is_filled) fn_main ≡ definitions_main
+unfolding digits ancestors_of
+definitions_main_told = (both (definition_by (declarations_of out_place_read_before_it_is_filled) inst_main_0_0 0 ((type.Address (type.Int 8)) ∷ []) true made_main_0_0 trivial_0) (both
+    (definition_by (declarations_of out_place_read_before_it_is_filled) inst_main_0_1 0 ((type.Int 8) ∷ []) true made_main_0_1 trivial_1) (both (definition_by (declarations_of
+    out_place_read_before_it_is_filled) inst_main_0_3 0 [] true made_main_0_3 refl) (both (definition_by (declarations_of out_place_read_before_it_is_filled) inst_main_0_4 0 ((type.Tuple [])
+    ∷ []) true made_main_0_4 trivial_2) (both (definition_by (declarations_of out_place_read_before_it_is_filled) inst_main_0_5 0 ((type.Int 8) ∷ []) true made_main_0_5 trivial_1) refl)))))
+
+abbrev shapes : ModuleShapes
+shapes = shapes_with classes (shapes_f ∷ shapes_main ∷ [])
+
+told : shapes_of out_place_read_before_it_is_filled ≡ shapes
+unfolding digits ancestors_of
+told = shapes_told out_place_read_before_it_is_filled classes_told (both shapes_f_told (both shapes_main_told refl))
+
+abbrev facts_f : List (Option Facts)
+facts_f = (plain [] ∷ plain [] ∷ plain [] ∷ [])
+
+facts_f_told : function_facts (declarations_of out_place_read_before_it_is_filled) fn_f ≡ facts_f
+unfolding digits ancestors_of
+facts_f_told = ap (λ defs. map (λ v. facts_by defs (value_of v)) (range_with_len 0 (value_count fn_f))) definitions_f_told
+
+abbrev facts_main : List (Option Facts)
+facts_main = (plain [] ∷ plain [] ∷ plain [] ∷ plain [] ∷ plain [] ∷ [])
+
+facts_main_told : function_facts (declarations_of out_place_read_before_it_is_filled) fn_main ≡ facts_main
+unfolding digits ancestors_of
+facts_main_told = ap (λ defs. map (λ v. facts_by defs (value_of v)) (range_with_len 0 (value_count fn_main))) definitions_main_told
+
+abbrev facts : ModuleFacts
+facts = facts_with shapes (facts_f ∷ facts_main ∷ [])
+
+all_told : facts_of out_place_read_before_it_is_filled ≡ facts
+unfolding digits ancestors_of
+all_told = facts_told out_place_read_before_it_is_filled told (both facts_f_told (both facts_main_told refl))
+
+abbrev low_bb_f_0 : Block
+low_bb_f_0 = record {
+  args = arg 0 kind.Plain (type.Address (type.Int 8)) ∷ [];
+  insts =
+      inst op.Load (v 1 ∷ []) (typed 0 (type.Address (type.Int 8)) ∷ [])
+      ∷ inst op.Store [] (bare 1 ∷ typed 0 (type.Address (type.Int 8)) ∷ [])
+      ∷ inst op.Tuple (v 2 ∷ []) []
+      ∷ [];
+  terminator = inst op.Return [] (typed 2 (type.Tuple []) ∷ []);
+}
+
+abbrev low_fn_f : Function
+low_fn_f = record {
+  name = codes "f";
+  form = form.Lowered;
+  linkage = linkage.Plain;
+  attributes = [];
+  signature = sig_f;
+  blocks = low_bb_f_0 ∷ [];
+}
+
+abbrev low_bb_main_0 : Block
+low_bb_main_0 = record {
+  args = [];
+  insts =
+      record (inst op.AllocStack (v 0 ∷ []) []) { ty = Some (type.Int 8) }
+      ∷ record (inst op.IntegerLiteral (v 1 ∷ []) []) { ty = Some (type.Int 8); number = Some (pos 7) }
+      ∷ inst op.Store [] (bare 1 ∷ typed 0 (type.Address (type.Int 8)) ∷ [])
+      ∷ record (inst op.FunctionRef (v 2 ∷ []) []) { function = Some (fn 0); signature = Some sig_f }
+      ∷ record (inst op.Apply (v 3 ∷ []) (bare 2 ∷ bare 0 ∷ [])) { signature = Some sig_f }
+      ∷ inst op.Load (v 4 ∷ []) (typed 0 (type.Address (type.Int 8)) ∷ [])
+      ∷ inst op.DeallocStack [] (typed 0 (type.Address (type.Int 8)) ∷ [])
+      ∷ [];
+  terminator = inst op.Return [] (typed 4 (type.Int 8) ∷ []);
+}
+
+abbrev low_fn_main : Function
+low_fn_main = record {
+  name = codes "main";
+  form = form.Lowered;
+  linkage = linkage.Plain;
+  attributes = [];
+  signature = sig_main;
+  blocks = low_bb_main_0 ∷ [];
+}
+
+abbrev low : Module
+low = record out_place_read_before_it_is_filled { functions = low_fn_f ∷ low_fn_main ∷ [] }
+
+low_f_is : lowered_function (declarations_of out_place_read_before_it_is_filled) fn_f ≡ low_fn_f
+unfolding digits ancestors_of
+low_f_is = refl
+
+low_main_is : lowered_function (declarations_of out_place_read_before_it_is_filled) fn_main ≡ low_fn_main
+unfolding digits ancestors_of
+low_main_is = refl
+
+lowers : lowered out_place_read_before_it_is_filled ≡ low
+unfolding digits ancestors_of
+lowers = lowered_with out_place_read_before_it_is_filled (both low_f_is (both low_main_is refl))
+
+abbrev inst_low_f_0_0 : Inst
+inst_low_f_0_0 = inst op.Load (v 1 ∷ []) (typed 0 (type.Address (type.Int 8)) ∷ [])
+
+made_low_f_0_0 : made_types (declarations_of out_place_read_before_it_is_filled) inst_low_f_0_0 ≡ ((type.Int 8) ∷ [])
+unfolding digits ancestors_of
+made_low_f_0_0 = simp (opened) refl
+
+abbrev inst_low_f_0_2 : Inst
+inst_low_f_0_2 = inst op.Tuple (v 2 ∷ []) []
+
+made_low_f_0_2 : made_types (declarations_of out_place_read_before_it_is_filled) inst_low_f_0_2 ≡ ((type.Tuple []) ∷ [])
+unfolding digits ancestors_of
+made_low_f_0_2 = refl
+
+abbrev low_types_f : List (Option TypeName)
+low_types_f = Some (type.Address (type.Int 8)) ∷ Some (type.Int 8) ∷ Some (type.Tuple []) ∷ []
+
+low_types_f_told : value_types (declarations_of out_place_read_before_it_is_filled) low_fn_f ≡ low_types_f
+unfolding digits ancestors_of
+low_types_f_told = (both refl (both (ap (λ ts. slice_get ts 0) made_low_f_0_0) (both (ap (λ ts. slice_get ts 0) made_low_f_0_2) refl)))
+
+abbrev low_shapes_f : List Shape
+low_shapes_f = ((shape.Integer 8) ∷ (shape.Integer 8) ∷ (shape.Tuple shape.NoMember) ∷ [])
+
+low_shapes_f_told : function_shapes (declarations_of out_place_read_before_it_is_filled) low_fn_f ≡ low_shapes_f
+unfolding digits ancestors_of
+low_shapes_f_told = ap (map (value_shape (declarations_of out_place_read_before_it_is_filled))) low_types_f_told ∙ (both (at_address (declarations_of out_place_read_before_it_is_filled)
+    (type.Int 8) ∙ (seen_int (declarations_of out_place_read_before_it_is_filled) 0 8)) (both (at_int (declarations_of out_place_read_before_it_is_filled) 8 ∙ (seen_int (declarations_of
+    out_place_read_before_it_is_filled) 0 8)) (both (at_tuple (declarations_of out_place_read_before_it_is_filled) [] ∙ (seen_tuple (declarations_of out_place_read_before_it_is_filled) 0 []
+    [] refl)) refl)))
+
+abbrev inst_low_main_0_0 : Inst
+inst_low_main_0_0 = record (inst op.AllocStack (v 0 ∷ []) []) { ty = Some (type.Int 8) }
+
+made_low_main_0_0 : made_types (declarations_of out_place_read_before_it_is_filled) inst_low_main_0_0 ≡ ((type.Address (type.Int 8)) ∷ [])
+unfolding digits ancestors_of
+made_low_main_0_0 = refl
+
+abbrev inst_low_main_0_1 : Inst
+inst_low_main_0_1 = record (inst op.IntegerLiteral (v 1 ∷ []) []) { ty = Some (type.Int 8); number = Some (pos 7) }
+
+made_low_main_0_1 : made_types (declarations_of out_place_read_before_it_is_filled) inst_low_main_0_1 ≡ ((type.Int 8) ∷ [])
+unfolding digits ancestors_of
+made_low_main_0_1 = simp (opened) refl
+
+abbrev inst_low_main_0_3 : Inst
+inst_low_main_0_3 = record (inst op.FunctionRef (v 2 ∷ []) []) { function = Some (fn 0); signature = Some sig_f }
+
+made_low_main_0_3 : made_types (declarations_of out_place_read_before_it_is_filled) inst_low_main_0_3 ≡ []
+unfolding digits ancestors_of
+made_low_main_0_3 = refl
+
+abbrev inst_low_main_0_4 : Inst
+inst_low_main_0_4 = record (inst op.Apply (v 3 ∷ []) (bare 2 ∷ bare 0 ∷ [])) { signature = Some sig_f }
+
+made_low_main_0_4 : made_types (declarations_of out_place_read_before_it_is_filled) inst_low_main_0_4 ≡ ((type.Tuple []) ∷ [])
+unfolding digits ancestors_of
+made_low_main_0_4 = refl
+
+abbrev inst_low_main_0_5 : Inst
+inst_low_main_0_5 = inst op.Load (v 4 ∷ []) (typed 0 (type.Address (type.Int 8)) ∷ [])
+
+made_low_main_0_5 : made_types (declarations_of out_place_read_before_it_is_filled) inst_low_main_0_5 ≡ ((type.Int 8) ∷ [])
+unfolding digits ancestors_of
+made_low_main_0_5 = simp (opened) refl
+
+abbrev low_types_main : List (Option TypeName)
+low_types_main = Some (type.Address (type.Int 8)) ∷ Some (type.Int 8) ∷ None ∷ Some (type.Tuple []) ∷ Some (type.Int 8) ∷ []
+
+low_types_main_told : value_types (declarations_of out_place_read_before_it_is_filled) low_fn_main ≡ low_types_main
+unfolding digits ancestors_of
+low_types_main_told = (both (ap (λ ts. slice_get ts 0) made_low_main_0_0) (both (ap (λ ts. slice_get ts 0) made_low_main_0_1) (both (ap (λ ts. slice_get ts 0) made_low_main_0_3) (both (ap (λ
+    ts. slice_get ts 0) made_low_main_0_4) (both (ap (λ ts. slice_get ts 0) made_low_main_0_5) refl)))))
+
+abbrev low_shapes_main : List Shape
+low_shapes_main = ((shape.Integer 8) ∷ (shape.Integer 8) ∷ shape.Unknown ∷ (shape.Tuple shape.NoMember) ∷ (shape.Integer 8) ∷ [])
+
+low_shapes_main_told : function_shapes (declarations_of out_place_read_before_it_is_filled) low_fn_main ≡ low_shapes_main
+unfolding digits ancestors_of
+low_shapes_main_told = ap (map (value_shape (declarations_of out_place_read_before_it_is_filled))) low_types_main_told ∙ (both (at_address (declarations_of
+    out_place_read_before_it_is_filled) (type.Int 8) ∙ (seen_int (declarations_of out_place_read_before_it_is_filled) 0 8)) (both (at_int (declarations_of out_place_read_before_it_is_filled)
+    8 ∙ (seen_int (declarations_of out_place_read_before_it_is_filled) 0 8)) (both refl (both (at_tuple (declarations_of out_place_read_before_it_is_filled) [] ∙ (seen_tuple (declarations_of
+    out_place_read_before_it_is_filled) 0 [] [] refl)) (both (at_int (declarations_of out_place_read_before_it_is_filled) 8 ∙ (seen_int (declarations_of out_place_read_before_it_is_filled) 0
+    8)) refl)))))
+
+abbrev low_shapes : ModuleShapes
+low_shapes = shapes_with classes (low_shapes_f ∷ low_shapes_main ∷ [])
+
+low_told : shapes_of low ≡ low_shapes
+unfolding digits ancestors_of
+low_told = shapes_told low classes_told (both low_shapes_f_told (both low_shapes_main_told refl))
+
+abbrev given_shape : Shape
+given_shape = (shape.Integer 8)
+
+given_told : returned_shape out_place_read_before_it_is_filled (fn 1) ≡ given_shape
+unfolding digits ancestors_of
+given_told = (seen_int (declarations_of out_place_read_before_it_is_filled) 0 8)
+
+runs : HasFault (outcome_with out_place_read_before_it_is_filled facts (fn 1) 100000 300) holder.EmptyPlace
+unfolding digits ancestors_of
+runs = refl
+
+lowered_runs : HasReport out_place_read_before_it_is_filled given_shape (low_outcome_with low low_shapes (fn 1) 100000 300) out_place_read_before_it_is_filled_answer
+unfolding digits ancestors_of
+lowered_runs = refl
+
+pub out_place_read_before_it_is_filled_proved : OutPlaceReadBeforeItIsFilled
+unfolding digits ancestors_of
+out_place_read_before_it_is_filled_proved = (
+  fault_by_holders out_place_read_before_it_is_filled (fn 1) 100000 300 holder.EmptyPlace all_told runs,
+  of_lowered out_place_read_before_it_is_filled (fn 1) 100000 300 out_place_read_before_it_is_filled_answer given_told lowers low_told lowered_runs,
+)

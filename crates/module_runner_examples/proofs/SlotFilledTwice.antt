@@ -1,0 +1,269 @@
+-- A full slot is filled. The lowered run loses what was there.
+use Rattle.std.proofs.Common.{◌≡◌, refl, List, [], ◌∷◌, Some, true, false, Option, ap, ◌∙◌}
+use Rattle.std.specs.Prelude.{codes, slice_get, map}
+use Rattle.std.specs.List.{flat_map, range_with_len}
+use Rattle.std.specs.Fmt.{digits}
+use Rattle.holder_model.specs.Calling.{value_count}
+use Rattle.holder_model.specs.Faults as holder
+use Rattle.holder_model.specs.ModuleFacts.{ModuleFacts, facts_of, function_facts}
+use Rattle.holder_model.specs.ModuleShapes.{value_shape, ClassShape, ModuleShapes, class_shape, function_shapes, shapes_of}
+use Rattle.holder_model.specs.Outcomes.{outcome_with}
+use Rattle.instruction_table.specs.Forms.{result_kind_of}
+use Rattle.instruction_table.specs.declared.op.Op.TheVariants as op
+use Rattle.holder_model.specs.LoweredRun.LowOutcomes.{low_outcome_with}
+use Rattle.ownership_lowering_model.specs.LoweredModules.{lowered, lowered_function}
+use Rattle.ownership_kinds_chains.specs.OwnershipChains.Facts.{value_of}
+use Rattle.ownership_kinds_chains.specs.declared.ownership_chains.definition.Definition.{Definition}
+use Rattle.ownership_kinds_chains.specs.declared.ownership_chains.facts.Facts.{Facts}
+use Rattle.ownership_kinds_origins.specs.Facts.{facts_by}
+use Rattle.ownership_kinds_origins.specs.Origins.{definitions_of, result_definition_by}
+use Rattle.module_runner_examples.proofs.Computed.{both, lowered_with, shapes_told, facts_told, of_lowered, fault_by_holders}
+use Rattle.module_runner_examples.proofs.Opened.{opened}
+use Rattle.module_runner_examples.proofs.Told.{definition_by}
+use Rattle.module_runner_examples.proofs.Told.{seen, seen_named, seen_tuple, at_named, at_tuple, at_address, weighed, weighed_named, weighed_tuple, weighed_address}
+use Rattle.module_runner_examples.specs.Parts.{v, fn, typed, bare, inst, owned, plain, class_with, shapes_with, facts_with}
+use Rattle.module_runner_examples.specs.inner.Reported.{HasReport, HasFault, returned_shape}
+use Rattle.module_runner_examples.specs.inner.SlotFilledTwice.{SlotFilledTwice, fn_main, sig_main, slot_filled_twice, slot_filled_twice_answer, ty_C}
+use Rattle.holder_model_values.specs.RunValues.Shapes as shape
+use Rattle.holder_model_values.specs.RunValues.Shapes.{Shape}
+use Rattle.sil_ast.specs.declared.function.Block.{Block}
+use Rattle.sil_ast.specs.declared.function.Form.TheVariants as form
+use Rattle.sil_ast.specs.declared.function.Function.{Function}
+use Rattle.sil_ast.specs.declared.function.Linkage.TheVariants as linkage
+use Rattle.sil_ast.specs.declared.inst.Inst.{Inst}
+use Rattle.sil_ast.specs.declared.module.Module.{Module}
+use Rattle.sil_ast.specs.declared.type_name.TypeName.TheVariants as type
+use Rattle.sil_ast.specs.declared.type_name.TypeName.{TypeName}
+use Rattle.sil_types.specs.Typing.RowTypes.{made_types}
+use Rattle.sil_types.specs.Typing.Values.{value_types}
+use Rattle.sil_types_declarations.specs.TypeDefinitions.Declarations.{ancestors_of, declarations_of}
+use Rattle.sil_types_declarations.specs.TypeDefinitions.Measures.{of_reference, is_trivial, is_trivial_measure}
+use Rattle.sil_types_declarations.specs.declared.type_definitions.measure.Measure.{Measure}
+
+abbrev shape_C : Shape
+shape_C = shape.Reference (codes "C")
+
+abbrev measure_C : Measure
+measure_C = of_reference
+
+abbrev classes : List ClassShape
+classes = class_with (codes "C") [] ∷ []
+
+classes_told : flat_map (class_shape (declarations_of slot_filled_twice)) slot_filled_twice.decls ≡ classes
+unfolding digits ancestors_of
+classes_told = (both (ap (class_with (codes "C")) refl) refl)
+
+abbrev inst_main_0_0 : Inst
+inst_main_0_0 = record (inst op.AllocRef (v 0 ∷ []) []) { ty = Some ty_C }
+
+made_main_0_0 : made_types (declarations_of slot_filled_twice) inst_main_0_0 ≡ (ty_C ∷ [])
+unfolding digits ancestors_of
+made_main_0_0 = simp (opened) refl
+
+abbrev inst_main_0_1 : Inst
+inst_main_0_1 = record (inst op.AllocRef (v 1 ∷ []) []) { ty = Some ty_C }
+
+made_main_0_1 : made_types (declarations_of slot_filled_twice) inst_main_0_1 ≡ (ty_C ∷ [])
+unfolding digits ancestors_of
+made_main_0_1 = simp (opened) refl
+
+abbrev inst_main_0_2 : Inst
+inst_main_0_2 = record (inst op.AllocStack (v 2 ∷ []) []) { ty = Some ty_C }
+
+made_main_0_2 : made_types (declarations_of slot_filled_twice) inst_main_0_2 ≡ ((type.Address ty_C) ∷ [])
+unfolding digits ancestors_of
+made_main_0_2 = refl
+
+abbrev inst_main_0_7 : Inst
+inst_main_0_7 = inst op.Tuple (v 3 ∷ []) []
+
+made_main_0_7 : made_types (declarations_of slot_filled_twice) inst_main_0_7 ≡ ((type.Tuple []) ∷ [])
+unfolding digits ancestors_of
+made_main_0_7 = refl
+
+abbrev types_main : List (Option TypeName)
+types_main = Some ty_C ∷ Some ty_C ∷ Some (type.Address ty_C) ∷ Some (type.Tuple []) ∷ []
+
+types_main_told : value_types (declarations_of slot_filled_twice) fn_main ≡ types_main
+unfolding digits ancestors_of
+types_main_told = (both (ap (λ ts. slice_get ts 0) made_main_0_0) (both (ap (λ ts. slice_get ts 0) made_main_0_1) (both (ap (λ ts. slice_get ts 0) made_main_0_2) (both (ap (λ ts. slice_get
+    ts 0) made_main_0_7) refl))))
+
+abbrev shapes_main : List Shape
+shapes_main = (shape_C ∷ shape_C ∷ shape_C ∷ (shape.Tuple shape.NoMember) ∷ [])
+
+seen_C_1 : seen (declarations_of slot_filled_twice) 1 ty_C ≡ shape_C
+unfolding digits ancestors_of
+seen_C_1 = seen_named (declarations_of slot_filled_twice) 1 (codes "C")
+
+shapes_main_told : function_shapes (declarations_of slot_filled_twice) fn_main ≡ shapes_main
+unfolding digits ancestors_of
+shapes_main_told = ap (map (value_shape (declarations_of slot_filled_twice))) types_main_told ∙ (both (at_named (declarations_of slot_filled_twice) (codes "C") ∙ seen_C_1) (both (at_named
+    (declarations_of slot_filled_twice) (codes "C") ∙ seen_C_1) (both (at_address (declarations_of slot_filled_twice) ty_C ∙ seen_C_1) (both (at_tuple (declarations_of slot_filled_twice) []
+    ∙ (seen_tuple (declarations_of slot_filled_twice) 1 [] [] refl)) refl))))
+
+weighed_C_1 : weighed (declarations_of slot_filled_twice) 1 ty_C ≡ measure_C
+unfolding digits ancestors_of
+weighed_C_1 = weighed_named (declarations_of slot_filled_twice) 1 (codes "C")
+
+trivial_0 : is_trivial (declarations_of slot_filled_twice) ty_C ≡ false
+unfolding digits ancestors_of
+trivial_0 = ap is_trivial_measure weighed_C_1
+
+trivial_1 : is_trivial (declarations_of slot_filled_twice) (type.Address ty_C) ≡ false
+unfolding digits ancestors_of
+trivial_1 = ap is_trivial_measure (weighed_address (declarations_of slot_filled_twice) 1 ty_C measure_C weighed_C_1)
+
+trivial_2 : is_trivial (declarations_of slot_filled_twice) (type.Tuple []) ≡ true
+unfolding digits ancestors_of
+trivial_2 = ap is_trivial_measure (weighed_tuple (declarations_of slot_filled_twice) 1 [] [] refl)
+
+abbrev definitions_main : List Definition
+definitions_main = result_definition_by (result_kind_of inst_main_0_0.op) inst_main_0_0 false ∷ result_definition_by (result_kind_of inst_main_0_1.op) inst_main_0_1 false ∷
+    result_definition_by (result_kind_of inst_main_0_2.op) inst_main_0_2 false ∷ result_definition_by (result_kind_of inst_main_0_7.op) inst_main_0_7 true ∷ []
+
+definitions_main_told : definitions_of (declarations_of slot_filled_twice) fn_main ≡ definitions_main
+unfolding digits ancestors_of
+definitions_main_told = (both (definition_by (declarations_of slot_filled_twice) inst_main_0_0 0 (ty_C ∷ []) false made_main_0_0 trivial_0) (both (definition_by (declarations_of
+    slot_filled_twice) inst_main_0_1 0 (ty_C ∷ []) false made_main_0_1 trivial_0) (both (definition_by (declarations_of slot_filled_twice) inst_main_0_2 0 ((type.Address ty_C) ∷ []) false
+    made_main_0_2 trivial_1) (both (definition_by (declarations_of slot_filled_twice) inst_main_0_7 0 ((type.Tuple []) ∷ []) true made_main_0_7 trivial_2) refl))))
+
+abbrev shapes : ModuleShapes
+shapes = shapes_with classes (shapes_main ∷ [])
+
+told : shapes_of slot_filled_twice ≡ shapes
+unfolding digits ancestors_of
+told = shapes_told slot_filled_twice classes_told (both shapes_main_told refl)
+
+abbrev facts_main : List (Option Facts)
+facts_main = (owned 0 ∷ owned 1 ∷ plain [] ∷ plain [] ∷ [])
+
+facts_main_told : function_facts (declarations_of slot_filled_twice) fn_main ≡ facts_main
+unfolding digits ancestors_of
+facts_main_told = ap (λ defs. map (λ v. facts_by defs (value_of v)) (range_with_len 0 (value_count fn_main))) definitions_main_told
+
+abbrev facts : ModuleFacts
+facts = facts_with shapes (facts_main ∷ [])
+
+all_told : facts_of slot_filled_twice ≡ facts
+unfolding digits ancestors_of
+all_told = facts_told slot_filled_twice told (both facts_main_told refl)
+
+abbrev low_bb_main_0 : Block
+low_bb_main_0 = record {
+  args = [];
+  insts =
+      record (inst op.AllocRef (v 0 ∷ []) []) { ty = Some ty_C }
+      ∷ record (inst op.AllocRef (v 1 ∷ []) []) { ty = Some ty_C }
+      ∷ record (inst op.AllocStack (v 2 ∷ []) []) { ty = Some ty_C }
+      ∷ inst op.Store [] (bare 0 ∷ typed 2 (type.Address ty_C) ∷ [])
+      ∷ inst op.Store [] (bare 1 ∷ typed 2 (type.Address ty_C) ∷ [])
+      ∷ inst op.Load (v 3 ∷ []) (typed 2 (type.Address ty_C) ∷ [])
+      ∷ inst op.StrongRelease [] (typed 3 ty_C ∷ [])
+      ∷ inst op.DeallocStack [] (typed 2 (type.Address ty_C) ∷ [])
+      ∷ inst op.Tuple (v 4 ∷ []) []
+      ∷ [];
+  terminator = inst op.Return [] (typed 4 (type.Tuple []) ∷ []);
+}
+
+abbrev low_fn_main : Function
+low_fn_main = record {
+  name = codes "main";
+  form = form.Lowered;
+  linkage = linkage.Plain;
+  attributes = [];
+  signature = sig_main;
+  blocks = low_bb_main_0 ∷ [];
+}
+
+abbrev low : Module
+low = record slot_filled_twice { functions = low_fn_main ∷ [] }
+
+low_main_is : lowered_function (declarations_of slot_filled_twice) fn_main ≡ low_fn_main
+unfolding digits ancestors_of
+low_main_is = simp (opened) refl
+
+lowers : lowered slot_filled_twice ≡ low
+unfolding digits ancestors_of
+lowers = lowered_with slot_filled_twice (both low_main_is refl)
+
+abbrev inst_low_main_0_0 : Inst
+inst_low_main_0_0 = record (inst op.AllocRef (v 0 ∷ []) []) { ty = Some ty_C }
+
+made_low_main_0_0 : made_types (declarations_of slot_filled_twice) inst_low_main_0_0 ≡ (ty_C ∷ [])
+unfolding digits ancestors_of
+made_low_main_0_0 = simp (opened) refl
+
+abbrev inst_low_main_0_1 : Inst
+inst_low_main_0_1 = record (inst op.AllocRef (v 1 ∷ []) []) { ty = Some ty_C }
+
+made_low_main_0_1 : made_types (declarations_of slot_filled_twice) inst_low_main_0_1 ≡ (ty_C ∷ [])
+unfolding digits ancestors_of
+made_low_main_0_1 = simp (opened) refl
+
+abbrev inst_low_main_0_2 : Inst
+inst_low_main_0_2 = record (inst op.AllocStack (v 2 ∷ []) []) { ty = Some ty_C }
+
+made_low_main_0_2 : made_types (declarations_of slot_filled_twice) inst_low_main_0_2 ≡ ((type.Address ty_C) ∷ [])
+unfolding digits ancestors_of
+made_low_main_0_2 = refl
+
+abbrev inst_low_main_0_5 : Inst
+inst_low_main_0_5 = inst op.Load (v 3 ∷ []) (typed 2 (type.Address ty_C) ∷ [])
+
+made_low_main_0_5 : made_types (declarations_of slot_filled_twice) inst_low_main_0_5 ≡ (ty_C ∷ [])
+unfolding digits ancestors_of
+made_low_main_0_5 = simp (opened) refl
+
+abbrev inst_low_main_0_8 : Inst
+inst_low_main_0_8 = inst op.Tuple (v 4 ∷ []) []
+
+made_low_main_0_8 : made_types (declarations_of slot_filled_twice) inst_low_main_0_8 ≡ ((type.Tuple []) ∷ [])
+unfolding digits ancestors_of
+made_low_main_0_8 = refl
+
+abbrev low_types_main : List (Option TypeName)
+low_types_main = Some ty_C ∷ Some ty_C ∷ Some (type.Address ty_C) ∷ Some ty_C ∷ Some (type.Tuple []) ∷ []
+
+low_types_main_told : value_types (declarations_of slot_filled_twice) low_fn_main ≡ low_types_main
+unfolding digits ancestors_of
+low_types_main_told = (both (ap (λ ts. slice_get ts 0) made_low_main_0_0) (both (ap (λ ts. slice_get ts 0) made_low_main_0_1) (both (ap (λ ts. slice_get ts 0) made_low_main_0_2) (both (ap (λ
+    ts. slice_get ts 0) made_low_main_0_5) (both (ap (λ ts. slice_get ts 0) made_low_main_0_8) refl)))))
+
+abbrev low_shapes_main : List Shape
+low_shapes_main = (shape_C ∷ shape_C ∷ shape_C ∷ shape_C ∷ (shape.Tuple shape.NoMember) ∷ [])
+
+low_shapes_main_told : function_shapes (declarations_of slot_filled_twice) low_fn_main ≡ low_shapes_main
+unfolding digits ancestors_of
+low_shapes_main_told = ap (map (value_shape (declarations_of slot_filled_twice))) low_types_main_told ∙ (both (at_named (declarations_of slot_filled_twice) (codes "C") ∙ seen_C_1) (both
+    (at_named (declarations_of slot_filled_twice) (codes "C") ∙ seen_C_1) (both (at_address (declarations_of slot_filled_twice) ty_C ∙ seen_C_1) (both (at_named (declarations_of
+    slot_filled_twice) (codes "C") ∙ seen_C_1) (both (at_tuple (declarations_of slot_filled_twice) [] ∙ (seen_tuple (declarations_of slot_filled_twice) 1 [] [] refl)) refl)))))
+
+abbrev low_shapes : ModuleShapes
+low_shapes = shapes_with classes (low_shapes_main ∷ [])
+
+low_told : shapes_of low ≡ low_shapes
+unfolding digits ancestors_of
+low_told = shapes_told low classes_told (both low_shapes_main_told refl)
+
+abbrev given_shape : Shape
+given_shape = (shape.Tuple shape.NoMember)
+
+given_told : returned_shape slot_filled_twice (fn 0) ≡ given_shape
+unfolding digits ancestors_of
+given_told = (seen_tuple (declarations_of slot_filled_twice) 1 [] [] refl)
+
+runs : HasFault (outcome_with slot_filled_twice facts (fn 0) 100000 300) holder.FullPlace
+unfolding digits ancestors_of
+runs = refl
+
+lowered_runs : HasReport slot_filled_twice given_shape (low_outcome_with low low_shapes (fn 0) 100000 300) slot_filled_twice_answer
+unfolding digits ancestors_of
+lowered_runs = refl
+
+pub slot_filled_twice_proved : SlotFilledTwice
+unfolding digits ancestors_of
+slot_filled_twice_proved = (
+  fault_by_holders slot_filled_twice (fn 0) 100000 300 holder.FullPlace all_told runs,
+  of_lowered slot_filled_twice (fn 0) 100000 300 slot_filled_twice_answer given_told lowers low_told lowered_runs,
+)

@@ -1,0 +1,28 @@
+-- For the law `lowered_code_faults`.
+use Rattle.module_runner_examples.proofs.LoweredDeadBeforeEmpty.{lowered_dead_before_empty_proved}
+use Rattle.module_runner_examples.proofs.LoweredDeadObjectReturned.{lowered_dead_object_returned_proved}
+use Rattle.module_runner_examples.proofs.LoweredDeadObjectStoredUnowned.{lowered_dead_object_stored_unowned_proved}
+use Rattle.module_runner_examples.proofs.LoweredEmptyWeakSlotWrittenAnew.{lowered_empty_weak_slot_written_anew_proved}
+use Rattle.module_runner_examples.proofs.LoweredFaultBeforeTheBound.{lowered_fault_before_the_bound_proved}
+use Rattle.module_runner_examples.proofs.LoweredMissingBeforeSlot.{lowered_missing_before_slot_proved}
+use Rattle.module_runner_examples.proofs.LoweredPartLentToACalleeWritten.{lowered_part_lent_to_a_callee_written_proved}
+use Rattle.module_runner_examples.proofs.LoweredReleasedAfterDeath.{lowered_released_after_death_proved}
+use Rattle.module_runner_examples.proofs.LoweredReleasedBelowZero.{lowered_released_below_zero_proved}
+use Rattle.module_runner_examples.proofs.LoweredSecondReferenceDead.{lowered_second_reference_dead_proved}
+use Rattle.module_runner_examples.proofs.LoweredSlotBeforeDead.{lowered_slot_before_dead_proved}
+use Rattle.module_runner_examples.proofs.laws.lowered_code_faults.Goals as goal
+
+pub returns : goal.returns
+returns c = record {
+  lowered_dead_before_empty = lowered_dead_before_empty_proved;
+  lowered_dead_object_returned = lowered_dead_object_returned_proved;
+  lowered_dead_object_stored_unowned = lowered_dead_object_stored_unowned_proved;
+  lowered_empty_weak_slot_written_anew = lowered_empty_weak_slot_written_anew_proved;
+  lowered_fault_before_the_bound = lowered_fault_before_the_bound_proved;
+  lowered_missing_before_slot = lowered_missing_before_slot_proved;
+  lowered_part_lent_to_a_callee_written = lowered_part_lent_to_a_callee_written_proved;
+  lowered_released_after_death = lowered_released_after_death_proved;
+  lowered_released_below_zero = lowered_released_below_zero_proved;
+  lowered_second_reference_dead = lowered_second_reference_dead_proved;
+  lowered_slot_before_dead = lowered_slot_before_dead_proved;
+}

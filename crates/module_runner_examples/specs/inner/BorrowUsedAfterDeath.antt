@@ -1,0 +1,72 @@
+-- A borrow outlives its object. A debug_value of it is no operation of the lowered run, which returns.
+use Rattle.std.specs.Prelude.{ℕ, List, [], ◌∷◌, Some, None, false, codes}
+use Rattle.instruction_table.specs.declared.op.Op.TheVariants as op
+use Rattle.sil_ast.specs.declared.decl.Decl.TheVariants as decl
+use Rattle.sil_ast.specs.declared.decl.Decl.{Decl}
+use Rattle.sil_ast.specs.declared.function.Block.{Block}
+use Rattle.sil_ast.specs.declared.function.Form.TheVariants as form
+use Rattle.sil_ast.specs.declared.function.Function.{Function}
+use Rattle.sil_ast.specs.declared.function.Linkage.TheVariants as linkage
+use Rattle.sil_ast.specs.declared.module.Module.{Module}
+use Rattle.sil_ast.specs.declared.module.Stage.TheVariants as stage
+use Rattle.sil_ast.specs.declared.signature.Convention.TheVariants as convention
+use Rattle.sil_ast.specs.declared.signature.Signature.{Signature}
+use Rattle.sil_ast.specs.declared.type_name.TypeName.TheVariants as type
+use Rattle.sil_ast.specs.declared.type_name.TypeName.{TypeName}
+use Rattle.module_runner_examples.specs.Parts.{v, fn, typed, inst, signed_as, imports}
+use Rattle.holder_model.specs.Faults as holder
+use Rattle.module_runner_examples.specs.inner.Reported.{ReportsWhenLowered, FaultsByHolders}
+
+abbrev pub ty_C : TypeName
+ty_C = type.Named (codes "C")
+
+abbrev pub decl_C : Decl
+decl_C = decl.Class (codes "C") None []
+
+abbrev pub sig_main : Signature
+sig_main = signed_as convention.Thin [] []
+
+abbrev pub bb_main_0 : Block
+bb_main_0 = record {
+  args = [];
+  insts =
+      record (inst op.AllocRef (v 0 ∷ []) []) { ty = Some ty_C }
+      ∷ inst op.BeginBorrow (v 1 ∷ []) (typed 0 ty_C ∷ [])
+      ∷ inst op.DestroyValue [] (typed 0 ty_C ∷ [])
+      ∷ inst op.DebugValue [] (typed 1 ty_C ∷ [])
+      ∷ inst op.EndBorrow [] (typed 1 ty_C ∷ [])
+      ∷ inst op.Tuple (v 2 ∷ []) []
+      ∷ [];
+  terminator = inst op.Return [] (typed 2 (type.Tuple []) ∷ []);
+}
+
+abbrev pub fn_main : Function
+fn_main = record {
+  name = codes "main";
+  form = form.Ossa;
+  linkage = linkage.Plain;
+  attributes = [];
+  signature = sig_main;
+  blocks = bb_main_0 ∷ [];
+}
+
+abbrev pub borrow_used_after_death : Module
+borrow_used_after_death = record {
+  stage = stage.Canonical;
+  imports = imports false false;
+  decls = decl_C ∷ [];
+  functions = fn_main ∷ [];
+  vtables = [];
+}
+
+abbrev pub borrow_used_after_death_answer : List (List ℕ)
+borrow_used_after_death_answer =
+    codes "deinit C#0"
+    ∷ codes "returned ()"
+    ∷ codes "objects 0"
+    ∷ codes "retains 0 releases 1"
+    ∷ []
+
+abbrev pub BorrowUsedAfterDeath : Type 0
+BorrowUsedAfterDeath = FaultsByHolders borrow_used_after_death (fn 0) 100000 300 holder.NamesDead × ReportsWhenLowered borrow_used_after_death (fn 0) 100000
+    300 borrow_used_after_death_answer

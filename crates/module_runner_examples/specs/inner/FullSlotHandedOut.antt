@@ -1,0 +1,100 @@
+-- A full slot is handed over to be filled. The lowered run loses what was there.
+use Rattle.std.specs.Prelude.{ℕ, List, [], ◌∷◌, Some, None, false, codes}
+use Rattle.instruction_table.specs.declared.op.Op.TheVariants as op
+use Rattle.sil_ast.specs.declared.decl.Decl.TheVariants as decl
+use Rattle.sil_ast.specs.declared.decl.Decl.{Decl}
+use Rattle.sil_ast.specs.declared.function.ArgKind.TheVariants as kind
+use Rattle.sil_ast.specs.declared.function.Block.{Block}
+use Rattle.sil_ast.specs.declared.function.Form.TheVariants as form
+use Rattle.sil_ast.specs.declared.function.Function.{Function}
+use Rattle.sil_ast.specs.declared.function.Linkage.TheVariants as linkage
+use Rattle.sil_ast.specs.declared.inst.Qualifier.TheVariants as qualifier
+use Rattle.sil_ast.specs.declared.module.Module.{Module}
+use Rattle.sil_ast.specs.declared.module.Stage.TheVariants as stage
+use Rattle.sil_ast.specs.declared.signature.Convention.TheVariants as convention
+use Rattle.sil_ast.specs.declared.signature.Signature.{Signature}
+use Rattle.sil_ast.specs.declared.type_name.TypeName.TheVariants as type
+use Rattle.sil_ast.specs.declared.type_name.TypeName.{TypeName}
+use Rattle.module_runner_examples.specs.Parts.{v, fn, typed, bare, inst, arg, signed_as, given_out, imports}
+use Rattle.holder_model.specs.Faults as holder
+use Rattle.module_runner_examples.specs.inner.Reported.{ReportsWhenLowered, FaultsByHolders}
+
+abbrev pub ty_C : TypeName
+ty_C = type.Named (codes "C")
+
+abbrev pub decl_C : Decl
+decl_C = decl.Class (codes "C") None []
+
+abbrev pub sig_f : Signature
+sig_f = signed_as convention.Thin [] (given_out ty_C ∷ [])
+
+abbrev pub sig_main : Signature
+sig_main = signed_as convention.Thin [] []
+
+abbrev pub bb_f_0 : Block
+bb_f_0 = record {
+  args = arg 0 kind.Plain (type.Address ty_C) ∷ [];
+  insts =
+      record (inst op.AllocRef (v 1 ∷ []) []) { ty = Some ty_C }
+      ∷ record (inst op.Store [] (bare 1 ∷ typed 0 (type.Address ty_C) ∷ [])) { qualifier = qualifier.Init }
+      ∷ inst op.Tuple (v 2 ∷ []) []
+      ∷ [];
+  terminator = inst op.Return [] (typed 2 (type.Tuple []) ∷ []);
+}
+
+abbrev pub fn_f : Function
+fn_f = record {
+  name = codes "f";
+  form = form.Ossa;
+  linkage = linkage.Plain;
+  attributes = [];
+  signature = sig_f;
+  blocks = bb_f_0 ∷ [];
+}
+
+abbrev pub bb_main_0 : Block
+bb_main_0 = record {
+  args = [];
+  insts =
+      record (inst op.AllocRef (v 0 ∷ []) []) { ty = Some ty_C }
+      ∷ record (inst op.AllocStack (v 1 ∷ []) []) { ty = Some ty_C }
+      ∷ record (inst op.Store [] (bare 0 ∷ typed 1 (type.Address ty_C) ∷ [])) { qualifier = qualifier.Init }
+      ∷ record (inst op.FunctionRef (v 2 ∷ []) []) { function = Some (fn 0); signature = Some sig_f }
+      ∷ record (inst op.Apply (v 3 ∷ []) (bare 2 ∷ bare 1 ∷ [])) { signature = Some sig_f }
+      ∷ inst op.DestroyAddr [] (typed 1 (type.Address ty_C) ∷ [])
+      ∷ inst op.DeallocStack [] (typed 1 (type.Address ty_C) ∷ [])
+      ∷ [];
+  terminator = inst op.Return [] (typed 3 (type.Tuple []) ∷ []);
+}
+
+abbrev pub fn_main : Function
+fn_main = record {
+  name = codes "main";
+  form = form.Ossa;
+  linkage = linkage.Plain;
+  attributes = [];
+  signature = sig_main;
+  blocks = bb_main_0 ∷ [];
+}
+
+abbrev pub full_slot_handed_out : Module
+full_slot_handed_out = record {
+  stage = stage.Canonical;
+  imports = imports false false;
+  decls = decl_C ∷ [];
+  functions = fn_f ∷ fn_main ∷ [];
+  vtables = [];
+}
+
+abbrev pub full_slot_handed_out_answer : List (List ℕ)
+full_slot_handed_out_answer =
+    codes "deinit C#1"
+    ∷ codes "returned ()"
+    ∷ codes "objects 1"
+    ∷ codes "object C#0 live strong 1 unowned 0 weak 0"
+    ∷ codes "retains 0 releases 1"
+    ∷ []
+
+abbrev pub FullSlotHandedOut : Type 0
+FullSlotHandedOut = FaultsByHolders full_slot_handed_out (fn 1) 100000 300 holder.PlaceNotAsAsked × ReportsWhenLowered full_slot_handed_out (fn 1) 100000
+    300 full_slot_handed_out_answer

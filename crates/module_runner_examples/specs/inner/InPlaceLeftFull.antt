@@ -1,0 +1,95 @@
+-- A callee doesn't take the object out of an @in place, so no one drops it.
+use Rattle.std.specs.Prelude.{ℕ, List, [], ◌∷◌, Some, None, false, codes}
+use Rattle.instruction_table.specs.declared.op.Op.TheVariants as op
+use Rattle.sil_ast.specs.declared.decl.Decl.TheVariants as decl
+use Rattle.sil_ast.specs.declared.decl.Decl.{Decl}
+use Rattle.sil_ast.specs.declared.function.ArgKind.TheVariants as kind
+use Rattle.sil_ast.specs.declared.function.Block.{Block}
+use Rattle.sil_ast.specs.declared.function.Form.TheVariants as form
+use Rattle.sil_ast.specs.declared.function.Function.{Function}
+use Rattle.sil_ast.specs.declared.function.Linkage.TheVariants as linkage
+use Rattle.sil_ast.specs.declared.inst.Qualifier.TheVariants as qualifier
+use Rattle.sil_ast.specs.declared.module.Module.{Module}
+use Rattle.sil_ast.specs.declared.module.Stage.TheVariants as stage
+use Rattle.sil_ast.specs.declared.signature.Convention.TheVariants as convention
+use Rattle.sil_ast.specs.declared.signature.Passing.TheVariants as passing
+use Rattle.sil_ast.specs.declared.signature.Signature.{Signature}
+use Rattle.sil_ast.specs.declared.type_name.TypeName.TheVariants as type
+use Rattle.sil_ast.specs.declared.type_name.TypeName.{TypeName}
+use Rattle.module_runner_examples.specs.Parts.{v, fn, typed, bare, inst, arg, signed_as, param, imports}
+use Rattle.holder_model.specs.Faults as holder
+use Rattle.module_runner_examples.specs.inner.Reported.{ReportsWhenLowered, FaultsByHolders}
+
+abbrev pub ty_C : TypeName
+ty_C = type.Named (codes "C")
+
+abbrev pub decl_C : Decl
+decl_C = decl.Class (codes "C") None []
+
+abbrev pub sig_f : Signature
+sig_f = signed_as convention.Thin (param passing.In ty_C ∷ []) []
+
+abbrev pub sig_main : Signature
+sig_main = signed_as convention.Thin [] []
+
+abbrev pub bb_f_0 : Block
+bb_f_0 = record {
+  args = arg 0 kind.Plain (type.Address ty_C) ∷ [];
+  insts = inst op.Tuple (v 1 ∷ []) [] ∷ [];
+  terminator = inst op.Return [] (typed 1 (type.Tuple []) ∷ []);
+}
+
+abbrev pub fn_f : Function
+fn_f = record {
+  name = codes "f";
+  form = form.Ossa;
+  linkage = linkage.Plain;
+  attributes = [];
+  signature = sig_f;
+  blocks = bb_f_0 ∷ [];
+}
+
+abbrev pub bb_main_0 : Block
+bb_main_0 = record {
+  args = [];
+  insts =
+      record (inst op.AllocRef (v 0 ∷ []) []) { ty = Some ty_C }
+      ∷ record (inst op.AllocStack (v 1 ∷ []) []) { ty = Some ty_C }
+      ∷ record (inst op.Store [] (bare 0 ∷ typed 1 (type.Address ty_C) ∷ [])) { qualifier = qualifier.Init }
+      ∷ record (inst op.FunctionRef (v 2 ∷ []) []) { function = Some (fn 0); signature = Some sig_f }
+      ∷ record (inst op.Apply (v 3 ∷ []) (bare 2 ∷ bare 1 ∷ [])) { signature = Some sig_f }
+      ∷ inst op.DeallocStack [] (typed 1 (type.Address ty_C) ∷ [])
+      ∷ [];
+  terminator = inst op.Return [] (typed 3 (type.Tuple []) ∷ []);
+}
+
+abbrev pub fn_main : Function
+fn_main = record {
+  name = codes "main";
+  form = form.Ossa;
+  linkage = linkage.Plain;
+  attributes = [];
+  signature = sig_main;
+  blocks = bb_main_0 ∷ [];
+}
+
+abbrev pub in_place_left_full : Module
+in_place_left_full = record {
+  stage = stage.Canonical;
+  imports = imports false false;
+  decls = decl_C ∷ [];
+  functions = fn_f ∷ fn_main ∷ [];
+  vtables = [];
+}
+
+abbrev pub in_place_left_full_answer : List (List ℕ)
+in_place_left_full_answer =
+    codes "returned ()"
+    ∷ codes "objects 1"
+    ∷ codes "object C#0 live strong 1 unowned 0 weak 0"
+    ∷ codes "retains 0 releases 0"
+    ∷ []
+
+abbrev pub InPlaceLeftFull : Type 0
+InPlaceLeftFull = FaultsByHolders in_place_left_full (fn 1) 100000 300 holder.LeavesPlace × ReportsWhenLowered in_place_left_full (fn 1) 100000 300
+    in_place_left_full_answer

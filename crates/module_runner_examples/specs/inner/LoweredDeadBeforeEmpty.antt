@@ -1,0 +1,62 @@
+-- Lowered text: a dead object is stored to an empty unowned slot without [init].
+use Rattle.std.specs.Prelude.{[], ◌∷◌, Some, None, false, codes}
+use Rattle.instruction_table.specs.declared.op.Op.TheVariants as op
+use Rattle.sil_ast.specs.declared.decl.Decl.TheVariants as decl
+use Rattle.sil_ast.specs.declared.decl.Decl.{Decl}
+use Rattle.sil_ast.specs.declared.function.Block.{Block}
+use Rattle.sil_ast.specs.declared.function.Form.TheVariants as form
+use Rattle.sil_ast.specs.declared.function.Function.{Function}
+use Rattle.sil_ast.specs.declared.function.Linkage.TheVariants as linkage
+use Rattle.sil_ast.specs.declared.module.Module.{Module}
+use Rattle.sil_ast.specs.declared.module.Stage.TheVariants as stage
+use Rattle.sil_ast.specs.declared.signature.Convention.TheVariants as convention
+use Rattle.sil_ast.specs.declared.signature.Signature.{Signature}
+use Rattle.sil_ast.specs.declared.type_name.TypeName.TheVariants as type
+use Rattle.sil_ast.specs.declared.type_name.TypeName.{TypeName}
+use Rattle.module_runner_examples.specs.Parts.{v, fn, typed, bare, inst, signed_as, imports}
+use Rattle.holder_model.specs.declared.lowered_run.low_fault.LowFault.TheVariants as fault
+use Rattle.module_runner_examples.specs.inner.Reported.{FaultsLowered}
+
+abbrev pub ty_C : TypeName
+ty_C = type.Named (codes "C")
+
+abbrev pub decl_C : Decl
+decl_C = decl.Class (codes "C") None []
+
+abbrev pub sig_main : Signature
+sig_main = signed_as convention.Thin [] []
+
+abbrev pub bb_main_0 : Block
+bb_main_0 = record {
+  args = [];
+  insts =
+      record (inst op.AllocRef (v 0 ∷ []) []) { ty = Some ty_C }
+      ∷ record (inst op.AllocStack (v 1 ∷ []) []) { ty = Some (type.Unowned ty_C) }
+      ∷ inst op.StrongRelease [] (typed 0 ty_C ∷ [])
+      ∷ inst op.StoreUnowned [] (bare 0 ∷ typed 1 (type.Address (type.Unowned ty_C)) ∷ [])
+      ∷ inst op.Tuple (v 2 ∷ []) []
+      ∷ [];
+  terminator = inst op.Return [] (typed 2 (type.Tuple []) ∷ []);
+}
+
+abbrev pub fn_main : Function
+fn_main = record {
+  name = codes "main";
+  form = form.Lowered;
+  linkage = linkage.Plain;
+  attributes = [];
+  signature = sig_main;
+  blocks = bb_main_0 ∷ [];
+}
+
+abbrev pub lowered_dead_before_empty : Module
+lowered_dead_before_empty = record {
+  stage = stage.Canonical;
+  imports = imports false false;
+  decls = decl_C ∷ [];
+  functions = fn_main ∷ [];
+  vtables = [];
+}
+
+abbrev pub LoweredDeadBeforeEmpty : Type 0
+LoweredDeadBeforeEmpty = FaultsLowered lowered_dead_before_empty (fn 0) 100000 300 (fault.Dead (record { 0 = 0 }))

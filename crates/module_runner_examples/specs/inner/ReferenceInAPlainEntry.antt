@@ -1,0 +1,76 @@
+-- A block's argument without its annotation would hold a reference plainly.
+use Rattle.std.specs.Prelude.{ℕ, List, [], ◌∷◌, Some, None, false, codes}
+use Rattle.instruction_table.specs.declared.op.Op.TheVariants as op
+use Rattle.sil_ast.specs.declared.decl.Decl.TheVariants as decl
+use Rattle.sil_ast.specs.declared.decl.Decl.{Decl}
+use Rattle.sil_ast.specs.declared.function.ArgKind.TheVariants as kind
+use Rattle.sil_ast.specs.declared.function.Block.{Block}
+use Rattle.sil_ast.specs.declared.function.Form.TheVariants as form
+use Rattle.sil_ast.specs.declared.function.Function.{Function}
+use Rattle.sil_ast.specs.declared.function.Linkage.TheVariants as linkage
+use Rattle.sil_ast.specs.declared.module.Module.{Module}
+use Rattle.sil_ast.specs.declared.module.Stage.TheVariants as stage
+use Rattle.sil_ast.specs.declared.signature.Convention.TheVariants as convention
+use Rattle.sil_ast.specs.declared.signature.Signature.{Signature}
+use Rattle.sil_ast.specs.declared.type_name.TypeName.TheVariants as type
+use Rattle.sil_ast.specs.declared.type_name.TypeName.{TypeName}
+use Rattle.module_runner_examples.specs.Parts.{v, fn, typed, inst, edge, arg, signed_as, imports}
+use Rattle.holder_model.specs.Faults as holder
+use Rattle.module_runner_examples.specs.inner.Reported.{ReportsWhenLowered, FaultsByHolders}
+
+abbrev pub ty_C : TypeName
+ty_C = type.Named (codes "C")
+
+abbrev pub decl_C : Decl
+decl_C = decl.Class (codes "C") None []
+
+abbrev pub sig_main : Signature
+sig_main = signed_as convention.Thin [] []
+
+abbrev pub bb_main_0 : Block
+bb_main_0 = record {
+  args = [];
+  insts = record (inst op.AllocRef (v 0 ∷ []) []) { ty = Some ty_C } ∷ [];
+  terminator = record (inst op.Br [] []) { edges = edge 1 (typed 0 ty_C ∷ []) ∷ [] };
+}
+
+abbrev pub bb_main_1 : Block
+bb_main_1 = record {
+  args = arg 1 kind.Plain ty_C ∷ [];
+  insts =
+      inst op.DestroyValue [] (typed 1 ty_C ∷ [])
+      ∷ inst op.Tuple (v 2 ∷ []) []
+      ∷ [];
+  terminator = inst op.Return [] (typed 2 (type.Tuple []) ∷ []);
+}
+
+abbrev pub fn_main : Function
+fn_main = record {
+  name = codes "main";
+  form = form.Ossa;
+  linkage = linkage.Plain;
+  attributes = [];
+  signature = sig_main;
+  blocks = bb_main_0 ∷ bb_main_1 ∷ [];
+}
+
+abbrev pub reference_in_a_plain_entry : Module
+reference_in_a_plain_entry = record {
+  stage = stage.Canonical;
+  imports = imports false false;
+  decls = decl_C ∷ [];
+  functions = fn_main ∷ [];
+  vtables = [];
+}
+
+abbrev pub reference_in_a_plain_entry_answer : List (List ℕ)
+reference_in_a_plain_entry_answer =
+    codes "deinit C#0"
+    ∷ codes "returned ()"
+    ∷ codes "objects 0"
+    ∷ codes "retains 0 releases 1"
+    ∷ []
+
+abbrev pub ReferenceInAPlainEntry : Type 0
+ReferenceInAPlainEntry = FaultsByHolders reference_in_a_plain_entry (fn 0) 100000 300 holder.WrongShape × ReportsWhenLowered reference_in_a_plain_entry (fn
+    0) 100000 300 reference_in_a_plain_entry_answer

@@ -1,0 +1,53 @@
+-- A slot is allocated at the return.
+use Rattle.std.specs.Prelude.{[], ◌∷◌, Some, false, codes}
+use Rattle.instruction_table.specs.declared.op.Op.TheVariants as op
+use Rattle.sil_ast.specs.declared.function.Block.{Block}
+use Rattle.sil_ast.specs.declared.function.Form.TheVariants as form
+use Rattle.sil_ast.specs.declared.function.Function.{Function}
+use Rattle.sil_ast.specs.declared.function.Linkage.TheVariants as linkage
+use Rattle.sil_ast.specs.declared.module.Module.{Module}
+use Rattle.sil_ast.specs.declared.module.Stage.TheVariants as stage
+use Rattle.sil_ast.specs.declared.signature.Convention.TheVariants as convention
+use Rattle.sil_ast.specs.declared.signature.Signature.{Signature}
+use Rattle.sil_ast.specs.declared.type_name.TypeName.TheVariants as type
+use Rattle.module_runner_examples.specs.Parts.{v, fn, typed, inst, signed_as, imports}
+use Rattle.holder_model.specs.Faults as holder
+use Rattle.holder_model.specs.declared.lowered_run.low_fault.LowFault.TheVariants as fault
+use Rattle.ownership_lowering_model.specs.LoweredModules.{lowered}
+use Rattle.module_runner_examples.specs.inner.Reported.{FaultsByHolders, FaultsLowered}
+
+abbrev pub sig_main : Signature
+sig_main = signed_as convention.Thin [] []
+
+abbrev pub bb_main_0 : Block
+bb_main_0 = record {
+  args = [];
+  insts =
+      record (inst op.AllocStack (v 0 ∷ []) []) { ty = Some (type.Int 8) }
+      ∷ inst op.Tuple (v 1 ∷ []) []
+      ∷ [];
+  terminator = inst op.Return [] (typed 1 (type.Tuple []) ∷ []);
+}
+
+abbrev pub fn_main : Function
+fn_main = record {
+  name = codes "main";
+  form = form.Ossa;
+  linkage = linkage.Plain;
+  attributes = [];
+  signature = sig_main;
+  blocks = bb_main_0 ∷ [];
+}
+
+abbrev pub slot_allocated_at_the_return : Module
+slot_allocated_at_the_return = record {
+  stage = stage.Canonical;
+  imports = imports false false;
+  decls = [];
+  functions = fn_main ∷ [];
+  vtables = [];
+}
+
+abbrev pub SlotAllocatedAtTheReturn : Type 0
+SlotAllocatedAtTheReturn = FaultsByHolders slot_allocated_at_the_return (fn 0) 100000 300 holder.LeavesSlot × FaultsLowered (lowered
+    slot_allocated_at_the_return) (fn 0) 100000 300 fault.Slot

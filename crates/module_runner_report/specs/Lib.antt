@@ -1,0 +1,2 @@
+pub mod RunOutcomes
+pub mod inner

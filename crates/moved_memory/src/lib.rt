@@ -1,7 +1,0 @@
-//! What memory does in an accepted function of which a copy became a move: no rule on memory is broken there.
-//! It has no code that runs.
-#![tactic(auto)]
-
-mod laws;
-
-pub use laws::moved_memory_is_clean;

@@ -1,7 +1,0 @@
-//! Law: a module in which a copy became a move runs by holders as it did. It has no code that runs.
-#![tactic(auto)]
-
-mod laws;
-
-pub use laws::moved_runs_as_it_did;
-pub use lent_runs::{lent_runs_as_it_did, rewriting_keeps_verified};

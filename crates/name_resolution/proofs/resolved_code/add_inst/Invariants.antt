@@ -1,4 +1,0 @@
-use Rattle.name_resolution.proofs.resolved_code.add_inst.Given as goal
-
-abbrev pub ghost-resolve_names : goal.ghost-resolve_names
-ghost-resolve_names g a = g.s

@@ -1,4 +1,0 @@
-use Rattle.name_resolution.proofs.resolved_code.resolve_edge.Given as goal
-
-abbrev pub ghost-resolve_edge_args : goal.ghost-resolve_edge_args
-ghost-resolve_edge_args g a = g.s

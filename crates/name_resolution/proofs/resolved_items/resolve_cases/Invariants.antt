@@ -1,7 +1,0 @@
-use Rattle.std.proofs.Common.{◌≡◌, ◌++◌, map}
-use Rattle.std.specs.Vec.Iter.{into_iter_items}
-use Rattle.name_resolution.specs.Resolved.{resolved_case}
-use Rattle.name_resolution.proofs.resolved_items.resolve_cases.Given as goal
-
-abbrev pub invariant-loop-case : goal.invariant-loop-case
-invariant-loop-case l = map resolved_case l.fn.cases ≡ l.resolved ++ map resolved_case (into_iter_items l.case-iterator)

@@ -1,4 +1,0 @@
-use Rattle.name_resolution.proofs.resolved_items.resolve_parts.Given as goal
-
-abbrev pub ghost-resolve_body : goal.ghost-resolve_body
-ghost-resolve_body g a = g.names

@@ -1,6 +1,0 @@
-use Rattle.std.proofs.Common.{◌≡◌, take, map}
-use Rattle.name_scopes.specs.inner.Symbols.{unnumbered, with_definitions}
-use Rattle.name_scopes.proofs.defining.define_unnumbered.Given as goal
-
-abbrev pub invariant-loop-token : goal.invariant-loop-token
-invariant-loop-token l = l.table ≡ with_definitions l.initial.table (map unnumbered (take l.token-index l.tokens))

@@ -1,0 +1,3 @@
+pub mod ContainmentOrder
+pub mod PathLists
+pub mod TableByNumber

@@ -1,0 +1,3 @@
+pub mod Borrows
+pub mod FirstValue
+pub mod ValueRows

@@ -1,5 +1,0 @@
-use Rattle.optimised_runs.proofs.Optimised.{optimised_runs}
-use Rattle.optimised_runs.proofs.laws.optimised_runs_as_it_did.Goals as goal
-
-pub returns : goal.returns
-returns c = optimised_runs c.lent_runs_as_it_did.ensures c.moved_runs_as_it_did.ensures c.rewriting_keeps_verified.ensures c.rewritten_again.ensures

@@ -1,6 +1,0 @@
-use Rattle.std.proofs.Common.{◌≡◌, map, take}
-use Rattle.ownership_chains.specs.inner.Numbers.{operand_numbers}
-use Rattle.ownership_chains.proofs.numbers.numbers_of.Given as goal
-
-abbrev pub invariant-loop-def : goal.invariant-loop-def
-invariant-loop-def l = l.graph ≡ map operand_numbers (take l.def-index l.defs)

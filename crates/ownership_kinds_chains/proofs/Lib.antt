@@ -1,0 +1,2 @@
+pub mod OwnershipChains
+pub mod OwnershipMarks

@@ -1,0 +1,9 @@
+pub mod Listed
+pub mod Together
+pub mod Depths
+pub mod Settled
+pub mod NumberLemmas
+pub mod FactLemmas
+pub mod RingLemmas
+pub mod Enough
+pub mod NoRings

@@ -1,0 +1,6 @@
+use Rattle.ownership_kinds_chains.specs.OwnershipChains.Facts.{told_at}
+use Rattle.ownership_kinds_chains.specs.OwnershipChains.inner.Settling.{IsSound}
+use Rattle.ownership_kinds_chains.proofs.ownership_chains.settle.settle_along.Given as goal
+
+abbrev pub invariant-loop-number : goal.invariant-loop-number
+invariant-loop-number l = IsSound l.defs (told_at l.table)

@@ -1,0 +1,4 @@
+pub mod Chains
+pub mod Facts
+pub mod Steps
+pub mod inner

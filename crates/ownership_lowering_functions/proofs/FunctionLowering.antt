@@ -1,0 +1,6 @@
+pub mod Chains
+pub mod FewValues
+pub mod Steps
+pub mod Noting
+pub mod Numbering
+pub mod Told

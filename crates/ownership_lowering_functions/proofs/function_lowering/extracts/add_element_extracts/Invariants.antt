@@ -1,0 +1,8 @@
+use Rattle.std.proofs.Common.{◌≡◌, ◌++◌, take}
+use Rattle.std.specs.List.{flat_map}
+use Rattle.ownership_lowering_model.specs.Extracts.{extracts_elements}
+use Rattle.ownership_lowering_functions.specs.FunctionLowering.inner.Drafts.{told_insts}
+use Rattle.ownership_lowering_functions.proofs.function_lowering.extracts.add_element_extracts.Given as goal
+
+abbrev pub invariant-loop-whole : goal.invariant-loop-whole
+invariant-loop-whole l = told_insts l.drafts ≡ told_insts l.initial.drafts ++ flat_map (extracts_elements l.values) (take l.whole-index l.operands)

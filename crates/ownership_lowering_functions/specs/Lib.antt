@@ -1,0 +1,2 @@
+pub mod FunctionLowering
+pub mod ValueRenumbering

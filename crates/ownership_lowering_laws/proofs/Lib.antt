@@ -1,0 +1,4 @@
+pub mod LoweringLaws
+pub mod LoweredNumberingLaws
+pub mod LoweredTypingLaws
+pub use Rattle.holder_model_typing.proofs as holder_model_typing

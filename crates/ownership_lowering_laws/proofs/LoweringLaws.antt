@@ -1,0 +1,10 @@
+pub mod Ends
+pub mod Rising
+pub mod Known
+pub mod Structs
+pub mod NewValues
+pub mod Covered
+pub mod Renumbered
+pub mod Placed
+pub mod Lowerable
+pub mod Rings

@@ -1,0 +1,3 @@
+pub mod OwnedCounts
+pub mod StoredRuns
+pub mod SameRuns

@@ -1,0 +1,15 @@
+pub mod Taken
+pub mod HandedOver
+pub mod TakenOwned
+pub mod BroughtOwned
+pub mod RowTables
+pub mod GivenOwned
+pub mod TypedCells
+pub mod TypedPlaces
+pub mod ValueForms
+pub mod OwnedInsts
+pub mod RowsOwned
+pub mod Words
+pub mod CountedInsts
+pub mod CountedReturns
+pub mod Handing

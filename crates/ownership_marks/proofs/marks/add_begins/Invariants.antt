@@ -1,8 +1,0 @@
-use Rattle.std.proofs.Common.{◌≡◌, ◌++◌, take}
-use Rattle.std.specs.List.{flat_map}
-use Rattle.ownership_chains.specs.Facts.{told_at}
-use Rattle.ownership_marks.specs.Marks.{begun}
-use Rattle.ownership_marks.proofs.marks.add_begins.Given as goal
-
-abbrev pub invariant-loop-value : goal.invariant-loop-value
-invariant-loop-value l = l.marks.items ≡ l.initial.marks.items ++ flat_map (begun (told_at l.table)) (take l.value-index l.values)

@@ -1,7 +1,0 @@
-mod Noting
-mod ResultByResult
-mod ByTables
-mod TrivialTuples
-pub mod Counts
-pub mod Ranges
-mod Ordered

@@ -1,5 +1,0 @@
-use Rattle.path_checks.proofs.SharedMarks.{shared_pushed}
-use Rattle.path_checks.proofs.sharing.shared_entries.Goals as goal
-
-pub loop-subject-preserved : goal.loop-subject-preserved
-loop-subject-preserved c = shared_pushed c.args.marks.now c.loop-subject.subject _ _ _ c.loop-subject-test.true c.in_ok-push_shared.ensures c.loop-subject.invariant

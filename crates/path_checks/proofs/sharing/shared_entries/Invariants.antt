@@ -1,6 +1,0 @@
-use Rattle.std.proofs.Common.{◌≡◌, take}
-use Rattle.path_checks.specs.inner.Shared.{shared_from}
-use Rattle.path_checks.proofs.sharing.shared_entries.Given as goal
-
-abbrev pub invariant-loop-subject : goal.invariant-loop-subject
-invariant-loop-subject l = l.shared.items ≡ shared_from 0 (take l.subject l.marks)

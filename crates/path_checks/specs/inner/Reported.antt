@@ -1,8 +1,0 @@
--- Faults as they are reported.
-use Rattle.sil_cfg.specs.declared.item.Item.{Item}
-use Rattle.rule_faults.specs.declared.fault.RuleFault.{RuleFault}
-use Rattle.path_checks.specs.declared.fault.PathFault.{PathFault}
-
--- the reported fault, found at the item
-abbrev pub found_at : RuleFault → Item → PathFault
-found_at fault item = record { subject = fault.subject.0; rule = fault.rule; walk = fault.walk; point = fault.point; item = item }

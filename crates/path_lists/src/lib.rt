@@ -1,7 +1,0 @@
-//! What each item of a graph has, in one piece of memory.
-//! It knows of no graph, no mark and no rule.
-#![tactic(auto)]
-
-mod lists;
-
-pub use lists::ItemLists;

@@ -1,0 +1,3 @@
+pub mod PathPatterns
+pub mod PathChecks
+pub mod KeptSubjects

@@ -1,2 +1,0 @@
-pub mod inner
-pub use Rattle.lowered_steps.specs.lowered_run as lowered_run

@@ -1,8 +1,0 @@
-pub mod Told
-pub mod Parts
-pub mod Members
-pub mod Forms
-pub mod Cases
-pub mod Shown
-pub mod Reports
-pub use Rattle.run_typing_laws.proofs as run_typing_laws

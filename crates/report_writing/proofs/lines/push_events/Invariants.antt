@@ -1,8 +1,0 @@
--- The events so far stand in the text, each on its line.
-use Rattle.std.proofs.Common.{◌≡◌, ◌++◌, take}
-use Rattle.std.specs.List.{flat_map}
-use Rattle.run_report.specs.ReportLines.{event_line}
-use Rattle.report_writing.proofs.lines.push_events.Given as goal
-
-abbrev pub invariant-loop-event : goal.invariant-loop-event
-invariant-loop-event l = l.out.items ≡ l.initial.out.items ++ flat_map (event_line l.m) (take l.event-index l.events)

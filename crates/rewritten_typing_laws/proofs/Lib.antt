@@ -1,9 +1,0 @@
-mod Lists
-mod Alike
-mod Rows
-mod Made
-mod Numbered
-mod Mentioned
-mod Points
-mod Rules
-mod Kept

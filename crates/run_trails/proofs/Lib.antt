@@ -1,8 +1,0 @@
-pub mod AfterEach
-pub mod BlockItems
-pub mod RunPaths
-pub mod TurnedTrails
-pub mod WalkEdges
-pub mod SwitchedTrails
-pub mod SplicedRuns
-pub use Rattle.typed_graph_laws.proofs as typed_graph_laws

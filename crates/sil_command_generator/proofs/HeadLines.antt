@@ -1,0 +1,20 @@
+-- The lines before the functions.
+use Rattle.std.proofs.Common.{◌≡◌, [], ◌∷◌, codes, refl}
+use Rattle.std.specs.List.{flat_map}
+use Rattle.sil_printer.specs.Words.{line}
+use Rattle.sil_command_generator.specs.inner.Heads.{head_text}
+use Rattle.sil_command_generator.proofs.TypeTexts.{types}
+
+pub head_is : head_text ≡ flat_map line (
+    codes "sil_stage canonical"
+    ∷ []
+    ∷ codes "import Builtin"
+    ∷ codes "import Swift"
+    ∷ []
+    ∷ codes "class Node {"
+    ∷ codes "  var value: Builtin.Int64"
+    ∷ codes "  var next: Optional<Node>"
+    ∷ codes "}"
+    ∷ []
+    )
+head_is = simp (types) refl

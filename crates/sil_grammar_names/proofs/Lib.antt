@@ -1,0 +1,2 @@
+pub mod NameScopes
+pub mod NameResolution

@@ -1,0 +1,184 @@
+//! Goes through the names that a module defines, in the order of the text, and makes the table of each scope.
+
+ghost use Rattle.std.specs.Prelude.{◌≡◌, [], map, IfOk, OnOk};
+ghost use Rattle.std.specs.List.{flat_map};
+ghost use Rattle.sil_grammar_tree.specs.WrittenTree.Places.{name_of_decl};
+ghost use Rattle.sil_grammar_names.specs.NameScopes.Names.{arg_name, case_name, decls_of, field_name, function_name, functions_of};
+ghost use Rattle.sil_grammar_names.specs.NameScopes.Names.{member_names, vtable_name, vtables_of};
+ghost use Rattle.sil_ast.specs.Imports.{reserved};
+ghost use Rattle.sil_grammar_names.specs.NameScopes.inner.Symbols.{definitions_by, definitions_in, labels_in, numbered, numbered_by};
+ghost use Rattle.sil_grammar_names.specs.NameScopes.inner.Symbols.{unnumbered, unnumbered_after, values_in, with_definitions};
+
+use crate::name_scopes::symbol_table::SymbolTable;
+use instruction_table::has_one_result;
+use sil_ast::{Exhausted, Imports};
+use sil_grammar_tree::{
+    InstBox, WrittenArg, WrittenBlock, WrittenCase, WrittenDecl, WrittenField, WrittenInst,
+    WrittenItem, WrittenToken,
+};
+use std::alloc::Global;
+
+/// The names of the declarations, behind those that the imports declare.
+pub fn declared(
+    alloc: Global,
+    imports: Imports,
+    items: &[WrittenItem],
+) -> Result<SymbolTable, Exhausted>
+    ensures { IfOk result (λ t. t ≡ unnumbered_after (reserved imports) (map name_of_decl (flat_map decls_of items.now))) }
+{
+    let mut table = SymbolTable::of_imports(alloc, imports)?;
+    for item in items {
+        if let WrittenItem::Decl(decl) = item {
+            table.define_unnumbered(decl.name())?;
+        }
+    }
+    Ok(table)
+}
+
+/// The names of the functions, each with its number.
+pub fn functions(alloc: Global, items: &[WrittenItem]) -> Result<SymbolTable, Exhausted>
+    ensures { IfOk result (λ t. t ≡ numbered_by (map function_name (flat_map functions_of items.now))) }
+{
+    let mut table = SymbolTable::with_capacity(alloc, items.len())?;
+    for item in items {
+        if let WrittenItem::Function(function) = item {
+            table.define(&function.name)?;
+        }
+    }
+    Ok(table)
+}
+
+/// The classes that have a vtable.
+pub fn classes_of_vtables(alloc: Global, items: &[WrittenItem]) -> Result<SymbolTable, Exhausted>
+    ensures { IfOk result (λ t. t ≡ unnumbered_after [] (map vtable_name (flat_map vtables_of items.now))) }
+{
+    let mut table = SymbolTable::with_capacity(alloc, 0)?;
+    for item in items {
+        if let WrittenItem::Vtable(vtable) = item {
+            table.define_unnumbered(&vtable.class_name)?;
+        }
+    }
+    Ok(table)
+}
+
+/// The names of the members of a declaration.
+pub fn members(alloc: Global, decl: &WrittenDecl) -> Result<SymbolTable, Exhausted>
+    ensures { IfOk result (λ t. t ≡ unnumbered_after [] (member_names decl.now)) }
+{
+    match decl {
+        WrittenDecl::Class { fields, .. } => names_of_fields(alloc, fields.as_slice()),
+        WrittenDecl::Struct { fields, .. } => names_of_fields(alloc, fields.as_slice()),
+        WrittenDecl::Enum { cases, .. } => names_of_cases(alloc, cases.as_slice()),
+    }
+}
+
+fn names_of_fields(alloc: Global, fields: &[WrittenField]) -> Result<SymbolTable, Exhausted>
+    ensures { IfOk result (λ t. t ≡ unnumbered_after [] (map field_name fields.now)) }
+{
+    let mut table = SymbolTable::with_capacity(alloc, fields.len())?;
+    for field in fields {
+        table.define_unnumbered(&field.name)?;
+    }
+    Ok(table)
+}
+
+fn names_of_cases(alloc: Global, cases: &[WrittenCase]) -> Result<SymbolTable, Exhausted>
+    ensures { IfOk result (λ t. t ≡ unnumbered_after [] (map case_name cases.now)) }
+{
+    let mut table = SymbolTable::with_capacity(alloc, cases.len())?;
+    for case in cases {
+        table.define_unnumbered(&case.name)?;
+    }
+    Ok(table)
+}
+
+/// The labels of a function, each with the number of its block.
+pub fn labels(alloc: Global, blocks: &[WrittenBlock]) -> Result<SymbolTable, Exhausted>
+    ensures { IfOk result (λ t. t ≡ labels_in blocks.now) }
+{
+    let mut table = SymbolTable::with_capacity(alloc, blocks.len())?;
+    for block in blocks {
+        table.define(&block.label)?;
+    }
+    Ok(table)
+}
+
+/// The values of a function, each with its number.
+pub fn values(alloc: Global, blocks: &[WrittenBlock]) -> Result<SymbolTable, Exhausted>
+    ensures { IfOk result (λ t. t ≡ values_in blocks.now) }
+{
+    let mut table = SymbolTable::with_capacity(alloc, room_for_values(blocks))?;
+    for block in blocks {
+        define_in_block(&mut table, block)?;
+    }
+    Ok(table)
+}
+
+// Enough for the names of most functions, since few instructions define several values.
+fn room_for_values(blocks: &[WrittenBlock]) -> usize {
+    let mut room: usize = 0;
+    for block in blocks {
+        room = room
+            .saturating_add(block.args.len())
+            .saturating_add(block.insts.len());
+    }
+    room
+}
+
+fn define_in_block(table: &mut SymbolTable, block: &WrittenBlock) -> Result<(), Exhausted>
+    ensures { OnOk result (table.new ≡ with_definitions table.old (definitions_in block.now)) }
+{
+    define_args(table, block.args.as_slice())?;
+    define_in_insts(table, block.insts.as_slice())?;
+    define_unnumbered(table, block.terminator.results.as_slice())
+}
+
+fn define_args(table: &mut SymbolTable, args: &[WrittenArg]) -> Result<(), Exhausted>
+    ensures { OnOk result (table.new ≡ with_definitions table.old (map numbered (map arg_name args.now))) }
+{
+    for arg in args {
+        table.define(&arg.name)?;
+    }
+    Ok(())
+}
+
+fn define_in_insts(table: &mut SymbolTable, insts: &[InstBox]) -> Result<(), Exhausted>
+    ensures { OnOk result (table.new ≡ with_definitions table.old (flat_map definitions_by insts.now)) }
+{
+    for inst in insts {
+        define_results(table, inst.get())?;
+    }
+    Ok(())
+}
+
+fn define_results(table: &mut SymbolTable, inst: &WrittenInst) -> Result<(), Exhausted>
+    ensures { OnOk result (table.new ≡ with_definitions table.old (definitions_by inst.now)) }
+{
+    match inst.results.as_slice() {
+        [] => {
+            if has_one_result(inst.op) {
+                table.define_unnamed()?;
+            }
+            Ok(())
+        }
+        tokens => define_numbered(table, tokens),
+    }
+}
+
+fn define_numbered(table: &mut SymbolTable, tokens: &[WrittenToken]) -> Result<(), Exhausted>
+    ensures { OnOk result (table.new ≡ with_definitions table.old (map numbered tokens.now)) }
+{
+    for token in tokens {
+        table.define(token)?;
+    }
+    Ok(())
+}
+
+fn define_unnumbered(table: &mut SymbolTable, tokens: &[WrittenToken]) -> Result<(), Exhausted>
+    ensures { OnOk result (table.new ≡ with_definitions table.old (map unnumbered tokens.now)) }
+{
+    for token in tokens {
+        table.define_unnumbered(token)?;
+    }
+    Ok(())
+}

@@ -1,0 +1,2 @@
+pub mod WrittenTree
+pub mod WrittenNumbers

@@ -1,0 +1,6 @@
+pub mod Declarations
+pub mod Mentions
+pub mod Contained
+pub mod Measures
+pub mod Rules
+pub mod Lookups

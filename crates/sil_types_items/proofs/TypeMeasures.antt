@@ -1,0 +1,5 @@
+pub mod Gathering
+pub mod Placing
+pub mod Agreement
+pub mod ByParts
+pub mod Ordered

@@ -1,0 +1,2 @@
+pub mod TypeItemRules
+pub mod TypeMeasures

@@ -1,0 +1,4 @@
+pub mod DeclaredTypes
+pub mod Groups
+pub mod NothingFound
+pub mod ShortestWalks

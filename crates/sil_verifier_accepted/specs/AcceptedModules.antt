@@ -1,0 +1,5 @@
+pub mod Refusals
+pub mod Shown
+pub mod Values
+pub mod Findings
+pub mod inner

@@ -1,0 +1,9 @@
+pub mod inner
+pub use Rattle.sil_verifier_frames.specs.holder_model as holder_model
+pub use Rattle.sil_verifier_frames.specs.holder_model_laws as holder_model_laws
+pub use Rattle.sil_verifier_frames.specs.holder_model_typing as holder_model_typing
+pub use Rattle.sil_verifier_frames.specs.ownership_kinds_origins as ownership_kinds_origins
+pub use Rattle.sil_verifier_frames.specs.sil_verifier_accepted as sil_verifier_accepted
+pub use Rattle.sil_verifier_frames.specs as sil_verifier_frames
+pub use Rattle.sil_verifier_frames.specs.sil_verifier_trails as sil_verifier_trails
+pub use Rattle.sil_verifier_frames.specs.sil_verifier_values as sil_verifier_values

@@ -1,0 +1,9 @@
+pub mod Switching
+pub mod PartsFollowed
+pub mod AccessesRight
+pub mod Turning
+pub mod PartsTurned
+pub mod MarkSorts
+pub mod ScopesTurned
+pub mod InSlots
+pub mod InScopes

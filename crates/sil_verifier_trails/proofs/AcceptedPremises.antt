@@ -1,0 +1,3 @@
+pub mod MadeAtStops
+pub mod BasesOfTaken
+pub mod EndsMayEnd

@@ -1,0 +1,11 @@
+pub mod Tests
+pub mod Unbroken
+pub mod Quiet
+pub mod OperandsDefined
+pub mod Reading
+pub mod Passed
+pub mod OwnMarks
+pub mod LivesPassed
+pub mod ScopesPassed
+pub mod BasesMade
+pub mod BasesOpen

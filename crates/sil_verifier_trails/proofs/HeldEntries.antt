@@ -1,0 +1,3 @@
+pub mod EntriesEnded
+pub mod EntriesPut
+pub mod TrackedOn

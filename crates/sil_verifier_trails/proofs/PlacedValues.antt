@@ -1,0 +1,4 @@
+pub mod Sourcing
+pub mod ArgumentsTold
+pub mod TrivialArguments
+pub mod RootsTold

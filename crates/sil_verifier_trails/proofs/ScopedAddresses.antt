@@ -1,0 +1,3 @@
+pub mod OwnScopes
+pub mod AddressRows
+pub mod AddressScopes

@@ -1,0 +1,19 @@
+pub mod inner
+pub use Rattle.sil_verifier_accepted.specs.borrow_scopes as borrow_scopes
+pub use Rattle.holder_model_typing.specs.holder_model as holder_model
+pub use Rattle.holder_model_typing.specs as holder_model_typing
+pub use Rattle.holder_model_typing.specs.holder_model_values as holder_model_values
+pub use Rattle.sil_verifier_accepted.specs.lifetime_worklist as lifetime_worklist
+pub use Rattle.sil_verifier_accepted.specs.memory_rules as memory_rules
+pub use Rattle.holder_model_typing.specs.memory_rules_accesses as memory_rules_accesses
+pub use Rattle.sil_verifier_accepted.specs.memory_rules_parts as memory_rules_parts
+pub use Rattle.sil_verifier_accepted.specs.memory_rules_slots as memory_rules_slots
+pub use Rattle.sil_verifier_accepted.specs.ownership_kinds as ownership_kinds
+pub use Rattle.holder_model_typing.specs.ownership_kinds_chains as ownership_kinds_chains
+pub use Rattle.holder_model_typing.specs.ownership_kinds_origins as ownership_kinds_origins
+pub use Rattle.holder_model_typing.specs.reach_engine_marks as reach_engine_marks
+pub use Rattle.holder_model_typing.specs.sil_types as sil_types
+pub use Rattle.holder_model_typing.specs.sil_types_declarations as sil_types_declarations
+pub use Rattle.sil_verifier_accepted.specs as sil_verifier_accepted
+pub use Rattle.sil_verifier_accepted.specs.type_check as type_check
+pub use Rattle.sil_verifier_accepted.specs.value_availability as value_availability

@@ -1,9 +1,0 @@
-pub mod StoredCounts
-pub mod Turns
-pub mod Items
-pub mod RowNames
-pub mod RowsMade
-pub mod QuietRows
-pub mod RowBalance
-pub mod FrameTurns
-pub use Rattle.holder_laws.proofs as holder_laws

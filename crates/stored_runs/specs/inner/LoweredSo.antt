@@ -1,9 +1,0 @@
--- Each function with a body of an accepted module is lowered as the run of the lowered module asks.
-use Rattle.sil_ast.specs.declared.function.Function.{Function}
-use Rattle.sil_ast.specs.declared.module.Module.{Module}
-use Rattle.sil_ast.specs.declared.place.FuncId.{FuncId}
-use Rattle.owned_counts.specs.accepted_values.inner.Known.{IsAcceptedBody}
-use Rattle.stored_runs.specs.inner.Lowering.{LowersSo}
-
-abbrev pub AreLoweredSo : Type 0
-AreLoweredSo = (m : Module) (g : FuncId) (f : Function) → IsAcceptedBody m g.0 f → LowersSo m g f

@@ -1,5 +1,0 @@
-use Rattle.type_item_rules.proofs.FirstFaults.{first_of_parts}
-use Rattle.type_item_rules.proofs.by_item.first_fault.Goals as goal
-
-pub returns : goal.returns
-returns c = first_of_parts c.args.table.now c.args.m.now c.fault_of_parts.result c.fault_of_parts.ensures

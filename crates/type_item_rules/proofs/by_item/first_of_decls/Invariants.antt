@@ -1,7 +1,0 @@
-use Rattle.std.proofs.Common.{◌≡◌, ◌+◌, drop, map}
-use Rattle.type_definitions.specs.Mentions as item
-use Rattle.type_item_rules.specs.Faults.{fault_from}
-use Rattle.type_item_rules.proofs.by_item.first_of_decls.Given as goal
-
-abbrev pub invariant-loop-decl : goal.invariant-loop-decl
-invariant-loop-decl l = (l.number ≡ l.from + l.decl-index) × (fault_from l.table l.number (map item.decl (drop l.decl-index l.decls)) ≡ fault_from l.table l.from (map item.decl l.decls))

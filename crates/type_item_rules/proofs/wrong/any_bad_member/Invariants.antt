@@ -1,8 +1,0 @@
-use Rattle.std.proofs.Common.{◌≡◌, drop}
-use Rattle.std.specs.List.{flat_map, list_any}
-use Rattle.type_definitions.specs.Mentions.{function_members}
-use Rattle.type_definitions.specs.Rules.{is_no_member}
-use Rattle.type_item_rules.proofs.wrong.any_bad_member.Given as goal
-
-abbrev pub invariant-loop-function : goal.invariant-loop-function
-invariant-loop-function l = list_any (is_no_member l.table) (flat_map function_members (drop l.function-index l.functions)) ≡ list_any (is_no_member l.table) (flat_map function_members l.functions)

@@ -1,5 +1,0 @@
-mod Gathering
-mod Placing
-pub mod Agreement
-pub mod ByParts
-pub mod Ordered

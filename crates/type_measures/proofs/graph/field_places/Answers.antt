@@ -1,9 +1,0 @@
-use Rattle.type_definitions.specs.Contained.{field_type}
-use Rattle.type_definitions.specs.Declarations.{all_names}
-use Rattle.type_measures.proofs.Placing.{places_next_by}
-use Rattle.type_measures.proofs.graph.field_places.Goals as goal
-
-pub loop-field-preserved : goal.loop-field-preserved
-loop-field-preserved c =
-    places_next_by field_type (all_names c.args.table.now) c.args.fields.now c.loop-field.field-index c.field-item.result c.add_places.new.places c.loop-field.places c.loop-field-test.true
-    c.field-item.is c.loop-field.invariant c.in_ok-add_places.ensures

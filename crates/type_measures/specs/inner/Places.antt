@@ -1,9 +1,0 @@
--- The places of the declarations that a type is made of.
-use Rattle.std.specs.Prelude.{ℕ, List}
-use Rattle.std.specs.List.{flat_map}
-use Rattle.sil_ast.specs.declared.type_name.TypeName.{TypeName}
-use Rattle.type_definitions.specs.numbered_form.Names.{Name}
-use Rattle.type_definitions.specs.Contained.{names_in, place_list}
-
-abbrev pub places_in : List Name → TypeName → List ℕ
-places_in names t = flat_map (place_list names) (names_in t)

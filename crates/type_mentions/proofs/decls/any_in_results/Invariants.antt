@@ -1,7 +1,0 @@
-use Rattle.std.proofs.Common.{◌≡◌, drop, map}
-use Rattle.std.specs.List.{list_any}
-use Rattle.type_definitions.specs.Mentions.{in_result}
-use Rattle.type_mentions.proofs.decls.any_in_results.Given as goal
-
-abbrev pub invariant-loop-given : goal.invariant-loop-given
-invariant-loop-given g l = list_any (g.T.MentionTest.holds l.test) (map in_result (drop l.given-index l.results)) ≡ list_any (g.T.MentionTest.holds l.test) (map in_result l.results)

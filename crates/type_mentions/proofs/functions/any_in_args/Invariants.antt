@@ -1,7 +1,0 @@
-use Rattle.std.proofs.Common.{◌≡◌, drop, map}
-use Rattle.std.specs.List.{list_any}
-use Rattle.type_definitions.specs.Mentions.{in_arg}
-use Rattle.type_mentions.proofs.functions.any_in_args.Given as goal
-
-abbrev pub invariant-loop-arg : goal.invariant-loop-arg
-invariant-loop-arg g l = list_any (g.T.MentionTest.holds l.test) (map in_arg (drop l.arg-index l.args)) ≡ list_any (g.T.MentionTest.holds l.test) (map in_arg l.args)

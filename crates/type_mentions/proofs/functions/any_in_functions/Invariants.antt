@@ -1,8 +1,0 @@
-use Rattle.std.proofs.Common.{◌≡◌, drop}
-use Rattle.std.specs.List.{list_any, flat_map}
-use Rattle.type_definitions.specs.Mentions.{in_function}
-use Rattle.type_mentions.proofs.functions.any_in_functions.Given as goal
-
-abbrev pub invariant-loop-function : goal.invariant-loop-function
-invariant-loop-function g l = list_any (g.T.MentionTest.holds l.test) (flat_map in_function (drop l.function-index l.functions))
-    ≡ list_any (g.T.MentionTest.holds l.test) (flat_map in_function l.functions)

@@ -1,7 +1,0 @@
-use Rattle.std.proofs.Common.{◌≡◌, drop}
-use Rattle.std.specs.List.{list_any, flat_map}
-use Rattle.type_definitions.specs.Mentions.{in_inst}
-use Rattle.type_mentions.proofs.functions.any_in_insts.Given as goal
-
-abbrev pub invariant-loop-inst : goal.invariant-loop-inst
-invariant-loop-inst g l = list_any (g.T.MentionTest.holds l.test) (flat_map in_inst (drop l.inst-index l.insts)) ≡ list_any (g.T.MentionTest.holds l.test) (flat_map in_inst l.insts)

@@ -1,8 +1,0 @@
-use Rattle.std.proofs.Common.{◌≡◌, drop}
-use Rattle.std.specs.List.{list_any, flat_map}
-use Rattle.type_definitions.specs.Mentions.{block_members}
-use Rattle.type_mentions.proofs.members.any_member_in_function.Given as goal
-
-abbrev pub invariant-loop-block : goal.invariant-loop-block
-invariant-loop-block g l = list_any (g.T.MemberTest.fails l.test) (flat_map block_members (drop l.block-index l.block-items))
-    ≡ list_any (g.T.MemberTest.fails l.test) (flat_map block_members l.block-items)

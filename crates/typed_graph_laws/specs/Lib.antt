@@ -1,2 +1,0 @@
-pub mod inner
-pub use Rattle.sil_types.specs as sil_types

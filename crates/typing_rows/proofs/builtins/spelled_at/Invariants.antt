@@ -1,8 +1,0 @@
-use Rattle.std.proofs.Common.{◌≡◌, drop, map}
-use Rattle.std.specs.Prelude.{find}
-use Rattle.sil_types.specs.Typing.Builtins.{at_width}
-use Rattle.typing_rows.specs.inner.BuiltinViews.{is_spelled_by}
-use Rattle.typing_rows.proofs.builtins.spelled_at.Given as goal
-
-abbrev pub invariant-loop-width : goal.invariant-loop-width
-invariant-loop-width l = find (is_spelled_by l.text) (map (at_width l.operation) l.widths) ≡ find (is_spelled_by l.text) (map (at_width l.operation) (drop l.width-index l.widths))

@@ -1,9 +1,0 @@
-use Rattle.std.proofs.Common.{◌≡◌, ◌++◌, [], map}
-use Rattle.std.specs.Prelude.{option_map, slice_get, unwrap_or}
-use Rattle.std.specs.List.{range_with_len}
-use Rattle.typing_rows.specs.inner.Views.{made_told}
-use Rattle.typing_values.specs.inner.Told.{types_told}
-use Rattle.typing_values.proofs.values.add_made.Given as goal
-
-abbrev pub invariant-loop-k : goal.invariant-loop-k
-invariant-loop-k l = types_told l.types.items ≡ types_told l.initial.types.items ++ map (slice_get (unwrap_or (option_map made_told l.made) [])) (range_with_len 0 l.k)

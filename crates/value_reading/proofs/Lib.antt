@@ -1,9 +1,0 @@
-mod Heights
-mod Members
-mod Sized
-mod Parts
-mod Shaped
-mod Loops
-mod Cases
-mod Below
-mod GivenTypes

@@ -1,5 +1,0 @@
-use Rattle.value_reading.proofs.GivenTypes.{within_readable}
-use Rattle.value_reading.proofs.read.read_value.Goals as goal
-
-pub returns : goal.returns
-returns c = λ m r of_it within. c.read_type.ensures (within_readable m r c.args.table.now of_it c.args.ty.now within)

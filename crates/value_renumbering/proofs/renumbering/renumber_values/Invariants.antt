@@ -1,6 +1,0 @@
-use Rattle.std.proofs.Common.{◌≡◌, ◌++◌, map, take, drop}
-use Rattle.value_renumbering.specs.inner.NewNumbers.{number_in}
-use Rattle.value_renumbering.proofs.renumbering.renumber_values.Given as goal
-
-abbrev pub invariant-loop-value : goal.invariant-loop-value
-invariant-loop-value l = l.values ≡ map (number_in l.numbers) (take l.value-index l.initial.values) ++ drop l.value-index l.initial.values

@@ -1,7 +1,0 @@
--- The parts before this one are put where the instruction has them.
-use Rattle.std.proofs.Common.{drop}
-use Rattle.written_instructions.proofs.RowLemmas.{Put}
-use Rattle.written_instructions.proofs.build_rows.reduce_row.Given as goal
-
-abbrev pub invariant-loop-i : goal.invariant-loop-i
-invariant-loop-i l = Put l.op l.fn.values (drop l.i l.parts) l.values l.inst l.fault

@@ -1,7 +1,0 @@
--- The steps from here on are replayed.
-use Rattle.std.proofs.Common.{◌≡◌, [], drop}
-use Rattle.written_modules.specs.inner.Replay.{replay}
-use Rattle.written_modules.proofs.lacking.replay_lacking.Given as goal
-
-abbrev pub invariant-loop-i : goal.invariant-loop-i
-invariant-loop-i l = l.values ≡ replay (drop l.i l.steps) []
