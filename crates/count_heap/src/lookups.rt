@@ -3,7 +3,17 @@
 ghost use Rattle.std.specs.Prelude.{◌≡◌, false, is_some, length, true};
 ghost use Rattle.std.specs.Option.{option_copied};
 ghost use Rattle.sil_types.specs.sil_types_declarations.TypeDefinitions.Lookups as lookups;
-ghost use Rattle.count_heap.specs.HeapModel.HeapViews.{class_in, fields_in, is_dead_in, is_named_or_alive, is_unfreed, phase_in, strong_in, unowned_in, weak_in};
+ghost use Rattle.count_heap.specs.HeapModel.HeapViews.{
+  class_in,
+  fields_in,
+  is_dead_in,
+  is_named_or_alive,
+  is_unfreed,
+  phase_in,
+  strong_in,
+  unowned_in,
+  weak_in,
+};
 
 use crate::heap::Heap;
 use holder_model_values::Phase;

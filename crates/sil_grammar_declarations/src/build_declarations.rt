@@ -121,7 +121,7 @@ pub(crate) fn final_class(
 
 /// Puts the name of a superclass.
 #[inline(never)]
-#[tactic(auto, unfolding(sil_grammar_values::specs::inner::Reduced::reduced, sil_grammar_values::specs::inner::Meaning::meaning, sil_grammar_tables::specs::Grammar::body))]
+#[tactic(auto, unfolding(sil_grammar_values::specs::inner::Reduced::standing))]
 pub(crate) fn superclass(values: &mut Prepended<Value>) -> Result<(), Exhausted>
     requires { 2 ≤ length values.old }
     ensures values { OnOk result (values.new ≡ reduced Production.SuperclassSome values.old) }
@@ -250,7 +250,7 @@ pub(crate) fn binding(alloc: Global, values: &mut Prepended<Value>) -> Result<()
 
 /// Puts a case, and the cases behind it.
 #[inline(never)]
-#[tactic(auto, unfolding(sil_grammar_values::specs::inner::Reduced::reduced, sil_grammar_values::specs::inner::Meaning::meaning, sil_grammar_tables::specs::Grammar::body))]
+#[tactic(auto, unfolding(sil_grammar_values::specs::inner::Reduced::standing))]
 pub(crate) fn more_cases(alloc: Global, values: &mut Prepended<Value>) -> Result<(), Exhausted>
     requires { 4 ≤ length values.old }
     ensures values { OnOk result (values.new ≡ reduced Production.CasesMore values.old) }

@@ -63,7 +63,7 @@ fn with_import(name: &[u8], imports: Imports) -> Imports
 
 /// Puts an import, and the imports behind it.
 #[inline(never)]
-#[tactic(auto, unfolding(sil_grammar_values::specs::inner::Reduced::reduced, sil_grammar_values::specs::inner::Meaning::meaning, sil_grammar_tables::specs::Grammar::body))]
+#[tactic(auto, unfolding(sil_grammar_values::specs::inner::Reduced::standing))]
 pub(crate) fn more_imports(values: &mut Prepended<Value>) -> Result<(), Exhausted>
     requires { 3 ≤ length values.old }
     ensures values { OnOk result (values.new ≡ reduced Production.ImportsMore values.old) }
@@ -89,7 +89,7 @@ pub(crate) fn no_imports(values: &mut Prepended<Value>) -> Result<(), Exhausted>
 
 /// Puts an item, and the items behind it.
 #[inline(never)]
-#[tactic(auto, unfolding(sil_grammar_values::specs::inner::Reduced::reduced, sil_grammar_values::specs::inner::Meaning::meaning, sil_grammar_tables::specs::Grammar::body))]
+#[tactic(auto, unfolding(sil_grammar_values::specs::inner::Reduced::standing))]
 pub(crate) fn more_items(alloc: Global, values: &mut Prepended<Value>) -> Result<(), Exhausted>
     requires { 2 ≤ length values.old }
     ensures values { OnOk result (values.new ≡ reduced Production.ItemsMore values.old) }
@@ -110,7 +110,7 @@ pub(crate) fn no_items(alloc: Global, values: &mut Prepended<Value>) -> Result<(
 
 /// Puts the table of a class of its name and its entry.
 #[inline(never)]
-#[tactic(auto, unfolding(sil_grammar_values::specs::inner::Reduced::reduced, sil_grammar_values::specs::inner::Meaning::meaning, sil_grammar_tables::specs::Grammar::body))]
+#[tactic(auto, unfolding(sil_grammar_values::specs::inner::Reduced::standing))]
 pub(crate) fn vtable(alloc: Global, values: &mut Prepended<Value>) -> Result<(), Exhausted>
     requires { 5 ≤ length values.old }
     ensures values { OnOk result (values.new ≡ reduced Production.VtableItem values.old) }
@@ -127,7 +127,7 @@ pub(crate) fn vtable(alloc: Global, values: &mut Prepended<Value>) -> Result<(),
 
 /// Puts the entry of a table of its class and its function.
 #[inline(never)]
-#[tactic(auto, unfolding(sil_grammar_values::specs::inner::Reduced::reduced, sil_grammar_values::specs::inner::Meaning::meaning, sil_grammar_tables::specs::Grammar::body))]
+#[tactic(auto, unfolding(sil_grammar_values::specs::inner::Reduced::standing))]
 pub(crate) fn entry(alloc: Global, values: &mut Prepended<Value>) -> Result<(), Exhausted>
     requires { 8 ≤ length values.old }
     ensures values { OnOk result (values.new ≡ reduced Production.EntrySome values.old) }

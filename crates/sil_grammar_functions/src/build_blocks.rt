@@ -34,7 +34,7 @@ fn blocks_before(alloc: Global, values: &mut Prepended<Value>) -> Result<Value, 
 
 /// Puts a block, and the blocks behind it.
 #[inline(never)]
-#[tactic(auto, unfolding(sil_grammar_values::specs::inner::Reduced::reduced, sil_grammar_values::specs::inner::Meaning::meaning, sil_grammar_tables::specs::Grammar::body))]
+#[tactic(auto, unfolding(sil_grammar_values::specs::inner::Reduced::standing))]
 pub(crate) fn blocks(alloc: Global, values: &mut Prepended<Value>) -> Result<(), Exhausted>
     requires { 2 ≤ length values.old }
     ensures values { OnOk result (values.new ≡ reduced Production.BlocksMore values.old) }
@@ -45,7 +45,7 @@ pub(crate) fn blocks(alloc: Global, values: &mut Prepended<Value>) -> Result<(),
 
 /// Puts the blocks between the braces of a body.
 #[inline(never)]
-#[tactic(auto, unfolding(sil_grammar_values::specs::inner::Reduced::reduced, sil_grammar_values::specs::inner::Meaning::meaning, sil_grammar_tables::specs::Grammar::body))]
+#[tactic(auto, unfolding(sil_grammar_values::specs::inner::Reduced::standing))]
 pub(crate) fn body(alloc: Global, values: &mut Prepended<Value>) -> Result<(), Exhausted>
     requires { 4 ≤ length values.old }
     ensures values { OnOk result (values.new ≡ reduced Production.BodySome values.old) }
@@ -77,7 +77,7 @@ fn args_before(alloc: Global, values: &mut Prepended<Value>) -> Result<Value, Ex
 
 /// Puts the arguments between the parentheses of a block.
 #[inline(never)]
-#[tactic(auto, unfolding(sil_grammar_values::specs::inner::Reduced::reduced, sil_grammar_values::specs::inner::Meaning::meaning, sil_grammar_tables::specs::Grammar::body))]
+#[tactic(auto, unfolding(sil_grammar_values::specs::inner::Reduced::standing))]
 pub(crate) fn args(alloc: Global, values: &mut Prepended<Value>) -> Result<(), Exhausted>
     requires { 4 ≤ length values.old }
     ensures values { OnOk result (values.new ≡ reduced Production.BlockArgsSome values.old) }
@@ -90,7 +90,7 @@ pub(crate) fn args(alloc: Global, values: &mut Prepended<Value>) -> Result<(), E
 
 /// Puts an argument of a block behind its comma, and those behind it.
 #[inline(never)]
-#[tactic(auto, unfolding(sil_grammar_values::specs::inner::Reduced::reduced, sil_grammar_values::specs::inner::Meaning::meaning, sil_grammar_tables::specs::Grammar::body))]
+#[tactic(auto, unfolding(sil_grammar_values::specs::inner::Reduced::standing))]
 pub(crate) fn more_args(alloc: Global, values: &mut Prepended<Value>) -> Result<(), Exhausted>
     requires { 3 ≤ length values.old }
     ensures values { OnOk result (values.new ≡ reduced Production.MoreBlockArgsMore values.old) }
@@ -173,7 +173,7 @@ pub(crate) fn ownership(kind: ArgKind, values: &mut Prepended<Value>) -> Result<
 
 /// Puts an argument of a block of its name, its annotation and its type.
 #[inline(never)]
-#[tactic(auto, unfolding(sil_grammar_values::specs::inner::Reduced::reduced, sil_grammar_values::specs::inner::Meaning::meaning, sil_grammar_tables::specs::Grammar::body))]
+#[tactic(auto, unfolding(sil_grammar_values::specs::inner::Reduced::standing))]
 pub(crate) fn block_arg(alloc: Global, values: &mut Prepended<Value>) -> Result<(), Exhausted>
     requires { 6 ≤ length values.old }
     ensures values { OnOk result (values.new ≡ reduced Production.WholeBlockArg values.old) }
@@ -194,7 +194,7 @@ const USUAL_COUNT: usize = 24;
 
 /// Puts an instruction, and the code behind it.
 #[inline(never)]
-#[tactic(auto, unfolding(sil_grammar_values::specs::inner::Reduced::reduced, sil_grammar_values::specs::inner::Meaning::meaning, sil_grammar_tables::specs::Grammar::body))]
+#[tactic(auto, unfolding(sil_grammar_values::specs::inner::Reduced::standing))]
 pub(crate) fn more_code(alloc: Global, values: &mut Prepended<Value>) -> Result<(), Exhausted>
     requires { 2 ≤ length values.old }
     ensures values { OnOk result (values.new ≡ reduced Production.CodeInst values.old) }
@@ -207,7 +207,7 @@ pub(crate) fn more_code(alloc: Global, values: &mut Prepended<Value>) -> Result<
 
 /// Puts the code that is a terminator alone.
 #[inline(never)]
-#[tactic(auto, unfolding(sil_grammar_values::specs::inner::Reduced::reduced, sil_grammar_values::specs::inner::Meaning::meaning, sil_grammar_tables::specs::Grammar::body))]
+#[tactic(auto, unfolding(sil_grammar_values::specs::inner::Reduced::standing))]
 pub(crate) fn last_code(alloc: Global, values: &mut Prepended<Value>) -> Result<(), Exhausted>
     requires { 1 ≤ length values.old }
     ensures values { OnOk result (values.new ≡ reduced Production.CodeEnd values.old) }
@@ -227,7 +227,7 @@ fn named(inst: InstBox, results: List<WrittenToken>) -> Value
 
 /// Puts an instruction with one name before its `=`.
 #[inline(never)]
-#[tactic(auto, unfolding(sil_grammar_values::specs::inner::Reduced::reduced, sil_grammar_values::specs::inner::Meaning::meaning, sil_grammar_tables::specs::Grammar::body))]
+#[tactic(auto, unfolding(sil_grammar_values::specs::inner::Reduced::standing))]
 pub(crate) fn one_name(alloc: Global, values: &mut Prepended<Value>) -> Result<(), Exhausted>
     requires { 3 ≤ length values.old }
     ensures values { OnOk result (values.new ≡ reduced Production.InstOneName values.old) }

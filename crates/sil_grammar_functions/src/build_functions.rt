@@ -31,7 +31,7 @@ pub(crate) fn linkage(linkage: Linkage, values: &mut Prepended<Value>) -> Result
 
 /// Puts a word in brackets, and the words behind it.
 #[inline(never)]
-#[tactic(auto, unfolding(sil_grammar_values::specs::inner::Reduced::reduced, sil_grammar_values::specs::inner::Meaning::meaning, sil_grammar_tables::specs::Grammar::body))]
+#[tactic(auto, unfolding(sil_grammar_values::specs::inner::Reduced::standing))]
 pub(crate) fn more_attributes(alloc: Global, values: &mut Prepended<Value>) -> Result<(), Exhausted>
     requires { 4 ≤ length values.old }
     ensures values { OnOk result (values.new ≡ reduced Production.AttributesMore values.old) }
@@ -199,7 +199,7 @@ pub(crate) fn param(
 
 /// Puts a parameter of which no word says how it is passed.
 #[inline(never)]
-#[tactic(auto, unfolding(sil_grammar_values::specs::inner::Reduced::reduced, sil_grammar_values::specs::inner::Meaning::meaning, sil_grammar_tables::specs::Grammar::body))]
+#[tactic(auto, unfolding(sil_grammar_values::specs::inner::Reduced::standing))]
 pub(crate) fn plain_param(alloc: Global, values: &mut Prepended<Value>) -> Result<(), Exhausted>
     requires { 1 ≤ length values.old }
     ensures values { OnOk result (values.new ≡ reduced Production.ParamPlain values.old) }
@@ -222,7 +222,7 @@ fn one_given(alloc: Global, given: Given, first: Place) -> Result<GivenList, Exh
 
 /// Puts the results between two parentheses.
 #[inline(never)]
-#[tactic(auto, unfolding(sil_grammar_values::specs::inner::Reduced::reduced, sil_grammar_values::specs::inner::Meaning::meaning, sil_grammar_tables::specs::Grammar::body))]
+#[tactic(auto, unfolding(sil_grammar_values::specs::inner::Reduced::standing))]
 pub(crate) fn result_list(alloc: Global, values: &mut Prepended<Value>) -> Result<(), Exhausted>
     requires { 3 ≤ length values.old }
     ensures values { OnOk result (values.new ≡ reduced Production.ResultList values.old) }
@@ -253,7 +253,7 @@ pub(crate) fn worded_result(
 
 /// Puts a result of which no word says how it is given, alone in a list.
 #[inline(never)]
-#[tactic(auto, unfolding(sil_grammar_values::specs::inner::Reduced::reduced, sil_grammar_values::specs::inner::Meaning::meaning, sil_grammar_tables::specs::Grammar::body))]
+#[tactic(auto, unfolding(sil_grammar_values::specs::inner::Reduced::standing))]
 pub(crate) fn plain_result(alloc: Global, values: &mut Prepended<Value>) -> Result<(), Exhausted>
     requires { 1 ≤ length values.old }
     ensures values { OnOk result (values.new ≡ reduced Production.ResultPlain values.old) }
@@ -290,7 +290,7 @@ pub(crate) fn worded_given(
 
 /// Puts a result of several of which no word says how it is given.
 #[inline(never)]
-#[tactic(auto, unfolding(sil_grammar_values::specs::inner::Reduced::reduced, sil_grammar_values::specs::inner::Meaning::meaning, sil_grammar_tables::specs::Grammar::body))]
+#[tactic(auto, unfolding(sil_grammar_values::specs::inner::Reduced::standing))]
 pub(crate) fn plain_given(alloc: Global, values: &mut Prepended<Value>) -> Result<(), Exhausted>
     requires { 1 ≤ length values.old }
     ensures values { OnOk result (values.new ≡ reduced Production.GivenPlain values.old) }

@@ -23,7 +23,7 @@ use std::alloc::Global;
 
 /// Puts an operand of its name and its type.
 #[inline(never)]
-#[tactic(auto, unfolding(sil_grammar_values::specs::inner::Reduced::reduced, sil_grammar_values::specs::inner::Meaning::meaning, sil_grammar_tables::specs::Grammar::body))]
+#[tactic(auto, unfolding(sil_grammar_values::specs::inner::Reduced::standing))]
 pub(crate) fn operand(alloc: Global, values: &mut Prepended<Value>) -> Result<(), Exhausted>
     requires { 5 ≤ length values.old }
     ensures values { OnOk result (values.new ≡ reduced Production.WholeOperand values.old) }
@@ -62,7 +62,7 @@ pub(crate) fn operands(alloc: Global, values: &mut Prepended<Value>) -> Result<(
 
 /// Puts the operands between the parentheses of an edge.
 #[inline(never)]
-#[tactic(auto, unfolding(sil_grammar_values::specs::inner::Reduced::reduced, sil_grammar_values::specs::inner::Meaning::meaning, sil_grammar_tables::specs::Grammar::body))]
+#[tactic(auto, unfolding(sil_grammar_values::specs::inner::Reduced::standing))]
 pub(crate) fn edge_operands(alloc: Global, values: &mut Prepended<Value>) -> Result<(), Exhausted>
     requires { 4 ≤ length values.old }
     ensures values { OnOk result (values.new ≡ reduced Production.EdgeArgsSome values.old) }
@@ -103,7 +103,7 @@ pub(crate) fn edge(alloc: Global, values: &mut Prepended<Value>) -> Result<Optio
 
 /// Puts the edge of a case, and the edges behind it.
 #[inline(never)]
-#[tactic(auto, unfolding(sil_grammar_values::specs::inner::Reduced::reduced, sil_grammar_values::specs::inner::Meaning::meaning, sil_grammar_tables::specs::Grammar::body))]
+#[tactic(auto, unfolding(sil_grammar_values::specs::inner::Reduced::standing))]
 pub(crate) fn switch_case(alloc: Global, values: &mut Prepended<Value>) -> Result<(), Exhausted>
     requires { 5 ≤ length values.old }
     ensures values { OnOk result (values.new ≡ reduced Production.SwitchCase values.old) }
@@ -123,7 +123,7 @@ pub(crate) fn switch_case(alloc: Global, values: &mut Prepended<Value>) -> Resul
 
 /// Puts the edge of a default, behind which there are no edges.
 #[inline(never)]
-#[tactic(auto, unfolding(sil_grammar_values::specs::inner::Reduced::reduced, sil_grammar_values::specs::inner::Meaning::meaning, sil_grammar_tables::specs::Grammar::body))]
+#[tactic(auto, unfolding(sil_grammar_values::specs::inner::Reduced::standing))]
 pub(crate) fn switch_default(alloc: Global, values: &mut Prepended<Value>) -> Result<(), Exhausted>
     requires { 2 ≤ length values.old }
     ensures values { OnOk result (values.new ≡ reduced Production.SwitchDefault values.old) }
@@ -149,7 +149,7 @@ pub(crate) fn no_edges(alloc: Global, values: &mut Prepended<Value>) -> Result<(
 
 /// Puts the operand of a case, alone in a list.
 #[inline(never)]
-#[tactic(auto, unfolding(sil_grammar_values::specs::inner::Reduced::reduced, sil_grammar_values::specs::inner::Meaning::meaning, sil_grammar_tables::specs::Grammar::body))]
+#[tactic(auto, unfolding(sil_grammar_values::specs::inner::Reduced::standing))]
 pub(crate) fn enum_operand(alloc: Global, values: &mut Prepended<Value>) -> Result<(), Exhausted>
     requires { 2 ≤ length values.old }
     ensures values { OnOk result (values.new ≡ reduced Production.EnumOperandSome values.old) }
@@ -174,7 +174,7 @@ fn member(alloc: Global, values: &mut Prepended<Value>) -> Result<Value, Exhaust
 
 /// Puts the name of a member.
 #[inline(never)]
-#[tactic(auto, unfolding(sil_grammar_values::specs::inner::Reduced::reduced, sil_grammar_values::specs::inner::Meaning::meaning, sil_grammar_tables::specs::Grammar::body))]
+#[tactic(auto, unfolding(sil_grammar_values::specs::inner::Reduced::standing))]
 pub(crate) fn member_name(alloc: Global, values: &mut Prepended<Value>) -> Result<(), Exhausted>
     requires { 4 ≤ length values.old }
     ensures values { OnOk result (values.new ≡ reduced Production.WholeMemberName values.old) }
@@ -185,7 +185,7 @@ pub(crate) fn member_name(alloc: Global, values: &mut Prepended<Value>) -> Resul
 
 /// Puts the name of a case, of whose suffix nothing is kept.
 #[inline(never)]
-#[tactic(auto, unfolding(sil_grammar_values::specs::inner::Reduced::reduced, sil_grammar_values::specs::inner::Meaning::meaning, sil_grammar_tables::specs::Grammar::body))]
+#[tactic(auto, unfolding(sil_grammar_values::specs::inner::Reduced::standing))]
 pub(crate) fn enum_element(alloc: Global, values: &mut Prepended<Value>) -> Result<(), Exhausted>
     requires { 7 ≤ length values.old }
     ensures values { OnOk result (values.new ≡ reduced Production.WholeEnumElement values.old) }

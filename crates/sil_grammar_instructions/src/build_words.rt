@@ -33,7 +33,7 @@ pub(crate) fn flags(
 
 /// Puts `[lexical]` and the flag behind it.
 #[inline(never)]
-#[tactic(auto, unfolding(sil_grammar_values::specs::inner::Reduced::reduced, sil_grammar_values::specs::inner::Meaning::meaning, sil_grammar_tables::specs::Grammar::body))]
+#[tactic(auto, unfolding(sil_grammar_values::specs::inner::Reduced::standing))]
 pub(crate) fn lexical_first(values: &mut Prepended<Value>) -> Result<(), Exhausted>
     requires { 3 ≤ length values.old }
     ensures values { OnOk result (values.new ≡ reduced Production.LexicalFirst values.old) }
@@ -47,7 +47,7 @@ pub(crate) fn lexical_first(values: &mut Prepended<Value>) -> Result<(), Exhaust
 
 /// Puts `[var_decl]` and the flag behind it.
 #[inline(never)]
-#[tactic(auto, unfolding(sil_grammar_values::specs::inner::Reduced::reduced, sil_grammar_values::specs::inner::Meaning::meaning, sil_grammar_tables::specs::Grammar::body))]
+#[tactic(auto, unfolding(sil_grammar_values::specs::inner::Reduced::standing))]
 pub(crate) fn var_decl_first(values: &mut Prepended<Value>) -> Result<(), Exhausted>
     requires { 3 ≤ length values.old }
     ensures values { OnOk result (values.new ≡ reduced Production.VarDeclFirst values.old) }
@@ -80,7 +80,7 @@ pub(crate) fn qualifier(word: Qualifier, values: &mut Prepended<Value>) -> Resul
 
 /// Puts the `take` between two brackets.
 #[inline(never)]
-#[tactic(auto, unfolding(sil_grammar_values::specs::inner::Reduced::reduced, sil_grammar_values::specs::inner::Meaning::meaning, sil_grammar_tables::specs::Grammar::body))]
+#[tactic(auto, unfolding(sil_grammar_values::specs::inner::Reduced::standing))]
 pub(crate) fn take_flag(values: &mut Prepended<Value>) -> Result<(), Exhausted>
     requires { 3 ≤ length values.old }
     ensures values { OnOk result (values.new ≡ reduced Production.TakeFlagSome values.old) }
@@ -117,7 +117,7 @@ pub(crate) fn debug_binding(
 
 /// Puts a name, and what a debugger is told behind it.
 #[inline(never)]
-#[tactic(auto, unfolding(sil_grammar_values::specs::inner::Reduced::reduced, sil_grammar_values::specs::inner::Meaning::meaning, sil_grammar_tables::specs::Grammar::body))]
+#[tactic(auto, unfolding(sil_grammar_values::specs::inner::Reduced::standing))]
 pub(crate) fn debug_name(alloc: Global, values: &mut Prepended<Value>) -> Result<(), Exhausted>
     requires { 3 ≤ length values.old }
     ensures values { OnOk result (values.new ≡ reduced Production.DebugName values.old) }
@@ -148,7 +148,7 @@ pub(crate) fn debug_number(values: &mut Prepended<Value>) -> Result<Option<Fault
 
 /// Puts what a debugger is told by `expr op_deref`.
 #[inline(never)]
-#[tactic(auto, unfolding(sil_grammar_values::specs::inner::Reduced::reduced, sil_grammar_values::specs::inner::Meaning::meaning, sil_grammar_tables::specs::Grammar::body))]
+#[tactic(auto, unfolding(sil_grammar_values::specs::inner::Reduced::standing))]
 pub(crate) fn debug_deref(values: &mut Prepended<Value>) -> Result<(), Exhausted>
     requires { 2 ≤ length values.old }
     ensures values { OnOk result (values.new ≡ reduced Production.DebugDeref values.old) }

@@ -8,7 +8,8 @@ use Rattle.numbered_form.specs.Lists.{Each}
 use Rattle.numbered_form.specs.Numbering.{values_of}
 use Rattle.ownership_kinds_chains.proofs.OwnershipChains.Enough.{told_in_time}
 use Rattle.ownership_kinds_chains.specs.OwnershipChains.Chains.{IsInRange, operands_at}
-use Rattle.ownership_kinds_chains.specs.OwnershipChains.Facts.{AreFactsOf, bases_together, by_kind, by_operands, facts_with, forwarded, handed_on, has, is_guaranteed, is_owned, known_or, listed, origin_at, told, told_by}
+use Rattle.ownership_kinds_chains.specs.OwnershipChains.Facts.{AreFactsOf, bases_together, by_kind, by_operands, facts_with, forwarded, handed_on, has, is_guaranteed, is_owned, known_or, listed}
+use Rattle.ownership_kinds_chains.specs.OwnershipChains.Facts.{origin_at, told, told_by}
 use Rattle.ownership_kinds_chains.specs.OwnershipChains.Steps.{told_in}
 use Rattle.ownership_kinds_chains.specs.declared.ownership_chains.definition.Definition.{Definition}
 use Rattle.ownership_kinds_chains.specs.declared.ownership_chains.definition.Origin.{Origin}

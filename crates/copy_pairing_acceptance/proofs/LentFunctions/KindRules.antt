@@ -20,7 +20,8 @@ use Rattle.numbered_form.specs.Numbering.{values_of}
 use Rattle.numbered_form.specs.inner.Parts.{has_edges, has_operands}
 use Rattle.ownership_kinds_chains.specs.OwnershipChains.Chains.{Chain, IsCyclic, more, one}
 use Rattle.copy_pairing_model.specs.ownership_kinds_origins.Facts.{kind_in, kind_of_facts}
-use Rattle.sil_verifier_trails.specs.ownership_kinds.Statics.{HasKinds, IsDefinedAt, IsOnRing, all_taken, forwards, forwards_by, is_annotated_well, is_lacking_default, is_mismatch, is_owned, is_guaranteed}
+use Rattle.sil_verifier_trails.specs.ownership_kinds.Statics.{HasKinds, IsDefinedAt, IsOnRing, all_taken, forwards, forwards_by, is_annotated_well, is_lacking_default, is_mismatch, is_owned}
+use Rattle.sil_verifier_trails.specs.ownership_kinds.Statics.{is_guaranteed}
 use Rattle.sil_verifier_trails.specs.ownership_kinds.Statics.{lacks_argument, lacks_by, mixed_among, mixed_operand, needs_argument, no_arguments}
 use Rattle.sil_verifier_trails.specs.ownership_kinds.Statics.IsBroken.{annotated, lacking, mismatch, mixed, on_ring}
 use Rattle.sil_verifier_trails.specs.ownership_kinds.Statics.IsDefinedAt.{argument, result}

@@ -20,7 +20,8 @@ use Rattle.reach_engine_marks.specs.PathPatterns.Switch.{IsInPlace}
 use Rattle.reach_engine_marks.specs.declared.path_patterns.mark.Mark.{Mark}
 use Rattle.reach_engine_marks.specs.PathPatterns.inner.Automaton.{mark_step}
 use Rattle.copy_pairing_acceptance.specs.MovedFunctions.inner.Structure.{old_item}
-use Rattle.copy_pairing_acceptance.proofs.MovedFunctions.Items.{edge_alike, elsewhere_alike, gone, head, head_alike, inside, inside_alike, new_items, new_tail, old_items, old_tail, old_walk, same_end, tail_alike}
+use Rattle.copy_pairing_acceptance.proofs.MovedFunctions.Items.{edge_alike, elsewhere_alike, gone, head, head_alike, inside, inside_alike, new_items, new_tail, old_items, old_tail, old_walk, same_end}
+use Rattle.copy_pairing_acceptance.proofs.MovedFunctions.Items.{tail_alike}
 use Rattle.copy_pairing_acceptance.proofs.MovedFunctions.KeptOnWalks.{Leads, Turns, kept_leads, leads_join, leads_kept, leads_split, turns_join, turns_split}
 use Rattle.copy_pairing_acceptance.proofs.MovedFunctions.Places.{after}
 use Rattle.copy_pairing_acceptance.proofs.MovedFunctions.Split.{IsSplit}

@@ -12,7 +12,8 @@ use Rattle.instruction_table.specs.declared.op.Op.{Op}
 use Rattle.instruction_table.specs.declared.op.Op.TheVariants as op
 use Rattle.sil_cfg_items.specs.Parts.{inst_at, inst_in}
 use Rattle.copy_pairing_model.specs.ownership_kinds_origins.Facts.{facts_by, facts_in}
-use Rattle.copy_pairing_model.specs.ownership_kinds_origins.Origins.{arg_definition, arg_definitions, definitions_of, is_trivial_or_untyped, is_zero, result_definition, result_definition_by, result_definitions}
+use Rattle.copy_pairing_model.specs.ownership_kinds_origins.Origins.{arg_definition, arg_definitions, definitions_of, is_trivial_or_untyped, is_zero, result_definition, result_definition_by}
+use Rattle.copy_pairing_model.specs.ownership_kinds_origins.Origins.{result_definitions}
 use Rattle.copy_pairing_model.specs.ownership_kinds_origins.Switched.{switch_to, switches_from}
 use Rattle.numbered_form.specs.PointChecks.Points.{IsAt}
 use Rattle.sil_ast.specs.declared.function.Block.{Block}

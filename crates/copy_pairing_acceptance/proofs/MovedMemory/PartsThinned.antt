@@ -14,7 +14,8 @@ use Rattle.sil_verifier_trails.specs.memory_rules_accesses.declared.location.Loc
 use Rattle.sil_verifier_trails.specs.memory_rules_accesses.declared.source.Source.{Source}
 use Rattle.sil_verifier_trails.specs.memory_rules_accesses.declared.source.Source.TheVariants as source
 use Rattle.sil_verifier_trails.specs.memory_rules_parts.Building.{is_forbidden}
-use Rattle.sil_verifier_trails.specs.memory_rules_parts.Parts.{address_parts, at_return, field_parts, is_scope, is_scope_source, means, parts_by, parts_of, scope_part, scope_parts, slot_part, slot_part_at}
+use Rattle.sil_verifier_trails.specs.memory_rules_parts.Parts.{address_parts, at_return, field_parts, is_scope, is_scope_source, means, parts_by, parts_of, scope_part, scope_parts, slot_part}
+use Rattle.sil_verifier_trails.specs.memory_rules_parts.Parts.{slot_part_at}
 use Rattle.sil_verifier_trails.specs.memory_rules_parts.Shown.{marks_of_access, part_marks}
 use Rattle.sil_verifier_trails.specs.memory_rules_parts.Switches.{is_same, when}
 use Rattle.sil_verifier_trails.specs.memory_rules_parts.declared.part.Part.{Part}

@@ -12,7 +12,8 @@ use Rattle.sil_cfg_items.specs.declared.taken.Taken.{Taken}
 use Rattle.numbered_form.specs.Lists.{Each}
 use Rattle.numbered_form.specs.Numbering.{AreCountedFrom, values_of}
 use Rattle.ownership_kinds_chains.specs.declared.ownership_chains.facts.Facts.{Facts}
-use Rattle.ownership_kinds_chains.specs.OwnershipMarks.Marks.{begin_of, begun, begun_with, end_of, ended, ended_by, ended_with, ends_owned, ends_scope, is_own_base, marks_of, marks_with, use_of, used, used_by, used_with}
+use Rattle.ownership_kinds_chains.specs.OwnershipMarks.Marks.{begin_of, begun, begun_with, end_of, ended, ended_by, ended_with, ends_owned, ends_scope, is_own_base, marks_of, marks_with, use_of, used}
+use Rattle.ownership_kinds_chains.specs.OwnershipMarks.Marks.{used_by, used_with}
 use Rattle.ownership_kinds_chains.specs.declared.ownership_marks.mark.Mark.{Mark}
 use Rattle.ownership_kinds_chains.specs.declared.ownership_marks.mark.MarkSort.TheVariants.{Begin}
 use Rattle.numbered_form.specs.PointChecks.Points.{IsAt}

@@ -7,7 +7,8 @@ use Rattle.std.proofs.lemmas.List.Folds.{list_any-append}
 use Rattle.sil_cfg_items.specs.declared.taken.Taken.{Taken}
 use Rattle.numbered_form.specs.Lists.{Each}
 use Rattle.ownership_kinds_chains.specs.declared.ownership_chains.facts.Facts.{Facts}
-use Rattle.ownership_kinds_chains.specs.OwnershipMarks.Marks.{begin_of, begun, begun_with, end_of, ended, ended_by, ended_with, ends_owned, ends_scope, is_own_base, marks_with, use_of, used, used_by, used_with}
+use Rattle.ownership_kinds_chains.specs.OwnershipMarks.Marks.{begin_of, begun, begun_with, end_of, ended, ended_by, ended_with, ends_owned, ends_scope, is_own_base, marks_with, use_of, used, used_by}
+use Rattle.ownership_kinds_chains.specs.OwnershipMarks.Marks.{used_with}
 use Rattle.ownership_kinds_chains.specs.declared.ownership_marks.mark.Mark.{Mark}
 use Rattle.ownership_kinds_chains.specs.declared.ownership_marks.mark.MarkSort.TheVariants.{End}
 use Rattle.sil_ast.specs.declared.place.ValueId.{ValueId}

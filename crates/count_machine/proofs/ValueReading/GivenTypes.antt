@@ -19,7 +19,8 @@ use Rattle.sil_ast.specs.declared.type_name.TypeName.{TypeName}
 use Rattle.sil_rules.specs.declared.limits.TheConstants.{DEPTH, LEAVES}
 use Rattle.sil_types_declarations.specs.TypeDefinitions.Declarations.{Declarations, declarations_of}
 use Rattle.sil_types_declarations.specs.TypeDefinitions.Measures.{depth_of, leaves_of}
-use Rattle.sil_types_declarations.specs.TypeDefinitions.Mentions.{Mention, direct_types, given_type, in_decl, in_function, in_block, in_param, in_result, in_signature, mention, mentions_of, result_type, together}
+use Rattle.sil_types_declarations.specs.TypeDefinitions.Mentions.{Mention, direct_types, given_type, in_decl, in_function, in_block, in_param, in_result, in_signature, mention, mentions_of}
+use Rattle.sil_types_declarations.specs.TypeDefinitions.Mentions.{result_type, together}
 use Rattle.sil_types_declarations.specs.TypeDefinitions.Rules.{has_too_many_leaves, is_too_deep, is_too_low}
 use Rattle.sil_types_declarations.specs.declared.type_definitions.standing.Standing.TheVariants.{Unwritten}
 use Rattle.count_machine.specs.ValueReading.inner.Reading.{IsWithinLimits}

@@ -5,7 +5,15 @@ ghost use Rattle.count_machine_model.specs.ReadyCode.ReadyModules.{IsClosed, Rea
 ghost use Rattle.holder_model_typing.specs.holder_model.RunTyping.Runnable.{IsRunnable};
 ghost use Rattle.sil_ast.specs.declared.place.FuncId.{FuncId};
 ghost use Rattle.sil_types_declarations.specs.TypeDefinitions.Declarations.{declarations_of};
-ghost use Rattle.count_machine_layouts.specs.ReachedFunctions.inner.Reaching.{AreFollowedBut, AreFound, AreInside, AreMarked, AreNamedInside, AreNamedMarked, Follows};
+ghost use Rattle.count_machine_layouts.specs.ReachedFunctions.inner.Reaching.{
+  AreFollowedBut,
+  AreFound,
+  AreInside,
+  AreMarked,
+  AreNamedInside,
+  AreNamedMarked,
+  Follows,
+};
 ghost use Rattle.count_machine_layouts.specs.ReachedFunctions.inner.Reaching.{GoesOn, HaveDeinitsInside, HaveDeinitsMarked, NamesAreInside, Searches};
 
 use count_machine_model::ReadyClass;

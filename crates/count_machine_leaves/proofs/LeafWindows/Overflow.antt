@@ -10,7 +10,8 @@ use Rattle.count_machine_model.specs.MachineSteps.Computing.{overflow_leaves}
 use Rattle.numbered_form.specs.inner.Literals.{is_residue}
 use Rattle.holder_model_values.specs.declared.run_values.leaf.Leaf.TheVariants as leaf
 use Rattle.count_heap.specs.sil_types.Typing.Builtins.{bits}
-use Rattle.count_machine_leaves.proofs.LeafWindows.Residues.{HasModulus, back_same, is_within, one_bit, eight_bits, sixteen_bits, thirty_two_bits, sixty_four_bits, same_back, signed_twice, within_negsuc}
+use Rattle.count_machine_leaves.proofs.LeafWindows.Residues.{HasModulus, back_same, is_within, one_bit, eight_bits, sixteen_bits, thirty_two_bits, sixty_four_bits, same_back, signed_twice}
+use Rattle.count_machine_leaves.proofs.LeafWindows.Residues.{within_negsuc}
 use Rattle.count_machine_leaves.proofs.LeafWindows.Residues.{within_pos, negsuc_within, pos_within, half, whole}
 
 pub width_has : (w : Width) → (h : ℕ) × (m : ℕ) × HasModulus (bits w) h m

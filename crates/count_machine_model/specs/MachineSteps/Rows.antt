@@ -25,7 +25,8 @@ use Rattle.count_machine_model.specs.MachineSteps.Calling.{addresses_carried, ca
 use Rattle.count_machine_model.specs.MachineSteps.Computing.{computed_leaves}
 use Rattle.count_machine_model.specs.MachineSteps.Held.{held_at}
 use Rattle.count_machine_model.specs.MachineSteps.Naming.{name_of}
-use Rattle.count_machine_model.specs.MachineSteps.Operands.{address_in, contents, faults, gives, gives_address, go_on, int_among, objects_among, put_there, with_all}
+use Rattle.count_machine_model.specs.MachineSteps.Operands.{address_in, contents, faults, gives, gives_address, go_on, int_among, objects_among, put_there}
+use Rattle.count_machine_model.specs.MachineSteps.Operands.{with_all}
 use Rattle.count_machine_model.specs.MachineSteps.Places.{all_contents, chosen_leaves, drops, field_address, forgets_name, loads, loads_name, made_object}
 use Rattle.count_machine_model.specs.MachineSteps.Places.{payload_contents}
 use Rattle.count_machine_model.specs.MachineSteps.Places.{removes_home, slot_address, stores, stores_name, with_slot}

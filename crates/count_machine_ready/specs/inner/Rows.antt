@@ -7,7 +7,8 @@ use Rattle.sil_ast.specs.declared.function.Function.{Function}
 use Rattle.sil_ast.specs.declared.inst.Inst.{Inst}
 use Rattle.sil_ast.specs.declared.module.Module.{Module}
 use Rattle.sil_types_declarations.specs.TypeDefinitions.Declarations.{Declarations, declarations_of}
-use Rattle.count_machine_ready.specs.inner.Parts.{AsksOne, CallsOne, ChoosesOne, ComputesOne, EmptiesOne, GivesNumber, GivesOne, MakesOne, NamesField, NamesMember}
+use Rattle.count_machine_ready.specs.inner.Parts.{AsksOne, CallsOne, ChoosesOne, ComputesOne, EmptiesOne, GivesNumber, GivesOne, MakesOne, NamesField}
+use Rattle.count_machine_ready.specs.inner.Parts.{NamesMember}
 use Rattle.count_machine_ready.specs.inner.Parts.{OpensOne, PutsOne, ReadsMember, TakesAndGives, TakesOne}
 
 module _ (m : Module) (f : Function) (i : Inst) where

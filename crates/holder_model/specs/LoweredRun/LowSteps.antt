@@ -38,7 +38,8 @@ use Rattle.holder_model.specs.declared.lowered_run.low_fault.LowFault.{LowFault}
 use Rattle.holder_model.specs.declared.lowered_run.low_fault.LowFault.TheVariants as fault
 use Rattle.holder_model.specs.LoweredRun.LowEffects.{low_effect, stored_behind}
 use Rattle.holder_model.specs.LoweredRun.LowFrames.{LowFrame, no_values, put_all, read_all}
-use Rattle.holder_model.specs.LoweredRun.LowStepParts.{LowState, LowNext, fails, misfits, on_ok, on_some, slots_behind, values_taken, retains_each, numbers_for, new_frame}
+use Rattle.holder_model.specs.LoweredRun.LowStepParts.{LowState, LowNext, fails, misfits, on_ok, on_some, slots_behind, values_taken, retains_each, numbers_for}
+use Rattle.holder_model.specs.LoweredRun.LowStepParts.{new_frame}
 use Rattle.holder_model.specs.LoweredRun.Stored.{changed, numbers_of, one_less, unnamed}
 
 module _ (m : Module) (told : ModuleShapes) (bound : ℕ) where

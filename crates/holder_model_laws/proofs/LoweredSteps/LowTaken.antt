@@ -26,7 +26,8 @@ use Rattle.holder_model.specs.LoweredRun.LowFrames.{LowFrame}
 use Rattle.holder_model.specs.LoweredRun.LowStepParts.{LowNext, LowState, fails, retains_each}
 use Rattle.holder_model.specs.LoweredRun.LowSteps as steps
 use Rattle.holder_model.specs.LoweredRun.Stored.{changed, one_more}
-use Rattle.holder_model_laws.specs.LoweredSteps.inner.LowWays.{Acts, AreToldStepsTaken, Chooses, Enters, Falls, FinishesOne, GoesBehind, Performs, Reaches, ReleasesOne, StandsAtEnd, StepsBy, TakesEdge}
+use Rattle.holder_model_laws.specs.LoweredSteps.inner.LowWays.{Acts, AreToldStepsTaken, Chooses, Enters, Falls, FinishesOne, GoesBehind, Performs, Reaches, ReleasesOne, StandsAtEnd, StepsBy}
+use Rattle.holder_model_laws.specs.LoweredSteps.inner.LowWays.{TakesEdge}
 use Rattle.holder_model_laws.specs.LoweredSteps.inner.LowWays.{retained}
 
 -- ---- references are made one after another

@@ -21,7 +21,8 @@ use Rattle.holder_model.specs.holder_model_values.RunValues.Shapes.{CaseShapes, 
 use Rattle.holder_model.specs.sil_types.Typing.Shapes.{case_count, case_count_in, case_in, class_field, class_fields, declared_cases, element_at, element_of, elements_in, field_named, fields_of_class}
 use Rattle.holder_model.specs.sil_types.Typing.Shapes.{fields_of_struct, found_field, is_case_owner_layer, is_enum, is_owner, is_owner_layer, name_in, struct_field, struct_fields}
 use Rattle.holder_model.specs.sil_types_declarations.TypeDefinitions.Declarations.{Declarations, decl_of, declarations_of, is_class, is_class_found, optional_cases, place_of, superclass_found}
-use Rattle.holder_model.specs.sil_types_declarations.TypeDefinitions.Lookups.{FoundField, Payload, case_payload, decl_cases, decl_fields, field_at_place, fields_of, inherited_fields, optional_payload, own_fields, payload_at}
+use Rattle.holder_model.specs.sil_types_declarations.TypeDefinitions.Lookups.{FoundField, Payload, case_payload, decl_cases, decl_fields, field_at_place, fields_of, inherited_fields, optional_payload}
+use Rattle.holder_model.specs.sil_types_declarations.TypeDefinitions.Lookups.{own_fields, payload_at}
 use Rattle.holder_model.specs.sil_types_declarations.TypeDefinitions.Lookups.{payload_in}
 use Rattle.holder_model.specs.sil_types_declarations.TypeDefinitions.Lookups.{chain_fields}
 use Rattle.holder_model.specs.RunTyping.RowForms.{IsEnum, IsGroup, enum, struct}

@@ -11,7 +11,8 @@ use Rattle.sil_ast.specs.declared.module.Module.{Module}
 use Rattle.sil_rules.specs.declared.limits.TheConstants.{DEPTH}
 use Rattle.numbered_form.specs.Lists.{Each}
 use Rattle.numbered_form.specs.Names.{AreOnce, Name, decl_name, superclass_in}
-use Rattle.holder_model.specs.sil_types_declarations.TypeDefinitions.Declarations.{Declarations, all_decls, ancestors_of, at_place, chain, decl_of, declarations_of, is_class, is_class_decl, is_class_found, is_longer}
+use Rattle.holder_model.specs.sil_types_declarations.TypeDefinitions.Declarations.{Declarations, all_decls, ancestors_of, at_place, chain, decl_of, declarations_of, is_class, is_class_decl}
+use Rattle.holder_model.specs.sil_types_declarations.TypeDefinitions.Declarations.{is_class_found, is_longer}
 use Rattle.holder_model.specs.sil_types_declarations.TypeDefinitions.Declarations.{place_of, superclass_found, superclass_of, swift_structs}
 use Rattle.holder_model.specs.sil_types_declarations.TypeDefinitions.Lookups.{class_at, class_named}
 use Rattle.holder_model.specs.sil_types_declarations.TypeDefinitions.Mentions.{decl, function, items_of, mentioned_by, members_named_by, mentions_of, vtable}

@@ -14,7 +14,8 @@ use Rattle.sil_ast.specs.declared.place.ObjectId.{ObjectId}
 use Rattle.holder_model_values.specs.declared.run_values.leaf.Leaf.{Leaf}
 use Rattle.holder_model_values.specs.declared.run_values.leaf.Leaf.TheVariants as leaf
 use Rattle.holder_model_values.specs.RunValues.Layers.{CaseLayer, Layer}
-use Rattle.holder_model_values.specs.RunValues.Leaves.{InLeaves, case_value, chosen_at, chosen_leaves, filled_up, integer_at, integer_leaf, leaves_each, leaves_layer, longest_payload, name_leaf, named_value}
+use Rattle.holder_model_values.specs.RunValues.Leaves.{InLeaves, case_value, chosen_at, chosen_leaves, filled_up, integer_at, integer_leaf, leaves_each, leaves_layer, longest_payload, name_leaf}
+use Rattle.holder_model_values.specs.RunValues.Leaves.{named_value}
 use Rattle.holder_model_values.specs.RunValues.Leaves.{object_at, object_leaf, payload_leaves, payload_of, payload_sizes, payload_value, size_of, values_each, with_more}
 use Rattle.holder_model_values.specs.RunValues.inner.Fits.{Test, are_members, fit_each, fits_case, fits_layer, fits_payload, fits_width, is_case, is_name}
 use Rattle.holder_model_values.specs.RunValues.Values.{ChosenCase, Value, Int, Object, Group, Case, Full, chosen, grouped, case_of, integer_of, members_of, object_of, references_of}

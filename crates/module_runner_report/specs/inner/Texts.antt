@@ -8,7 +8,8 @@ use Rattle.module_runner_report.specs.declared.outcome.Ending.TheVariants.{Retur
 use Rattle.module_runner_report.specs.inner.Layers.{cases_in, types_in}
 use Rattle.module_runner_report.specs.RunOutcomes.{value_of}
 use Rattle.holder_model.specs.RunReport.ReportLines.{class_among, left_lines, trap_words}
-use Rattle.holder_model.specs.RunReport.ValueTexts.{Writer, case_words, chosen_words, grouped, if_integer, if_object, payload_words, text_itself, texts_of, value_text}
+use Rattle.holder_model.specs.RunReport.ValueTexts.{Writer, case_words, chosen_words, grouped, if_integer, if_object, payload_words, text_itself, texts_of}
+use Rattle.holder_model.specs.RunReport.ValueTexts.{value_text}
 use Rattle.holder_model.specs.RunTyping.Runnable.{IsRunnable}
 use Rattle.holder_model_values.specs.RunValues.Layers.{CaseLayer}
 use Rattle.holder_model_values.specs.RunValues.Shapes.{shape_of}

@@ -41,7 +41,8 @@ use Rattle.ownership_lowering_runs.specs.StoredRuns.inner.PlaceRows.{GoesAlong, 
 use Rattle.ownership_lowering_runs.proofs.StoredRuns.MemoriesFor.{place_taken}
 use Rattle.ownership_lowering_runs.proofs.StoredRuns.NamedSteps.{release_effect, release_stored, release_takes}
 use Rattle.ownership_lowering_runs.proofs.StoredRuns.RowSteps.{numbers_in_both}
-use Rattle.ownership_lowering_runs.proofs.StoredRuns.RowsBehind.{PutsIn, begin, begins, behind_all, end, from, low_shapes, low_told, lowered_to, made, num, one_step, puts_in, same_numbers, stands, waits}
+use Rattle.ownership_lowering_runs.proofs.StoredRuns.RowsBehind.{PutsIn, begin, begins, behind_all, end, from, low_shapes, low_told, lowered_to, made, num, one_step, puts_in, same_numbers, stands}
+use Rattle.ownership_lowering_runs.proofs.StoredRuns.RowsBehind.{waits}
 use Rattle.ownership_lowering_runs.proofs.StoredRuns.StandsThere.{PlaceUnder, facts, one_place}
 use Rattle.ownership_lowering_runs.proofs.StoredRuns.ValuesFor.{read_so}
 use Rattle.holder_model_values.specs.RunValues.Shapes.{Shape}

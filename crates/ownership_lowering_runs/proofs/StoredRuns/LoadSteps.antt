@@ -51,7 +51,8 @@ use Rattle.ownership_lowering_runs.specs.StoredRuns.inner.PlaceRows.{GoesAlong, 
 use Rattle.ownership_lowering_runs.proofs.StoredRuns.MemoriesFor.{place_read, place_taken, place_there}
 use Rattle.ownership_lowering_runs.proofs.StoredRuns.NamedSteps.{retain_effect, retain_stored, retain_takes}
 use Rattle.ownership_lowering_runs.proofs.StoredRuns.RowSteps.{numbers_in_both}
-use Rattle.ownership_lowering_runs.proofs.StoredRuns.RowsBehind.{PutsIn, accessed_so, begin, begins, behind_all, end, from, low_shapes, low_told, lowered_to, made, num, one_step, puts_in, same_numbers, stands, waits}
+use Rattle.ownership_lowering_runs.proofs.StoredRuns.RowsBehind.{PutsIn, accessed_so, begin, begins, behind_all, end, from, low_shapes, low_told, lowered_to, made, num, one_step, puts_in}
+use Rattle.ownership_lowering_runs.proofs.StoredRuns.RowsBehind.{same_numbers, stands, waits}
 use Rattle.ownership_lowering_runs.proofs.StoredRuns.SameRows.{none_dead}
 use Rattle.ownership_lowering_runs.proofs.StoredRuns.StandsThere.{PlaceUnder, facts, one_place}
 use Rattle.ownership_lowering_runs.proofs.StoredRuns.ValuesFor.{read_so, value_set}

@@ -38,7 +38,8 @@ use Rattle.ownership_lowering_laws.specs.ownership_lowering_model.declared.lower
 use Rattle.sil_verifier_runs.specs.holder_model_laws.HolderLaws.inner.Steps.Ways as holder
 use Rattle.ownership_lowering_runs.specs.StoredRuns.inner.PlaceRows.{GoesAlong, LowGoes, StandsAt, stored_for}
 use Rattle.ownership_lowering_runs.proofs.StoredRuns.RowSteps.{numbers_in_both}
-use Rattle.ownership_lowering_runs.proofs.StoredRuns.RowsBehind.{PutsIn, begin, begins, behind_all, end, from, low_shapes, low_told, lowered_to, made, num, one_step, puts_in, same_numbers, stands, waits}
+use Rattle.ownership_lowering_runs.proofs.StoredRuns.RowsBehind.{PutsIn, begin, begins, behind_all, end, from, low_shapes, low_told, lowered_to, made, num, one_step, puts_in, same_numbers, stands}
+use Rattle.ownership_lowering_runs.proofs.StoredRuns.RowsBehind.{waits}
 use Rattle.ownership_lowering_runs.proofs.StoredRuns.StandsThere.{facts, one_value}
 use Rattle.ownership_lowering_runs.proofs.StoredRuns.ValuesFor.{read_so, value_other}
 use Rattle.holder_model_values.specs.RunValues.Shapes.{Shape}

@@ -52,7 +52,8 @@ use Rattle.ownership_lowering_runs.specs.StoredRuns.inner.PlaceRows.{GoesAlong, 
 use Rattle.ownership_lowering_runs.proofs.StoredRuns.MemoriesFor.{place_filled, place_for}
 use Rattle.ownership_lowering_runs.proofs.StoredRuns.NamedSteps.{release_effect, release_stored, release_takes}
 use Rattle.ownership_lowering_runs.proofs.StoredRuns.RowSteps.{numbers_in_both, as_many_objects, numbers_stay, parts_kept}
-use Rattle.ownership_lowering_runs.proofs.StoredRuns.RowsBehind.{PutsIn, accessed_so, begin, begins, behind_all, end, from, low_shapes, low_told, lowered_to, made, num, one_step, puts_in, same_numbers, stands, waits}
+use Rattle.ownership_lowering_runs.proofs.StoredRuns.RowsBehind.{PutsIn, accessed_so, begin, begins, behind_all, end, from, low_shapes, low_told, lowered_to, made, num, one_step, puts_in}
+use Rattle.ownership_lowering_runs.proofs.StoredRuns.RowsBehind.{same_numbers, stands, waits}
 use Rattle.ownership_lowering_runs.proofs.StoredRuns.StandsThere.{PlaceUnder, facts, given_parts, operands_old, ValueUnder, value_and_place_under}
 use Rattle.ownership_lowering_runs.proofs.StoredRuns.ValuesFor.{read_so}
 use Rattle.holder_model_values.specs.RunValues.Cells.{Cell, in_cells}

@@ -9,7 +9,14 @@ ghost use Rattle.sil_grammar_names.specs.NameResolution.inner.FirstFaults.{known
 ghost use Rattle.sil_grammar_names.specs.NameScopes.NameFaults.{unknown_in};
 ghost use Rattle.sil_grammar_names.specs.NameScopes.Names.{code_of, operand_name};
 ghost use Rattle.sil_grammar_names.specs.NameResolution.Resolved.{Scope, counted, defined_by_inst, defined_in, function_of, resolved_args, resolved_block};
-ghost use Rattle.sil_grammar_names.specs.NameResolution.Resolved.{resolved_blocks, resolved_edge, resolved_inst, resolved_insts, resolved_operand, with_numbers};
+ghost use Rattle.sil_grammar_names.specs.NameResolution.Resolved.{
+  resolved_blocks,
+  resolved_edge,
+  resolved_inst,
+  resolved_insts,
+  resolved_operand,
+  with_numbers,
+};
 ghost use Rattle.sil_grammar_names.specs.NameScopes.inner.Symbols.{names_in, unknown_of};
 ghost use Rattle.sil_grammar_names.specs.NameResolution.inner.Tables.{FindsNames, FindsScope, FindsValues};
 
@@ -195,7 +202,7 @@ fn add_inst(
 }
 
 // Takes the operands and the edges out of the instruction.
-#[tactic(auto, using(crate::proofs::NameResolution::Steps::one_inst), unfolding(crate::specs::NameResolution::inner::FirstFaults::with_code, crate::specs::NameResolution::inner::FirstFaults::with_edges))]
+#[tactic(auto, using(crate::proofs::NameResolution::Steps::one_inst), unfolding(crate::specs::NameResolution::inner::FirstFaults::with_parts))]
 fn resolve_names(
     alloc: Global,
     tables: Tables<'_>,

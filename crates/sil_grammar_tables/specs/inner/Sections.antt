@@ -8,7 +8,8 @@ use Rattle.sil_grammar_tables.specs.declared.grammar.Nonterminal.TheVariants as 
 use Rattle.sil_grammar_tables.specs.declared.grammar.Production.{Production}
 use Rattle.sil_grammar_tables.specs.declared.grammar.Production.TheVariants as p
 use Rattle.sil_grammar_tables.specs.declared.sections.Section.{Section}
-use Rattle.sil_grammar_tables.specs.declared.sections.Section.TheVariants.{Modules, Declarations, Types, BaseTypes, Functions, Signatures, Blocks, Operands, Words}
+use Rattle.sil_grammar_tables.specs.declared.sections.Section.TheVariants.{Modules, Declarations, Types, BaseTypes, Functions, Signatures, Blocks, Operands}
+use Rattle.sil_grammar_tables.specs.declared.sections.Section.TheVariants.{Words}
 
 -- the section of a part
 unfoldable pub part_section : Nonterminal → Section

@@ -23,7 +23,8 @@ use Rattle.sil_grammar_values.specs.Imports.{with_import}
 use Rattle.sil_grammar_values.specs.inner.Parts.{part, place_at, text_at}
 use Rattle.sil_grammar_values.specs.inner.RowMeaning.{row}
 use Rattle.sil_grammar_values.specs.Types.{in_parens, with_questions, named_type, one_deeper, one_token, tailed, type_before}
-use Rattle.sil_grammar_values.specs.Values.{token_of, superclass_of, stage_of, imports_of, items_of, item_of, fields_of, field_of, field_before, cases_of, type_of}
+use Rattle.sil_grammar_values.specs.Values.{token_of, superclass_of, stage_of, imports_of, items_of, item_of, fields_of, field_of, field_before, cases_of}
+use Rattle.sil_grammar_values.specs.Values.{type_of}
 use Rattle.sil_grammar_values.specs.Values.{payload_of, types_of, questions_of, linkage_of, tokens_of, convention_of, params_of, param_before}
 use Rattle.sil_grammar_values.specs.Values.{givens_of, given_before, signature_of, blocks_of, block_of, args_of, arg_of, ownership_of, starred}
 use Rattle.sil_grammar_values.specs.Values.{insts_of, terminator_of, inst_of, operands_of, operand_of, edges_of, member_of, flags_of, debug_of}

@@ -14,6 +14,11 @@ parts_of p values = take (length (body p)) values
 unfoldable pub reduced : Production → List Value → List Value
 reduced p values = meaning p (parts_of p values) ∷ drop (length (body p)) values
 
+-- what a check unfolds where it is put together what a production stands for
+unfoldable pub standing : ⊤
+unfolding reduced meaning body
+standing = tt
+
 -- what a check unfolds where a production is reduced
 unfoldable pub reducing : ⊤
 unfolding reduced meaning part_fault body

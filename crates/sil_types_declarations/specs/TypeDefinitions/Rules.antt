@@ -15,7 +15,8 @@ use Rattle.numbered_form.specs.Names.{superclass_in}
 use Rattle.sil_types_declarations.specs.declared.type_definitions.standing.Standing.{Standing}
 use Rattle.sil_types_declarations.specs.declared.type_definitions.standing.Standing.TheVariants.{Object, WeakField, UnownedField, Slot, Value, Unwritten}
 use Rattle.sil_types_declarations.specs.TypeDefinitions.Contained.{containment}
-use Rattle.sil_types_declarations.specs.TypeDefinitions.Declarations.{Declarations, declarations_of, swift_structs, decl_of, is_class, is_longer, members_of, has_member}
+use Rattle.sil_types_declarations.specs.TypeDefinitions.Declarations.{Declarations, declarations_of, swift_structs, decl_of, is_class, is_longer, members_of}
+use Rattle.sil_types_declarations.specs.TypeDefinitions.Declarations.{has_member}
 use Rattle.sil_types_declarations.specs.TypeDefinitions.Measures.{leaves_of, depth_of}
 use Rattle.sil_types_declarations.specs.TypeDefinitions.Mentions.{Mention, Item, decl, function, vtable, items_of, mentioned_by, members_named_by, mentions_of}
 use Rattle.std.specs.Prelude.{is_some}

@@ -11,7 +11,8 @@ use Rattle.sil_ast.specs.TypeName.{largest}
 use Rattle.sil_ast.specs.declared.signature.Given.{Given}
 use Rattle.sil_ast.specs.declared.type_name.TypeName.{TypeName}
 use Rattle.argument_conventions.specs.Arguments.{direct_results, is_direct}
-use Rattle.sil_types_declarations.specs.TypeDefinitions.Measures.{all_trivial, all_leaves, most_leaves, most_depth, of_members, of_payloads, of_storage, leaves_in, depth_in, is_trivial_measure, measured}
+use Rattle.sil_types_declarations.specs.TypeDefinitions.Measures.{all_trivial, all_leaves, most_leaves, most_depth, of_members, of_payloads, of_storage, leaves_in, depth_in, is_trivial_measure}
+use Rattle.sil_types_declarations.specs.TypeDefinitions.Measures.{measured}
 use Rattle.sil_types_declarations.specs.declared.type_definitions.measure.Measure.{Measure}
 use Rattle.sil_types_declarations.specs.TypeDefinitions.Mentions.{direct_types, result_type}
 use Rattle.sil_types_items.specs.declared.type_measures.gathered.Gathered.{Gathered}

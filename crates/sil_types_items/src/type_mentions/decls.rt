@@ -2,7 +2,16 @@
 
 ghost use Rattle.std.specs.Prelude.{◌≡◌, map};
 ghost use Rattle.std.specs.List.{flat_map, list_any};
-ghost use Rattle.sil_types_declarations.specs.TypeDefinitions.Mentions.{if_there, in_case, in_decl, in_field, in_param, in_result, in_signature, field_standing};
+ghost use Rattle.sil_types_declarations.specs.TypeDefinitions.Mentions.{
+  if_there,
+  in_case,
+  in_decl,
+  in_field,
+  in_param,
+  in_result,
+  in_signature,
+  field_standing,
+};
 
 use crate::type_mentions::tests::MentionTest;
 use sil_ast::{Case, Decl, Field, Given, Param, Signature, Storage, TypeName};

@@ -42,7 +42,8 @@ use Rattle.holder_model_laws.specs.ownership_kinds_origins.Facts.{facts_in}
 use Rattle.sil_verifier_trails.proofs.HeldEntries.TrackedOn.{none_held_at_return}
 use Rattle.sil_verifier_trails.proofs.AcceptedTrails.Tests.{first_of}
 use Rattle.holder_model_laws.specs.HolderLaws.inner.Steps.Stacks.{Below}
-use Rattle.holder_model_laws.specs.HolderLaws.inner.Steps.Ways.{Acts, DropsOne, Enters, FinishesOne, GoesBehind, Leaves, Performs, Reaches, StandsAtEnd, StepsBy, TakesEdge, left_with, lent_at, operands_in}
+use Rattle.holder_model_laws.specs.HolderLaws.inner.Steps.Ways.{Acts, DropsOne, Enters, FinishesOne, GoesBehind, Leaves, Performs, Reaches, StandsAtEnd, StepsBy, TakesEdge, left_with, lent_at}
+use Rattle.holder_model_laws.specs.HolderLaws.inner.Steps.Ways.{operands_in}
 use Rattle.holder_model_laws.proofs.HolderLaws.Steps.StepsTold.{steps_told}
 use Rattle.holder_model_laws.proofs.HolderLaws.Steps.TaskStacks.{below_another, going_dropping}
 use Rattle.holder_model_laws.proofs.HolderLaws.Steps.WhichFaults.{IsPlaceFault, effect_faults, slots_err}

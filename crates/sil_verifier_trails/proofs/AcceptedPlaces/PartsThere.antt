@@ -12,7 +12,8 @@ use Rattle.sil_verifier_values.specs.memory_rules_accesses.declared.location.Cel
 use Rattle.sil_verifier_values.specs.memory_rules_accesses.declared.location.Location.{Location}
 use Rattle.sil_verifier_values.specs.memory_rules_accesses.declared.source.Source.{Source}
 use Rattle.sil_verifier_values.specs.memory_rules_accesses.declared.source.Source.TheVariants as source
-use Rattle.sil_verifier_values.specs.memory_rules_parts.Parts.{address_parts, argument_parts, field_parts, is_scope, parts_at, parts_by, parts_of, scope_part, scope_parts, slot_part, slot_part_at, whole_cell}
+use Rattle.sil_verifier_values.specs.memory_rules_parts.Parts.{address_parts, argument_parts, field_parts, is_scope, parts_at, parts_by, parts_of, scope_part, scope_parts, slot_part, slot_part_at}
+use Rattle.sil_verifier_values.specs.memory_rules_parts.Parts.{whole_cell}
 use Rattle.sil_verifier_values.specs.memory_rules_parts.declared.part.Part.{Part}
 use Rattle.sil_verifier_values.specs.memory_rules_parts.declared.part.Part.TheVariants.{Allocation, Building, Contents, InScope, InSlot, Lent}
 use Rattle.sil_verifier_values.specs.ownership_kinds_origins.Facts.{facts_in}

@@ -9,7 +9,8 @@ use Rattle.sil_verifier_values.specs.holder_model.Frames.{ends, has_any}
 use Rattle.sil_cfg_items.specs.declared.taken.Taken.{Taken}
 use Rattle.numbered_form.specs.Lists.{Each}
 use Rattle.sil_verifier_values.specs.ownership_kinds_chains.declared.ownership_chains.facts.Facts.{Facts}
-use Rattle.sil_verifier_values.specs.ownership_kinds_chains.OwnershipMarks.Marks.{begin_of, begun, begun_with, end_of, ended, ended_by, ended_with, ends_owned, ends_scope, is_own_base, use_of, used, used_by, used_with}
+use Rattle.sil_verifier_values.specs.ownership_kinds_chains.OwnershipMarks.Marks.{begin_of, begun, begun_with, end_of, ended, ended_by, ended_with, ends_owned, ends_scope, is_own_base, use_of, used}
+use Rattle.sil_verifier_values.specs.ownership_kinds_chains.OwnershipMarks.Marks.{used_by, used_with}
 use Rattle.sil_verifier_values.specs.ownership_kinds_chains.declared.ownership_marks.mark.Mark.{Mark}
 use Rattle.sil_verifier_values.specs.ownership_kinds_chains.declared.ownership_marks.mark.MarkSort.{MarkSort}
 use Rattle.sil_verifier_values.specs.ownership_kinds_chains.declared.ownership_marks.mark.MarkSort.TheVariants.{Begin, End, Use}

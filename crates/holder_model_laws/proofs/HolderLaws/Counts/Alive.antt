@@ -16,7 +16,8 @@ use Rattle.holder_model.specs.holder_model_values.RunValues.Memory as memory
 use Rattle.holder_model.specs.holder_model_values.RunValues.Memory.{Memory, is_dead, is_dead_phase, is_live, new_object, phase_of}
 use Rattle.holder_model.specs.holder_model_values.RunValues.Places.{Home, Inside, OnStack, Place, cells_at, emptied, filled, home_cells, member_place, part_of, value_at}
 use Rattle.holder_model.specs.holder_model_values.RunValues.Shapes.{Shape, member_shapes}
-use Rattle.holder_model.specs.holder_model_values.RunValues.Values.{Value, Int, Object, Group, Case, Full, Values, NoValue, More, grouped, listed, object_of, references_in_each, references_of, values_of}
+use Rattle.holder_model.specs.holder_model_values.RunValues.Values.{Value, Int, Object, Group, Case, Full, Values, NoValue, More, grouped, listed, object_of, references_in_each, references_of}
+use Rattle.holder_model.specs.holder_model_values.RunValues.Values.{values_of}
 use Rattle.holder_model.specs.holder_model_values.RunValues.Values as value
 use Rattle.memory_rules_parts.specs.memory_rules_accesses.declared.access.Operation.{Operation}
 use Rattle.holder_model.specs.Data.{AddressOf, Datum, FunctionOf, ValueOf, as_value, home_references, with_first}

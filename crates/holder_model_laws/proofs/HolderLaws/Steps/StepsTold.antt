@@ -40,7 +40,8 @@ use Rattle.holder_model.specs.Standing.{stands_at}
 use Rattle.holder_model.specs.StepParts.{chosen_by, chosen_edge, fault, new_frame, on_ok, on_some, slots_behind, with_chosen}
 use Rattle.holder_model.specs.States.{Drops, Ends, Finishes, Goes, OutOfTurns, Returned, Runs, Task, Trapped, enter, frame_count, turn}
 use Rattle.holder_model.specs.Steps as steps
-use Rattle.holder_model_laws.specs.HolderLaws.inner.Steps.Ways.{Acts, AreStepsTold, Chooses, DropsOne, Enters, FinishesOne, GoesBehind, IsChosenBy, Leaves, Performs, Reaches, StandsAtEnd, StepsBy, TakesEdge}
+use Rattle.holder_model_laws.specs.HolderLaws.inner.Steps.Ways.{Acts, AreStepsTold, Chooses, DropsOne, Enters, FinishesOne, GoesBehind, IsChosenBy, Leaves, Performs, Reaches, StandsAtEnd, StepsBy}
+use Rattle.holder_model_laws.specs.HolderLaws.inner.Steps.Ways.{TakesEdge}
 use Rattle.holder_model_laws.specs.HolderLaws.inner.Steps.Ways.{deinitialising, left_with, lent_at, moved, operands_in, turned, waiting}
 
 module _ (m : Module) (told : ModuleFacts) (bound : ℕ) where

@@ -35,7 +35,8 @@ use Rattle.holder_model.specs.Standing.{stands_at}
 use Rattle.holder_model.specs.States.{Runs, Task}
 use Rattle.holder_model_laws.specs.HolderLaws.inner.Counts.Moving.{in_tasks}
 use Rattle.holder_model_laws.specs.LockstepRuns.inner.Lockstep.{ArePutAlike, frame_at}
-use Rattle.holder_model_laws.specs.LockstepRuns.inner.Parts.{AreDropsCovered, AreFinishesCovered, AreFramesOn, ComeTogether, HasFunctions, call_at, entered, puts}
+use Rattle.holder_model_laws.specs.LockstepRuns.inner.Parts.{AreDropsCovered, AreFinishesCovered, AreFramesOn, ComeTogether, HasFunctions, call_at, entered}
+use Rattle.holder_model_laws.specs.LockstepRuns.inner.Parts.{puts}
 
 -- the operands of an item in a frame
 abbrev pub takes : ModuleFacts → FuncId → Function → Item → Memory → List Entry → Result Operands HolderFault

@@ -15,7 +15,8 @@ use Rattle.numbered_form.specs.Lists.{Each}
 use Rattle.numbered_form.specs.Names.{Name, case_name, field_name}
 use Rattle.numbered_form.specs.inner.Types.{HasDeclTypes, HasFieldType, HasPayloadType, IsPlainType, is_placed_at, is_placed_type, is_plain_type}
 use Rattle.holder_model.specs.sil_types_declarations.TypeDefinitions.Declarations.{Declarations, decl_of, declarations_of, optional_cases, place_of, swift_structs}
-use Rattle.holder_model.specs.sil_types_declarations.TypeDefinitions.Lookups.{FoundField, Payload, case_payload, decl_cases, decl_fields, field_at_place, field_of, inherited_fields, optional_payload, own_fields}
+use Rattle.holder_model.specs.sil_types_declarations.TypeDefinitions.Lookups.{FoundField, Payload, case_payload, decl_cases, decl_fields, field_at_place, field_of, inherited_fields, optional_payload}
+use Rattle.holder_model.specs.sil_types_declarations.TypeDefinitions.Lookups.{own_fields}
 use Rattle.holder_model.specs.sil_types_declarations.TypeDefinitions.Lookups.{payload_at, payload_in}
 use Rattle.holder_model.specs.sil_types.Typing.Shapes.{case_in, decl_of_type, element_at, element_of, elements, elements_in, field_named, fields_of_struct, found_field}
 use Rattle.holder_model.specs.sil_types.Typing.Shapes.{is_case_owner_layer, is_owner, is_owner_layer}

@@ -13,7 +13,8 @@ use Rattle.numbered_form.specs.Insts.{insts_of}
 use Rattle.numbered_form.specs.PointChecks.Points.{IsAt}
 use Rattle.holder_model.specs.sil_types_declarations.declared.type_definitions.standing.Standing.TheVariants.{Value}
 use Rattle.holder_model.specs.sil_types_declarations.TypeDefinitions.Declarations.{declarations_of}
-use Rattle.holder_model.specs.sil_types_declarations.TypeDefinitions.Mentions.{Item, Mention, decl, function, if_there, in_arg, in_block, in_edge, in_inst, in_operand, in_signature, in_tuple, standing_in, vtable}
+use Rattle.holder_model.specs.sil_types_declarations.TypeDefinitions.Mentions.{Item, Mention, decl, function, if_there, in_arg, in_block, in_edge, in_inst, in_operand, in_signature, in_tuple}
+use Rattle.holder_model.specs.sil_types_declarations.TypeDefinitions.Mentions.{standing_in, vtable}
 use Rattle.holder_model.specs.sil_types_declarations.TypeDefinitions.Rules.{Declared, IsWellNamed, is_misplaced, is_misplaced_at, is_misplaced_value}
 use Rattle.std.specs.Option.{option_to_list}
 use Rattle.holder_model_typing.proofs.RunTypingLaws.Rows.Finding.{all_at, all_of_both, none_in_any, none_in_both}

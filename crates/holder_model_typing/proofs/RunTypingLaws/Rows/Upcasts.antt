@@ -14,7 +14,8 @@ use Rattle.sil_ast.specs.declared.type_name.TypeName.TheVariants as type
 use Rattle.sil_rules.specs.declared.limits.TheConstants.{DEPTH}
 use Rattle.numbered_form.specs.Names.{Name}
 use Rattle.holder_model.specs.Effects.{effect_of}
-use Rattle.holder_model.specs.sil_types_declarations.TypeDefinitions.Declarations.{Declarations, ancestors_of, chain, decl_of, declarations_of, inherits, is_class, is_class_found, superclass_found, superclass_of}
+use Rattle.holder_model.specs.sil_types_declarations.TypeDefinitions.Declarations.{Declarations, ancestors_of, chain, decl_of, declarations_of, inherits, is_class, is_class_found, superclass_found}
+use Rattle.holder_model.specs.sil_types_declarations.TypeDefinitions.Declarations.{superclass_of}
 use Rattle.holder_model.specs.sil_types.Typing.RowTypes.{gives, inherits_by, is_base, is_derived, written}
 use Rattle.holder_model.specs.sil_types.Typing.Shapes.{name_in, where_it}
 use Rattle.holder_model.specs.holder_model_values.RunValues.Shapes.{Reference}

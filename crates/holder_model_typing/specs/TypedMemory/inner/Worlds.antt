@@ -11,7 +11,8 @@ use Rattle.holder_model.specs.sil_types_declarations.TypeDefinitions.Declaration
 use Rattle.holder_model.specs.holder_model_values.RunValues.Cells.{Cell, Empty, Gone, Keeps}
 use Rattle.holder_model.specs.holder_model_values.RunValues.Memory.{Memory, Object, is_dead_phase}
 use Rattle.holder_model.specs.holder_model_values.RunValues.Places.{Inside, OnStack, Place, offset}
-use Rattle.holder_model.specs.holder_model_values.RunValues.Shapes.{Shape, Shapes, Integer, Reference, Struct, Tuple, Enum, Stored, Unknown, NoMember, Member, storage_in}
+use Rattle.holder_model.specs.holder_model_values.RunValues.Shapes.{Shape, Shapes, Integer, Reference, Struct, Tuple, Enum, Stored, Unknown, NoMember, Member}
+use Rattle.holder_model.specs.holder_model_values.RunValues.Shapes.{storage_in}
 use Rattle.holder_model.specs.holder_model_values.RunValues.Values.{Value}
 use Rattle.holder_model.specs.holder_model_values.ValueParts.inner.Paths.{IsPart, cells_before}
 use Rattle.holder_model.specs.holder_model_values.ValueParts.inner.Suits.{ClassTest, suits}

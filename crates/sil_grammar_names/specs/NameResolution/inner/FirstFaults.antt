@@ -1,5 +1,5 @@
 -- The first faults so far, of each kind of name, after more of a module.
-use Rattle.std.specs.Prelude.{List, Option, map}
+use Rattle.std.specs.Prelude.{⊤, List, Option, map}
 use Rattle.std.specs.List.{flat_map}
 use Rattle.sil_grammar_tree.specs.declared.written_tree.fault.Fault.{Fault}
 use Rattle.sil_grammar_tree.specs.declared.written_tree.written_functions.WrittenBlock.{WrittenBlock}
@@ -38,6 +38,11 @@ with_code k c insts = record {
   labels = earlier c.labels (unknown_of k.labels (flat_map labels_used insts));
   values = earlier c.values (unknown_of k.values (flat_map values_used insts));
 }
+
+-- what a check unfolds where an instruction is resolved
+unfoldable pub with_parts : ⊤
+unfolding with_code with_edges
+with_parts = tt
 
 -- in the blocks of a function: a label or a value
 abbrev pub body_fault : List WrittenBlock → Option Fault

@@ -37,7 +37,8 @@ use Rattle.sil_verifier_trails.specs.PlacedValues.inner.Arguments.{AreRootsTrivi
 use Rattle.sil_verifier_trails.specs.AcceptedFacts.inner.Definitions.{AreOperandsMadeBefore}
 use Rattle.sil_verifier_trails.specs.AcceptedFacts.inner.Nones.{AreNonesMadeWithoutOwners, HaveNonesNoReferences}
 use Rattle.sil_verifier_trails.specs.AcceptedFacts.inner.OpenScopes.{AreBasesAsBorrowed, AreBorrowedUsed, AreHeldWhileBorrowed, AreOpenWhileBorrowed}
-use Rattle.sil_verifier_trails.specs.ScopedAddresses.inner.Addresses.{AreAddressesInScopes, AreBorrowsOwnScopes, AreBorrowsScopes, ArePlainInScopesNamed, HaveSlotsNoBases}
+use Rattle.sil_verifier_trails.specs.ScopedAddresses.inner.Addresses.{AreAddressesInScopes, AreBorrowsOwnScopes, AreBorrowsScopes, ArePlainInScopesNamed}
+use Rattle.sil_verifier_trails.specs.ScopedAddresses.inner.Addresses.{HaveSlotsNoBases}
 
 pub record AcceptedFacts : Type 0 where
   -- ---- marks on the trails of items

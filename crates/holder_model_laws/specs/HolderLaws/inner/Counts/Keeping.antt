@@ -10,7 +10,8 @@ use Rattle.holder_model.specs.holder_model_values.RunValues.Cells as cells
 use Rattle.holder_model.specs.holder_model_values.declared.run_values.phase.Phase.{Phase}
 use Rattle.holder_model.specs.holder_model_values.declared.run_values.phase.Phase.TheVariants.{Live}
 use Rattle.holder_model.specs.holder_model_values.RunValues.Memory.{Memory, Object, is_dead, is_dead_phase, object_at, with_object}
-use Rattle.holder_model.specs.holder_model_values.RunValues.Places.{Home, Inside, OnStack, Place, cells_at, empty_fields, empty_slot, emptied, home_cells, removed, with_cells}
+use Rattle.holder_model.specs.holder_model_values.RunValues.Places.{Home, Inside, OnStack, Place, cells_at, empty_fields, empty_slot, emptied, home_cells}
+use Rattle.holder_model.specs.holder_model_values.RunValues.Places.{removed, with_cells}
 use Rattle.holder_model.specs.holder_model_values.RunValues.Shapes.{Shape}
 use Rattle.holder_model.specs.holder_model_values.RunValues.Values.{Value, references_of}
 use Rattle.holder_model.specs.Dropping.{ended, field_references, in_phase}
