@@ -48,7 +48,7 @@ class Words:
     """The classes of tokens: their names in the code by spelling, and which of them a terminal stands for."""
 
     def __init__(self, table):
-        text = (CRATES / 'token_classes' / 'specs' / 'Spelling.antt').read_text()
+        text = (CRATES / 'sil_grammar_classes' / 'specs' / 'Spelling.antt').read_text()
         self.named = {}
         for letter, kind, sign in ('k', 'word', ''), ('a', 'at', '@'), ('m', 'mark', ''):
             for name, spelled in re.findall(rf'spelling {letter}\.(\w+) = codes "(.*)"', text):

@@ -33,7 +33,7 @@ import run
 import text
 
 CRATES = pathlib.Path(__file__).resolve().parent.parent.parent / 'crates'
-MODULES = [CRATES / 'cases' / 'data' / 'running', CRATES / 'run_examples' / 'modules']
+MODULES = [CRATES / 'cases' / 'data' / 'running', CRATES / 'module_runner_examples' / 'modules']
 TURNS, BATCH, SECONDS = 2000, 100, 60
 
 

@@ -3,19 +3,19 @@ use Rattle.std.proofs.Common.{◌≡◌, refl, List, [], ◌∷◌, Some, None, 
 use Rattle.std.specs.Prelude.{codes, pos, slice_get, map}
 use Rattle.std.specs.List.{flat_map}
 use Rattle.std.specs.Fmt.{digits}
-use Rattle.holder_model.specs.ModuleShapes.{value_shape, ClassShape, ModuleShapes, class_shape, function_shapes, shapes_of}
-use Rattle.instruction_table.specs.declared.op.Op.TheVariants as op
 use Rattle.holder_model.specs.LoweredRun.LowOutcomes.{low_outcome_with}
+use Rattle.holder_model.specs.ModuleShapes.{value_shape, ClassShape, ModuleShapes, class_shape, function_shapes, shapes_of}
 use Rattle.holder_model.specs.declared.lowered_run.low_fault.LowFault.TheVariants as fault
+use Rattle.holder_model_values.specs.RunValues.Shapes as shape
+use Rattle.holder_model_values.specs.RunValues.Shapes.{Shape}
+use Rattle.instruction_table.specs.declared.op.Op.TheVariants as op
 use Rattle.module_runner_examples.proofs.Computed.{both, shapes_told, fault_of_lowered_text}
 use Rattle.module_runner_examples.proofs.Opened.{opened}
 use Rattle.module_runner_examples.proofs.Told.{seen, seen_int, seen_named, seen_tuple, at_int, at_tuple, at_address, struct_seen}
 use Rattle.module_runner_examples.specs.Parts.{v, fn, typed, bare, member, inst, shapes_with}
-use Rattle.module_runner_examples.specs.inner.LoweredPartLentToACalleeWritten.{LoweredPartLentToACalleeWritten, fn_f, fn_main, lowered_part_lent_to_a_callee_written}
-use Rattle.module_runner_examples.specs.inner.LoweredPartLentToACalleeWritten.{sig_f, ty_S}
+use Rattle.module_runner_examples.specs.inner.LoweredPartLentToACalleeWritten.{LoweredPartLentToACalleeWritten, fn_f, fn_main}
+use Rattle.module_runner_examples.specs.inner.LoweredPartLentToACalleeWritten.{lowered_part_lent_to_a_callee_written, sig_f, ty_S}
 use Rattle.module_runner_examples.specs.inner.Reported.{HasFault}
-use Rattle.holder_model_values.specs.RunValues.Shapes as shape
-use Rattle.holder_model_values.specs.RunValues.Shapes.{Shape}
 use Rattle.sil_ast.specs.declared.inst.Inst.{Inst}
 use Rattle.sil_ast.specs.declared.type_name.TypeName.TheVariants as type
 use Rattle.sil_ast.specs.declared.type_name.TypeName.{TypeName}

@@ -5,26 +5,26 @@ use Rattle.std.specs.List.{flat_map, range_with_len}
 use Rattle.std.specs.Fmt.{digits}
 use Rattle.holder_model.specs.Calling.{value_count}
 use Rattle.holder_model.specs.Faults as holder
+use Rattle.holder_model.specs.LoweredRun.LowOutcomes.{low_outcome_with}
 use Rattle.holder_model.specs.ModuleFacts.{ModuleFacts, facts_of, function_facts}
 use Rattle.holder_model.specs.ModuleShapes.{value_shape, ClassShape, ModuleShapes, class_shape, function_shapes, shapes_of}
 use Rattle.holder_model.specs.Outcomes.{outcome_with}
+use Rattle.holder_model.specs.declared.lowered_run.low_fault.LowFault.TheVariants as fault
+use Rattle.holder_model_values.specs.RunValues.Shapes as shape
+use Rattle.holder_model_values.specs.RunValues.Shapes.{Shape}
 use Rattle.instruction_table.specs.Forms.{result_kind_of}
 use Rattle.instruction_table.specs.declared.op.Op.TheVariants as op
-use Rattle.holder_model.specs.LoweredRun.LowOutcomes.{low_outcome_with}
-use Rattle.holder_model.specs.declared.lowered_run.low_fault.LowFault.TheVariants as fault
-use Rattle.ownership_lowering_model.specs.LoweredModules.{lowered, lowered_function}
-use Rattle.ownership_kinds_chains.specs.OwnershipChains.Facts.{value_of}
-use Rattle.ownership_kinds_chains.specs.declared.ownership_chains.definition.Definition.{Definition}
-use Rattle.ownership_kinds_chains.specs.declared.ownership_chains.facts.Facts.{Facts}
-use Rattle.ownership_kinds_origins.specs.Facts.{facts_by}
-use Rattle.ownership_kinds_origins.specs.Origins.{definitions_of, result_definition_by}
 use Rattle.module_runner_examples.proofs.Computed.{both, lowered_with, shapes_told, facts_told, fault_by_holders, fault_of_lowered}
 use Rattle.module_runner_examples.proofs.Told.{seen_int, seen_tuple, at_tuple, at_address, weighed_int, weighed_tuple, weighed_address, definition_by}
 use Rattle.module_runner_examples.specs.Parts.{v, fn, typed, inst, plain, shapes_with, facts_with}
 use Rattle.module_runner_examples.specs.inner.Reported.{HasFault}
 use Rattle.module_runner_examples.specs.inner.SlotsDeallocatedOutOfOrder.{SlotsDeallocatedOutOfOrder, fn_main, sig_main, slots_deallocated_out_of_order}
-use Rattle.holder_model_values.specs.RunValues.Shapes as shape
-use Rattle.holder_model_values.specs.RunValues.Shapes.{Shape}
+use Rattle.ownership_kinds_chains.specs.OwnershipChains.Facts.{value_of}
+use Rattle.ownership_kinds_chains.specs.declared.ownership_chains.definition.Definition.{Definition}
+use Rattle.ownership_kinds_chains.specs.declared.ownership_chains.facts.Facts.{Facts}
+use Rattle.ownership_kinds_origins.specs.Facts.{facts_by}
+use Rattle.ownership_kinds_origins.specs.Origins.{definitions_of, result_definition_by}
+use Rattle.ownership_lowering_model.specs.LoweredModules.{lowered, lowered_function}
 use Rattle.sil_ast.specs.declared.function.Block.{Block}
 use Rattle.sil_ast.specs.declared.function.Form.TheVariants as form
 use Rattle.sil_ast.specs.declared.function.Function.{Function}

@@ -13,8 +13,8 @@ use Rattle.sil_ast.specs.declared.type_name.TypeName.TheVariants as type
 use Rattle.module_runner_examples.specs.Parts.{v, fn, typed, inst, signed_as, imports}
 use Rattle.holder_model.specs.Faults as holder
 use Rattle.holder_model.specs.declared.lowered_run.low_fault.LowFault.TheVariants as fault
-use Rattle.ownership_lowering_model.specs.LoweredModules.{lowered}
 use Rattle.module_runner_examples.specs.inner.Reported.{FaultsByHolders, FaultsLowered}
+use Rattle.ownership_lowering_model.specs.LoweredModules.{lowered}
 
 abbrev pub sig_main : Signature
 sig_main = signed_as convention.Thin [] []
