@@ -1,5 +1,5 @@
 //! Which copies of an accepted module can go, and the module without them.
-//! What can go is defined in `copy_removal`. It knows of no run and no text.
+//! What can go is defined in `copy_pairing_model`. It knows of no run and no text.
 #![tactic(auto)]
 
 mod moves;

@@ -1,5 +1,5 @@
 //! Which copies of a function can become borrows: of all copies at once, by one search of the walks, or of one.
-//! Which can is defined in `copy_removal` (`IsBorrowable`). It knows of no module, and rewrites nothing.
+//! Which can is defined in `copy_pairing_model` (`IsBorrowable`). It knows of no module, and rewrites nothing.
 mod answers;
 mod consumers;
 mod copies;

@@ -87,7 +87,7 @@ abbrev pub measures_within : Declarations → ℕ → List Measure
 measures_within d zero = []
 measures_within d (suc n) = map (measure_decl (measure_at (all_names d) (measures_within d n))) (all_decls d)
 
--- a finite type is seen whole through as many declarations as there are; `AreByParts` of `type_measures` says so of each table that is built
+-- a finite type is seen whole through as many declarations as there are; `AreByParts` of `sil_types_items` says so of each table that is built
 abbrev pub measures_of : Declarations → List Measure
 measures_of d = measures_within d (length (all_decls d))
 

@@ -1,4 +1,4 @@
--- The record of what acceptance says, from the lemmas behind the laws of the crates below.
+-- The record of what acceptance says, from the lemmas of the parts and crates before it.
 use Rattle.sil_verifier_trails.proofs.RunTrails.RunPaths.{are_entered_once, are_trails}
 use Rattle.sil_verifier_trails.proofs.RunTrails.SplicedRuns.{are_spliced}
 use Rattle.sil_verifier_trails.proofs.RunTrails.SwitchedTrails.{are_followed, are_on_where_turned, followed_turned}
