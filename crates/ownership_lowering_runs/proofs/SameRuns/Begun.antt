@@ -32,8 +32,8 @@ use Rattle.ownership_lowering_runs.specs.StoredRuns.inner.Lowering.{LowersSo}
 use Rattle.ownership_lowering_runs.specs.StoredRuns.inner.Names.{lowered_number}
 use Rattle.ownership_lowering_runs.specs.StoredRuns.inner.States.{IsStateFor}
 use Rattle.ownership_lowering_runs.proofs.StoredRuns.Awaited.{begin_awaited}
-use Rattle.ownership_lowering_runs.proofs.StoredRuns.LoweredCode.{first_lowered}
-use Rattle.ownership_lowering_runs.proofs.StoredRuns.LoweredSo.{are_lowered_so}
+use Rattle.ownership_lowering_runs.proofs.StoredRuns.Lowered.LoweredCode.{first_lowered}
+use Rattle.ownership_lowering_runs.proofs.StoredRuns.Lowered.LoweredSo.{are_lowered_so}
 use Rattle.ownership_lowering_runs.proofs.StoredRuns.PutValues.{no_entry, no_value}
 use Rattle.ownership_lowering_runs.specs.SameRuns.inner.Laws.{BeginTypedFor}
 

@@ -60,7 +60,7 @@ use Rattle.sil_verifier_runs.proofs.sil_verifier_frames.Typed.Edges.{end_forms, 
 use Rattle.sil_verifier_runs.proofs.sil_verifier_frames.Typed.Entries.{FitEach, operands_fit}
 use Rattle.sil_verifier_runs.proofs.sil_verifier_frames.Typed.GoesOn.{Running, accepted_body}
 use Rattle.holder_model_values.specs.ValueParts.inner.Choices.{IsChoice}
-use Rattle.ownership_lowering_runs.proofs.StoredRuns.TypedEnds.{IsOfValue, case_bare, edges_by, takes_values}
+use Rattle.ownership_lowering_runs.proofs.StoredRuns.Typed.TypedEnds.{IsOfValue, case_bare, edges_by, takes_values}
 use Rattle.ownership_lowering_runs.proofs.SameRuns.CountedEdges.{Balances, IsCase, branch_balances, cond_op, br_op, one_by, switch_balances, switch_op}
 use Rattle.ownership_lowering_runs.proofs.SameRuns.CountedMoves.{moved_counted}
 

@@ -41,7 +41,7 @@ use Rattle.ownership_lowering_runs.proofs.StoredRuns.MemoriesFor.{object_ended, 
 use Rattle.ownership_lowering_runs.proofs.StoredRuns.RowSteps.{KeepsFull, parts_kept}
 use Rattle.ownership_lowering_runs.proofs.StoredRuns.StayingSteps.{dropping_for}
 use Rattle.ownership_lowering_runs.proofs.StoredRuns.TaskSteps as tasks
-use Rattle.ownership_lowering_runs.proofs.StoredRuns.TypedSteps.{LowFinish, finish_top}
+use Rattle.ownership_lowering_runs.proofs.StoredRuns.Typed.TypedSteps.{LowFinish, finish_top}
 use Rattle.ownership_lowering_runs.specs.SameRuns.inner.Followed.{StepsToo}
 
 -- what finishes isn't dead, and each of its fields is written

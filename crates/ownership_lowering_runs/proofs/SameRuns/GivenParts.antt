@@ -47,7 +47,7 @@ use Rattle.sil_verifier_runs.proofs.sil_verifier_frames.Typed.GoesOn.{accepted_b
 use Rattle.ownership_lowering_runs.specs.StoredRuns.inner.Frames.{AreTasksFor, AreValuesFor, HasFullParts, IsDatumFor, IsFrameFor, IsGivenPlace, IsTaskFor}
 use Rattle.ownership_lowering_runs.specs.StoredRuns.inner.Lowering.{IsOwnName}
 use Rattle.ownership_lowering_runs.specs.StoredRuns.inner.Names.{IsCurrent, lowered_number}
-use Rattle.ownership_lowering_runs.proofs.StoredRuns.LoweredSo.{are_lowered_so}
+use Rattle.ownership_lowering_runs.proofs.StoredRuns.Lowered.LoweredSo.{are_lowered_so}
 use Rattle.ownership_lowering_runs.proofs.StoredRuns.StayingSteps.{low_frame}
 use Rattle.sil_verifier_runs.specs.holder_model_laws.HolderLaws.inner.Cells.Cells.{AreApart}
 

@@ -25,11 +25,11 @@ use Rattle.ownership_lowering_runs.specs.StoredRuns.inner.PlaceRows.{LowGoes, St
 use Rattle.ownership_lowering_runs.specs.StoredRuns.inner.Runs.{IsOutcomeFor}
 use Rattle.ownership_lowering_runs.specs.StoredRuns.inner.TypedSteps.{IsTypedFor}
 use Rattle.ownership_lowering_runs.proofs.StoredRuns.FrameSteps as steps
-use Rattle.ownership_lowering_runs.proofs.StoredRuns.LoweredSo.{are_lowered_so}
-use Rattle.ownership_lowering_runs.proofs.StoredRuns.RowsAlong.{are_rows_along}
-use Rattle.ownership_lowering_runs.proofs.StoredRuns.SparesApart.{accepted_spares_apart}
+use Rattle.ownership_lowering_runs.proofs.StoredRuns.Lowered.LoweredSo.{are_lowered_so}
+use Rattle.ownership_lowering_runs.proofs.StoredRuns.Along.RowsAlong.{are_rows_along}
+use Rattle.ownership_lowering_runs.proofs.StoredRuns.Lowered.SparesApart.{accepted_spares_apart}
 use Rattle.ownership_lowering_runs.proofs.StoredRuns.StayingSteps.{LowTop}
-use Rattle.ownership_lowering_runs.proofs.StoredRuns.TrapsAlong.{are_traps_along}
+use Rattle.ownership_lowering_runs.proofs.StoredRuns.Along.TrapsAlong.{are_traps_along}
 use Rattle.ownership_lowering_runs.specs.SameRuns.inner.Followed.{EndsToo, low_next_of}
 use Rattle.ownership_lowering_runs.specs.SameRuns.inner.InRightStates.{AtInst, RowsAreRight, RowsGoAlong, RowsTrapAlong, TrapsAreRight}
 

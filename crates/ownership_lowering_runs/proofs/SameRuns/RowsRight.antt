@@ -14,8 +14,8 @@ use Rattle.ownership_lowering_runs.specs.StoredRuns.inner.RowsRight.{RowRight, i
 use Rattle.ownership_lowering_runs.specs.StoredRuns.inner.TypedPlainRows.{is_plain_row}
 use Rattle.ownership_lowering_runs.specs.StoredRuns.inner.TypedSteps.{IsTypedFor}
 use Rattle.ownership_lowering_runs.proofs.StoredRuns.PlacesTold.{are_places_told}
-use Rattle.ownership_lowering_runs.proofs.StoredRuns.TypedPlainRows.{are_typed_plain_rows}
-use Rattle.ownership_lowering_runs.proofs.StoredRuns.TypedRows.{are_typed_place_rows}
+use Rattle.ownership_lowering_runs.proofs.StoredRuns.Typed.TypedPlainRows.{are_typed_plain_rows}
+use Rattle.ownership_lowering_runs.proofs.StoredRuns.Typed.TypedRows.{are_typed_place_rows}
 use Rattle.ownership_lowering_runs.specs.SameRuns.inner.InRightStates.{AtInst, IsNoCall, LeavesSo, RowsAreRight}
 use Rattle.ownership_lowering_runs.proofs.SameRuns.RetainedAlive.{retained_alive}
 use Rattle.ownership_lowering_runs.proofs.SameRuns.SparedParts.{parts_spared}

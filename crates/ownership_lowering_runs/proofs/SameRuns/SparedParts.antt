@@ -66,7 +66,7 @@ use Rattle.sil_verifier_runs.specs.holder_model.LoweredRun.LowStepParts.{LowStat
 use Rattle.sil_verifier_runs.specs.sil_verifier_frames.inner.Typed.TypedStates.{FrameIs, TasksAre}
 use Rattle.ownership_lowering_runs.specs.StoredRuns.inner.Frames.{HasFullParts}
 use Rattle.ownership_lowering_runs.specs.StoredRuns.inner.TypedSteps.{IsTypedFor}
-use Rattle.ownership_lowering_runs.proofs.StoredRuns.TypedInsts.{given_typed, operand_forms}
+use Rattle.ownership_lowering_runs.proofs.StoredRuns.Typed.TypedInsts.{given_typed, operand_forms}
 use Rattle.ownership_lowering_runs.specs.SameRuns.inner.InRightStates.{ArePartsSpared, AtInst}
 use Rattle.ownership_lowering_runs.proofs.SameRuns.HandedFull.{root_whole}
 use Rattle.ownership_lowering_runs.proofs.SameRuns.SparedPartsBelow.{WasNotGiven, none_below, tasks_apart}

@@ -20,8 +20,8 @@ use Rattle.ownership_lowering_laws.specs.holder_model_typing.TypedMemory.inner.W
 use Rattle.ownership_lowering_laws.proofs.holder_model_typing.RunTypingLaws.Rows.Finding.{each_at}
 use Rattle.ownership_lowering_laws.proofs.holder_model_typing.TypedMemory.CellShapes.{place_within, shape_count}
 use Rattle.ownership_lowering_laws.proofs.holder_model_typing.TypedMemory.Zips.{Within}
-use Rattle.ownership_lowering_runs.proofs.StoredRuns.TypedCalls.{IsStrong}
-use Rattle.ownership_lowering_runs.proofs.StoredRuns.TypedPlaces.{bare_cells}
+use Rattle.ownership_lowering_runs.proofs.StoredRuns.Typed.TypedCalls.{IsStrong}
+use Rattle.ownership_lowering_runs.proofs.StoredRuns.Typed.TypedPlaces.{bare_cells}
 
 -- ---- other cells
 

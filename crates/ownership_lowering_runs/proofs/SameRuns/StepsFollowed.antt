@@ -40,7 +40,7 @@ use Rattle.ownership_lowering_runs.specs.StoredRuns.inner.PlaceRows.{LowGoes}
 use Rattle.ownership_lowering_runs.specs.StoredRuns.inner.Runs.{IsNextFor}
 use Rattle.ownership_lowering_runs.specs.StoredRuns.inner.TypedSteps.{IsTypedFor}
 use Rattle.ownership_lowering_runs.proofs.StoredRuns.CallsAlone.{calls_alone, calls_or, op_of}
-use Rattle.ownership_lowering_runs.proofs.StoredRuns.TypedSteps.{typed_calls_step, typed_deinits_step, typed_ends_step}
+use Rattle.ownership_lowering_runs.proofs.StoredRuns.Typed.TypedSteps.{typed_calls_step, typed_deinits_step, typed_ends_step}
 use Rattle.ownership_lowering_runs.specs.SameRuns.inner.Followed.{Follows, GoesToo, StepsToo, low_next_of}
 use Rattle.ownership_lowering_runs.specs.SameRuns.inner.Laws.{AreStepsFollowed}
 use Rattle.ownership_lowering_runs.specs.SameRuns.inner.InRightStates.{AtInst, IsComeTo, LeavesSo, effect_there}

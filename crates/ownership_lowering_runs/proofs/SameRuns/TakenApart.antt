@@ -48,7 +48,7 @@ use Rattle.ownership_lowering_laws.proofs.holder_model_typing.RunTypingLaws.Rows
 use Rattle.ownership_lowering_laws.proofs.holder_model_typing.RunTypingLaws.ShapeFacts.{field_shape_of, tuple_shape}
 use Rattle.ownership_lowering_laws.proofs.holder_model_typing.RunTypingLaws.TextClasses.{chains_end}
 use Rattle.ownership_lowering_laws.proofs.holder_model_typing.RunTypingLaws.ValueForms.{value_forms}
-use Rattle.ownership_lowering_runs.proofs.StoredRuns.TypedInsts.{operand_forms, result_forms}
+use Rattle.ownership_lowering_runs.proofs.StoredRuns.Typed.TypedInsts.{operand_forms, result_forms}
 
 -- ---- a shape is finite
 

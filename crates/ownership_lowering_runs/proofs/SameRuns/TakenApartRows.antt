@@ -45,8 +45,8 @@ use Rattle.ownership_lowering_runs.specs.StoredRuns.inner.PlaceRows.{StandsAt, o
 use Rattle.ownership_lowering_runs.specs.StoredRuns.inner.RowsRight.{RowRight, TakesApart, held_effect}
 use Rattle.ownership_lowering_runs.proofs.StoredRuns.PlacesFound.{one_of}
 use Rattle.ownership_lowering_runs.proofs.StoredRuns.StandsThere.{operands_old}
-use Rattle.ownership_lowering_runs.proofs.StoredRuns.TypedInsts.{given_typed, operand_forms}
-use Rattle.ownership_lowering_runs.proofs.StoredRuns.TypedPlainRows.{OneValue, one_value_of}
+use Rattle.ownership_lowering_runs.proofs.StoredRuns.Typed.TypedInsts.{given_typed, operand_forms}
+use Rattle.ownership_lowering_runs.proofs.StoredRuns.Typed.TypedPlainRows.{OneValue, one_value_of}
 use Rattle.ownership_lowering_runs.proofs.SameRuns.TakenApart.{ApartSo, as_long, member_found, members_placed, members_smaller, size_of, sizes_of, struct_taken_apart, tuple_taken_apart}
 
 -- which rows take apart

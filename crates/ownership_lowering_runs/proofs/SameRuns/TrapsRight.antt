@@ -1,6 +1,6 @@
 -- A row that traps in a right state finds what the lowered run needs.
 use Rattle.ownership_lowering_runs.specs.SameRuns.inner.InRightStates.{TrapsAreRight}
-use Rattle.ownership_lowering_runs.proofs.StoredRuns.TypedTraps.{are_typed_traps}
+use Rattle.ownership_lowering_runs.proofs.StoredRuns.Typed.TypedTraps.{are_typed_traps}
 use Rattle.ownership_lowering_runs.proofs.SameRuns.RowsFound.{accepted, frame_is, stands}
 
 pub traps_are_right : TrapsAreRight

@@ -49,7 +49,7 @@ use Rattle.holder_model_values.specs.RunValues.Shapes.{Shape}
 use Rattle.ownership_lowering_runs.proofs.StoredRuns.FullKept.{same_keeps}
 use Rattle.ownership_lowering_runs.proofs.StoredRuns.LoadSteps.{load_effect}
 use Rattle.ownership_lowering_runs.proofs.StoredRuns.StrongCells.{none_unnamed}
-use Rattle.ownership_lowering_runs.proofs.StoredRuns.SpareValues.{parts_still, shown_still, spare, spare_under, with_spare}
+use Rattle.ownership_lowering_runs.proofs.StoredRuns.Lowered.SpareValues.{parts_still, shown_still, spare, spare_under, with_spare}
 use Rattle.sil_verifier_runs.specs.holder_model.LoweredRun.LowEffects as low_effects
 use Rattle.sil_types.specs.Typing.FormRules.{is_at_storage}
 

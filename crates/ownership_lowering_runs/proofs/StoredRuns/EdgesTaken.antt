@@ -54,8 +54,8 @@ use Rattle.ownership_lowering_runs.specs.StoredRuns.inner.Memories.{IsMemoryFor}
 use Rattle.ownership_lowering_runs.specs.StoredRuns.inner.Names.{lowered_number}
 use Rattle.ownership_lowering_runs.specs.StoredRuns.inner.Points.{lowered_point}
 use Rattle.ownership_lowering_runs.specs.StoredRuns.inner.Runs.{IsEndingFor}
-use Rattle.ownership_lowering_runs.proofs.StoredRuns.GoesAlong.{LowBehind, PutsSo, goes_along, puts_none, puts_own}
-use Rattle.ownership_lowering_runs.proofs.StoredRuns.LoweredCode.{first_lowered, low_edge, low_terminator}
+use Rattle.ownership_lowering_runs.proofs.StoredRuns.Along.GoesAlong.{LowBehind, PutsSo, goes_along, puts_none, puts_own}
+use Rattle.ownership_lowering_runs.proofs.StoredRuns.Lowered.LoweredCode.{first_lowered, low_edge, low_terminator}
 use Rattle.ownership_lowering_runs.proofs.StoredRuns.Reading.{AreReadSo, behind_nothing, behind_renamed, taken_exact, taken_read, taken_renumbered}
 use Rattle.ownership_lowering_runs.proofs.StoredRuns.ValuesFor.{AreTakenSo, err-ok, ok-ok, operands_given}
 

@@ -39,7 +39,7 @@ use Rattle.ownership_lowering_runs.specs.StoredRuns.inner.Lowering.{IsOwnName, L
 use Rattle.ownership_lowering_runs.specs.StoredRuns.inner.Memories.{IsMemoryFor}
 use Rattle.ownership_lowering_runs.specs.StoredRuns.inner.Names.{IsCurrent, IsOld, lowered_count, lowered_number}
 use Rattle.ownership_lowering_runs.specs.StoredRuns.inner.Runs.{IsEndingFor}
-use Rattle.ownership_lowering_runs.proofs.StoredRuns.LoweredCode.{first_lowered}
+use Rattle.ownership_lowering_runs.proofs.StoredRuns.Lowered.LoweredCode.{first_lowered}
 use Rattle.ownership_lowering_runs.proofs.StoredRuns.PutValues.{no_entry, no_value, put_holds, put_total}
 use Rattle.ownership_lowering_runs.proofs.StoredRuns.Reading.{Like, behind_current}
 use Rattle.ownership_lowering_runs.proofs.StoredRuns.ValuesFor.{AreLike, ArePut, results_shown}

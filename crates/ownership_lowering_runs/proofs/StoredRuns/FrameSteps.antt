@@ -19,8 +19,8 @@ use Rattle.ownership_lowering_runs.specs.StoredRuns.inner.FrameSteps.{CallsStep,
 use Rattle.ownership_lowering_runs.specs.StoredRuns.inner.Frames.{HasFullParts, IsFrameAt}
 use Rattle.ownership_lowering_runs.specs.StoredRuns.inner.Lowering.{LowersSo}
 use Rattle.ownership_lowering_runs.specs.StoredRuns.inner.States.{IsStateFor}
-use Rattle.ownership_lowering_runs.proofs.StoredRuns.CallsAlong.{are_calls_along}
-use Rattle.ownership_lowering_runs.proofs.StoredRuns.EndsAlong.{are_ends_along}
+use Rattle.ownership_lowering_runs.proofs.StoredRuns.Along.CallsAlong.{are_calls_along}
+use Rattle.ownership_lowering_runs.proofs.StoredRuns.Along.EndsAlong.{are_ends_along}
 use Rattle.ownership_lowering_runs.proofs.StoredRuns.StayingSteps.{LowTop, function_there, low_top}
 use Rattle.std.proofs.lemmas.Option.{same_Some}
 

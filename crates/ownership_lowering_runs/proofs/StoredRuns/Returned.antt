@@ -38,7 +38,7 @@ use Rattle.ownership_lowering_runs.specs.StoredRuns.inner.Memories.{IsMemoryFor}
 use Rattle.ownership_lowering_runs.specs.StoredRuns.inner.Returned.{AreCountsReturned, AreReturned, TakesResult, WaitsAtCall}
 use Rattle.ownership_lowering_runs.specs.StoredRuns.inner.Runs.{IsEndingFor}
 use Rattle.ownership_lowering_runs.proofs.StoredRuns.EdgesTaken.{value_is}
-use Rattle.ownership_lowering_runs.proofs.StoredRuns.GoesAlong.{goes_along, puts_own}
+use Rattle.ownership_lowering_runs.proofs.StoredRuns.Along.GoesAlong.{goes_along, puts_own}
 use Rattle.ownership_lowering_runs.proofs.StoredRuns.LeftObjects.{left_for}
 use Rattle.ownership_lowering_runs.proofs.StoredRuns.Reading.{defines_there}
 use Rattle.ownership_lowering_runs.proofs.StoredRuns.SameRows.{none_dead}

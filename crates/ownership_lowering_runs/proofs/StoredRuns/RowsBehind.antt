@@ -48,8 +48,8 @@ use Rattle.ownership_lowering_runs.specs.StoredRuns.inner.Memories.{IsMemoryFor}
 use Rattle.ownership_lowering_runs.specs.StoredRuns.inner.Names.{IsCurrent, IsOld}
 use Rattle.ownership_lowering_runs.specs.StoredRuns.inner.PlaceRows.{GoesAlong, LowGoes, StandsAt}
 use Rattle.ownership_lowering_runs.specs.StoredRuns.inner.Points.{lowered_point}
-use Rattle.ownership_lowering_runs.proofs.StoredRuns.GoesAlong.{other_numbers}
-use Rattle.ownership_lowering_runs.proofs.StoredRuns.LoweredCode.{IsLoweredTo, lowered_inst}
+use Rattle.ownership_lowering_runs.proofs.StoredRuns.Along.GoesAlong.{other_numbers}
+use Rattle.ownership_lowering_runs.proofs.StoredRuns.Lowered.LoweredCode.{IsLoweredTo, lowered_inst}
 use Rattle.ownership_lowering_runs.proofs.StoredRuns.Reading.{Like, behind_current, defines_there, like_itself, taken_renumbered}
 use Rattle.ownership_lowering_runs.proofs.StoredRuns.RowSteps as rows
 use Rattle.ownership_lowering_runs.proofs.StoredRuns.PutValues.{put_other}

@@ -18,7 +18,7 @@ use Rattle.ownership_lowering_laws.specs.ownership_lowering_model.Numbers.{renum
 use Rattle.ownership_lowering_laws.specs.ownership_lowering_model.declared.lowering.Lowering.TheVariants as lowering
 use Rattle.ownership_lowering_runs.specs.StoredRuns.inner.Names.{lowered_number}
 use Rattle.ownership_lowering_runs.specs.StoredRuns.inner.Points.{lowered_point}
-use Rattle.ownership_lowering_runs.proofs.StoredRuns.LoweredCode.{IsLoweredTo, lowered_inst}
+use Rattle.ownership_lowering_runs.proofs.StoredRuns.Lowered.LoweredCode.{IsLoweredTo, lowered_inst}
 use Rattle.ownership_lowering_runs.proofs.StoredRuns.Reading.{defines_there, taken_renumbered, takes_there}
 
 module _ (d : Declarations) (f : Function) (p : PointId) (i : Inst) (here : inst_at f p ≡ Some i) (stays : lowering_of i.op ≡ lowering.Stays)

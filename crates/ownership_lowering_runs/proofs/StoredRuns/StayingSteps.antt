@@ -46,7 +46,7 @@ use Rattle.sil_verifier_runs.specs.holder_model_laws.LoweredSteps.inner.LowWays.
 use Rattle.ownership_lowering_runs.specs.StoredRuns.inner.Frames.{AreTasksFor, IsFrameFor, IsTaskFor}
 use Rattle.ownership_lowering_runs.specs.StoredRuns.inner.Lowering.{LowersSo}
 use Rattle.ownership_lowering_runs.specs.StoredRuns.inner.Memories.{IsMemoryFor}
-use Rattle.ownership_lowering_runs.proofs.StoredRuns.LoweredCode.{mapped_at}
+use Rattle.ownership_lowering_runs.proofs.StoredRuns.Lowered.LoweredCode.{mapped_at}
 use Rattle.ownership_lowering_runs.proofs.StoredRuns.SameRows.{none_dead, none_in_both}
 use Rattle.ownership_lowering_runs.proofs.StoredRuns.ValuesFor.{IsGivenAlive, err-ok, ok-ok}
 

@@ -1,5 +1,5 @@
 -- `store`: the lowered run stores, and `[assign]` loads what the place held before, and releases it behind the store.
-use Rattle.ownership_lowering_runs.proofs.StoredRuns.SpareValues.{parts_still, shown_still, spare_under, stays_under, with_spare}
+use Rattle.ownership_lowering_runs.proofs.StoredRuns.Lowered.SpareValues.{parts_still, shown_still, spare_under, stays_under, with_spare}
 use Rattle.ownership_lowering_runs.specs.StoredRuns.inner.Names.{IsOld}
 use Rattle.ownership_lowering_runs.specs.StoredRuns.inner.Spares.{AreSparesApart}
 use Rattle.std.proofs.lemmas.Bool.{cases_Bool}

@@ -56,8 +56,8 @@ use Rattle.sil_verifier_runs.proofs.sil_verifier_frames.Typed.Data.{DataAre}
 use Rattle.sil_verifier_runs.proofs.sil_verifier_frames.Typed.TrivialShapes.{trivial_shape}
 use Rattle.ownership_lowering_runs.specs.StoredRuns.inner.WrittenPlaces.{ArePlacesWritten}
 use Rattle.ownership_lowering_runs.proofs.StoredRuns.PlacesFound.{one_place_of}
-use Rattle.ownership_lowering_runs.proofs.StoredRuns.TypedInsts.{given_typed, operand_forms}
-use Rattle.ownership_lowering_runs.proofs.StoredRuns.TypedPlaces.{bare_whole}
+use Rattle.ownership_lowering_runs.proofs.StoredRuns.Typed.TypedInsts.{given_typed, operand_forms}
+use Rattle.ownership_lowering_runs.proofs.StoredRuns.Typed.TypedPlaces.{bare_whole}
 
 -- ---- which rows store and destroy
 

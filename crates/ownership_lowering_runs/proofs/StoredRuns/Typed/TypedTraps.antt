@@ -35,8 +35,8 @@ use Rattle.ownership_lowering_runs.specs.StoredRuns.inner.Frames.{IsNoAddress}
 use Rattle.ownership_lowering_runs.specs.StoredRuns.inner.RowsRight.{TrapRight, is_place_row}
 use Rattle.ownership_lowering_runs.specs.StoredRuns.inner.TypedTraps.{AreTypedTraps}
 use Rattle.ownership_lowering_runs.proofs.StoredRuns.PlacesFound.{names_op, one_of}
-use Rattle.ownership_lowering_runs.proofs.StoredRuns.TypedInsts.{given_typed, operand_forms}
-use Rattle.ownership_lowering_runs.proofs.StoredRuns.TypedPlainRows.{traps_op}
+use Rattle.ownership_lowering_runs.proofs.StoredRuns.Typed.TypedInsts.{given_typed, operand_forms}
+use Rattle.ownership_lowering_runs.proofs.StoredRuns.Typed.TypedPlainRows.{traps_op}
 
 abbrev E : Type 0
 E = Effect HolderFault

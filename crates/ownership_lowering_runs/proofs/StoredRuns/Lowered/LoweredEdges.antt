@@ -43,8 +43,8 @@ use Rattle.sil_verifier_runs.specs.sil_verifier_values.inner.Known.{IsAcceptedBo
 use Rattle.sil_verifier_runs.proofs.sil_verifier_values.Accepted.{counted, typed}
 use Rattle.ownership_lowering_runs.specs.StoredRuns.inner.Lowering.{IsEdgeLowered, IsOtherName, IsOwnName}
 use Rattle.ownership_lowering_runs.specs.StoredRuns.inner.Names.{AreNamed, IsOld, lowered_number}
-use Rattle.ownership_lowering_runs.proofs.StoredRuns.LoweredCode.{low_edge}
-use Rattle.ownership_lowering_runs.proofs.StoredRuns.LoweredNames.{same_end}
+use Rattle.ownership_lowering_runs.proofs.StoredRuns.Lowered.LoweredCode.{low_edge}
+use Rattle.ownership_lowering_runs.proofs.StoredRuns.Lowered.LoweredNames.{same_end}
 use Rattle.ownership_lowering_runs.proofs.StoredRuns.RenamingRows.{IsNamedBy, args_named}
 
 -- ---- terminators that choose

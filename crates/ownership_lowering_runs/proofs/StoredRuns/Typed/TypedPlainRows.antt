@@ -39,7 +39,7 @@ use Rattle.ownership_lowering_runs.specs.StoredRuns.inner.PlaceRows.{StandsAt}
 use Rattle.ownership_lowering_runs.specs.StoredRuns.inner.RowsRight.{RowRight, held_effect, is_place_row}
 use Rattle.ownership_lowering_runs.specs.StoredRuns.inner.TypedPlainRows.{AreTypedPlainRows, is_plain_row}
 use Rattle.ownership_lowering_runs.proofs.StoredRuns.PlacesFound.{no_result, one_of, one_place_of, one_result}
-use Rattle.ownership_lowering_runs.proofs.StoredRuns.TypedInsts.{given_typed, inst_typed, operand_forms, result_forms}
+use Rattle.ownership_lowering_runs.proofs.StoredRuns.Typed.TypedInsts.{given_typed, inst_typed, operand_forms, result_forms}
 
 -- ---- rows and their operations
 

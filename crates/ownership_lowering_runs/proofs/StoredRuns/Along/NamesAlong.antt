@@ -7,7 +7,7 @@ use Rattle.sil_verifier_runs.specs.holder_model.LoweredRun.Stored.{named, unname
 use Rattle.sil_verifier_runs.specs.sil_verifier_trails.AcceptedTrails.inner.Defined.{makes}
 use Rattle.sil_ast.specs.declared.decl.Storage.{Storage}
 use Rattle.holder_model_values.specs.declared.run_values.phase.Phase.{Phase}
-use Rattle.ownership_lowering_runs.proofs.StoredRuns.PlainAlong.{plain_along}
+use Rattle.ownership_lowering_runs.proofs.StoredRuns.Along.PlainAlong.{plain_along}
 use Rattle.std.proofs.Common.{◌≡◌, ℕ, List, [], ◌∷◌, refl, sym, ap, ◌∙◌, subst, Bool, true, false, cond, Option, Some, None, Ok, ap₂, not, ◌||◌, ◌&&◌}
 use Rattle.std.specs.Prelude.{◌||◌, not, find, is_some}
 use Rattle.std.specs.List.{list_any}
@@ -63,7 +63,7 @@ use Rattle.ownership_lowering_runs.proofs.StoredRuns.LoadSteps.{read_below, ther
 use Rattle.ownership_lowering_runs.proofs.StoredRuns.StrongCells.{unnamed_same}
 use Rattle.sil_verifier_runs.specs.holder_model.StepParts as parts
 use Rattle.sil_verifier_runs.specs.holder_model.MemoryEffects as holder_effects
-use Rattle.ownership_lowering_runs.proofs.StoredRuns.StaysAlong.{low_data, stays_along}
+use Rattle.ownership_lowering_runs.proofs.StoredRuns.Along.StaysAlong.{low_data, stays_along}
 use Rattle.memory_rules_accesses.specs.Operations.{access_kind_of, operation_by}
 
 module _ (m : Module) (bound : ℕ) (s : HolderState) (l : LowState) (frame : Frame) (rest : List (Task Frame)) (f : Function) (i : Inst) (ops : Operands)

@@ -32,7 +32,7 @@ use Rattle.ownership_lowering_runs.specs.StoredRuns.inner.Memories.{MayBeTaken}
 use Rattle.ownership_lowering_runs.specs.StoredRuns.inner.TypedPlaces.{ArePlainPlaces, AreStoragePlaces, AreTrivialPlaces, IsPlainPlace}
 use Rattle.ownership_lowering_runs.proofs.StoredRuns.FullKept.{IsKept, cells_kept}
 use Rattle.ownership_lowering_runs.proofs.StoredRuns.StrongCells.{held, value_holds}
-use Rattle.ownership_lowering_runs.proofs.StoredRuns.TypedCalls.{IsStrong, each_both, strong_taken}
+use Rattle.ownership_lowering_runs.proofs.StoredRuns.Typed.TypedCalls.{IsStrong, each_both, strong_taken}
 
 -- ---- shapes with no storage in them
 

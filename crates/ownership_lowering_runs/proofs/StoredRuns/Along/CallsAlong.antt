@@ -63,9 +63,9 @@ use Rattle.ownership_lowering_runs.specs.StoredRuns.inner.Memories.{IsMemoryFor}
 use Rattle.ownership_lowering_runs.specs.StoredRuns.inner.Names.{lowered_number}
 use Rattle.ownership_lowering_runs.specs.StoredRuns.inner.Runs.{IsEndingFor}
 use Rattle.ownership_lowering_runs.proofs.StoredRuns.Entering.{are_entered}
-use Rattle.ownership_lowering_runs.proofs.StoredRuns.GoesAlong.{goes_along, parts_full, puts_own}
+use Rattle.ownership_lowering_runs.proofs.StoredRuns.Along.GoesAlong.{goes_along, parts_full, puts_own}
 use Rattle.ownership_lowering_runs.proofs.StoredRuns.HandedOver.{addresses_for, arguments_for, as_many_read, handed_for, parts_full_for, values_read}
-use Rattle.ownership_lowering_runs.proofs.StoredRuns.LoweredCode.{mapped_at}
+use Rattle.ownership_lowering_runs.proofs.StoredRuns.Lowered.LoweredCode.{mapped_at}
 use Rattle.ownership_lowering_runs.proofs.StoredRuns.Reading.{AreReadAs, AreReadSo, Like, defines_there, like_exact, taken_read}
 use Rattle.ownership_lowering_runs.proofs.StoredRuns.StandsStaying.{behind_at, defines_same, low_here, takes_same}
 use Rattle.ownership_lowering_runs.proofs.StoredRuns.StayingSteps.{function_there}

@@ -24,7 +24,7 @@ use Rattle.ownership_lowering_laws.proofs.LoweringLaws.Renumbered.{renumbered_va
 use Rattle.sil_verifier_runs.proofs.ownership_kinds_origins.Counts.{are_of_values}
 use Rattle.ownership_lowering_runs.specs.StoredRuns.inner.Names.{IsOld, IsSpare, lowered_count, lowered_number}
 use Rattle.ownership_lowering_runs.specs.StoredRuns.inner.Spares.{AreAcceptedSparesApart, AreSparesApart}
-use Rattle.ownership_lowering_runs.proofs.StoredRuns.LoweredSo.{lowerable}
+use Rattle.ownership_lowering_runs.proofs.StoredRuns.Lowered.LoweredSo.{lowerable}
 
 -- ---- what an instruction among lowered blocks defines is defined
 

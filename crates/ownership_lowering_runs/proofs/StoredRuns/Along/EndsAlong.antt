@@ -59,7 +59,7 @@ use Rattle.ownership_lowering_runs.specs.StoredRuns.inner.Memories.{IsMemoryFor}
 use Rattle.ownership_lowering_runs.specs.StoredRuns.inner.Names.{IsCurrent, IsOld, lowered_number}
 use Rattle.ownership_lowering_runs.specs.StoredRuns.inner.Runs.{IsEndingFor}
 use Rattle.ownership_lowering_runs.proofs.StoredRuns.EdgesTaken.{are_edges_taken, carried_parts, first_taken_of}
-use Rattle.ownership_lowering_runs.proofs.StoredRuns.LoweredCode.{IsLoweredEnd, lowered_end}
+use Rattle.ownership_lowering_runs.proofs.StoredRuns.Lowered.LoweredCode.{IsLoweredEnd, lowered_end}
 use Rattle.ownership_lowering_runs.proofs.StoredRuns.Reading.{AreReadSo, like_exact, taken_exact, taken_read, taken_renumbered}
 use Rattle.ownership_lowering_runs.proofs.StoredRuns.Returned.{are_returned}
 use Rattle.ownership_lowering_runs.proofs.StoredRuns.SwitchedEdges.{same_edge}

@@ -44,9 +44,9 @@ use Rattle.ownership_lowering_laws.proofs.holder_model_typing.RunTypingLaws.Item
 use Rattle.ownership_lowering_runs.specs.StoredRuns.inner.Lowering.{IsOtherName, IsOwnName, IsTakenOld, LowersSo}
 use Rattle.ownership_lowering_runs.specs.StoredRuns.inner.LoweredSo.{AreLoweredSo}
 use Rattle.ownership_lowering_runs.specs.StoredRuns.inner.Names.{AreNamed, IsOld, lowered_number}
-use Rattle.ownership_lowering_runs.proofs.StoredRuns.LoweredCode.{mapped_at}
-use Rattle.ownership_lowering_runs.proofs.StoredRuns.LoweredEdges.{edge_lowered, entry_defined, entry_own, one_chosen}
-use Rattle.ownership_lowering_runs.proofs.StoredRuns.LoweredNames.{are_named, own_name, same_end}
+use Rattle.ownership_lowering_runs.proofs.StoredRuns.Lowered.LoweredCode.{mapped_at}
+use Rattle.ownership_lowering_runs.proofs.StoredRuns.Lowered.LoweredEdges.{edge_lowered, entry_defined, entry_own, one_chosen}
+use Rattle.ownership_lowering_runs.proofs.StoredRuns.Lowered.LoweredNames.{are_named, own_name, same_end}
 use Rattle.ownership_lowering_runs.proofs.StoredRuns.AllCurrent.{all_current}
 use Rattle.ownership_lowering_runs.proofs.StoredRuns.Reading.{defines_there}
 use Rattle.ownership_lowering_runs.proofs.StoredRuns.RenamingRows.{IsNamedBy, results_named}

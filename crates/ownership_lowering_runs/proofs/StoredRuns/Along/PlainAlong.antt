@@ -51,7 +51,7 @@ use Rattle.ownership_lowering_runs.proofs.StoredRuns.FullKept.{growing_keeps, ma
 use Rattle.sil_verifier_runs.specs.holder_model.StepParts as parts
 use Rattle.ownership_lowering_runs.proofs.StoredRuns.StayingSteps.{operated_alive, operated_none}
 use Rattle.sil_verifier_runs.specs.holder_model.MemoryEffects as holder_effects
-use Rattle.ownership_lowering_runs.proofs.StoredRuns.StaysAlong.{low_data, shape_same, stays_along}
+use Rattle.ownership_lowering_runs.proofs.StoredRuns.Along.StaysAlong.{low_data, shape_same, stays_along}
 
 -- ---- full places stay full
 

@@ -1,6 +1,6 @@
 -- The spare value under its number, while it waits to be released: all that was under other numbers stays there.
 use Rattle.ownership_lowering_runs.specs.StoredRuns.inner.Names.{IsOld}
-use Rattle.ownership_lowering_runs.proofs.StoredRuns.SparesApart.{defined_there}
+use Rattle.ownership_lowering_runs.proofs.StoredRuns.Lowered.SparesApart.{defined_there}
 use Rattle.ownership_lowering_runs.specs.StoredRuns.inner.Spares.{AreSparesApart}
 use Rattle.ownership_lowering_laws.specs.LoweringLaws.inner.Laws.{defined_by}
 use Rattle.ownership_lowering_runs.specs.StoredRuns.inner.Frames.{AreValuesFor, AreGivenPartsFull, IsShownAs}

@@ -21,7 +21,7 @@ use Rattle.holder_model_values.specs.RunValues.Values.{Value, references_of}
 use Rattle.sil_verifier_runs.specs.holder_model.Data.{AddressOf, ValueOf}
 use Rattle.sil_verifier_runs.specs.holder_model.Effects.{Change, Effect, Makes, gives_value, unchanged, Traps, SameSlots}
 use Rattle.sil_verifier_runs.specs.holder_model.Faults.{HolderFault}
-use Rattle.ownership_lowering_runs.proofs.StoredRuns.SpareValues.{spare}
+use Rattle.ownership_lowering_runs.proofs.StoredRuns.Lowered.SpareValues.{spare}
 use Rattle.ownership_lowering_runs.specs.StoredRuns.inner.Spares.{AreSparesApart}
 use Rattle.ownership_lowering_runs.specs.StoredRuns.inner.Frames.{HasFullParts, AreGivenPartsFull}
 use Rattle.instruction_table.specs.declared.op.Op.TheVariants as op
@@ -49,11 +49,11 @@ use Rattle.ownership_lowering_runs.proofs.StoredRuns.StandsThere.{facts, one_pla
 use Rattle.ownership_lowering_runs.proofs.StoredRuns.ValuesFor.{ok-ok}
 use Rattle.ownership_lowering_runs.proofs.StoredRuns.LoadSteps.{load_along}
 use Rattle.sil_verifier_runs.specs.holder_model.StepParts as parts
-use Rattle.ownership_lowering_runs.proofs.StoredRuns.StaysAlong.{stays_alone}
-use Rattle.ownership_lowering_runs.proofs.StoredRuns.NamesAlong.{exact_along, looks_along, member_along, name_along, slot_along, storage_along, stored_along}
+use Rattle.ownership_lowering_runs.proofs.StoredRuns.Along.StaysAlong.{stays_alone}
+use Rattle.ownership_lowering_runs.proofs.StoredRuns.Along.NamesAlong.{exact_along, looks_along, member_along, name_along, slot_along, storage_along, stored_along}
 use Rattle.ownership_lowering_runs.proofs.StoredRuns.DestroySteps.{destroy_along}
-use Rattle.ownership_lowering_runs.proofs.StoredRuns.NamedAlong.{copying_along, destroying_along, ending_along, renaming_along}
-use Rattle.ownership_lowering_runs.proofs.StoredRuns.PartedAlong.{parted_along, struct_extracts, tuple_extracts}
+use Rattle.ownership_lowering_runs.proofs.StoredRuns.Along.NamedAlong.{copying_along, destroying_along, ending_along, renaming_along}
+use Rattle.ownership_lowering_runs.proofs.StoredRuns.Along.PartedAlong.{parted_along, struct_extracts, tuple_extracts}
 use Rattle.ownership_lowering_runs.proofs.StoredRuns.StoreSteps.{store_alone, store_assigned}
 
 module _ (m : Module) (bound : ℕ) (s : HolderState) (l : LowState) (frame : Frame) (rest : List (Task Frame)) (f : Function) (i : Inst) (ops : Operands)

@@ -1,12 +1,12 @@
 -- An instruction that is lowered to itself traps in both runs.
 use Rattle.ownership_lowering_runs.specs.StoredRuns.inner.RowsRight.{AreTrapsAlong, TrapRight, is_place_row}
-use Rattle.ownership_lowering_runs.proofs.StoredRuns.StaysAlong.{stays_alone, low_data}
+use Rattle.ownership_lowering_runs.proofs.StoredRuns.Along.StaysAlong.{stays_alone, low_data}
 use Rattle.sil_cfg_items.specs.Parts.{inst_at}
 use Rattle.sil_ast.specs.declared.decl.Storage.TheVariants as storage
 use Rattle.sil_verifier_runs.specs.holder_model.declared.trap.Trap.TheVariants as trap
 use Rattle.sil_verifier_runs.specs.holder_model.MemoryEffects.{takes, all_live, loaded_name, named_again}
 use Rattle.sil_ast.specs.declared.decl.Storage.{Storage}
-use Rattle.ownership_lowering_runs.proofs.StoredRuns.PlainAlong.{low_does}
+use Rattle.ownership_lowering_runs.proofs.StoredRuns.Along.PlainAlong.{low_does}
 use Rattle.std.proofs.Common.{◌≡◌, ℕ, List, [], ◌∷◌, map, refl, sym, ap, ◌∙◌, subst, Bool, true, false, cond, Option, Some, None, arith, Ok}
 use Rattle.std.specs.Prelude.{slice_get}
 use Rattle.sil_ast.specs.declared.inst.Inst.{Inst}
@@ -55,7 +55,7 @@ use Rattle.sil_verifier_runs.proofs.holder_model_laws.LoweredSteps.LowTaken.{tol
 use Rattle.ownership_lowering_runs.specs.StoredRuns.inner.Along.{IsNextAlong}
 use Rattle.ownership_lowering_runs.specs.StoredRuns.inner.FrameSteps.{StepsAlong}
 use Rattle.ownership_lowering_runs.specs.StoredRuns.inner.Runs.{IsEndingFor}
-use Rattle.ownership_lowering_runs.proofs.StoredRuns.NamesAlong.{held_after, low_after, low_loads, live_same}
+use Rattle.ownership_lowering_runs.proofs.StoredRuns.Along.NamesAlong.{held_after, low_after, low_loads, live_same}
 
 module _ (m : Module) (bound : ℕ) (s : HolderState) (l : LowState) (frame : Frame) (rest : List (Task Frame)) (f : Function) (i : Inst) (ops : Operands)
     (x : StandsAt m s l frame rest f i ops) (alone : made m bound s l frame rest f i ops x ≡ i ∷ []) (keeps : renames i.op ≡ false) (t : Trap) where

@@ -48,11 +48,11 @@ use Rattle.ownership_lowering_runs.specs.StoredRuns.inner.Returned.{TakesResult}
 use Rattle.ownership_lowering_runs.specs.StoredRuns.inner.TypedSteps.{IsTypedFor, ReturnsCounted, TypedCallsStep, TypedDeinitsStep, TypedEndsStep}
 use Rattle.ownership_lowering_runs.proofs.StoredRuns.Entering.{are_entered}
 use Rattle.ownership_lowering_runs.proofs.StoredRuns.FrameSteps.{calls_step, ends_step}
-use Rattle.ownership_lowering_runs.proofs.StoredRuns.LoweredSo.{are_lowered_so}
+use Rattle.ownership_lowering_runs.proofs.StoredRuns.Lowered.LoweredSo.{are_lowered_so}
 use Rattle.ownership_lowering_runs.proofs.StoredRuns.Returned.{low_finish}
 use Rattle.ownership_lowering_runs.proofs.StoredRuns.StayingSteps.{function_there}
-use Rattle.ownership_lowering_runs.proofs.StoredRuns.TypedCalls.{are_calls_right}
-use Rattle.ownership_lowering_runs.proofs.StoredRuns.TypedEnds.{are_ends_plain}
+use Rattle.ownership_lowering_runs.proofs.StoredRuns.Typed.TypedCalls.{are_calls_right}
+use Rattle.ownership_lowering_runs.proofs.StoredRuns.Typed.TypedEnds.{are_ends_plain}
 
 -- a value alone is no address
 no_address : (d : Declarations) (f : Function) (vs : List ValueId) (x : Value) → length (ValueOf x ∷ []) ≡ length vs → AllZip (IsAddressFor d f) vs (ValueOf x ∷ [])

@@ -60,7 +60,7 @@ use Rattle.ownership_lowering_laws.specs.holder_model_typing.TypedMemory.inner.W
 use Rattle.sil_verifier_runs.proofs.sil_verifier_frames.Typed.Data.{DataAre}
 use Rattle.ownership_lowering_runs.specs.StoredRuns.inner.TypedPlaces.{IsPlainPlace}
 use Rattle.ownership_lowering_runs.specs.StoredRuns.inner.TypedRows.{AreTypedPlaceRows, PlacesTold}
-use Rattle.ownership_lowering_runs.proofs.StoredRuns.TypedPlaces.{are_plain_places, are_storage_places, are_trivial_places}
+use Rattle.ownership_lowering_runs.proofs.StoredRuns.Typed.TypedPlaces.{are_plain_places, are_storage_places, are_trivial_places}
 use Rattle.ownership_lowering_runs.proofs.StoredRuns.PlacesFound.{HeldSo, ValueAndPlace, destroys_op, destroys_so, empty_held, full_of, loads_op, loads_so, names_op, names_so}
 use Rattle.ownership_lowering_runs.proofs.StoredRuns.PlacesFound.{no_result, one_of, one_place_of, one_result, removes_op, removes_so, some_made, stores_op, stores_so, two_of, value_and_place_of}
 

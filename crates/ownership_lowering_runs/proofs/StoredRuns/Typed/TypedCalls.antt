@@ -57,7 +57,7 @@ use Rattle.ownership_lowering_runs.specs.StoredRuns.inner.CallsAlong.{HandsRight
 use Rattle.ownership_lowering_runs.specs.StoredRuns.inner.Entering.{IsAddressFor, IsFullPart}
 use Rattle.ownership_lowering_runs.specs.StoredRuns.inner.Memories.{MayBeTaken}
 use Rattle.ownership_lowering_runs.specs.StoredRuns.inner.TypedCalls.{AreCallsRight}
-use Rattle.ownership_lowering_runs.proofs.StoredRuns.LoweredSo.{are_lowered_so}
+use Rattle.ownership_lowering_runs.proofs.StoredRuns.Lowered.LoweredSo.{are_lowered_so}
 
 -- ---- cells of trivial shapes are no storage
 

@@ -1,0 +1,10 @@
+pub mod GoesAlong
+pub mod EndsAlong
+pub mod CallsAlong
+pub mod StaysAlong
+pub mod PlainAlong
+pub mod NamesAlong
+pub mod PartedAlong
+pub mod NamedAlong
+pub mod TrapsAlong
+pub mod RowsAlong
