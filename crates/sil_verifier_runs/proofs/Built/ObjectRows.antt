@@ -2,6 +2,7 @@
 use Rattle.std.proofs.Common.{◌≡◌, ℕ, zero, suc, List, [], ◌∷◌, refl, sym, ap, ◌∙◌, subst, Bool, true, false, Some}
 use Rattle.std.specs.Prelude.{slice_get}
 use Rattle.std.proofs.lemmas.Bool.{false≢true}
+use Rattle.std.proofs.lemmas.Option.{same_Some}
 use Rattle.numbered_form.specs.Names.{Name}
 use Rattle.sil_verifier_frames.specs.holder_model.Effects.{effect_of, part_number}
 use Rattle.sil_verifier_frames.specs.holder_model.ModuleShapes.{field_shapes, shapes_of}
@@ -112,3 +113,14 @@ module _ (m : Module) (i : Inst) where
   named _ _ (upcasts own above e is) effect class first = cc
   named _ _ (names own member s k e is owner number there) effect class first =
       let same : own ≡ class = cc in (s, k, number, subst (λ c. slice_get (field_shapes (shapes_of m) c) k ≡ Some s) same there)
+
+  -- and that class declares it
+  pub declared : (xs ys : List Form) → ObjectRow xs ys → effect_of i.op ≡ row.AddressesField → (member : Member) → i.member ≡ Some member
+      → (form : Form) → slice_get xs 0 ≡ Some form → form ≡ OfValue (Reference member.owner)
+  declared _ _ (makes own e is) effect member at form first = cc
+  declared _ _ (gives s e) effect member at form first = cc
+  declared _ _ (upcasts own above e is) effect member at form first = cc
+  declared _ _ (names own other s k e is owner number there) effect member at form first =
+      let given : form ≡ OfValue (Reference own) = cc in
+      let same : other ≡ member = same_Some other member (sym is ∙ at) in
+      given ∙ ap (λ c. OfValue (Reference c)) (sym owner ∙ ap (λ (x : Member). x.owner) same)
