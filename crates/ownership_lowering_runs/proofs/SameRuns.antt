@@ -3,6 +3,7 @@ pub mod RowsFollowed
 pub mod StepsFollowed
 pub mod Begun
 pub mod RunsSame
+pub mod TurnsBegun
 pub mod NumbersCounted
 pub mod CountedMoves
 pub mod CountedReturns

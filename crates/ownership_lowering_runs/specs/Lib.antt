@@ -1,3 +1,4 @@
 pub mod OwnedCounts
 pub mod StoredRuns
 pub mod SameRuns
+pub mod EndedRuns

@@ -31,7 +31,7 @@ module _ (m : Module) (bound : ℕ) where
 
   -- ---- by a step more
 
-  run_on : (k : ℕ) (s t : HolderState) → run step k s ≡ Goes t → run step (suc k) s ≡ step t
+  pub run_on : (k : ℕ) (s t : HolderState) → run step k s ≡ Goes t → run step (suc k) s ≡ step t
   run_on zero s t is = one (step s) ∙ ap step (same_state s t (Goes s) refl is)
   run_on (suc k) s t is = at (step s) refl (λ x. run_on k x t)
     where

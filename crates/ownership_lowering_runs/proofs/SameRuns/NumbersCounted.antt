@@ -1,4 +1,5 @@
--- Where the run by holders comes to a state, the lowered run comes to one that goes along, in which the stored numbers are the counts of holders.
+-- Where the run by holders comes to a state, the lowered run comes to one that goes along, in which the stored numbers are the counts of holders. And so
+-- it is the other way round, where a turn of the lowered run begins.
 use Rattle.std.proofs.Common.{◌≡◌, ℕ, zero, suc, refl, sym, ap, ◌∙◌, subst}
 use Rattle.sil_ast.specs.declared.module.Module.{Module}
 use Rattle.sil_types_declarations.specs.TypeDefinitions.Declarations.{declarations_of}
@@ -15,11 +16,12 @@ use Rattle.ownership_lowering_runs.specs.StoredRuns.inner.PlaceRows.{LowGoes}
 use Rattle.ownership_lowering_runs.specs.StoredRuns.inner.TypedSteps.{IsTypedFor}
 use Rattle.ownership_lowering_runs.proofs.StoredRuns.StayingSteps.{function_there}
 use Rattle.ownership_lowering_runs.specs.SameRuns.inner.Followed.{GoesToo}
-use Rattle.ownership_lowering_runs.specs.SameRuns.inner.Laws.{AreNumbersCounts}
+use Rattle.ownership_lowering_runs.specs.SameRuns.inner.Laws.{AreNumbersCounts, IsCounted}
 use Rattle.ownership_lowering_runs.specs.SameRuns.inner.InRightStates.{IsComeTo}
 use Rattle.ownership_lowering_runs.proofs.SameRuns.Begun.{begin_typed_for, lowers}
 use Rattle.ownership_lowering_runs.proofs.SameRuns.Come.{comes_on}
 use Rattle.ownership_lowering_runs.proofs.SameRuns.RunsSame.{RunsOn, follows, next_typed, onward}
+use Rattle.ownership_lowering_runs.proofs.SameRuns.TurnsBegun.{turn_begun}
 
 module _ (m : Module) (bound : ℕ) where
   abbrev step : HolderState → HolderNext
@@ -43,7 +45,7 @@ module _ (m : Module) (bound : ℕ) where
     along (suc k) s l comes h t ran = at (step s) refl (λ x y. along k x y)
       where
         on : (x : HolderState) → step s ≡ Goes x → AlongIn k → GoesToo m bound s l x → ComesAlong l t
-        on x is later (GoesToo.moves behind low_next first steps related) =
+        on x is later (GoesToo.moves behind low_next first steps turn related) =
             let more = later x low_next (comes_on m bound s x comes is) (next_typed m bound s x l low_next h is related) t (sym (ap (step_on (run step k)) is) ∙ ran) in
             record {
               low = more.low;
@@ -67,19 +69,17 @@ module _ (m : Module) (bound : ℕ) where
     come_along s c = along c.steps (begins c.e c.f) (first_low s c) (first_come s c) (begin_typed_for m c.e c.f verified c.there c.may) s c.comes
 
 pub numbers_counted : AreNumbersCounts
-numbers_counted m e f bound verified there may steps s ran =
-    let comes : IsComeTo m bound s = record { e = e; f = f; there = there; may = may; steps = steps; comes = ran } in
-    let d = come_along m bound verified s comes in
-    let r = d.typed.related in
-    record {
-      entry = lowered_body (declarations_of m) f;
-      there = function_there m bound e.0 f there (lowers m e f verified there may).form;
-      low = d.low;
-      steps = d.ran.count;
-      comes = d.ran.is;
-      counts = r.counts;
-      turns = r.turns;
-      events = r.events;
-      retains = r.retains;
-      releases = r.releases;
-    }
+numbers_counted m e f bound verified there may = record { forth = counted; back = λ entry l is turn. turn_begun m e f bound verified there may entry l is turn }
+  where
+    counted : (steps : ℕ) (s : HolderState) → run (step m bound) steps (begins e f) ≡ Goes s → IsCounted m e bound s
+    counted steps s ran =
+        let comes : IsComeTo m bound s = record { e = e; f = f; there = there; may = may; steps = steps; comes = ran } in
+        let d = come_along m bound verified s comes in
+        record {
+          entry = lowered_body (declarations_of m) f;
+          there = function_there m bound e.0 f there (lowers m e f verified there may).form;
+          low = d.low;
+          steps = d.ran.count;
+          comes = d.ran.is;
+          along = d.typed.related;
+        }

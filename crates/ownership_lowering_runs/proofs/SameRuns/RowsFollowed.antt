@@ -1,5 +1,5 @@
 -- An instruction that is no call, in both runs: the lowered run moves, or less is left of the block.
-use Rattle.std.proofs.Common.{◌≡◌, ℕ, suc, ◌-◌, ◌<◌, List, [], ◌∷◌, length, arith, refl, sym, ap, ◌∙◌, subst, Option, Some, None}
+use Rattle.std.proofs.Common.{◌≡◌, inl, ℕ, suc, ◌-◌, ◌<◌, List, [], ◌∷◌, length, arith, refl, sym, ap, ◌∙◌, subst, Option, Some, None}
 use Rattle.std.specs.Prelude.{slice_get}
 use Rattle.std.proofs.lemmas.Option.{none-some, slice_get_within}
 use Rattle.sil_ast.specs.declared.function.Block.{Block}
@@ -27,7 +27,7 @@ use Rattle.ownership_lowering_runs.specs.SameRuns.inner.Followed.{GoesToo, left_
 use Rattle.ownership_lowering_runs.specs.SameRuns.inner.InRightStates.{AtInst, behind_it}
 
 -- behind an instruction less is left
-less_from : (f : Function) (p : PointId) (i : Inst) → inst_at f p ≡ Some i → left_from f (point_behind p) < left_from f p
+pub less_from : (f : Function) (p : PointId) (i : Inst) → inst_at f p ≡ Some i → left_from f (point_behind p) < left_from f p
 less_from f p i here = at (slice_get f.blocks p.block.0) here
   where
     at : (o : Option Block) → inst_in o p.index ≡ Some i → length (insts_of o) - suc p.index < length (insts_of o) - p.index
@@ -85,4 +85,4 @@ module _ (m : Module) (bound : ℕ) (s : HolderState) (l : LowState) (x : AtInst
 
       by : (from low_next : LowState) → LowGoes m bound low_next from → from ≡ l → IsStateFor m next low_next → GoesToo m bound s l next
       by _ low_next LowGoes.there e h = let same = subst (IsStateFor m next) e h in GoesToo.stays (less_left same) same
-      by _ low_next (LowGoes.more from behind step steps) e h = GoesToo.moves behind low_next (ap (low_next_of m bound) (sym e) ∙ step) steps h
+      by _ low_next (LowGoes.more from behind step steps) e h = GoesToo.moves behind low_next (ap (low_next_of m bound) (sym e) ∙ step) steps (inl refl) h

@@ -21,7 +21,7 @@ use Rattle.sil_verifier_runs.proofs.sil_verifier_frames.Typed.GoesOn.{accepted_b
 use Rattle.ownership_lowering_runs.specs.StoredRuns.inner.Along.{IsNextAlong}
 use Rattle.ownership_lowering_runs.specs.StoredRuns.inner.FrameSteps.{StepsAlong}
 use Rattle.ownership_lowering_runs.specs.StoredRuns.inner.Lowering.{LowersSo}
-use Rattle.ownership_lowering_runs.specs.StoredRuns.inner.PlaceRows.{LowGoes, StandsAt}
+use Rattle.ownership_lowering_runs.specs.StoredRuns.inner.PlaceRows.{StandsAt}
 use Rattle.ownership_lowering_runs.specs.StoredRuns.inner.Runs.{IsOutcomeFor}
 use Rattle.ownership_lowering_runs.specs.StoredRuns.inner.TypedSteps.{IsTypedFor}
 use Rattle.ownership_lowering_runs.proofs.StoredRuns.FrameSteps as steps
@@ -83,7 +83,7 @@ module _ (m : Module) (bound : ℕ) (s : HolderState) (l : LowState) (x : AtInst
       at _ _ step (IsNextAlong.goes s' l' along numbers) e = absurd (cc)
       at _ _ step (IsNextAlong.ends y s' z l' for) e =
           let same : outcome_at y s' ≡ outcome_at (Trapped t) s = cc in
-          record { before = l; steps = LowGoes.there; ending = z; last = l'; ends = step; for = subst (λ o. IsOutcomeFor o (low_outcome_at z l')) same for }
+          record { ending = z; last = l'; ends = step; for = subst (λ o. IsOutcomeFor o (low_outcome_at z l')) same for }
 
 pub rows_go_along : RowsAreRight → RowsGoAlong
 rows_go_along rows m bound s verified right l x h other c slots entries leaves =

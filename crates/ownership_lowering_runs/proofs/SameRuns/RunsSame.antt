@@ -54,17 +54,10 @@ module _ (m : Module) (bound : ℕ) where
       record { count = suc more.count; is = ap (step_on (run low_step more.count)) is ∙ more.is }
 
   -- an end is the only one
-  same_end : (before l : LowState) → LowGoes m bound before l → (n : LowNext) → low_step before ≡ n → (e : Ending LowFault) (last : LowState) → ((g : LowState) → n ≡ Goes g → ⊥)
-      → (j : ℕ) → run low_step j l ≡ Ends e last → n ≡ Ends e last
-  same_end before _ LowGoes.there n is e last ends zero ran = absurd (cc)
-  same_end before _ LowGoes.there n is e last ends (suc j) ran = at n is ends
-    where
-      at : (n : LowNext) → low_step before ≡ n → ((g : LowState) → n ≡ Goes g → ⊥) → n ≡ Ends e last
-      at (Goes g) is ends = absurd (ends g refl)
-      at (Ends x y) is ends = sym (ap (step_on (run low_step j)) is) ∙ ran
-  same_end before _ (LowGoes.more l behind is' steps) n is e last ends zero ran = absurd (cc)
-  same_end before _ (LowGoes.more l behind is' steps) n is e last ends (suc j) ran =
-      same_end before behind steps n is e last ends j (sym (ap (step_on (run low_step j)) is') ∙ ran)
+  same_end : (l : LowState) (x : Ending LowFault) (y : LowState) → low_step l ≡ Ends x y → (e : Ending LowFault) (last : LowState)
+      → (j : ℕ) → run low_step j l ≡ Ends e last → Ends x y ≡ Ends e last
+  same_end l x y is e last zero ran = absurd (cc)
+  same_end l x y is e last (suc j) ran = sym (ap (step_on (run low_step j)) is) ∙ ran
 
   -- fewer steps are left
   pub record LeftSteps (l : LowState) (j : ℕ) (n : LowNext) : Type 0 where
@@ -116,7 +109,7 @@ module _ (m : Module) (bound : ℕ) where
     forth (suc k) s l comes h e last ran = at (step s) refl (λ t lt. forth k t lt)
       where
         on : (t : HolderState) → step s ≡ Goes t → ForthIn k → GoesToo m bound s l t → LowEnds l (outcome_at e last)
-        on t is later (GoesToo.moves behind low_next first steps related) =
+        on t is later (GoesToo.moves behind low_next first steps turn related) =
             let more = later t low_next (comes_on m bound s t comes is) (next_typed s t l low_next h is related) e last (sym (ap (step_on (run step k)) is) ∙ ran) in
             record {
               ending = more.ending;
@@ -131,7 +124,7 @@ module _ (m : Module) (bound : ℕ) where
         end x y same d = record {
           ending = d.ending;
           last = d.last;
-          ran = onward d.before l d.steps (Ends d.ending d.last) (one_step d.before d.ending d.last d.ends);
+          ran = one_step l d.ending d.last d.ends;
           for = subst (λ o. IsOutcomeFor o (low_outcome_at d.ending d.last)) (same_outcome x y same) d.for;
         }
           where
@@ -165,7 +158,7 @@ module _ (m : Module) (bound : ℕ) where
       module _ (n : ℕ) (s : HolderState) (l : LowState) (comes : IsComeTo m bound s) (h : IsTypedFor m s l) (fewer : Fewer n) (shorter : Shorter s l) where
         end : (j : ℕ) → run low_step j l ≡ Ends e last → (x : Ending HolderFault) (y : HolderState) → step s ≡ Ends x y → EndsToo m bound l (outcome_at x y) → HolderEnds s
         end j ran x y is d =
-            let same : Ends d.ending d.last ≡ Ends e last = same_end d.before l d.steps (Ends d.ending d.last) d.ends e last (λ g e. cc) j ran in
+            let same : Ends d.ending d.last ≡ Ends e last = same_end l d.ending d.last d.ends e last j ran in
             record {
               ending = x;
               final = y;
@@ -186,7 +179,7 @@ module _ (m : Module) (bound : ℕ) where
             one_more s t is (fewer left.count t low_next (omega (arith, few, fewer_left)) (comes_on m bound s t comes is) (next_typed s t l low_next h is related) left.is)
 
         on : (j : ℕ) → j ≤ suc n → run low_step j l ≡ Ends e last → (t : HolderState) → step s ≡ Goes t → GoesToo m bound s l t → HolderEnds s
-        on j few ran t is (GoesToo.moves behind low_next first steps related) = moved t is behind low_next first steps related j few ran
+        on j few ran t is (GoesToo.moves behind low_next first steps turn related) = moved t is behind low_next first steps related j few ran
         on j few ran t is (GoesToo.stays less related) = one_more s t is (shorter t less (comes_on m bound s t comes is) (next_typed s t l l h is related))
 
         from_here : (j : ℕ) → j ≤ suc n → run low_step j l ≡ Ends e last → HolderEnds s

@@ -75,10 +75,10 @@ module _ (m : Module) (bound : ℕ) (s : HolderState) (verified : IsVerified m) 
   steps_too next d = at next d.low_next d.step d.for
     where
       at : (next : HolderNext) (low_next : LowNext) → low_next_of m bound l ≡ low_next → IsNextFor m next low_next → Follows m bound s l next
-      at (Goes s') (Goes l') step for = GoesToo.moves l' l' step LowGoes.there for
+      at (Goes s') (Goes l') step for = GoesToo.moves l' l' step LowGoes.there (inr refl) for
       at (Goes s') (Ends x l') step for = absurd for
       at (Ends e s') (Goes l') step for = absurd for
-      at (Ends e s') (Ends x l') step for = record { before = l; steps = LowGoes.there; ending = x; last = l'; ends = step; for = for }
+      at (Ends e s') (Ends x l') step for = record { ending = x; last = l'; ends = step; for = for }
 
   -- the stored numbers stay
   steps_along : (next : HolderNext) → ((s' : HolderState) → next ≡ Goes s' → AreCounts s' l.numbers) → StepsAlong m bound l next → Follows m bound s l next
@@ -86,7 +86,7 @@ module _ (m : Module) (bound : ℕ) (s : HolderState) (verified : IsVerified m) 
     where
       at : (next : HolderNext) (low_next : LowNext) → low_next_of m bound l ≡ low_next → ((s' : HolderState) → next ≡ Goes s' → AreCounts s' l.numbers)
           → IsNextAlong m l.numbers next low_next → Follows m bound s l next
-      at _ _ step counts (IsNextAlong.goes s' l' along numbers) = GoesToo.moves l' l' step LowGoes.there (record {
+      at _ _ step counts (IsNextAlong.goes s' l' along numbers) = GoesToo.moves l' l' step LowGoes.there (inr refl) (record {
         tasks = along.tasks;
         memory = along.memory;
         parts = along.parts;
@@ -96,7 +96,7 @@ module _ (m : Module) (bound : ℕ) (s : HolderState) (verified : IsVerified m) 
         retains = along.totals.retains;
         releases = along.totals.releases;
       })
-      at _ _ step counts (IsNextAlong.ends e s' x l' for) = record { before = l; steps = LowGoes.there; ending = x; last = l'; ends = step; for = for }
+      at _ _ step counts (IsNextAlong.ends e s' x l' for) = record { ending = x; last = l'; ends = step; for = for }
 
   module _ (next : HolderNext) (is_next : holder_run.step m (facts_of m) bound s ≡ next) where
     none : IsNoFault next

@@ -8,7 +8,8 @@ pub fn lowered_runs_are_same()
     ensures { LoweredRunsAreSame }
 {}
 
-/// Wherever the run by holders comes to, the numbers that the lowered run stores are the counts of holders.
+/// Wherever the run by holders comes to, and wherever a turn of the lowered run begins, the numbers that the lowered run stores are
+/// the counts of holders.
 pub fn numbers_are_counts()
     ensures { AreNumbersCounts }
 {}

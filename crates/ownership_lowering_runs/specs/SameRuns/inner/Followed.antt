@@ -1,5 +1,5 @@
 -- A step of the run by holders, followed by the lowered run.
-use Rattle.std.specs.Prelude.{◌≡◌, ℕ, ◌-◌, ◌<◌, List, [], ◌∷◌, length, Option, Some, None, slice_get}
+use Rattle.std.specs.Prelude.{◌≡◌, ◌⊎◌, ℕ, ◌-◌, ◌<◌, List, [], ◌∷◌, length, Option, Some, None, slice_get}
 use Rattle.sil_ast.specs.declared.function.Function.{Function}
 use Rattle.sil_ast.specs.declared.module.Module.{Module}
 use Rattle.sil_ast.specs.declared.place.PointId.{PointId}
@@ -45,18 +45,17 @@ module _ (m : Module) (bound : ℕ) where
     pub step : low_next_of l ≡ low_next
     pub for : IsNextFor m next low_next
 
-  -- in one or more steps the lowered run comes to a state that goes along; or in none, and less is left of the block
+  -- in one or more steps the lowered run comes to a state that goes along, in one where a turn begins; or in none, and less is left of the block
   pub data GoesToo (s : HolderState) (l : LowState) (next : HolderState) : Type 0 where
-    moves : (behind low_next : LowState) → low_next_of l ≡ Goes behind → LowGoes m bound low_next behind → IsStateFor m next low_next → GoesToo s l next
+    moves : (behind low_next : LowState) → low_next_of l ≡ Goes behind → LowGoes m bound low_next behind
+        → (next.turns ≡ s.turns) ⊎ (behind ≡ low_next) → IsStateFor m next low_next → GoesToo s l next
     stays : left_of m next.tasks < left_of m s.tasks → IsStateFor m next l → GoesToo s l next
 
-  -- in one or more steps it ends with this outcome
+  -- in one step it ends with this outcome
   pub record EndsToo (l : LowState) (o : Outcome HolderFault) : Type 0 where
-    pub before : LowState
-    pub steps : LowGoes m bound before l
     pub ending : Ending LowFault
     pub last : LowState
-    pub ends : low_next_of before ≡ Ends ending last
+    pub ends : low_next_of l ≡ Ends ending last
     pub for : IsOutcomeFor o (low_outcome_at ending last)
 
   abbrev pub Follows : HolderState → LowState → HolderNext → Type 0
