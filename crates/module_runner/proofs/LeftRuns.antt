@@ -21,7 +21,7 @@ optimised_verified keeps m _ (done _ none) verified = verified
 optimised_verified keeps m k (more _ next _ first rest) verified =
     optimised_verified keeps next k rest (keeps m first.function first.point next verified first.rewrites).verified
 
-left_verified : RewritingKeepsVerified → (optimises : Bool) (m k : Module) → IsOptimisedIf optimises m k → IsVerified m → IsVerified k
+pub left_verified : RewritingKeepsVerified → (optimises : Bool) (m k : Module) → IsOptimisedIf optimises m k → IsVerified m → IsVerified k
 left_verified keeps true m k left verified = optimised_verified keeps m k left verified
 left_verified keeps false m k left verified = subst IsVerified (sym left) verified
 

@@ -3,4 +3,5 @@ pub mod Stays
 mod OneEntry
 mod Reported
 mod LeftRuns
+mod WholeRuns
 pub mod LoweredReports
