@@ -1,8 +1,23 @@
-//! The program that makes the calls of libraries which case files ask for: hands the words, standard input and standard output on, and
-//! ends with the status.
+//! Calls what `sil` has no word for, so that case files can ask for it: the first word names a call of a library, and standard input
+//! has the text. `docs/CASES.md` says what each of them answers.
 #![tactic(auto)]
 
-use case_calls::run;
+mod accepted;
+mod answer;
+mod availability;
+mod calls;
+mod heap_calls;
+mod lowered_runs;
+mod marked;
+mod modules;
+mod places;
+mod program;
+mod run_reports;
+mod searches;
+mod tokens;
+mod typing;
+
+use crate::program::run;
 use sil_io::{ReadSource, WriteSink};
 use std::process::ExitCode;
 use std::{env, io};

@@ -6,3 +6,4 @@ mod lowering;
 
 pub use laws::accepted_lowers_runnable;
 pub use lowering::{lower, lower_in_place};
+pub use sil_verifier::{Checked, VerifyEnd, verify};

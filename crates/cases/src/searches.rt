@@ -122,7 +122,7 @@ fn search_together(
 }
 
 /// Adds the point of a fault, and each edge of the walk to it.
-fn add_walk(written: &mut Answer, point: PointId, walk: &[EdgeId]) -> u8 {
+pub(crate) fn add_walk(written: &mut Answer, point: PointId, walk: &[EdgeId]) -> u8 {
     written.add_number(" bb", u64::from(point.block.0));
     written.add_number(":", u64::from(point.index));
     for edge in walk {

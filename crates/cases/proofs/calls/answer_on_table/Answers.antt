@@ -1,6 +1,6 @@
 use Rattle.std.proofs.Common.{sym, subst}
 use Rattle.count_heap.specs.HeapModel.FieldLimits.{AreFieldsInLimits}
-use Rattle.case_calls.proofs.calls.answer_on_table.Goals as goal
+use Rattle.cases.proofs.calls.answer_on_table.Goals as goal
 
 pub answer_on_heap-requires : goal.answer_on_heap-requires
 answer_on_heap-requires c =

@@ -1,5 +1,5 @@
 use Rattle.std.proofs.Common.{◌≡◌, length}
-use Rattle.case_calls.proofs.marked.Switch.of.Given as goal
+use Rattle.cases.proofs.marked.Switch.of.Given as goal
 
 abbrev pub invariant-loop-i : goal.invariant-loop-i
 invariant-loop-i l = length l.marks.items ≡ l.i

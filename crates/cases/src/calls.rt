@@ -3,7 +3,9 @@
 ghost use Rattle.numbered_form.specs.inner.NumberedForm.{IsNumbered};
 ghost use Rattle.sil_types_declarations.specs.TypeDefinitions.Rules.{AreDeclarationsOf};
 
+use crate::accepted::answer_on_accepted;
 use crate::answer::Answer;
+use crate::availability::answer_on_values;
 use crate::heap_calls::answer_on_heap;
 use crate::lowered_runs::answer_on_run;
 use crate::modules::{module_of, table_of};
@@ -27,6 +29,10 @@ pub(crate) fn answer(
         [_name, "tokens"] => answer_on_tokens(alloc, text, written),
         [_name, "search"] => answer_on_walks(alloc, text, false, written),
         [_name, "search", "together"] => answer_on_walks(alloc, text, true, written),
+        [_name, "available", function] => answer_on_values(alloc, function, text, written),
+        [_name, "removable" | "lowered" | "cloned", ..] => {
+            answer_on_accepted(alloc, words, text, written)
+        }
         [_name, "typing" | "lowered-run" | "lowered-end" | "heap", ..] => {
             answer_on_text(alloc, words, text, written)
         }
