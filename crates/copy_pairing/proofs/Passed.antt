@@ -6,6 +6,7 @@ use Rattle.sil_cfg.specs.Items.{point_at}
 use Rattle.sil_rules.specs.Order.{NotAfter}
 use Rattle.sil_types_declarations.specs.TypeDefinitions.Declarations.{Declarations, declarations_of}
 use Rattle.sil_types_declarations.specs.TypeDefinitions.Rules.{AreDeclarationsOf}
+use Rattle.copy_pairing_model.proofs.NoneLeft.{none_removable}
 use Rattle.copy_pairing_model.specs.Optimised.{HasNoRemovable, IsOptimised, Rewrites, RewritesFirst, done, more, text_key}
 use Rattle.sil_verifier.specs.sil_verifier_accepted.AcceptedModules.inner.Checked.{IsVerified}
 use Rattle.copy_pairing_acceptance.specs.RewritingOrder.inner.Laws.{LaterOnesAreLeft}
@@ -40,8 +41,8 @@ function_passed m n b most before k q other r =
     next_function n b k q.block.0 q.index (before k q other r)
     (λ a le. let there : StandsAt m n q = stands_at m n q other (same_place m other n k q q a refl refl r) in absurd (omega (arith, there.block)))
 
-none_left : (m : Module) (n : ℕ) → length m.functions ≤ n → NoneBefore m n (point_at 0 0) → HasNoRemovable m
-none_left m n most before k q other r = at (before k q other r)
+none_rewritten : (m : Module) (n : ℕ) → length m.functions ≤ n → NoneBefore m n (point_at 0 0) → (k : ℕ) (q : PointId) (other : Module) → Rewrites m k q other → ⊥
+none_rewritten m n most before k q other r = at (before k q other r)
   where
     there : StandsAt m k q
     there = stands_at m k q other r
@@ -49,6 +50,9 @@ none_left m n most before k q other r = at (before k q other r)
     at : NotAfter (place n 0 0) (text_key k q) → ⊥
     at (inl lt) = absurd (omega (arith, there.function))
     at (inr h) = absurd (let same : n ≡ k = h.0 in omega (arith, there.function))
+
+none_left : (m : Module) (n : ℕ) → length m.functions ≤ n → NoneBefore m n (point_at 0 0) → HasNoRemovable m
+none_left m n most before = none_removable m (none_rewritten m n most before)
 
 pub passed_same : (m : Module) (n : ℕ) (p : PointId) → IsVerified m → ArePassed m n p m n p
 passed_same m n p verified = record { verified = verified; declarations = refl; shape = same_shape m; none = λ before. before; leads = λ before last h. h }

@@ -1,15 +1,13 @@
 //! The one call: how a copy of an accepted module can go.
 
-ghost use Rattle.std.specs.Prelude.{◌≡◌, Some, slice_get, IfOk};
-ghost use Rattle.sil_ast.specs.declared.function.Function.{Function};
-ghost use Rattle.sil_ast.specs.declared.place.ValueId.{ValueId};
+ghost use Rattle.std.specs.Prelude.{IfOk};
 ghost use Rattle.sil_cfg.specs.Items.{HasBlocks};
 ghost use Rattle.sil_cfg.specs.inner.Build.{HasGraph};
 ghost use Rattle.numbered_form.specs.PointChecks.inner.Numbered.{IsOfNumberedModule};
 ghost use Rattle.ownership_kinds.specs.ownership_kinds_origins.Facts.{facts_in};
 ghost use Rattle.copy_pairing_model.specs.Copies.{IsCopy};
-ghost use Rattle.copy_pairing_model.specs.Optimised as optimised;
-ghost use Rattle.copy_pairing_model.specs.Removable.{IsRemoval};
+ghost use Rattle.copy_pairing_model.specs.Optimised.{IsRemovalAt};
+ghost use Rattle.copy_pairing_model.specs.Removable.{IsRemoval, IsRemovalIn};
 
 use crate::notes::unanswered;
 use crate::turns::{Turn, turn_by_notes};
@@ -42,7 +40,7 @@ fn removal_of(
     }
 }
 
-/// The same, if a copy stands there.
+/// The same of what stands there, a copy or not.
 fn removal_at(
     alloc: Global,
     types: &TypeTable,
@@ -51,7 +49,7 @@ fn removal_at(
 ) -> Result<Removal, Exhausted>
     requires of_module { IsOfNumberedModule f.now }
     requires graph { HasBlocks f.now → HasGraph f.now }
-    ensures { IfOk result (λ r. (v w : ValueId) → IsCopy f.now p v w → IsRemoval (facts_in types.now f.now) f.now p v w r) }
+    ensures { IfOk result (IsRemovalIn (facts_in types.now f.now) f.now p) }
 {
     match copy_at(f, p) {
         None => Ok(Removal::No),
@@ -60,19 +58,18 @@ fn removal_at(
 }
 
 /// How the `copy_value` at the point of the function can go ([docs/OPTIMISER.md](../../../docs/OPTIMISER.md)).
-/// The answer is `No` also where no copy stands there. Fails only where memory runs out.
+/// The answer is `No` also where no copy stands there, or there is no such function. Fails only where memory runs out.
 pub fn removable(
     alloc: Global,
     c: &Checked,
     function: FuncId,
     point: PointId,
 ) -> Result<Removal, Exhausted>
-    ensures { IfOk result (λ r. (f : Function) (v w : ValueId) → slice_get c.now.functions function.0 ≡ Some f → IsCopy f point v w
-        → IsRemoval (optimised.facts_of c.now f) f point v w r) }
+    ensures { IfOk result (IsRemovalAt c.now function.0 point) }
 {
     let m = c.module();
-    match m.functions.get(function.0 as usize) {
-        None => Ok(Removal::No),
-        Some(f) => removal_at(alloc, c.table(), f, point),
-    }
+    let Some(f) = m.functions.get(function.0 as usize) else {
+        return Ok(Removal::No);
+    };
+    removal_at(alloc, c.table(), f, point)
 }

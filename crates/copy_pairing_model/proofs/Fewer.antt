@@ -1,4 +1,4 @@
--- Each rewriting leaves fewer copies.
+-- Each rewriting leaves fewer copies, and so does all that is rewritten.
 use Rattle.std.proofs.Common.{◌≡◌, ℕ, zero, suc, ◌<◌, ◌≤◌, List, [], ◌∷◌, refl, sym, ap, ap₂, ◌∙◌, subst, Bool, true, false, cond, Option, Some, None, map, eq-eqb, arith}
 use Rattle.std.specs.Prelude.{◌&&◌, ◌||◌}
 use Rattle.std.specs.List.{remove, slice_get, sum_by}
@@ -7,14 +7,17 @@ use Rattle.instruction_table.specs.declared.op.Op.TheVariants as op
 use Rattle.sil_ast.specs.declared.function.Block.{Block}
 use Rattle.sil_ast.specs.declared.function.Function.{Function}
 use Rattle.sil_ast.specs.declared.inst.Inst.{Inst}
+use Rattle.sil_ast.specs.declared.module.Module.{Module}
 use Rattle.sil_ast.specs.declared.place.PointId.{PointId}
 use Rattle.sil_ast.specs.declared.place.ValueId.{ValueId}
 use Rattle.sil_cfg_items.specs.Parts.{inst_at, inst_in}
 use Rattle.ownership_kinds_origins.specs.ownership_kinds_chains.OwnershipChains.Facts.{has}
 use Rattle.copy_pairing_model.specs.Copies.{Copies, IsCopy, is_op}
 use Rattle.copy_pairing_model.specs.Rewritten.{changed_at, lent, lent_block, lent_inst, makes, moved, moved_block, takes, with_op}
-use Rattle.copy_pairing_model.specs.Optimised.{lends, moves}
-use Rattle.copy_pairing_model.specs.inner.Laws.{AreFewer, copies_of_block, copies_of_function, copies_of_inst}
+use Rattle.copy_pairing_model.specs.Counts.{copies, copies_of, copies_of_block, copies_of_function}
+use Rattle.copy_pairing_model.specs.Optimised.{IsOptimised, LosesCopies, done, lends, more, moves}
+use Rattle.copy_pairing_model.specs.inner.Laws.{AreFewer}
+use Rattle.copy_pairing_model.proofs.NoneLeft.{none_rewritten}
 
 module _ {A : Type 0} (weight : A → ℕ) where
   -- one element is lighter
@@ -57,8 +60,14 @@ no_more n = omega arith
 below : (a b c : ℕ) → a ≤ b → b < c → a < c
 below a b c le lt = omega arith
 
+at_most : (a b c : ℕ) → a ≤ b → b < c → a ≤ c
+at_most a b c le lt = omega arith
+
 some : (n : ℕ) → n ≡ 1 → 0 < n
 some n e = omega arith
+
+abbrev copies_of_inst : Inst → ℕ
+copies_of_inst i = cond (copies i) 1 0
 
 -- an instruction that becomes another one is no copy then
 lent_either : (c : ValueId) (i : Inst) (copies destroys : Bool) → copies_of_inst (cond copies (with_op op.BeginBorrow i) (cond destroys (with_op op.EndBorrow i) i)) ≤ copies_of_inst i
@@ -116,3 +125,15 @@ moved_fewer f p c v last h =
 pub fewer : AreFewer
 fewer m n p _ (lends f c v there copy h) = changed_less copies_of_function m.functions n (lent c) f there (lent_fewer f p c v copy)
 fewer m n p _ (moves f c v there copy not h) = changed_less copies_of_function m.functions n (moved p h.last) f there (moved_fewer f p c v h.last copy)
+
+never_more : (m last : Module) → IsOptimised m last → copies_of last ≤ copies_of m
+never_more m _ (done _ none) = no_more (copies_of m)
+never_more m last (more _ next _ h rest) =
+    at_most (copies_of last) (copies_of next) (copies_of m) (never_more next last rest) (fewer m h.function h.point next h.rewrites)
+
+pub copies_lost : (m last : Module) → IsOptimised m last → LosesCopies m last
+copies_lost m _ (done _ none) = record { fewer = λ some_go. absurd (some_go none); same = λ h. refl }
+copies_lost m last (more _ next _ h rest) = record {
+  fewer = λ some_go. below (copies_of last) (copies_of next) (copies_of m) (never_more next last rest) (fewer m h.function h.point next h.rewrites);
+  same = λ none. absurd (none_rewritten m none h.function h.point next h.rewrites);
+}

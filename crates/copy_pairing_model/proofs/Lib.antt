@@ -1,4 +1,5 @@
 pub mod DestroyShown
+pub mod NoneLeft
 pub mod Unique
 pub mod Fewer
 pub use Rattle.borrow_scopes.proofs as borrow_scopes

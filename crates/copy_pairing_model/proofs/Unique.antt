@@ -19,6 +19,7 @@ use Rattle.copy_pairing_model.specs.Rewritten.{lent, moved, with_function}
 use Rattle.copy_pairing_model.specs.Optimised.{IsOptimised, Rewrites, RewritesFirst, done, facts_of, lends, more, moves, text_key}
 use Rattle.copy_pairing_model.specs.inner.Laws.{AreUnique}
 use Rattle.copy_pairing_model.proofs.DestroyShown.{destroy_shown}
+use Rattle.copy_pairing_model.proofs.NoneLeft.{none_rewritten}
 
 same_numbers : (xs ys : List ℕ) → NotAfter xs ys → NotAfter ys xs → xs ≡ ys
 same_numbers [] [] a b = refl
@@ -115,7 +116,7 @@ first_next m one other a b =
 
 pub unique : AreUnique
 unique _ _ _ (done m none) (done _ never) = refl
-unique _ _ _ (done m none) (more _ next last h rest) = absurd (none h.function h.point next h.rewrites)
-unique _ _ _ (more m next last h rest) (done _ none) = absurd (none h.function h.point next h.rewrites)
+unique _ _ _ (done m none) (more _ next last h rest) = absurd (none_rewritten m none h.function h.point next h.rewrites)
+unique _ _ _ (more m next last h rest) (done _ none) = absurd (none_rewritten m none h.function h.point next h.rewrites)
 unique _ _ _ (more m next last h rest) (more _ later end k further) =
     unique next last end rest (subst (λ x. IsOptimised x end) (sym (first_next m next later h k)) further)

@@ -1,4 +1,5 @@
 pub mod Copies
+pub mod Counts
 pub mod Removable
 pub mod Rewritten
 pub mod Optimised

@@ -20,7 +20,7 @@ use Rattle.ownership_kinds_origins.specs.ownership_kinds_chains.declared.ownersh
 use Rattle.ownership_kinds_origins.specs.ownership_kinds_chains.declared.ownership_marks.mark.MarkSort.TheVariants.{End, Use, Begin}
 use Rattle.borrow_scopes.specs.Scopes.{lent_bases}
 use Rattle.borrow_scopes.specs.inner.Runs.{sort_for}
-use Rattle.copy_pairing_model.specs.Copies.{IsDestroy, is_op}
+use Rattle.copy_pairing_model.specs.Copies.{IsCopy, IsDestroy, is_op}
 use Rattle.copy_pairing_model.specs.declared.removal.Removal.{Removal}
 use Rattle.copy_pairing_model.specs.declared.removal.Removal.TheVariants.{No, Borrow, Move}
 
@@ -84,3 +84,9 @@ module _ (facts : ValueId → Option Facts) (f : Function) where
   IsRemoval p c v No = (¬ IsBorrowable c v) × (¬ IsMovable p c v)
   IsRemoval p c v Borrow = IsBorrowable c v
   IsRemoval p c v Move = (¬ IsBorrowable c v) × IsMovable p c v
+
+  -- how what stands at the point can go: a copy as that copy can, and what is no copy not at all
+  abbrev pub IsRemovalIn : PointId → Removal → Type 0
+  IsRemovalIn p No = (c v : ValueId) → IsCopy f p c v → IsRemoval p c v No
+  IsRemovalIn p Borrow = (c : ValueId) × (v : ValueId) × IsCopy f p c v × IsRemoval p c v Borrow
+  IsRemovalIn p Move = (c : ValueId) × (v : ValueId) × IsCopy f p c v × IsRemoval p c v Move

@@ -11,7 +11,7 @@ use Rattle.numbered_form.specs.inner.NumberedForm.{IsNumbered}
 use Rattle.sil_ast.specs.declared.function.Block.{Block}
 use Rattle.sil_ast.specs.declared.function.Function.{Function}
 use Rattle.sil_ast.specs.declared.module.Module.{Module}
-use Rattle.sil_command.specs.Copies.{copies, copies_of, copies_of_block, copies_of_function}
+use Rattle.module_runner.specs.copy_pairing_model.Counts.{copies, copies_of, copies_of_block, copies_of_function}
 
 few_in_block : (b : Block) → copies_of_block b ≤ length (insts_of b)
 few_in_block b = omega (arith, count_by-le-length copies b.insts, length-append b.insts (b.terminator ∷ []))

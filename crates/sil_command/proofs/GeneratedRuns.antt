@@ -12,7 +12,7 @@ use Rattle.sil_command_lines.specs.declared.sums.Totals.{Totals}
 use Rattle.sil_command.specs.Generated.{AnswersGenerated, Ran, RunsSo, both_ran, totals_of}
 use Rattle.sil_command.specs.Statuses.{code_of}
 use Rattle.sil_command_lines.specs.Summaries.{summary_text}
-use Rattle.sil_command.specs.Copies.{copies_of}
+use Rattle.module_runner.specs.copy_pairing_model.Counts.{copies_of}
 
 pub ran_so : (m : Module) (r : RunReport) → TellsOfRun m (codes "main") DEFAULT_TURNS false r → RunsSo m (outcome_of r)
 ran_so m r tells = record {

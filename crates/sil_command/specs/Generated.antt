@@ -12,7 +12,7 @@ use Rattle.sil_command.specs.declared.status.Status.TheVariants.{Done, NoEntry}
 use Rattle.sil_command_lines.specs.declared.sums.Totals.{Totals}
 use Rattle.sil_command.specs.Statuses.{code_of}
 use Rattle.sil_command_lines.specs.Summaries.{summary_text}
-use Rattle.sil_command.specs.Copies.{copies_of}
+use Rattle.module_runner.specs.copy_pairing_model.Counts.{copies_of}
 use Rattle.sil_command_lines.specs.Texts.{no_entry_text}
 
 -- a run by holders that ends with this outcome

@@ -1,7 +1,6 @@
 pub mod Statuses
 pub mod Words
 pub mod Reading
-pub mod Copies
 pub mod GivenTexts
 pub mod Generated
 pub mod Answers

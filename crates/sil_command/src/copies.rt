@@ -1,7 +1,7 @@
 //! How many copies a module has.
 
 ghost use Rattle.std.specs.Prelude.{◌≡◌, ◌<◌, ◌^◌};
-ghost use Rattle.sil_command.specs.Copies as counts;
+ghost use Rattle.module_runner.specs.copy_pairing_model.Counts as counts;
 
 use instruction_table::Op;
 use sil_ast::{Block, Function, Inst, Module};

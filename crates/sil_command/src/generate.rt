@@ -8,7 +8,7 @@ ghost use Rattle.sil_command.specs.Answers.{AnswersChecked};
 ghost use Rattle.sil_command.specs.Generated as generated;
 ghost use Rattle.sil_command.specs.Generated.{AnswersGenerated, Ran, RunsSo};
 ghost use Rattle.sil_command.specs.Statuses.{code_of};
-ghost use Rattle.sil_command.specs.Copies as counts;
+ghost use Rattle.module_runner.specs.copy_pairing_model.Counts as counts;
 ghost use Rattle.sil_command_lines.specs.Summaries.{summary_text};
 ghost use Rattle.sil_command_lines.specs.Texts.{no_entry_text};
 ghost use Rattle.sil_command.specs.declared.status.Status.TheVariants as status;

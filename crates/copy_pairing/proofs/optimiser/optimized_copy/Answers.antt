@@ -1,6 +1,6 @@
 use Rattle.std.proofs.Common.{sym, ap, ◌∙◌, subst}
 use Rattle.sil_types_declarations.specs.TypeDefinitions.Declarations.{declarations_of}
-use Rattle.copy_pairing_model.specs.Optimised.{IsOptimised}
+use Rattle.copy_pairing_model.specs.Optimised.{IsOptimised, LosesCopies}
 use Rattle.sil_verifier.specs.sil_verifier_accepted.AcceptedModules.inner.Checked.{IsVerifiedWith}
 use Rattle.copy_pairing_runs.specs.holder_model_laws.LockstepRuns.inner.Agreeing.{RunsAsItDid}
 use Rattle.copy_pairing.proofs.optimiser.optimized_copy.Goals as goal
@@ -13,6 +13,13 @@ optimize_in_place-requires c =
 pub returns-clause-optimised : goal.returns-clause-optimised
 returns-clause-optimised c =
     subst (λ m. IsOptimised m c.optimize_in_place.new.m) (c.in_ok-m.ensures ∙ c.module.ensures.value) c.in_ok-optimize_in_place.ensures.optimised
+
+pub returns-clause-none_removable : goal.returns-clause-none_removable
+returns-clause-none_removable c = c.in_ok-optimize_in_place.ensures.none_removable
+
+pub returns-clause-fewer : goal.returns-clause-fewer
+returns-clause-fewer c =
+    subst (λ m. LosesCopies m c.optimize_in_place.new.m) (c.in_ok-m.ensures ∙ c.module.ensures.value) c.in_ok-optimize_in_place.ensures.fewer
 
 pub returns-clause-runs : goal.returns-clause-runs
 returns-clause-runs c =

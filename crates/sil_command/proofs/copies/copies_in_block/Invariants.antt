@@ -1,7 +1,7 @@
 -- The copies among the instructions so far.
 use Rattle.std.proofs.Common.{◌≡◌, take}
 use Rattle.std.specs.List.{count_by}
-use Rattle.sil_command.specs.Copies as counts
+use Rattle.module_runner.specs.copy_pairing_model.Counts as counts
 use Rattle.sil_command.proofs.copies.copies_in_block.Given as goal
 
 abbrev pub invariant-loop-inst : goal.invariant-loop-inst

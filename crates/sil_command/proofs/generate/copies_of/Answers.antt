@@ -1,7 +1,7 @@
 -- An accepted module has few copies, since it is in numbered form.
 use Rattle.std.proofs.Common.{◌<◌, subst, sym}
 use Rattle.std.specs.Prelude.{◌^◌}
-use Rattle.sil_command.specs.Copies as counts
+use Rattle.module_runner.specs.copy_pairing_model.Counts as counts
 use Rattle.sil_command.proofs.FewCopies.{few_copies}
 use Rattle.sil_command.proofs.generate.copies_of.Goals as goal
 

@@ -1,16 +1,16 @@
 -- How many copies a module has.
-use Rattle.std.specs.Prelude.{ℕ, ◌==◌, Bool}
+use Rattle.std.specs.Prelude.{ℕ, Bool}
 use Rattle.std.specs.List.{count_by, sum_by}
-use Rattle.instruction_table.specs.Forms.{number_of}
 use Rattle.instruction_table.specs.declared.op.Op.TheVariants.{CopyValue}
 use Rattle.sil_ast.specs.declared.function.Block.{Block}
 use Rattle.sil_ast.specs.declared.function.Function.{Function}
 use Rattle.sil_ast.specs.declared.inst.Inst.{Inst}
 use Rattle.sil_ast.specs.declared.module.Module.{Module}
+use Rattle.copy_pairing_model.specs.Copies.{is_op}
 
 -- the instruction is `copy_value`
 abbrev pub copies : Inst → Bool
-copies i = number_of i.op == number_of CopyValue
+copies i = is_op CopyValue i
 
 abbrev pub copies_of_block : Block → ℕ
 copies_of_block b = count_by copies b.insts
