@@ -13,7 +13,7 @@ use Rattle.sil_command.specs.declared.words.Mode.{Mode}
 use Rattle.sil_command.specs.declared.words.Mode.TheVariants.{Check, Generate, Lower, Optimize, Print, Run}
 use Rattle.sil_command.specs.Answers.{Answers, usage, in_mode, AnswersText, too_long, unread, spelled, AnswersModule, AnswersChecked, AnswersRun, AnswersWrong, limit_passed, refused, wrong, accepted}
 use Rattle.sil_command.specs.Answers.{HasStatus, Writes, WritesOf, written, no_entry, ran}
-use Rattle.sil_command.specs.Generated.{AnswersGenerated, both_ran, no_main}
+use Rattle.sil_command.specs.Generated.{AnswersGenerated, both_ran}
 use Rattle.sil_command.specs.GivenTexts.{text_for}
 use Rattle.sil_command.specs.Ends.{Call, Ends, answered, read_failed, exhausted, whole, front, WritesAnswer, Exhausts, WritesWhole, WritesFrontOfAnswer, IsStatus}
 use Rattle.sil_command.proofs.Unread.{unread_status}
@@ -72,7 +72,6 @@ run_status m name bound optimises _ _ (no_entry none) = ten_is
 run_status m name bound optimises _ _ (ran k e f x s left entry ends has never) = ending_status x.ending s has
 
 generated_status : (m : Module) (answer : List ℕ) (status : ℕ) → AnswersGenerated m answer status → IsAnswerStatus status
-generated_status m _ _ (no_main none) = ten_is
 generated_status m _ _ (both_ran k x y left plain optimised) = zero_is
 
 module_status : (mode : Mode) (m : Module) (answer : List ℕ) (status : ℕ) → AnswersModule mode m answer status → IsAnswerStatus status

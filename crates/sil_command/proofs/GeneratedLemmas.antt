@@ -1,24 +1,31 @@
 -- The answer of `generate`: how a call ends with it, and with which statuses.
-use Rattle.std.proofs.Common.{◌≡◌, ◌↔◌, ◌≤◌, ℕ, List, [], Option, Some, None, refl, subst, arith}
-use Rattle.std.specs.Prelude.{codes}
+use Rattle.std.proofs.Common.{◌≡◌, ◌↔◌, ◌≤◌, ℕ, zero, suc, ◌+◌, List, [], ◌∷◌, ◌++◌, Option, Some, None, map, refl, subst, arith}
+use Rattle.std.specs.Prelude.{codes, slice_get}
+use Rattle.std.specs.List.{range_with_len}
 use Rattle.sil_command_words.specs.inner.Laws.{SayOneThing}
 use Rattle.sil_verifier_accepted.specs.AcceptedModules.Findings.{Accepted}
 use Rattle.sil_verifier_accepted.specs.AcceptedModules.inner.Laws.{AreAcceptedWhereNothingIsFound}
-use Rattle.sil_command_generator.specs.GeneratedModules.{generated}
+use Rattle.sil_command_generator.specs.GeneratedModules.{generated, generated_module, main}
+use Rattle.sil_command_generator.specs.Parts.{fn}
+use Rattle.sil_command_generator.specs.WorkFunctions.{work}
+use Rattle.sil_command_generator.specs.inner.Laws.{AreGeneratedNumbered, AreGeneratedShort}
 use Rattle.module_runner.specs.Entries.{HasEntry}
+use Rattle.sil_ast.specs.declared.function.Function.{Function}
 use Rattle.sil_ast.specs.declared.module.Module.{Module}
+use Rattle.sil_grammar.specs.Spells.{Spells}
 use Rattle.sil_grammar.specs.inner.Laws.{AreSpelledOnce}
+use Rattle.sil_printer_laws.specs.inner.Laws.{ArePrintedSpelled}
 use Rattle.sil_command.specs.declared.status.Status.TheVariants.{Done}
 use Rattle.sil_command.specs.declared.words.Mode.TheVariants.{Generate}
 use Rattle.sil_command.specs.Statuses.{code_of}
 use Rattle.sil_command.specs.Words.{AsksFor, IsAskedFor, IsSizeBy}
-use Rattle.sil_command.specs.Answers.{AnswersModule, AnswersText, AnswersWrong, accepted, in_mode, limit_passed, refused, wrong}
+use Rattle.sil_command.specs.Answers.{AnswersText, in_mode}
 use Rattle.sil_command.specs.Ends.{IsAnswer}
-use Rattle.sil_command.specs.Generated.{AnswersGenerated, both_ran, no_main}
+use Rattle.sil_command.specs.Generated.{AnswersGenerated, both_ran}
 use Rattle.sil_command.specs.GivenTexts.{AskForText, TakesSource}
 use Rattle.sil_command.specs.Laws.{AreGeneratedExactly}
 use Rattle.sil_command.proofs.Asked.{asks_for_one}
-use Rattle.sil_command.proofs.StatusLemmas.{answers_exactly, wrong_done}
+use Rattle.sil_command.proofs.StatusLemmas.{accepted_done, answers_exactly}
 
 -- a size that is asked for is within its bounds
 size_given : (number : Option (List ℕ)) (size : ℕ) → IsSizeBy number size → (1 ≤ size) × (size ≤ 500)
@@ -40,24 +47,29 @@ module _ (one : SayOneThing) (words : List (List ℕ)) (size : ℕ) (asks : Asks
   generated_answer (Some text) Takes answer status answers =
       record { text = text; source = refl; taken = λ is. absurd (not_taken is); allowed = in_mode (Generate size) answer status asks answers }
 
--- with which statuses
+-- ---- the module
 
-generated_done : (m : Module) (answer : List ℕ) (status : ℕ) → AnswersGenerated m answer status → HasEntry m (codes "main") ↔ (status ≡ code_of Done)
-generated_done m _ _ (no_main none) = (λ known. absurd (none known), λ zero. absurd (omega arith))
-generated_done m _ _ (both_ran k x y left plain optimised) = (λ known. refl, λ zero. (plain.entry, plain.function, plain.begins))
+main_found : (a n : ℕ) (f : Function) → slice_get (map work (range_with_len a n) ++ f ∷ []) n ≡ Some f
+main_found a zero f = refl
+main_found a (suc n) f = main_found (a + 1) n f
 
-wrong_not_done : (m : Module) (answer : List ℕ) (status : ℕ) → AnswersWrong m answer status → status ≡ code_of Done → ⊥
-wrong_not_done m _ _ (refused x first rule) zero = omega arith
-wrong_not_done m _ _ (limit_passed what first) zero = omega arith
+pub main_there : (size : ℕ) → HasEntry (generated_module size) (codes "main")
+main_there size = (fn size, main size, record { there = main_found 0 size (main size); named = refl; starts = refl })
 
-tells : AreAcceptedWhereNothingIsFound → (size : ℕ) (m : Module) (answer : List ℕ) (status : ℕ) → AnswersModule (Generate size) m answer status
-    → (Accepted m × HasEntry m (codes "main")) ↔ (status ≡ code_of Done)
-tells law size m answer status (wrong _ _ answers) =
-    (λ known. (wrong_done law m answer status answers).0 known.0, λ zero. absurd (wrong_not_done m answer status answers zero))
-tells law size m answer status (accepted _ _ all answers) =
-    let told = generated_done m answer status answers in (λ known. told.0 known.1, λ zero. (all, told.1 zero))
+-- ---- with which statuses
 
-pub generated_exactly : SayOneThing → AreSpelledOnce → AreAcceptedWhereNothingIsFound → AreGeneratedExactly
-generated_exactly one once law size =
-    answers_exactly one once (Generate size) (code_of Done) (λ m. Accepted m × HasEntry m (codes "main"))
-    (λ m text spells. tells law size m) (λ e. omega arith, λ e. omega arith)
+generated_done : (m : Module) (answer : List ℕ) (status : ℕ) → AnswersGenerated m answer status → status ≡ code_of Done
+generated_done m _ _ (both_ran k x y left plain optimised) = refl
+
+module _ (one : SayOneThing) (once : AreSpelledOnce) (law : AreAcceptedWhereNothingIsFound) (numbered : AreGeneratedNumbered) (short : AreGeneratedShort)
+    (printed : ArePrintedSpelled) where
+  pub generated_exactly : AreGeneratedExactly
+  generated_exactly words size text answer status asks answers =
+      let few = (size_asked size (words, asks)).1 in
+      let spells : Spells (generated_module size) (generated size) = printed (generated_module size) (numbered size few) in
+      let told : ((m : Module) × Spells m (generated size) × Accepted m) ↔ (status ≡ code_of Done) =
+      answers_exactly one once (Generate size) (code_of Done) Accepted (λ m text spells. accepted_done law m (AnswersGenerated m) (generated_done m))
+      (λ e. omega arith, λ e. omega arith) words text answer status asks (short size few) answers in (
+        λ all. told.0 (generated_module size, spells, all),
+        λ zero. let known = told.1 zero in subst Accepted (once (generated size) (generated_module size) known.0 spells known.1) known.2,
+      )

@@ -1,7 +1,13 @@
 -- What is told of the runs of a generated module.
 use Rattle.std.proofs.Common.{◌≡◌, ℕ, List, length, subst}
 use Rattle.std.specs.Prelude.{codes, false, true, IfOk, Result, Ok, Err}
+use Rattle.sil_verifier.specs.holder_model.Faults.{HolderFault}
 use Rattle.sil_verifier.specs.holder_model.Outcomes.{EndsSo}
+use Rattle.sil_verifier.specs.holder_model.States.{Faulted}
+use Rattle.module_runner.specs.LoweredRuns.{LoweredNeverFaults}
+use Rattle.module_runner.specs.module_runner_report.RunOutcomes.{ending_of}
+use Rattle.module_runner.specs.module_runner_report.declared.outcome.Ending.{Ending as Reported}
+use Rattle.module_runner.specs.module_runner_report.declared.outcome.Ending.TheVariants as reported
 use Rattle.module_runner.specs.Optimising.{IsOptimisedIf}
 use Rattle.module_runner.specs.declared.report.RunReport.{RunReport}
 use Rattle.module_runner.specs.inner.RunReports.{TellsOfRun, outcome_of}
@@ -14,12 +20,20 @@ use Rattle.sil_command.specs.Statuses.{code_of}
 use Rattle.sil_command_lines.specs.Summaries.{summary_text}
 use Rattle.module_runner.specs.copy_pairing_model.Counts.{copies_of}
 
+-- what is reported is no fault
+no_fault : (e : Reported) (fault : HolderFault) → ending_of e ≡ Faulted fault → ⊥
+no_fault (reported.Returned x) fault is = cc
+no_fault (reported.Trap t) fault is = cc
+no_fault reported.OutOfTurns fault is = cc
+
 pub ran_so : (m : Module) (r : RunReport) → TellsOfRun m (codes "main") DEFAULT_TURNS false r → RunsSo m (outcome_of r)
 ran_so m r tells = record {
   entry = tells.entry;
   function = tells.function;
   begins = tells.begins;
   ends = subst (λ k. EndsSo k tells.entry DEFAULT_TURNS (outcome_of r)) tells.tells.optimised tells.tells.ends;
+  faultless = no_fault r.ending;
+  lowered_faultless = subst (λ k. LoweredNeverFaults k tells.entry DEFAULT_TURNS) tells.tells.optimised tells.tells.never_faults;
 }
 
 -- what follows from two facts on a result

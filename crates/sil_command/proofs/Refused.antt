@@ -18,7 +18,7 @@ use Rattle.sil_command.specs.declared.words.Mode.{Mode}
 use Rattle.sil_command.specs.declared.words.Mode.TheVariants.{Check, Generate, Lower, Optimize, Print, Run}
 use Rattle.sil_command.specs.Answers.{AnswersChecked, AnswersModule, AnswersRun, AnswersText, AnswersWrong, HasStatus, Writes, WritesOf}
 use Rattle.sil_command.specs.Answers.{limit_passed, refused, wrong, accepted, written, no_entry, ran, too_long, unread, spelled}
-use Rattle.sil_command.specs.Generated.{AnswersGenerated, both_ran, no_main}
+use Rattle.sil_command.specs.Generated.{AnswersGenerated, both_ran}
 use Rattle.sil_command.specs.GivenTexts.{text_for}
 use Rattle.sil_command.specs.Laws.{AreRefusedForTheFirst, AreReportedRightly, ChecksRules}
 use Rattle.sil_command_lines.specs.RefusalTexts.{refusal_text}
@@ -89,7 +89,6 @@ run_reported m name bound optimises _ _ (no_entry none) three = omega arith
 run_reported m name bound optimises _ _ (ran k e f x s left entry ends has never) three = ending_reported x.ending s has three
 
 generated_reported : (m : Module) (answer : List ℕ) (status : ℕ) → AnswersGenerated m answer status → status ≡ code_of NotAModule → ⊥
-generated_reported m _ _ (no_main none) three = omega arith
 generated_reported m _ _ (both_ran k x y left plain optimised) three = omega arith
 
 module_reported : (mode : Mode) (m : Module) (answer : List ℕ) (status : ℕ) → AnswersModule mode m answer status → status ≡ code_of NotAModule → ⊥

@@ -66,7 +66,7 @@ of_done : (text : Module → List ℕ) (optimises : Bool) (m : Module) (answer :
 of_done text optimises m answer status (k, left, writes) = written_done (text k) answer status writes
 
 -- where each accepted module is answered with that status
-accepted_done : AreAcceptedWhereNothingIsFound → (m : Module) (A : List ℕ → ℕ → Type 0) → ((answer : List ℕ) (status : ℕ) → A answer status → status ≡ code_of Done)
+pub accepted_done : AreAcceptedWhereNothingIsFound → (m : Module) (A : List ℕ → ℕ → Type 0) → ((answer : List ℕ) (status : ℕ) → A answer status → status ≡ code_of Done)
     → (answer : List ℕ) (status : ℕ) → AnswersChecked m A answer status → Accepted m ↔ (status ≡ code_of Done)
 accepted_done law m A is_done answer status (wrong _ _ answers) = wrong_done law m answer status answers
 accepted_done law m A is_done answer status (accepted _ _ all answers) = (λ known. is_done answer status answers, λ zero. all)

@@ -1,5 +1,5 @@
 -- What the answers of each mode tell of a text.
-use Rattle.std.specs.Prelude.{◌≡◌, ◌↔◌, ℕ, ◌≤◌, Bool, List, codes, length, ⊤}
+use Rattle.std.specs.Prelude.{◌≡◌, ◌↔◌, ℕ, ◌≤◌, Bool, List, length, ⊤}
 use Rattle.sil_verifier.specs.holder_model.Faults.{HolderFault}
 use Rattle.sil_verifier.specs.holder_model.Outcomes.{EndsSo, Outcome}
 use Rattle.sil_verifier.specs.holder_model.States.{Ending}
@@ -15,6 +15,7 @@ use Rattle.sil_command.specs.declared.status.Status.{Status}
 use Rattle.sil_command.specs.declared.status.Status.TheVariants.{Done, NotAModule, NoEntry}
 use Rattle.sil_command.specs.Statuses.{code_of}
 use Rattle.sil_verifier_accepted.specs.AcceptedModules.Findings.{Accepted, Finding, Refusal}
+use Rattle.sil_command_generator.specs.GeneratedModules.{generated_module}
 use Rattle.sil_command.specs.declared.words.Mode.{Mode}
 use Rattle.sil_command.specs.declared.words.Mode.TheVariants.{Check, Generate, Lower, Optimize, Print, Run}
 use Rattle.sil_command.specs.Words.{AsksFor}
@@ -22,8 +23,7 @@ use Rattle.sil_command.specs.GivenTexts.{text_for}
 use Rattle.sil_command.specs.Answers.{Answers, HasStatus}
 use Rattle.sil_command_lines.specs.RefusalTexts.{refusal_text}
 
--- among texts within the limit, the mode answers with the status just those that spell a module that is such: texts of a source, or the
--- generated one
+-- among texts of a source within the limit, the mode answers with the status just those that spell a module that is such
 abbrev pub AnswersExactly : Mode → ℕ → (Module → Type 0) → Type 0
 AnswersExactly mode wanted IsSuch =
     (words : List (List ℕ)) (text answer : List ℕ) (status : ℕ) → AsksFor words mode → length (text_for mode text) ≤ TEXT_BYTES
@@ -81,9 +81,11 @@ AreReportedRightly =
     (words : List (List ℕ)) (mode : Mode) (text answer : List ℕ) (status : ℕ) → AsksFor words mode → Answers words text answer status
     → status ≡ code_of NotAModule → SpellsNone (text_for mode text)
 
--- `generate` answers Done just where the generated text spells an accepted module with a `@main` with which a run may begin
+-- `generate` answers Done just where the module of the size that is asked for is accepted
 abbrev pub AreGeneratedExactly : Type 0
-AreGeneratedExactly = (size : ℕ) → AnswersExactly (Generate size) (code_of Done) (λ m. Accepted m × HasEntry m (codes "main"))
+AreGeneratedExactly =
+    (words : List (List ℕ)) (size : ℕ) (text answer : List ℕ) (status : ℕ) → AsksFor words (Generate size) → Answers words text answer status
+    → Accepted (generated_module size) ↔ (status ≡ code_of Done)
 
 -- `print` answers Done just for the texts that spell a module
 abbrev pub ArePrintedExactly : Type 0

@@ -9,9 +9,9 @@ ghost use Rattle.sil_command.specs.Statuses.{code_of};
 ghost use Rattle.numbered_form.specs.inner.NumberedForm.{IsNumbered};
 ghost use Rattle.sil_command.specs.declared.words.Mode.TheVariants.{Check, Lower, Optimize, Run};
 ghost use Rattle.sil_command.specs.Answers.{AnswersModule, AnswersText, Writes, WritesOf};
+ghost use Rattle.sil_command.specs.GivenTexts.{TakesSource};
 ghost use Rattle.sil_command.specs.Words.{IsAskedFor};
 
-use crate::generate::answer_generated;
 use crate::reading::answer_refusal;
 use crate::run_answer::answer_run;
 use crate::status::Status;
@@ -32,9 +32,10 @@ pub struct Answer {
     pub status: Status,
 }
 
-/// The answer of a mode to a text: to the module that it spells, or why it isn't read.
+/// The answer of a mode to the text of a source: to the module that it spells, or why it isn't read.
 pub fn answer_to(alloc: Global, mode: Mode, text: Vec<u8>) -> Result<Answer, Exhausted>
     requires asked { IsAskedFor mode }
+    requires takes { TakesSource mode }
     requires within { length text.items ≤ TEXT_BYTES }
     ensures { IfOk result (λ a. AnswersText mode text.items a.text.items (code_of a.status)) }
 {
@@ -47,6 +48,7 @@ pub fn answer_to(alloc: Global, mode: Mode, text: Vec<u8>) -> Result<Answer, Exh
 /// A program answers one text and ends: the module's memory is left to the system, here and below.
 fn answer_module(alloc: Global, mode: Mode, module: Module) -> Result<Answer, Exhausted>
     requires asked { IsAskedFor mode }
+    requires takes { TakesSource mode }
     requires numbered { IsNumbered «module» }
     ensures { IfOk result (λ a. AnswersModule mode «module» a.text.items (code_of a.status)) }
 {
@@ -64,7 +66,7 @@ fn answer_module(alloc: Global, mode: Mode, module: Module) -> Result<Answer, Ex
             turns,
             optimise,
         } => run_module(alloc, module, entry.as_slice(), turns, optimise),
-        Mode::Generate { size: _ } => answer_generated(alloc, module),
+        Mode::Generate { size: _ } => unreachable!(),
     }
 }
 

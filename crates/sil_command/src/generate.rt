@@ -1,6 +1,6 @@
 //! The answer of `generate` to the module that its text spells: what the runs of it and of the optimised module show.
 
-ghost use Rattle.std.specs.Prelude.{◌≡◌, IfOk, MatchOption, codes, length};
+ghost use Rattle.std.specs.Prelude.{◌≡◌, IfOk, codes, length};
 ghost use Rattle.module_runner.specs.Entries.{HasEntry};
 ghost use Rattle.module_runner.specs.inner.RunReports.{outcome_of};
 ghost use Rattle.numbered_form.specs.inner.NumberedForm.{IsNumbered};
@@ -10,7 +10,6 @@ ghost use Rattle.sil_command.specs.Generated.{AnswersGenerated, Ran, RunsSo};
 ghost use Rattle.sil_command.specs.Statuses.{code_of};
 ghost use Rattle.module_runner.specs.copy_pairing_model.Counts as counts;
 ghost use Rattle.sil_command_lines.specs.Summaries.{summary_text};
-ghost use Rattle.sil_command_lines.specs.Texts.{no_entry_text};
 ghost use Rattle.sil_command.specs.declared.status.Status.TheVariants as status;
 
 use crate::answer::Answer;
@@ -25,9 +24,10 @@ use sil_verifier::{Checked, verify};
 use std::alloc::Global;
 use std::mem::forget;
 
-/// The answer to a module: what is wrong with it, or the lines on its runs.
+/// The answer to a module with a `@main`: what is wrong with it, or the lines on its runs.
 pub(crate) fn answer_generated(alloc: Global, module: Module) -> Result<Answer, Exhausted>
-    requires { IsNumbered «module» }
+    requires numbered { IsNumbered «module» }
+    requires main { HasEntry «module» (codes "main") }
     ensures { IfOk result (λ a. AnswersChecked «module» (AnswersGenerated «module») a.text.items (code_of a.status)) }
 {
     match verify(alloc, module) {
@@ -37,29 +37,16 @@ pub(crate) fn answer_generated(alloc: Global, module: Module) -> Result<Answer, 
 }
 
 fn answer_runs(alloc: Global, checked: Checked) -> Result<Answer, Exhausted>
+    requires { HasEntry checked (codes "main") }
     ensures { IfOk result (λ a. AnswersGenerated checked a.text.items (code_of a.status)) }
 {
     match totals_of_run(alloc, &checked) {
-        Ok(Some(plain)) => sum_up(alloc, checked, plain),
-        Ok(None) => {
-            forget(checked);
-            no_main(alloc)
-        }
+        Ok(plain) => sum_up(alloc, checked, plain),
         Err(Exhausted) => {
             forget(checked);
             Err(Exhausted)
         }
     }
-}
-
-fn no_main(alloc: Global) -> Result<Answer, Exhausted>
-    ensures text { IfOk result (λ a. a.text.items ≡ no_entry_text (codes "main")) }
-    ensures status { IfOk result (λ a. a.status ≡ status.NoEntry) }
-{
-    Ok(Answer {
-        text: sil_command_lines::no_entry(alloc, b"main")?,
-        status: Status::NoEntry,
-    })
 }
 
 /// The lines, where this was shown by the module's own run. The module becomes the optimised one, which has a `@main` too.
@@ -89,11 +76,8 @@ fn write_both(
     ensures { IfOk result (λ a. (y : Ran) × RunsSo left.now y
         × (a.text.items ≡ summary_text functions before after plain.now (generated.totals_of y)) × (a.status ≡ status.Done)) }
 {
-    match totals_of_run(alloc, left) {
-        Ok(Some(optimised)) => write_lines(alloc, functions, before, after, plain, &optimised),
-        Ok(None) => unreachable!(),
-        Err(Exhausted) => Err(Exhausted),
-    }
+    let optimised = totals_of_run(alloc, left)?;
+    write_lines(alloc, functions, before, after, plain, &optimised)
 }
 
 fn write_lines(
@@ -125,18 +109,18 @@ fn copies_of(checked: &Checked) -> u64
     copies_in(checked.module())
 }
 
-/// What the run of a module from `@main` shows, or none where it has no such function with which a run may begin.
-fn totals_of_run(alloc: Global, checked: &Checked) -> Result<Option<Totals>, Exhausted>
-    ensures { IfOk result (λ shown. MatchOption shown (¬ HasEntry checked.now (codes "main"))
-        (λ totals. (x : Ran) × RunsSo checked.now x × (totals ≡ generated.totals_of x))) }
+/// What the run of a module from `@main` shows.
+fn totals_of_run(alloc: Global, checked: &Checked) -> Result<Totals, Exhausted>
+    requires { HasEntry checked.now (codes "main") }
+    ensures { IfOk result (λ totals. (x : Ran) × RunsSo checked.now x × (totals ≡ generated.totals_of x)) }
 {
     match run_checked(alloc, checked, b"main", DEFAULT_TURNS, false) {
         Ok(report) => {
             let totals = totals_of(&report);
             forget(report);
-            Ok(Some(totals))
+            Ok(totals)
         }
-        Err(RunEnd::NoEntry) => Ok(None),
+        Err(RunEnd::NoEntry) => unreachable!(),
         Err(RunEnd::Memory) => Err(Exhausted),
     }
 }

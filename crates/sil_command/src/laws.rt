@@ -1,9 +1,13 @@
 //! What follows from the definition of answers, on calls that do nothing.
 
+ghost use Rattle.std.specs.Prelude.{ℕ, codes};
+ghost use Rattle.module_runner.specs.Entries.{HasEntry};
+ghost use Rattle.sil_command_generator.specs.GeneratedModules.{generated_module};
 ghost use Rattle.sil_command.specs.Laws.{AreAcceptedExactly, AreLoweredExactly, AreOptimisedExactly, ArePrintedExactly, ArePrintedReadBack};
 ghost use Rattle.sil_command.specs.Laws.{AreGeneratedExactly, AreRefusedForTheFirst, AreReportedRightly, AreRunExactly, HaveNoEntryExactly};
 
 use module_runner::{names_have_one_entry, one_module_is_lowered, runs_end_once};
+use sil_command_generator::{generated_modules_are_numbered, generated_texts_are_short};
 use sil_command_words::command_lines_say_one_thing;
 use sil_grammar::{spelled_modules_are_numbered, spelled_once};
 use sil_printer_laws::printed_modules_are_spelled;
@@ -59,13 +63,21 @@ pub fn no_entry_exactly()
     accepted_where_nothing_is_found();
 }
 
-/// `generate` answers with status 0 just where its text spells an accepted module that can be run.
+/// The generated module has a `@main` with which a run may begin.
+pub fn generated_modules_have_main()
+    ensures { (size : ℕ) → HasEntry (generated_module size) (codes "main") }
+{}
+
+/// `generate` answers with status 0 just where the generated module is accepted, whatever its size.
 pub fn generated_exactly()
     ensures { AreGeneratedExactly }
 {
     command_lines_say_one_thing();
     spelled_once();
     accepted_where_nothing_is_found();
+    generated_modules_are_numbered();
+    generated_texts_are_short();
+    printed_modules_are_spelled();
 }
 
 /// To a text that spells a module which isn't accepted, all modes but `print` answer the first of all that is wrong with that module.

@@ -18,8 +18,9 @@ mod verified;
 mod words;
 
 pub use laws::{
-    accepted_exactly, generated_exactly, lowered_exactly, no_entry_exactly, optimised_exactly,
-    printed_exactly, printed_texts_read_back, refused_for_the_first, reported_rightly, run_exactly,
+    accepted_exactly, generated_exactly, generated_modules_have_main, lowered_exactly,
+    no_entry_exactly, optimised_exactly, printed_exactly, printed_texts_read_back,
+    refused_for_the_first, reported_rightly, run_exactly,
 };
 pub use sil_command_generator::generated_text;
 pub use status::Status;

@@ -5,3 +5,11 @@ mod FunctionTexts
 mod Counted
 mod FoundFunctions
 mod MainTexts
+mod Tests
+mod InstTests
+mod WrittenTypes
+mod NumberedWork
+mod NumberedMain
+mod OnceNames
+mod Numbered
+mod Lengths

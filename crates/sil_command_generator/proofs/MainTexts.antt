@@ -41,7 +41,7 @@ module _ (n : ℕ) where
   abbrev return_line : List ℕ
   return_line = texts (return_of (2 * n) ∷ [])
 
-  main_is : line_feed ++ function_text (functions_of n) (main n) ≡ main_head ++ texts calls ++ (tuple_line ++ return_line) ++ line (codes "}")
+  pub main_is : line_feed ++ function_text (functions_of n) (main n) ≡ main_head ++ texts calls ++ (tuple_line ++ return_line) ++ line (codes "}")
   main_is =
       ap (λ d. to_block ++ (d ++ [] ++ codes ":" ++ line_feed ++ texts (calls ++ empty_tuple (2 * n) ∷ []) ++ return_line ++ [] ++ line (codes "}"))) zero_text
       ∙ ap (λ t. main_head ++ (t ++ return_line ++ [] ++ line (codes "}")))
@@ -59,7 +59,7 @@ module _ (n : ℕ) where
   abbrev the_main : List ℕ
   the_main = line_feed ++ function_text (functions_of n) (main n)
 
-  whole : head_text ++ works ++ the_main ≡ generated n
+  pub whole : head_text ++ works ++ the_main ≡ generated n
   whole = append_assoc head_text works the_main
       ∙ ap (λ t. head_text ++ t) (sym (with_last (λ f. line_feed ++ function_text (functions_of n) f) (map work (range_with_len 0 n)) (main n)))
       ∙ sym (append-nil _)

@@ -60,6 +60,9 @@ end_lines = lines (
     ∷ []
     )
 
-pub work_text : (fs : List Function) → blocks_text fs work_blocks ≡ start_lines ++ line [] ++ one_more_lines ++ line [] ++ again_lines ++ line [] ++ end_lines
+abbrev pub work_lines : List ℕ
+work_lines = start_lines ++ line [] ++ one_more_lines ++ line [] ++ again_lines ++ line [] ++ end_lines
+
+pub work_text : (fs : List Function) → blocks_text fs work_blocks ≡ work_lines
 unfolding digits
 work_text fs = simp (types) refl

@@ -3,7 +3,9 @@
 #![tactic(auto)]
 
 mod generated;
+mod laws;
 mod pieces;
 mod work;
 
 pub use generated::generated_text;
+pub use laws::{generated_modules_are_numbered, generated_texts_are_short};

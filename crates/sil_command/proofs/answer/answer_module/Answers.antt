@@ -20,8 +20,8 @@ run_module-requires c = record {
   some_turns = some_turns c.in-Run.entry c.in-Run.turns c.in-Run.optimise (rw c.in-Run.is at c.requires.asked);
 }
 
-pub returns-in-Generate : goal.returns-in-Generate
-returns-in-Generate c = rw c.in-Generate.is c.answer_generated.ensures
+pub unreachable-requires : goal.unreachable-requires
+unreachable-requires c = rw c.in-Generate.is at c.requires.takes
 
 pub returns-in-Run : goal.returns-in-Run
 returns-in-Run c = rw c.in-Run.is (rw c.as_slice.ensures at c.run_module.ensures)

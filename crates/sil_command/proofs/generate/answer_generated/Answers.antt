@@ -3,6 +3,9 @@ use Rattle.sil_command.specs.Generated.{AnswersGenerated}
 use Rattle.sil_command.proofs.AnswerLemmas.{accepted_answer, wrong_answer}
 use Rattle.sil_command.proofs.generate.answer_generated.Goals as goal
 
+pub answer_runs-requires : goal.answer_runs-requires
+answer_runs-requires c = rw c.in-Ok.ensures.ok c.requires.main
+
 pub returns-in-Ok : goal.returns-in-Ok
 returns-in-Ok c = accepted_answer (AnswersGenerated c.args.«module») c.answer_runs.result c.args.«module» c.in-Ok.ensures.accepted
     (rw c.in-Ok.ensures.ok at c.answer_runs.ensures)
