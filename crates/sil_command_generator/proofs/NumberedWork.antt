@@ -17,7 +17,8 @@ use Rattle.sil_ast.specs.declared.function.BlockArg.{BlockArg}
 use Rattle.sil_ast.specs.declared.place.ValueId.{ValueId}
 use Rattle.sil_rules.specs.declared.limits.TheConstants.{ARGUMENTS, BLOCKS, INSTRUCTIONS, VALUES}
 use Rattle.sil_command_generator.specs.WorkFunctions.{work, work_blocks}
-use Rattle.sil_command_generator.proofs.InstTests.{block_has_parts, block_with_parts, has_limits, has_literals, has_types, in_range, is_in_range, is_placed, is_spelled, limited, placed, spelled, with_literals, with_types}
+use Rattle.sil_command_generator.proofs.InstTests.{block_has_parts, block_with_parts, has_limits, has_literals, has_types, in_range}
+use Rattle.sil_command_generator.proofs.InstTests.{is_in_range, is_placed, is_spelled, limited, placed, spelled, with_literals, with_types}
 use Rattle.sil_command_generator.proofs.Tests.{each_by, in_block_by, in_blocks_by, passes_in_block}
 use Rattle.sil_command_generator.proofs.WrittenTypes.{opened}
 
