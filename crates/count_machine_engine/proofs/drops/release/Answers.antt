@@ -5,5 +5,5 @@ use Rattle.count_machine_engine.proofs.drops.release.Goals as goal
 pub returns-in-LastGone : goal.returns-in-LastGone
 returns-in-LastGone c = λ ready.
     last-released c.deinitialise.result c.deinitialise.new.machine ready c.args.bound c.args.machine.now c.release_one.new.self c.args.object
-    c.if-is_dead.ensures (λ e. c.if-strong-eq0.false (c.strong.ensures ∙ e)) (sym c.in-LastGone.is ∙ c.in_ok-release_one.ensures.answer) c.in_ok-release_one.ensures.state
+    c.if-is_dead.ensures (λ e. c.if-strong-eq0.false (c.strong.ensures ∙ e)) (sym c.in-LastGone.is ∙ c.release_one.ensures.answer) c.release_one.ensures.state
     (c.deinitialise.ensures ready)

@@ -39,7 +39,7 @@ pub loop-frame-preserved : goal.loop-frame-preserved
 loop-frame-preserved c =
     let p = (goal.at.loop-frame-preserved c).After-advance in
     let on = c.in_default-advance.ensures (drop 1 c.args.machine.now.tasks) c.in-Some.block.now c.loop-frame.invariant.top c.loop-frame.invariant.block (op-is p) in
-    let began = top-is c.args.machine.now.tasks (Runs c.args.frame) (sym c.requires) in
+    let began = top-is c.args.machine.now.tasks (Runs c.args.frame) (sym c.requires.going) in
     record {
       top = on.2 (omega (arith, c.task_count.ensures, c.if-task_count-count.false, c.task_count-count.ensures, ap length began, ap length c.loop-frame.invariant.top));
       led = leads-behind c.args.ready.now c.args.bound c.args.machine.now c.loop-frame.machine _ c.loop-frame.invariant.led on.0;

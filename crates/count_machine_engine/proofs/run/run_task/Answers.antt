@@ -27,7 +27,7 @@ returns-in-Some-Drops-clause-led c =
 
 pub returns-in-Some-Drops-clause-work : goal.returns-in-Some-Drops-clause-work
 returns-in-Some-Drops-clause-work c =
-    less-on c.args.ready.now c.args.bound c.args.machine.now c.args.machine.now c.drop_next.new.machine c.drop_next.result (omega arith) c.requires
+    less-on c.args.ready.now c.args.bound c.args.machine.now c.args.machine.now c.drop_next.new.machine c.drop_next.result (omega arith) c.requires.going
     (dropped (goal.at.returns-in-Some-Drops-clause-work c).After-drop_next)
 
 pub returns-in-Some-Finishes-clause-led : goal.returns-in-Some-Finishes-clause-led
@@ -37,5 +37,5 @@ returns-in-Some-Finishes-clause-led c =
 
 pub returns-in-Some-Finishes-clause-work : goal.returns-in-Some-Finishes-clause-work
 returns-in-Some-Finishes-clause-work c =
-    less-on c.args.ready.now c.args.bound c.args.machine.now c.args.machine.now c.deinit.new.machine c.deinit.result (omega arith) c.requires
+    less-on c.args.ready.now c.args.bound c.args.machine.now c.args.machine.now c.deinit.new.machine c.deinit.result (omega arith) c.requires.going
     (finished (goal.at.returns-in-Some-Finishes-clause-work c).After-deinit)
