@@ -8,6 +8,7 @@ use Rattle.count_machine_engine.specs.inner.Advanced.{HasAdvanced}
 use Rattle.count_machine_engine.proofs.Followed.{ended-behind, leads-behind}
 use Rattle.count_machine_engine.proofs.Stepped.{top-is}
 use Rattle.count_machine_engine.proofs.Stretched.{end-gone, led-on, less-on, not_dropping}
+use Rattle.count_machine_engine.proofs.Fitting.{few-made, leads-fit, room-frame, short-block}
 use Rattle.count_machine_engine.proofs.run.run_block.Goals as goal
 use Rattle.count_machine_engine.proofs.run.run_block.Goals.{After-advance, After-end_block}
 
@@ -65,3 +66,17 @@ returns-clause-work c =
     less-on c.args.ready.now c.args.bound c.args.machine.now c.loop-frame.machine c.end_block.new.machine c.end_block.result c.loop-frame.invariant.less
     (not_dropping c.args.ready.now c.args.bound c.loop-frame.machine c.loop-frame.frame (drop 1 c.args.machine.now.tasks) c.in-Some.block.now c.loop-frame.invariant.top)
     (ended (goal.at.returns-clause-work c).After-end_block)
+
+pub advance-requires-clause-few : goal.advance-requires-clause-few
+advance-requires-clause-few c =
+    let b = c.in-Some.block.now in
+    let at : slice_get b.ops c.loop-frame.frame.index ≡ Some c.index-ops-frame.result =
+    ap (λ xs. slice_get xs c.loop-frame.frame.index) (sym c.as_slice-ops.ensures)
+    ∙ slice_get_read c.as_slice-ops.result.now _ c.loop-frame.frame.index c.index-ops-frame.result refl c.loop-frame-test.true c.index-ops-frame.is in
+    few-made b c.loop-frame.frame.index c.index-ops-frame.result
+    (short-block c.args.ready.now c.loop-frame.frame.function c.loop-frame.frame.block b c.requires.short c.loop-frame.invariant.block) at
+
+pub advance-requires-clause-room : goal.advance-requires-clause-room
+advance-requires-clause-room c =
+    room-frame c.args.ready.now c.args.bound c.loop-frame.machine c.loop-frame.frame _ c.loop-frame.invariant.top
+    (leads-fit c.args.ready.now c.args.bound c.args.machine.now c.loop-frame.machine c.requires.short c.requires.fits c.loop-frame.invariant.led)
