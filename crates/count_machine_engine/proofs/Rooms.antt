@@ -4,10 +4,11 @@ use Rattle.std.specs.Prelude.{find, is_some, map, nat_le, nat_lt, slice_get, tak
 use Rattle.std.proofs.lemmas.Bool.Decides.{nat_tests}
 use Rattle.std.proofs.lemmas.List.{length-append, length-take}
 use Rattle.count_heap.specs.HeapModel.Counts.{HasRoom}
-use Rattle.count_heap.specs.HeapModel.HeapCalls.{allocated_in, released, retained, takes_last}
+use Rattle.count_heap.specs.HeapModel.HeapCalls.{allocated_in, released, retained, started, takes_last}
 use Rattle.count_heap.specs.HeapModel.HeapViews.{HeapView, fields_in, is_dead_in, phase_in, strong_in}
 use Rattle.count_heap.proofs.Rooms.{room-allocated, room-finished, room-less, room-released, room-retained, room-started}
 use Rattle.holder_model.specs.Builtins.{is_set}
+use Rattle.holder_model.specs.declared.event.Event.TheVariants as event
 use Rattle.holder_model.specs.declared.limits.TheConstants.{FRAMES}
 use Rattle.holder_model.specs.declared.lowered_run.low_fault.LowFault.TheVariants as fault
 use Rattle.holder_model_values.specs.declared.run_values.leaf.Leaf.{Leaf}
@@ -44,7 +45,7 @@ use Rattle.count_machine_model.specs.MachineSteps.Calling.{addresses_carried, ca
 use Rattle.count_machine_model.specs.MachineSteps.Ends as ends
 use Rattle.count_machine_model.specs.MachineSteps.Held.{Empty, Full, Gone, Held, OfDead, held_at, slot_in, write_by, write_slot}
 use Rattle.count_machine_model.specs.MachineSteps.Naming.{leaf_named, leaf_unnamed, name_of}
-use Rattle.count_machine_model.specs.MachineSteps.Operands.{address_in, contents, faults, first_leaf, go_on, int_among, is_missing, object_in_leaf, objects_among, put, put_address}
+use Rattle.count_machine_model.specs.MachineSteps.Operands.{address_in, contents, faults, first_leaf, gives, go_on, int_among, is_missing, object_in_leaf, objects_among, put, put_address}
 use Rattle.count_machine_model.specs.MachineSteps.Operands.{unless_missing, with_all}
 use Rattle.count_machine_model.specs.MachineSteps.Places as p
 use Rattle.count_machine_model.specs.MachineSteps.Rows.{calls_in, does, entered, performs, read_by}
@@ -252,7 +253,8 @@ module _ (n : ℕ) where
     does-room (op.MemberAddress a from to) room here = here
     does-room (op.FieldAddress l k to) room here = field here k (objects_among (contents st fr l)) to
     does-room (op.Call g operands values addresses to) room here = calls here g values addresses
-    does-room (op.CallOut g operands args to) room here = turns bound st _ here here
+    does-room (op.CallOut g operands args to) room here =
+        turns bound st (λ after. gives (record after { events = after.events ++ event.Call g (map (λ l. int_among (contents st fr l)) args) ∷ [] }) fr rest to []) here here
 
     pub performs-room : (o : ReadyOp) → HasRoom (n + made_by o) st.heap → Room (performs ready bound st fr rest o)
     performs-room o room =
@@ -292,14 +294,18 @@ module _ (n : ℕ) where
     returns_to room l (task.Drops from ∷ below) = room
     returns_to room l (task.Finishes o called ∷ below) = room
 
+    returns : HasRoom n st.heap → (l : Local) → Room (ends.returns ready bound st fr rest l)
+    returns room l = either (length st.slots == fr.slots) _ _ (returns_to room l rest) room
+
     pub ends-room : HasRoom n st.heap → (e : ReadyEnd) → Room (ends.ends_with ready bound st fr rest e)
     ends-room room (ready_end.Jump e) = takes_edge room e
     ends-room room (ready_end.Branch l set clear) =
-        there st fr (l.value ∷ []) _ room (either (is_set (int_among (contents st fr l))) _ _ (takes_edge room set) (takes_edge room clear))
+        there st fr (l.value ∷ []) _ room
+        (either (is_set (int_among (contents st fr l))) (ends.takes_edge ready bound st fr rest set) (ends.takes_edge ready bound st fr rest clear) (takes_edge room set) (takes_edge room clear))
     ends-room room (ready_end.Switch l cases) =
         there st fr (l.value ∷ []) _ room (takes_case room (contents st fr l) (slice_get cases (ends.tag_in_leaf (first_leaf (contents st fr l)))))
     ends-room room (ready_end.Return l) =
-        there st fr (l.value ∷ []) _ room (either (length st.slots == fr.slots) _ _ (returns_to room l rest) room)
+        there st fr (l.value ∷ []) _ room (returns room l)
     ends-room room ready_end.Unreachable = room
 
   module _ (ready : ReadyModule) (bound : ℕ) where
@@ -314,7 +320,12 @@ module _ (n : ℕ) where
     unless_none st o false e room =
         let after : MachineView = record st { heap = released st.heap o } in
         let left = room-released o (some-left (strong_in st.heap o) e) room in
-        either (takes_last st.heap o) (steps.deinitialises ready bound after o) (Goes after) (turns bound after _ left (room-started o left)) left
+        either (takes_last st.heap o) (steps.deinitialises ready bound after o) (Goes after)
+        (turns bound after (λ next. Goes (record next {
+          tasks = task.Finishes o 0 ∷ next.tasks;
+          heap = started next.heap o;
+          events = next.events ++ event.Deinit (steps.name_of next.heap o) o ∷ [];
+        })) left (room-started o left)) left
 
     releases : (st : MachineView) (o : ObjectId) → HasRoom n st.heap → Room (steps.releases ready bound st o)
     releases st o room = either (is_dead_in st.heap o) _ _ room (unless_none st o (strong_in st.heap o == 0) refl room)

@@ -1,5 +1,4 @@
 use Rattle.count_heap.proofs.HeapLaws.{slots_few}
-use Rattle.count_heap.proofs.Rooms.{room-less}
 use Rattle.count_heap.proofs.laws.slots_are_few.Goals as goal
 
 pub returns : goal.returns
