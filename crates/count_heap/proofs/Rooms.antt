@@ -33,7 +33,6 @@ also k a s n h = omega (arith, h)
 
 -- one place of a list
 
-
 strong-set : (xs : List (Option HeapObject)) (i : ℕ) (y : Option HeapObject)
     → strong_sum (set xs i y) + strong_told (unwrap_or (slice_get xs i) None) ≤ strong_sum xs + strong_told y
 strong-set [] i y = omega arith

@@ -1,5 +1,5 @@
 -- Room for more references and names: what a step leaves of it.
-use Rattle.std.proofs.Common.{◌≡◌, ℕ, zero, suc, ◌+◌, ◌<◌, ◌≤◌, ◌==◌, Bool, true, false, ◌&&◌, not, cond, List, [], ◌∷◌, ◌++◌, Option, Some, None, length, refl, sym, subst, arith}
+use Rattle.std.proofs.Common.{◌≡◌, ℕ, zero, suc, ◌+◌, ◌<◌, ◌≤◌, ◌==◌, Bool, true, false, ◌&&◌, not, cond, drop, List, [], ◌∷◌, ◌++◌, Option, Some, None, length, refl, sym, subst, arith}
 use Rattle.std.specs.Prelude.{find, is_some, map, nat_le, nat_lt, slice_get, take}
 use Rattle.std.proofs.lemmas.Bool.Decides.{nat_tests}
 use Rattle.std.proofs.lemmas.List.{length-append, length-take}
@@ -165,8 +165,8 @@ module _ (n : ℕ) where
 
     unowned_given : HasRoom n st.heap → (after : MachineView) → HasRoom (n + 1) after.heap → HasRoom n after.heap → (to : Local) (xs : List ObjectId)
         → Room (p.unowned_given st fr rest after to xs)
-    unowned_given here after room left to [] = first_of (left, here)
-    unowned_given here after room left to (x ∷ xs) = either (p.is_live_in st fr rest x) _ _ (room-retained x room) (first_of (left, here))
+    unowned_given here after room left to [] = assumption
+    unowned_given here after room left to (x ∷ xs) = either (p.is_live_in st fr rest x) _ _ (room-retained x room) assumption
 
     given : HasRoom n st.heap → (w : Storage) (after : MachineView) → HasRoom (n + 1) after.heap → (to : Local) (xs : List ObjectId) → Room (p.given st fr rest w after to xs)
     given here storage.Strong after room to xs = here
@@ -240,7 +240,7 @@ module _ (n : ℕ) where
     does-room (op.MakeSlot size to) room here = here
     does-room (op.RemoveSlot a) room here = removes_home here (address_in st fr a).is_part (address_in st fr a).home
     does-room (op.Same from to) room here = here
-    does-room (op.Retain l) room here = retains (objects_among (contents st fr l)) st.heap (room-less (omega (arith, few-taken l.size _)) room)
+    does-room (op.Retain l) room here = retains (objects_among (contents st fr l)) st.heap (room-less (omega (arith, few-taken l.size (drop (fr.leaves + l.at) st.leaves))) room)
     does-room (op.Drop l) room here = dropped (objects_among (contents st fr l)) _ here
     does-room (op.Load a to) room here = loads here to (held_at st (address_in st fr a) to.size)
     does-room (op.Store from a) room here = stores here (address_in st fr a) (contents st fr from) (held_at st (address_in st fr a) from.size)

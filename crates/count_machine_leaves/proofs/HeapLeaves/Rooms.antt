@@ -11,7 +11,7 @@ use Rattle.sil_ast.specs.declared.decl.Storage.TheVariants as storage
 use Rattle.sil_ast.specs.declared.place.ObjectId.{ObjectId}
 use Rattle.count_machine_model.specs.MachineSteps.Held.{has_room, has_size, without_field, write_field}
 use Rattle.count_machine_model.specs.MachineSteps.Naming.{all_unnamed, leaf_named, leaf_unnamed, less_named, more_named}
-use Rattle.count_machine_model.specs.MachineSteps.Operands.{object_in_leaf}
+use Rattle.count_machine_model.specs.MachineSteps.Operands.{object_in_leaf, objects_among}
 use Rattle.count_machine_model.specs.MachineSteps.Steps.{field_unnamed, fields_unnamed}
 
 module _ {n : ℕ} where
@@ -35,7 +35,7 @@ module _ {n : ℕ} where
 
   room-field_unnamed : (w : Storage) (x : Option (List Leaf)) (h : HeapView) → HasRoom n h → HasRoom n (field_unnamed w x h)
   room-field_unnamed w None h room = room
-  room-field_unnamed w (Some ls) h room = room-all_unnamed w _ h room
+  room-field_unnamed w (Some ls) h room = room-all_unnamed w (objects_among ls) h room
 
   pub room-fields_unnamed : (ws : List Storage) (xs : List (Option (List Leaf))) (h : HeapView) → HasRoom n h → HasRoom n (fields_unnamed ws xs h)
   room-fields_unnamed [] xs h room = room
