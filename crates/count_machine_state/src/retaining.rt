@@ -1,6 +1,6 @@
 //! References that are made once more.
 
-ghost use Rattle.std.specs.Prelude.{◌≡◌, ℕ, ◌+◌, false, length, OnOk};
+ghost use Rattle.std.specs.Prelude.{◌≡◌, false, length};
 ghost use Rattle.count_heap.specs.HeapModel.Counts.{HasRoom};
 ghost use Rattle.count_heap.specs.HeapModel.HeapCalls.{retained};
 ghost use Rattle.count_heap.specs.HeapModel.HeapViews.{is_dead_in};
@@ -22,8 +22,7 @@ use sil_ast::ObjectId;
 #[inline]
 fn retain_leaf(heap: &mut Heap, leaf: Leaf) -> Result<(), Stop>
     requires { HasRoom 1 heap.old }
-    ensures retained { (st : MachineView) → st.heap ≡ heap.old → HasGone (retains_all (object_in_leaf leaf) st Goes) result (record st { heap = heap.new }) }
-    ensures room { (n : ℕ) → HasRoom (n + 1) heap.old → OnOk result (HasRoom n heap.new) }
+    ensures { (st : MachineView) → st.heap ≡ heap.old → HasGone (retains_all (object_in_leaf leaf) st Goes) result (record st { heap = heap.new }) }
 {
     match leaf {
         Leaf::Int(_) => Ok(()),

@@ -1,6 +1,4 @@
-use Rattle.std.proofs.Common.{List, refl, subst, sym, ap, length, arith}
-use Rattle.std.proofs.lemmas.List.{length-take}
-use Rattle.count_heap.proofs.Rooms.{room-less}
+use Rattle.std.proofs.Common.{List, refl, subst, sym}
 use Rattle.count_heap.specs.HeapModel.Counts.{HasRoom}
 use Rattle.count_machine_model.specs.MachineSteps.Operands.{contents, objects_among}
 use Rattle.count_machine_model.specs.MachineSteps.Turning.{retains_all}
@@ -8,6 +6,7 @@ use Rattle.count_machine_model.specs.MachineSteps.Views.{Goes, MachineView}
 use Rattle.holder_model_values.specs.declared.run_values.leaf.Leaf.{Leaf}
 use Rattle.count_machine_state.specs.Went.{HasGone}
 use Rattle.count_machine_state.specs.contracts.machine.Machine.{the_view}
+use Rattle.count_machine_state.proofs.MoreReferences.{room_for_part}
 use Rattle.count_machine_state.proofs.machine.Machine.retain_value.Goals as goal
 
 pub returns : goal.returns
@@ -18,5 +17,5 @@ returns c =
 
 pub retain_all-requires : goal.retain_all-requires
 retain_all-requires c =
-    let few = rw c.deref.ensures.value at c.leaves_from.ensures in
-    room-less (omega (arith, ap length few, length-take c.args.operand.size _)) (subst (λ (st : MachineView). HasRoom c.args.operand.size st.heap) (sym c.self.view_is) c.requires)
+    room_for_part c.args.operand.size _ _ _ (rw c.deref.ensures.value at c.leaves_from.ensures)
+    (subst (λ (st : MachineView). HasRoom c.args.operand.size st.heap) (sym c.self.view_is) c.requires)
