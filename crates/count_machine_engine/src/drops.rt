@@ -41,7 +41,8 @@ fn release(machine: &mut Machine, bound: u32, object: ObjectId) -> Result<(), St
     if machine.strong(object) == 0 {
         return Err(fault(LowFault::Underflow { object, count: 0 }));
     }
-    match machine.release_one(object) {
+    let answer = machine.release_one(object);
+    match answer {
         Released::Held => Ok(()),
         Released::LastGone => deinitialise(machine, bound, object),
     }
