@@ -1,3 +1,4 @@
+pub mod Counting
 mod Endings
 mod Starting
 mod Leaving

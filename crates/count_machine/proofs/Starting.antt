@@ -17,9 +17,6 @@ use Rattle.sil_types_declarations.specs.TypeDefinitions.Declarations.{Declaratio
 use Rattle.count_machine.specs.declared.low_run.LowRun.{LowRun}
 use Rattle.count_machine.specs.LowRuns.{EndsAsTold, MayStartAt}
 use Rattle.count_machine.specs.inner.Stopped.{TellsOf}
-use Rattle.count_machine_model.specs.ReadyCode.Short.{IsShortCode}
-use Rattle.count_machine_engine.specs.Fits.{Fits}
-use Rattle.count_machine_engine.proofs.Starting.{begins-fit}
 
 -- the machine is at the beginning of the entry function's ready code
 abbrev pub HasBegun : Declarations → ReadyModule → FuncId → MachineView → Type 0
@@ -48,10 +45,3 @@ module _ (m : Module) (ready : ReadyModule) (e : FuncId) (bound : ℕ) (law : Ma
       let ends = law m ready e bound started end last from_start in
       let told = tells ends.0 ends.1 in
       record { ending = ends.0; told = told.ending; ends = subst (LowEndsSo m e bound) (sym told.outcome) ends.2 }
-
--- the machine has room at the beginning for all that a run makes
-pub begun_fits : (m : Module) (ready : ReadyModule) (e : FuncId) (bound : ℕ) (reached : List Bool) → IsReadyModule m reached ready → Reaches reached e → MayStartAt m e
-    → 1 ≤ bound → bound ≤ 1000000 → IsShortCode ready → (d : Declarations) (first : MachineView) → HasBegun d ready e first → Fits ready bound first
-begun_fits m ready e bound reached made comes starts some few short d first begun =
-    let code = made.functions e starts.entry comes starts.there in
-    subst (Fits ready bound) (sym (begun code.0 code.1)) (begins-fit ready bound d e code.0 short some few)

@@ -12,7 +12,7 @@ use Rattle.count_machine.proofs.Starting.{ends_told}
 use Rattle.count_heap.specs.HeapModel.Counts.{CountsFit}
 use Rattle.count_machine_engine.proofs.Fitting.{stops-fit}
 use Rattle.count_machine.specs.declared.low_run.LowRun.{LowRun}
-use Rattle.count_machine.proofs.Starting.{begun_fits}
+use Rattle.count_machine.proofs.Counting.{begun_fits}
 use Rattle.count_machine.proofs.module_run.run.Goals as goal
 
 pub make_ready-requires-clause-there : goal.make_ready-requires-clause-there
