@@ -1,4 +1,4 @@
-pub mod Counting
+mod Counting
 mod Endings
 mod Starting
 mod Leaving
