@@ -4,7 +4,7 @@ ghost use Rattle.std.specs.Prelude.{◌≡◌, ◌≤◌, ℕ, IfOk, slice_get};
 ghost use Rattle.holder_model.specs.RunTyping.Forms.{given_shape};
 ghost use Rattle.holder_model.specs.RunTyping.Runnable.{IsRunnable};
 ghost use Rattle.sil_types_declarations.specs.TypeDefinitions.Declarations.{declarations_of};
-ghost use Rattle.count_machine.specs.LowRuns.{EndsAsTold, HeapIsAsTold, MayStartAt};
+ghost use Rattle.count_machine.specs.LowRuns.{EndsAsTold, HasLastHeap, HeapIsAsTold, MayStartAt};
 ghost use Rattle.count_machine.specs.inner.Stopped.{TellsOf};
 
 use crate::ending::ending_of;
@@ -20,7 +20,7 @@ use sil_types::TypeTable;
 use std::alloc::Global;
 
 /// Runs a lowered module from an entry function that has a body and no arguments, for a bound on turns: the run of lowered code by stored
-/// numbers, as `docs/RUNS.md` defines it. Memory for frames, slots, objects and events is taken as the run needs it.
+/// numbers, as `docs/RUNS.md` defines it, and the heap in which it has ended. Memory for frames, slots, objects and events is taken as the run needs it.
 pub fn run(
     alloc: Global,
     m: &Module,
@@ -34,6 +34,7 @@ pub fn run(
     requires some_turns { 1 ≤ turns }
     ensures outcome { IfOk result (EndsAsTold m.now entry turns) }
     ensures heap { IfOk result HeapIsAsTold }
+    ensures last_heap { IfOk result (HasLastHeap m.now entry turns) }
 {
     runnable_is_typed();
     machine_runs_so();
