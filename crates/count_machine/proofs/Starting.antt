@@ -1,6 +1,6 @@
 -- From the start of the machine to the end of the run.
-use Rattle.std.proofs.Common.{◌≡◌, ◌∙◌, ◌≤◌, ℕ, List, Bool, Some, sym, ap, subst}
-use Rattle.std.specs.Prelude.{get_or, slice_get}
+use Rattle.std.proofs.Common.{◌≡◌, ◌∙◌, ◌≤◌, ℕ, List, Bool, Some, get_or, sym, ap, subst}
+use Rattle.std.specs.Prelude.{slice_get}
 use Rattle.std.proofs.lemmas.Option.{get_or_from_slice_get}
 use Rattle.holder_model.specs.LoweredRun.LowOutcomes.{LowEndsSo}
 use Rattle.holder_model.specs.Outcomes.{may_start}

@@ -81,5 +81,6 @@ pub mod SlotsGone
 pub mod SlotsMade
 pub mod SlotRemoved
 pub mod Assembly
+pub mod LastMemory
 pub mod LastHeaps
 pub mod Runs

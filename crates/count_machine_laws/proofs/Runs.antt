@@ -34,6 +34,7 @@ use Rattle.count_machine_laws.specs.inner.Told.{IsEnding, outcome_told}
 use Rattle.count_machine_laws.proofs.Agreement.{Agrees, Follows, ends_of, goes, stops}
 use Rattle.count_machine_laws.proofs.Assembly.{steps_follow}
 use Rattle.count_machine_laws.proofs.LastHeaps.{heap_is}
+use Rattle.count_machine_laws.proofs.LastMemory.{KeepsMemory, steps_keep}
 use Rattle.count_machine_laws.proofs.LastStrongs.{StrongsAre}
 use Rattle.count_machine_laws.proofs.Memories.{MemoryAgrees}
 use Rattle.count_machine_laws.proofs.Objects.{is_of_class}
@@ -180,6 +181,7 @@ machine_runs_so m ready e bound started end st leads =
         comes = ended.comes;
         left = ended.last;
         ends = ended.ends;
+        stays = subst (KeepsMemory ended.found.memory) ended.ends (steps_keep m (shapes_of m) bound ended.found);
         heap = ended.heap;
         retains = sym (ap (λ (o : Outcome LowFault). o.retains) ended.told);
         releases = sym (ap (λ (o : Outcome LowFault). o.releases) ended.told);

@@ -64,7 +64,8 @@ last_numbers found left o = record {
   weak = (numbers_of found.numbers o).weak;
 }
 
--- the run of lowered code from the entry function comes to a state, the next step ends it so, and the heap is that of this state and this step
+-- the run of lowered code from the entry function comes to a state, the next step ends it so and leaves its memory as it is, and the heap is that of this
+-- memory
 pub record EndsWithHeap (m : Module) (e : FuncId) (bound : ℕ) (ending : Ending LowFault) (h : HeapView) : Type 0 where
   pub entry : Function
   pub there : slice_get m.functions e.0 ≡ Some entry
@@ -73,6 +74,7 @@ pub record EndsWithHeap (m : Module) (e : FuncId) (bound : ℕ) (ending : Ending
   pub comes : run (low_step m (shapes_of m) bound) steps (low_begins e entry) ≡ Goes found
   pub left : LowState
   pub ends : low_step m (shapes_of m) bound found ≡ Ends ending left
+  pub stays : left.memory ≡ found.memory
   pub heap : IsHeapOf m found.memory (last_numbers found left) h
   pub retains : h.retains ≡ left.retains
   pub releases : h.releases ≡ left.releases
