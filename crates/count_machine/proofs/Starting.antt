@@ -23,7 +23,7 @@ use Rattle.sil_ast.specs.declared.module.Module.{Module}
 use Rattle.sil_ast.specs.declared.place.FuncId.{FuncId}
 use Rattle.sil_types_declarations.specs.TypeDefinitions.Declarations.{Declarations, declarations_of}
 use Rattle.count_machine.specs.declared.low_run.LowRun.{LowRun}
-use Rattle.count_machine.specs.LowRuns.{EndsAsTold, HasLastHeap, MayStartAt}
+use Rattle.count_machine.specs.LowRuns.{EndsAsTold, HasLastHeap, MayStartAt, outcome_of}
 use Rattle.count_machine.specs.inner.Stopped.{TellsOf}
 
 -- the machine is at the beginning of the entry function's ready code
@@ -49,7 +49,7 @@ module _ (m : Module) (ready : ReadyModule) (e : FuncId) (bound : ℕ) (law : Ma
   module _ (d : Declarations) (same : d ≡ declarations_of m) (first : MachineView) (begun : HasBegun d ready e first) (end : RunEnd) (last : MachineView)
       (leads : Leads ready bound first (Stops end last)) where
     -- how the run has ended
-    ended : (x : Ending LowFault) × IsEnding m gives last end x × LowEndsSo m e bound (outcome_told last end x) × EndsWithHeap m e bound x last.heap
+    ended : (x : Ending LowFault) × IsEnding m gives last end x × LowEndsSo m e bound (outcome_told last end x) × EndsWithHeap m e bound (outcome_told last end x) last.heap
     ended =
         let code = made.functions e starts.entry comes_to_entry starts.there in
         let started : Started m ready e bound = record {
@@ -75,4 +75,8 @@ module _ (m : Module) (ready : ReadyModule) (e : FuncId) (bound : ℕ) (law : Ma
     pub heap_told : (run : LowRun) → TellsOf m gives last end run → HasLastHeap m e bound run
     heap_told run tells =
         let told = tells ended.0 ended.1 in
-        record { ending = ended.0; told = told.ending; ends = subst (EndsWithHeap m e bound ended.0) (sym told.heap) ended.3 }
+        record {
+          ending = ended.0;
+          told = told.ending;
+          ends = subst (EndsWithHeap m e bound (outcome_of run ended.0)) (sym told.heap) (subst (λ o. EndsWithHeap m e bound o last.heap) (sym told.outcome) ended.3);
+        }

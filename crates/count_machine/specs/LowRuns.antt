@@ -39,11 +39,11 @@ pub record EndsAsTold (m : Module) (e : FuncId) (bound : ℕ) (run : LowRun) : T
   pub told : run.ending ≡ ending_told ending
   pub ends : LowEndsSo m e bound (outcome_of run ending)
 
--- the run ends as it is told, and its heap is that in which it has ended
+-- the heap that is handed out is that in which the run has ended as it is told
 pub record HasLastHeap (m : Module) (e : FuncId) (bound : ℕ) (run : LowRun) : Type 0 where
   pub ending : Ending LowFault
   pub told : run.ending ≡ ending_told ending
-  pub ends : EndsWithHeap m e bound ending run.heap
+  pub ends : EndsWithHeap m e bound (outcome_of run ending) run.heap
 
 -- the objects that are left in a heap are told after a return alone
 abbrev pub left_after : HeapView → LowEnd → List LeftObject

@@ -7,7 +7,7 @@ use Rattle.argument_conventions.specs.Arguments.{arguments_of}
 use Rattle.count_machine_model.specs.holder_model.Calling.{value_count}
 use Rattle.count_machine_model.specs.holder_model.Frames.{has_any}
 use Rattle.count_machine_model.specs.holder_model.ModuleShapes.{shapes_of}
-use Rattle.count_machine_model.specs.holder_model.Outcomes.{Outcome, run}
+use Rattle.count_machine_model.specs.holder_model.Outcomes.{run}
 use Rattle.count_machine_model.specs.holder_model.States as low
 use Rattle.count_machine_model.specs.holder_model.States.{Ending, Next}
 use Rattle.count_machine_model.specs.holder_model.declared.lowered_run.low_fault.LowFault.{LowFault}
@@ -181,9 +181,8 @@ machine_runs_so m ready e bound started end st leads =
         comes = ended.comes;
         left = ended.last;
         ends = ended.ends;
+        told = ended.told;
         stays = subst (KeepsMemory ended.found.memory) ended.ends (steps_keep m (shapes_of m) bound ended.found);
         heap = ended.heap;
-        retains = sym (ap (λ (o : Outcome LowFault). o.retains) ended.told);
-        releases = sym (ap (λ (o : Outcome LowFault). o.releases) ended.told);
       },
     )

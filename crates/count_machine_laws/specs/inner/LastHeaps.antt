@@ -2,9 +2,9 @@
 use Rattle.std.specs.Prelude.{◌≡◌, ◌<◌, ◌||◌, ◌++◌, ℕ, List, [], ◌∷◌, true, false, not, Option, Some, None, length, replicate, slice_get}
 use Rattle.count_heap.specs.HeapModel.HeapViews.{HeapObject, HeapView, object_in}
 use Rattle.count_machine_model.specs.holder_model.ModuleShapes.{field_shapes, shapes_of}
-use Rattle.count_machine_model.specs.holder_model.Outcomes.{Numbers, is_named, run}
-use Rattle.count_machine_model.specs.holder_model.States.{Ending, Ends, Goes}
-use Rattle.count_machine_model.specs.holder_model.LoweredRun.LowOutcomes.{low_begins}
+use Rattle.count_machine_model.specs.holder_model.Outcomes.{Numbers, Outcome, is_named, run}
+use Rattle.count_machine_model.specs.holder_model.States.{Ends, Goes}
+use Rattle.count_machine_model.specs.holder_model.LoweredRun.LowOutcomes.{low_begins, low_outcome_at}
 use Rattle.count_machine_model.specs.holder_model.LoweredRun.LowStepParts.{LowState}
 use Rattle.count_machine_model.specs.holder_model.LoweredRun.LowSteps.{low_step}
 use Rattle.count_machine_model.specs.holder_model.LoweredRun.Stored.{numbers_of}
@@ -64,17 +64,16 @@ last_numbers found left o = record {
   weak = (numbers_of found.numbers o).weak;
 }
 
--- the run of lowered code from the entry function comes to a state, the next step ends it so and leaves its memory as it is, and the heap is that of this
--- memory
-pub record EndsWithHeap (m : Module) (e : FuncId) (bound : ℕ) (ending : Ending LowFault) (h : HeapView) : Type 0 where
+-- the run of lowered code from the entry function comes to a state, the next step ends it with this outcome and leaves its memory as it is, and the heap is
+-- that of this memory
+pub record EndsWithHeap (m : Module) (e : FuncId) (bound : ℕ) (outcome : Outcome LowFault) (h : HeapView) : Type 0 where
   pub entry : Function
   pub there : slice_get m.functions e.0 ≡ Some entry
   pub steps : ℕ
   pub found : LowState
   pub comes : run (low_step m (shapes_of m) bound) steps (low_begins e entry) ≡ Goes found
   pub left : LowState
-  pub ends : low_step m (shapes_of m) bound found ≡ Ends ending left
+  pub ends : low_step m (shapes_of m) bound found ≡ Ends outcome.ending left
+  pub told : low_outcome_at outcome.ending left ≡ outcome
   pub stays : left.memory ≡ found.memory
   pub heap : IsHeapOf m found.memory (last_numbers found left) h
-  pub retains : h.retains ≡ left.retains
-  pub releases : h.releases ≡ left.releases

@@ -36,4 +36,4 @@ abbrev pub MachineRunsSo : Type 0
 MachineRunsSo = (m : Module) (ready : ReadyModule) (e : FuncId) (bound : ℕ) (run : Started m ready e bound) (end : RunEnd) (st : MachineView)
     → Leads ready bound (begins (declarations_of m) e run.code) (Stops end st)
     → (x : Ending LowFault) × IsEnding m (given_shape (declarations_of m) run.entry) st end x × LowEndsSo m e bound (outcome_told st end x)
-    × EndsWithHeap m e bound x st.heap
+    × EndsWithHeap m e bound (outcome_told st end x) st.heap
