@@ -41,19 +41,20 @@ both_choose {m = m} {entry = entry} {n = n} {n' = n'} {w = w} {w' = w'} b c same
     at true e = where_set e
     at false e = where_clear e
 
-module _ {m : Module} {entry : Beginning} {made : List Made} {s : LowState} {st : MachineView} (parts : PartsAgree m made s st) where
-  strongs_of_parts : StrongsAre st.heap s.numbers
-  strongs_of_parts = strongs_are m (is_of_class m s.memory) s.memory.objects s.numbers st.heap parts.memory.objects
+-- the strong numbers of the heap are those that are stored
+pub strongs_of : {m : Module} {made : List Made} {s : LowState} {st : MachineView} → PartsAgree m made s st → StrongsAre st.heap s.numbers
+strongs_of {m = m} {s = s} {st = st} parts = strongs_are m (is_of_class m s.memory) s.memory.objects s.numbers st.heap parts.memory.objects
 
+module _ {m : Module} {entry : Beginning} {made : List Made} {s : LowState} {st : MachineView} (parts : PartsAgree m made s st) where
   pub ends_alike : (e : Ending LowFault) (end : RunEnd) → IsEnding m entry.gives st end e → low_left_by s e ≡ left_after st end
       → Alike m entry (low.Ends e s) (Stops end st)
-  ends_alike e end is left = ends s st e end is (rw (parts.events, parts.retains, parts.releases, left)) strongs_of_parts
+  ends_alike e end is left = ends s st e end is (rw (parts.events, parts.retains, parts.releases, left)) (strongs_of parts)
 
   -- whatever storage has come to name in the run
   pub ends_alike_with : (numbers : List Numbers) → SameStrongs numbers s.numbers → (e : Ending LowFault) (end : RunEnd) → IsEnding m entry.gives st end e
       → low_left_by (record s { numbers = numbers }) e ≡ left_after st end → Alike m entry (low.Ends e (record s { numbers = numbers })) (Stops end st)
   ends_alike_with numbers same e end is left =
-      ends (record s { numbers = numbers }) st e end is (rw (parts.events, parts.retains, parts.releases, left)) (strongs_still same strongs_of_parts)
+      ends (record s { numbers = numbers }) st e end is (rw (parts.events, parts.retains, parts.releases, left)) (strongs_still st.heap s.numbers numbers same (strongs_of parts))
 
   pub fault_alike : (x : LowFault) → Alike m entry (fails s x) (faults x st)
   fault_alike x = ends_alike (Faulted x) (end.Fault x) (fault x) refl

@@ -17,7 +17,7 @@ use Rattle.count_machine_model.specs.holder_model.declared.lowered_run.low_fault
 use Rattle.count_machine_model.specs.holder_model.declared.lowered_run.low_fault.LowFault.TheVariants as fault
 use Rattle.count_machine_model.specs.holder_model.LoweredRun.LowEffects.{low_effect}
 use Rattle.count_machine_model.specs.holder_model.LoweredRun.LowFrames.{LowFrame, no_values, put_all, read_all}
-use Rattle.count_machine_model.specs.holder_model.LoweredRun.LowStepParts.{LowNext, LowState, fails, numbers_for, on_ok, on_some, retains_each, slots_behind, values_taken}
+use Rattle.count_machine_model.specs.holder_model.LoweredRun.LowStepParts.{LowNext, LowState, new_frame, on_ok, on_some, retains_each, slots_behind, values_taken}
 use Rattle.count_machine_model.specs.holder_model.LoweredRun.LowSteps as steps
 use Rattle.count_machine_model.specs.holder_model.LoweredRun.Stored.{changed, numbers_of, one_less, one_more}
 use Rattle.instruction_table.specs.Forms.{ending_of}
@@ -77,11 +77,15 @@ module _ (m : Module) (told : ModuleShapes) (bound : ℕ) where
   calls_out : (s : LowState) (rest : List (Task LowFrame)) (frame : LowFrame) (f : Function) (i : Item) (g : FuncId) (numbers : List ℤ)
       → KeepsMemory s.memory (steps.calls_out m told bound s rest frame f i g numbers)
   calls_out s rest frame f i g numbers =
-      keeps_turn bound s _ (goes_on (record s { turns = s.turns + 1; events = s.events ++ event.Call g numbers ∷ [] }) rest frame f i _)
+      keeps_turn bound s (λ s'. steps.goes_on m told bound (record s' { events = s'.events ++ event.Call g numbers ∷ [] }) rest frame f i
+      (record (unchanged s'.memory) { results = ValueOf (value.Group value.NoValue) ∷ [] }))
+      (goes_on (record s { turns = s.turns + 1; events = s.events ++ event.Call g numbers ∷ [] }) rest frame f i
+      (record (unchanged s.memory) { results = ValueOf (value.Group value.NoValue) ∷ [] }))
 
   calls_in : (s : LowState) (rest : List (Task LowFrame)) (g : FuncId) (f : Function) (args : List Datum) → KeepsMemory s.memory (steps.calls_in m told bound s rest g f args)
   calls_in s rest g f args =
-      keeps_some s _ (put_all (item_defined f item.Entry) args (no_values (value_count f))) (λ values. keeps_enter bound rest s _ tt)
+      keeps_some s _ (put_all (item_defined f item.Entry) args (no_values (value_count f))) 
+      (λ values. keeps_enter bound rest s (λ s'. Goes (record s' { tasks = Runs (new_frame g values) ∷ rest })) tt)
 
   calls : (s : LowState) (rest : List (Task LowFrame)) (frame : LowFrame) (f : Function) (i : Item) (g : FuncId) (args : List Datum) (callee : Function)
       → KeepsMemory s.memory (steps.calls m told bound s rest frame f i g args callee)
@@ -105,7 +109,9 @@ module _ (m : Module) (told : ModuleShapes) (bound : ℕ) where
   takes_edge : (s : LowState) (rest : List (Task LowFrame)) (frame : LowFrame) (f : Function) (e : EdgeId) → KeepsMemory s.memory (steps.takes_edge m told bound s rest frame f e)
   takes_edge s rest frame f e =
       keeps_ok s _ (read_all frame.values (values_taken f (item.Edge e)))
-      (λ xs. keeps_some s _ (carried_along f e xs) (λ carried. keeps_turn bound s _ (goes_on (record s { turns = s.turns + 1 }) rest frame f (item.Edge e) _)))
+      (λ xs. keeps_some s _ (carried_along f e xs)
+      (λ carried. keeps_turn bound s (λ s'. steps.goes_on m told bound s' rest frame f (item.Edge e) (record (unchanged s'.memory) { results = carried }))
+      (goes_on (record s { turns = s.turns + 1 }) rest frame f (item.Edge e) (record (unchanged s.memory) { results = carried }))))
 
   leaves_run : (s : LowState) (x : Value) (o : Option ObjectId) → KeepsMemory s.memory (steps.leaves_run m told bound s x o)
   leaves_run s x None = refl
@@ -113,7 +119,8 @@ module _ (m : Module) (told : ModuleShapes) (bound : ℕ) where
 
   returns_to : (s : LowState) (x : Datum) (tasks : List (Task LowFrame)) → KeepsMemory s.memory (steps.returns_to m told bound s x tasks)
   returns_to s x [] = keeps_some s _ (as_value x) (λ v. leaves_run s v (find (is_dead s.memory) (references_of v)))
-  returns_to s x (Runs frame ∷ rest) = keeps_some s _ (slice_get m.functions frame.function.0) (λ f. goes_on s rest frame f (item.Inst frame.at) _)
+  returns_to s x (Runs frame ∷ rest) = keeps_some s _ (slice_get m.functions frame.function.0) 
+      (λ f. goes_on s rest frame f (item.Inst frame.at) (record (unchanged s.memory) { results = x ∷ [] }))
   returns_to s x (Drops references ∷ rest) = refl
   returns_to s x (Finishes deinits o ∷ rest) = tt
 
@@ -150,7 +157,7 @@ module _ (m : Module) (told : ModuleShapes) (bound : ℕ) where
   -- drops and deinitialisations
 
   dropped : (s : LowState) (o : ObjectId) (left : ℕ) → KeepsMemory s.memory (drop_with (declarations_of m) bound s o left)
-  dropped s o zero = keeps_cond s.memory (is_live s.memory o) _ _ (keeps_turn bound s _ tt) tt
+  dropped s o zero = keeps_cond s.memory (is_live s.memory o) _ _ (keeps_cond s.memory (nat_lt s.turns bound) _ _ tt refl) tt
   dropped s o (suc left) = tt
 
   releases_with : (s : LowState) (o : ObjectId) (count : ℕ) → KeepsMemory s.memory (steps.releases_with m told bound s o count)

@@ -34,8 +34,8 @@ strongs_are m test objects numbers h a o x is = at (found m test objects numbers
 abbrev pub SameStrongs : List Numbers → List Numbers → Type 0
 SameStrongs numbers others = (o : ObjectId) → (numbers_of numbers o).strong ≡ (numbers_of others o).strong
 
-pub strongs_still : {h : HeapView} {numbers others : List Numbers} → SameStrongs others numbers → StrongsAre h numbers → StrongsAre h others
-strongs_still same are o x is = are o x is ∙ sym (same o)
+pub strongs_still : (h : HeapView) (numbers others : List Numbers) → SameStrongs others numbers → StrongsAre h numbers → StrongsAre h others
+strongs_still h numbers others same are o x is = are o x is ∙ sym (same o)
 
 strong_put : (ns : List Numbers) (k j : ℕ) (n : Numbers) → n.strong ≡ (unwrap_or (slice_get ns k) no_numbers).strong
     → (unwrap_or (slice_get (set ns k n) j) no_numbers).strong ≡ (unwrap_or (slice_get ns j) no_numbers).strong

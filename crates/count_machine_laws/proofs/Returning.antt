@@ -51,7 +51,7 @@ use Rattle.holder_model_values.proofs.ValueParts.Suiting.{suits_fits}
 use Rattle.count_machine_laws.specs.inner.Told.{all_left, returned}
 use Rattle.count_machine_laws.proofs.Agreement.{PartsAgree, ends_of}
 use Rattle.count_machine_laws.proofs.CallingValues.{only_put, parts_values}
-use Rattle.count_machine_laws.proofs.Ending.{Alike, alike_by, ends, fault_alike, goes, parts_with}
+use Rattle.count_machine_laws.proofs.Ending.{Alike, alike_by, ends, fault_alike, goes, parts_with, strongs_of}
 use Rattle.count_machine_laws.proofs.Entries.{Ends, FrameAgrees}
 use Rattle.count_machine_laws.proofs.FinishedFields.{references_among}
 use Rattle.count_machine_laws.proofs.FrameGoes.{goes_on_plain}
@@ -60,7 +60,6 @@ use Rattle.count_machine_laws.proofs.FrameSteps.{Running}
 use Rattle.count_machine_laws.proofs.Grows.{were_made}
 use Rattle.count_machine_laws.proofs.GrowsSame.{frame_same, tasks_same}
 use Rattle.count_machine_laws.proofs.GrowsTasks.{KeepsBelow, at_most_itself, frame_within, keeps_less}
-use Rattle.count_machine_laws.proofs.LastStrongs.{strongs_are}
 use Rattle.count_machine_laws.proofs.Left.{left_agrees}
 use Rattle.count_machine_laws.proofs.Numbers.{dead_agrees, numbers_stay}
 use Rattle.count_machine_laws.proofs.Objects.{ObjectsAgree, is_of_class}
@@ -162,7 +161,7 @@ module _ (m : Module) (ready : ReadyModule) (entry : Beginning) (bound : ℕ) (t
       at None e =
           alike_by (ap (run.leaves_run m (shapes_of m) bound s x) e) (ap (machine.leaves_run ready bound st mf rest' l) (found ∙ e))
           (ends (record s { tasks = [] }) (record st { tasks = [] }) (low.Returned x) (end.Returned l) (returned l x value) (rw (parts.events, parts.retains, parts.releases, left))
-          (strongs_are m (is_of_class m s.memory) s.memory.objects s.numbers st.heap parts.memory.objects))
+          (strongs_of parts))
       at (Some o) e =
           alike_by (ap (run.leaves_run m (shapes_of m) bound s x) e) (ap (machine.leaves_run ready bound st mf rest' l) (found ∙ e)) (fault_alike parts (fault.Dead o))
 

@@ -39,7 +39,7 @@ one_then (Some x) y z first then = at y first.0 first.1 then
   where
     at : (u : Option HeapObject) (n : ℕ) → u ≡ Some (record x { strong = n }) → OneAlone u z → (k : ℕ) × (z ≡ Some (record x { strong = k }))
     at None n e then = absurd (cc)
-    at (Some u) n e then = let same : u ≡ record x { strong = n } = cc in (then.0, then.1 ∙ ap (λ v. Some (record v { strong = then.0 })) same)
+    at (Some u) n e then = let same : u ≡ record x { strong = n } = cc in (then.0, then.1 ∙ ap {A = HeapObject} (λ v. Some (record v { strong = then.0 })) same)
 
 pub strongs_itself : (h : HeapView) → StrongsAlone h h
 strongs_itself h = record { declarations = refl; objects = refl; each = λ o. one_itself (object_in h o) }
