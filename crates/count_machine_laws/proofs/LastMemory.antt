@@ -19,11 +19,11 @@ use Rattle.count_machine_model.specs.holder_model.LoweredRun.LowEffects.{low_eff
 use Rattle.count_machine_model.specs.holder_model.LoweredRun.LowFrames.{LowFrame, no_values, put_all, read_all}
 use Rattle.count_machine_model.specs.holder_model.LoweredRun.LowStepParts.{LowNext, LowState, new_frame, on_ok, on_some, retains_each, slots_behind, values_taken}
 use Rattle.count_machine_model.specs.holder_model.LoweredRun.LowSteps as steps
-use Rattle.count_machine_model.specs.holder_model.LoweredRun.Stored.{changed, numbers_of, one_less, one_more}
+use Rattle.count_machine_model.specs.holder_model.LoweredRun.Stored.{changed, numbers_of, one_less, one_more, unnamed}
 use Rattle.instruction_table.specs.Forms.{ending_of}
 use Rattle.instruction_table.specs.declared.entries.Ending as table
 use Rattle.instruction_table.specs.declared.entries.Ending.TheVariants as ending
-use Rattle.holder_model_values.specs.RunValues.Memory.{Memory, is_dead, is_live}
+use Rattle.holder_model_values.specs.RunValues.Memory.{Memory, is_dead, is_live, object_at}
 use Rattle.holder_model_values.specs.RunValues.Values.{Value, references_of}
 use Rattle.holder_model_values.specs.RunValues.Values as value
 use Rattle.sil_ast.specs.declared.function.Function.{Function}
@@ -176,7 +176,8 @@ module _ (m : Module) (told : ModuleShapes) (bound : ℕ) where
   task_step s (Runs frame ∷ rest) = runs s rest frame
   task_step s (Drops [] ∷ rest) = tt
   task_step s (Drops (o ∷ os) ∷ rest) = releases_one (record s { tasks = Drops os ∷ rest }) o
-  task_step s (Finishes [] o ∷ rest) = finished _ o (numbers_of s.numbers o).strong
+  task_step s (Finishes [] o ∷ rest) =
+      finished (record s { tasks = rest; numbers = unnamed (object_at s.memory o).cells s.numbers }) o (numbers_of s.numbers o).strong
   task_step s (Finishes (g ∷ gs) o ∷ rest) =
       keeps_some (record s { tasks = Finishes gs o ∷ rest }) _ (slice_get m.functions g.0)
       (λ f. calls_in (record s { tasks = Finishes gs o ∷ rest }) (Finishes gs o ∷ rest) g f (ValueOf (value.Object o) ∷ []))

@@ -1,5 +1,6 @@
 -- The heap in which a run of lowered code has ended: its objects, each with its phase, its numbers and its fields.
-use Rattle.std.specs.Prelude.{◌≡◌, ◌<◌, ◌||◌, ◌++◌, ℕ, List, [], ◌∷◌, true, false, not, Option, Some, None, length, replicate, slice_get}
+use Rattle.std.specs.Prelude.{◌≡◌, ◌<◌, ◌||◌, ◌++◌, ℕ, List, [], ◌∷◌, true, false, not, Option, Some, None, length, replicate}
+use Rattle.std.specs.Prelude.{slice_get}
 use Rattle.count_heap.specs.HeapModel.HeapViews.{HeapObject, HeapView, object_in}
 use Rattle.count_machine_model.specs.holder_model.ModuleShapes.{field_shapes, shapes_of}
 use Rattle.count_machine_model.specs.holder_model.Outcomes.{Numbers, Outcome, is_named, run}
@@ -55,8 +56,8 @@ pub record IsHeapOf (m : Module) (memory : Memory) (numbers : ObjectId → Numbe
   pub allocated : length h.objects ≡ length memory.objects
   pub objects : (o : ObjectId) → o.0 < length memory.objects → IsKeptOrFreed m (object_at memory o) (numbers o) (object_in h o)
 
--- strong numbers as the last step left them, and the others as it found them: a step by which a run ends counts beforehand which objects storage will
--- name, and in none that faults or traps storage comes to name them
+-- strong numbers as the last step left them, and the others as it found them: a step counts first what storage is to name, and where it faults or traps
+-- behind that, storage names what it did
 abbrev pub last_numbers : LowState → LowState → ObjectId → Numbers
 last_numbers found left o = record {
   strong = (numbers_of left.numbers o).strong;
