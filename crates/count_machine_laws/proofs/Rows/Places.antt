@@ -95,7 +95,8 @@ module _ {m : Module} {entry : Beginning} (r : Runs m entry) (p : Place) (os : L
     dead_alike same o dead go at_gone at_dead at_empty at_full _ (HeldIs.full x ls reach has is fits leaves) = named_dead same o dead reach.there _ (at_full ls)
 
     -- the place is as the machine finds it, and none of the objects that are to be named is dead
-    pub access_alike : SameStrongs ns r.s.numbers → first_dead os ≡ None → (go : Held → Went) → go held.Gone ≡ faults fault.Slot r.st → ((o : ObjectId) → go (held.OfDead o) ≡ faults (fault.Dead o) r.st)
+    pub access_alike : SameStrongs ns r.s.numbers → first_dead os ≡ None → (go : Held → Went) → go held.Gone ≡ faults fault.Slot r.st
+        → ((o : ObjectId) → go (held.OfDead o) ≡ faults (fault.Dead o) r.st)
         → (IsReachable r.s.memory p → cells_at r.s.memory p ≡ replicate (cell_count p.shape) cells.Empty
         → Alike m entry (performed r (record r.s { numbers = ns }) (where_full None)) (go held.Empty))
         → ((x : Value) (ls : List Leaf) → IsReachable r.s.memory p → cells_at r.s.memory p ≡ (in_cells p.shape).cells x → value_at r.s.memory p ≡ Some x
