@@ -84,7 +84,7 @@ module _ (m : Module) (told : ModuleShapes) (bound : ℕ) where
 
   calls_in : (s : LowState) (rest : List (Task LowFrame)) (g : FuncId) (f : Function) (args : List Datum) → KeepsMemory s.memory (steps.calls_in m told bound s rest g f args)
   calls_in s rest g f args =
-      keeps_some s _ (put_all (item_defined f item.Entry) args (no_values (value_count f))) 
+      keeps_some s _ (put_all (item_defined f item.Entry) args (no_values (value_count f)))
       (λ values. keeps_enter bound rest s (λ s'. Goes (record s' { tasks = Runs (new_frame g values) ∷ rest })) tt)
 
   calls : (s : LowState) (rest : List (Task LowFrame)) (frame : LowFrame) (f : Function) (i : Item) (g : FuncId) (args : List Datum) (callee : Function)
@@ -119,7 +119,7 @@ module _ (m : Module) (told : ModuleShapes) (bound : ℕ) where
 
   returns_to : (s : LowState) (x : Datum) (tasks : List (Task LowFrame)) → KeepsMemory s.memory (steps.returns_to m told bound s x tasks)
   returns_to s x [] = keeps_some s _ (as_value x) (λ v. leaves_run s v (find (is_dead s.memory) (references_of v)))
-  returns_to s x (Runs frame ∷ rest) = keeps_some s _ (slice_get m.functions frame.function.0) 
+  returns_to s x (Runs frame ∷ rest) = keeps_some s _ (slice_get m.functions frame.function.0)
       (λ f. goes_on s rest frame f (item.Inst frame.at) (record (unchanged s.memory) { results = x ∷ [] }))
   returns_to s x (Drops references ∷ rest) = refl
   returns_to s x (Finishes deinits o ∷ rest) = tt
