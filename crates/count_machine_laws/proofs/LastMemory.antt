@@ -14,7 +14,6 @@ use Rattle.count_machine_model.specs.holder_model.States.{Drops, Ends, Finishes,
 use Rattle.count_machine_model.specs.holder_model.declared.event.Event.TheVariants as event
 use Rattle.count_machine_model.specs.holder_model.declared.limits.TheConstants.{FRAMES}
 use Rattle.count_machine_model.specs.holder_model.declared.lowered_run.low_fault.LowFault.{LowFault}
-use Rattle.count_machine_model.specs.holder_model.declared.lowered_run.low_fault.LowFault.TheVariants as fault
 use Rattle.count_machine_model.specs.holder_model.LoweredRun.LowEffects.{low_effect}
 use Rattle.count_machine_model.specs.holder_model.LoweredRun.LowFrames.{LowFrame, no_values, put_all, read_all}
 use Rattle.count_machine_model.specs.holder_model.LoweredRun.LowStepParts.{LowNext, LowState, new_frame, on_ok, on_some, retains_each, slots_behind, values_taken}

@@ -7,7 +7,7 @@ use Rattle.count_machine_model.specs.holder_model.Outcomes.{Numbers}
 use Rattle.count_machine_model.specs.holder_model.LoweredRun.Stored.{changed, each_changed, less_unowned, less_weak, more_unowned, more_weak, named, no_numbers, numbers_of}
 use Rattle.count_machine_model.specs.holder_model.LoweredRun.Stored.{unnamed, unowned_named, weakly_named}
 use Rattle.holder_model_values.specs.RunValues.Cells.{Cell}
-use Rattle.holder_model_values.specs.RunValues.Memory.{Memory, Object}
+use Rattle.holder_model_values.specs.RunValues.Memory.{Object}
 use Rattle.sil_ast.specs.declared.module.Module.{Module}
 use Rattle.sil_ast.specs.declared.place.ObjectId.{ObjectId}
 use Rattle.holder_model_values.specs.ValueParts.inner.Suits.{ClassTest}

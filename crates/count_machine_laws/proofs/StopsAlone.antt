@@ -35,7 +35,7 @@ use Rattle.count_machine_model.specs.MachineSteps.Places as places
 use Rattle.count_machine_model.specs.MachineSteps.Rows as rows
 use Rattle.count_machine_model.specs.MachineSteps.Steps as steps
 use Rattle.count_machine_model.specs.MachineSteps.Turning.{retains_all}
-use Rattle.count_machine_model.specs.MachineSteps.Views.{Goes, MachineView, Stops, Went}
+use Rattle.count_machine_model.specs.MachineSteps.Views.{Goes, MachineView, Went}
 use Rattle.holder_model_values.specs.declared.run_values.leaf.Leaf.{Leaf}
 use Rattle.sil_ast.specs.declared.decl.Storage.{Storage}
 use Rattle.sil_ast.specs.declared.decl.Storage.TheVariants as storage
