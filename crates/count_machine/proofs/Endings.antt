@@ -54,4 +54,4 @@ module _ (m : Module) (s : Shape) (st : MachineView) where
       let left : run.left ≡ stopped.left_after st end = is.left ∙ ap (left_after run.heap) ending ∙ left_told run.heap end x ends (sym heap) in
       let retains : run.retains ≡ st.heap.retains = sym is.retains ∙ ap (λ (h : HeapView). h.retains) heap in
       let releases : run.releases ≡ st.heap.releases = sym is.releases ∙ ap (λ (h : HeapView). h.releases) heap in
-      record { ending = ending; outcome = rw (events, left, retains, releases) }
+      record { ending = ending; outcome = rw (events, left, retains, releases); heap = heap }

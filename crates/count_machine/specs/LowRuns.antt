@@ -6,6 +6,7 @@ use Rattle.holder_model.specs.Outcomes.{Outcome, may_start}
 use Rattle.holder_model.specs.States.{Ending, Faulted, OutOfTurns, Returned, Trapped}
 use Rattle.holder_model.specs.LoweredRun.LowOutcomes.{LowEndsSo}
 use Rattle.holder_model.specs.declared.lowered_run.low_fault.LowFault.{LowFault}
+use Rattle.count_machine_laws.specs.inner.LastHeaps.{EndsWithHeap}
 use Rattle.count_machine_laws.specs.inner.Told.{all_left}
 use Rattle.holder_model_values.specs.RunValues.Values.{val_of}
 use Rattle.sil_ast.specs.declared.function.Function.{Function}
@@ -37,6 +38,12 @@ pub record EndsAsTold (m : Module) (e : FuncId) (bound : ℕ) (run : LowRun) : T
   pub ending : Ending LowFault
   pub told : run.ending ≡ ending_told ending
   pub ends : LowEndsSo m e bound (outcome_of run ending)
+
+-- the heap that is handed out is that in which the run has ended as it is told
+pub record HasLastHeap (m : Module) (e : FuncId) (bound : ℕ) (run : LowRun) : Type 0 where
+  pub ending : Ending LowFault
+  pub told : run.ending ≡ ending_told ending
+  pub ends : EndsWithHeap m e bound (outcome_of run ending) run.heap
 
 -- the objects that are left in a heap are told after a return alone
 abbrev pub left_after : HeapView → LowEnd → List LeftObject

@@ -5,7 +5,7 @@ ghost use Rattle.count_heap.specs.HeapModel.Counts.{CountsFit};
 ghost use Rattle.holder_model.specs.RunTyping.Forms.{given_shape};
 ghost use Rattle.holder_model.specs.RunTyping.Runnable.{IsRunnable};
 ghost use Rattle.sil_types_declarations.specs.TypeDefinitions.Declarations.{declarations_of};
-ghost use Rattle.count_machine.specs.LowRuns.{EndsAsTold, HeapIsAsTold, MayStartAt};
+ghost use Rattle.count_machine.specs.LowRuns.{EndsAsTold, HasLastHeap, HeapIsAsTold, MayStartAt};
 ghost use Rattle.count_machine.specs.inner.Stopped.{TellsOf};
 
 use crate::ending::ending_of;
@@ -21,7 +21,7 @@ use sil_types::TypeTable;
 use std::alloc::Global;
 
 /// Runs a lowered module from an entry function that has a body and no arguments, for a bound on turns: the run of lowered code by stored
-/// numbers, as `docs/RUNS.md` defines it. Memory for frames, slots, objects and events is taken as the run needs it.
+/// numbers, as `docs/RUNS.md` defines it, and the heap in which it has ended. Memory for frames, slots, objects and events is taken as the run needs it.
 /// No number that the heap stores reaches 2^63: a turn runs fewer than 2^32 instructions, and each of them makes 64 references or names at most.
 pub fn run(
     alloc: Global,
@@ -38,6 +38,7 @@ pub fn run(
     ensures outcome { IfOk result (EndsAsTold m.now entry turns) }
     ensures heap { IfOk result HeapIsAsTold }
     ensures counts { IfOk result (λ run. CountsFit run.heap) }
+    ensures last_heap { IfOk result (HasLastHeap m.now entry turns) }
 {
     runnable_is_typed();
     machine_runs_so();

@@ -17,6 +17,7 @@ use Rattle.count_machine_model.specs.holder_model.RunTyping.RunTyped.{RunTyped}
 use Rattle.sil_ast.specs.declared.module.Module.{Module}
 use Rattle.count_machine_laws.specs.inner.Told.{IsEnding, outcome_told}
 use Rattle.count_machine_laws.proofs.Entries.{Ends}
+use Rattle.count_machine_laws.proofs.LastStrongs.{StrongsAre}
 use Rattle.count_machine_laws.proofs.Memories.{MemoryAgrees}
 use Rattle.count_machine_laws.proofs.Slots.{Made}
 use Rattle.count_machine_laws.proofs.Tasks.{Beginning, TasksAgree, to_go_on}
@@ -37,12 +38,13 @@ pub record Agrees (m : Module) (entry : Beginning) (made : List Made) (s : LowSt
   pub parts : PartsAgree m made s st
   pub tasks : TasksAgree m entry made s.memory st to_go_on (ends_of st) s.tasks st.tasks
 
--- where the machine has gone, so has the run, in some steps
+-- where the machine has gone, so has the run, in some steps; before the one by which it ends it came to a state with the same memory
 pub data Follows (m : Module) (entry : Beginning) (bound : ℕ) (s : LowState) : Went → Type 0 where
   goes : (made : List Made) (j : ℕ) (s' : LowState) (st : MachineView) → run (low_step m (shapes_of m) bound) j s ≡ low.Goes s' → Agrees m entry made s' st
       → Follows m entry bound s (Goes st)
-  stops : (j : ℕ) (s' : LowState) (st : MachineView) (end : RunEnd) (e : Ending LowFault) → run (low_step m (shapes_of m) bound) j s ≡ low.Ends e s'
-      → IsEnding m entry.gives st end e → low_outcome_at e s' ≡ outcome_told st end e → Follows m entry bound s (Stops end st)
+  stops : (j : ℕ) (found s' : LowState) (st : MachineView) (end : RunEnd) (e : Ending LowFault) → run (low_step m (shapes_of m) bound) j s ≡ low.Goes found
+      → found.memory ≡ s.memory → found.numbers ≡ s.numbers → low_step m (shapes_of m) bound found ≡ low.Ends e s'
+      → IsEnding m entry.gives st end e → low_outcome_at e s' ≡ outcome_told st end e → StrongsAre st.heap s'.numbers → Follows m entry bound s (Stops end st)
 
 -- whatever step the machine makes of a state that agrees, the run follows
 abbrev pub StepsFollow : Type 0

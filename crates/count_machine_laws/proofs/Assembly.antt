@@ -151,15 +151,17 @@ module _ (m : Module) (ready : ReadyModule) (entry : Beginning) (bound : ℕ) (t
   follows_once : (s : LowState) (n : LowNext) (w : Went) → low_step m (shapes_of m) bound s ≡ n → Alike m entry n w → Follows m entry bound s w
   follows_once s _ _ is (goes made' s' st' agrees) =
       agreement.goes made' (suc zero) s' st' (ap (low.step_on (outcomes.run (low_step m (shapes_of m) bound) zero)) is) agrees
-  follows_once s _ _ is (ends s' st' e end is_ending told) =
-      agreement.stops (suc zero) s' st' end e (ap (low.step_on (outcomes.run (low_step m (shapes_of m) bound) zero)) is) is_ending told
+  follows_once s _ _ is (ends s' st' e end is_ending told strongs) =
+      agreement.stops zero s s' st' end e refl refl refl is is_ending told strongs
 
   -- it makes one step more
-  follows_later : (s s' : LowState) (w : Went) → low_step m (shapes_of m) bound s ≡ low.Goes s' → Follows m entry bound s' w → Follows m entry bound s w
-  follows_later s s' _ is (agreement.goes made' j s'' st' goes_to agrees) =
+  follows_later : (s s' : LowState) (w : Went) → low_step m (shapes_of m) bound s ≡ low.Goes s' → s'.memory ≡ s.memory → s'.numbers ≡ s.numbers
+      → Follows m entry bound s' w → Follows m entry bound s w
+  follows_later s s' _ is memory numbers (agreement.goes made' j s'' st' goes_to agrees) =
       agreement.goes made' (suc j) s'' st' (ap (low.step_on (outcomes.run (low_step m (shapes_of m) bound) j)) is ∙ goes_to) agrees
-  follows_later s s' _ is (agreement.stops j s'' st' end e ends_in is_ending told) =
-      agreement.stops (suc j) s'' st' end e (ap (low.step_on (outcomes.run (low_step m (shapes_of m) bound) j)) is ∙ ends_in) is_ending told
+  follows_later s s' _ is memory numbers (agreement.stops j found s'' st' end e goes_to same_memory same_numbers ends_in is_ending told strongs) =
+      agreement.stops (suc j) found s'' st' end e (ap (low.step_on (outcomes.run (low_step m (shapes_of m) bound) j)) is ∙ goes_to) (same_memory ∙ memory)
+      (same_numbers ∙ numbers) ends_in is_ending told strongs
 
   -- by the first of the tasks: drops that are empty are gone through
   tasks_follow : (s : LowState) (st : MachineView) → PartsAgree m made s st → (r : ReadyFor) (above : Ends) (ts : List (low.Task LowFrame)) (ts' : List Task)
@@ -182,7 +184,7 @@ module _ (m : Module) (ready : ReadyModule) (entry : Beginning) (bound : ℕ) (t
       follows_once now (run.task_step m (shapes_of m) bound now (low.Drops (o ∷ os) ∷ rest)) (machine.drops ready bound st below.waiting rest') refl
       (drop_alike m ready entry bound made now st (parts_with parts (low.Drops (o ∷ os) ∷ rest) st.tasks) below o os rest rest' others (sym up_to ∙ ends_at) waiting)
   tasks_follow s st parts _ _ _ _ (dropped above rest rest' others) ready_to up_to tasks_are =
-      follows_later (record s { tasks = low.Drops [] ∷ rest }) (record s { tasks = rest }) (machine.task_step ready bound st rest') refl
+      follows_later (record s { tasks = low.Drops [] ∷ rest }) (record s { tasks = rest }) (machine.task_step ready bound st rest') refl refl refl
       (tasks_follow s st parts to_go_on above rest rest' others refl up_to tasks_are)
   tasks_follow s st parts _ _ _ _ (finishes r gs o called above rest rest' was_made phase deinits once others) ready_to up_to tasks_are =
       let now : LowState = record s { tasks = low.Finishes gs o ∷ rest } in

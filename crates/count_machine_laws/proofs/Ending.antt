@@ -17,14 +17,16 @@ use Rattle.holder_model_values.specs.RunValues.Memory.{Memory}
 use Rattle.sil_ast.specs.declared.module.Module.{Module}
 use Rattle.count_machine_laws.specs.inner.Told.{IsEnding, fault, left_after, out_of_turns, outcome_told}
 use Rattle.count_machine_laws.proofs.Agreement.{Agrees, PartsAgree}
+use Rattle.count_machine_laws.proofs.LastStrongs.{SameStrongs, StrongsAre, strongs_are, strongs_still}
 use Rattle.count_machine_laws.proofs.Memories.{MemoryAgrees}
+use Rattle.count_machine_laws.proofs.Objects.{is_of_class}
 use Rattle.count_machine_laws.proofs.Slots.{Made}
 use Rattle.count_machine_laws.proofs.Tasks.{Beginning}
 
 pub data Alike (m : Module) (entry : Beginning) : LowNext → Went → Type 0 where
   goes : (made : List Made) (s : LowState) (st : MachineView) → Agrees m entry made s st → Alike m entry (low.Goes s) (Goes st)
   ends : (s : LowState) (st : MachineView) (e : Ending LowFault) (end : RunEnd) → IsEnding m entry.gives st end e
-      → low_outcome_at e s ≡ outcome_told st end e → Alike m entry (low.Ends e s) (Stops end st)
+      → low_outcome_at e s ≡ outcome_told st end e → StrongsAre st.heap s.numbers → Alike m entry (low.Ends e s) (Stops end st)
 
 -- so are what equals the one and the other
 pub alike_by : {m : Module} {entry : Beginning} {n n' : LowNext} {w w' : Went} → n ≡ n' → w ≡ w' → Alike m entry n' w' → Alike m entry n w
@@ -39,10 +41,20 @@ both_choose {m = m} {entry = entry} {n = n} {n' = n'} {w = w} {w' = w'} b c same
     at true e = where_set e
     at false e = where_clear e
 
+-- the strong numbers of the heap are those that are stored
+pub strongs_of : {m : Module} {made : List Made} {s : LowState} {st : MachineView} → PartsAgree m made s st → StrongsAre st.heap s.numbers
+strongs_of {m = m} {s = s} {st = st} parts = strongs_are m (is_of_class m s.memory) s.memory.objects s.numbers st.heap parts.memory.objects
+
 module _ {m : Module} {entry : Beginning} {made : List Made} {s : LowState} {st : MachineView} (parts : PartsAgree m made s st) where
   pub ends_alike : (e : Ending LowFault) (end : RunEnd) → IsEnding m entry.gives st end e → low_left_by s e ≡ left_after st end
       → Alike m entry (low.Ends e s) (Stops end st)
-  ends_alike e end is left = ends s st e end is (rw (parts.events, parts.retains, parts.releases, left))
+  ends_alike e end is left = ends s st e end is (rw (parts.events, parts.retains, parts.releases, left)) (strongs_of parts)
+
+  -- whatever storage has come to name in the run
+  pub ends_alike_with : (numbers : List Numbers) → SameStrongs numbers s.numbers → (e : Ending LowFault) (end : RunEnd) → IsEnding m entry.gives st end e
+      → low_left_by (record s { numbers = numbers }) e ≡ left_after st end → Alike m entry (low.Ends e (record s { numbers = numbers })) (Stops end st)
+  ends_alike_with numbers same e end is left =
+      ends (record s { numbers = numbers }) st e end is (rw (parts.events, parts.retains, parts.releases, left)) (strongs_still st.heap s.numbers numbers same (strongs_of parts))
 
   pub fault_alike : (x : LowFault) → Alike m entry (fails s x) (faults x st)
   fault_alike x = ends_alike (Faulted x) (end.Fault x) (fault x) refl

@@ -27,10 +27,11 @@ use Rattle.sil_ast.specs.declared.place.ObjectId.{ObjectId}
 use Rattle.count_machine_laws.specs.inner.Told.{escaped}
 use Rattle.count_machine_laws.proofs.Agreement.{Agrees, PartsAgree, ends_of}
 use Rattle.count_machine_laws.proofs.DropTasks.{both_dropping, tasks_move}
-use Rattle.count_machine_laws.proofs.Ending.{Alike, alike_by, ends, goes, memory_moves}
+use Rattle.count_machine_laws.proofs.Ending.{Alike, alike_by, ends, goes, memory_moves, strongs_of}
 use Rattle.count_machine_laws.proofs.FinishTasks.{tasks_put}
 use Rattle.count_machine_laws.proofs.Finished.{finished_heap, finished_only, memory_finished, references_agree}
 use Rattle.count_machine_laws.proofs.Grows.{were_made}
+use Rattle.count_machine_laws.proofs.LastStrongs.{strongs_still, unnamed_same}
 use Rattle.count_machine_laws.proofs.NamedLists.{OnlyObjects}
 use Rattle.count_machine_laws.proofs.Numbers.{phase_agrees, strong_agrees}
 use Rattle.count_machine_laws.proofs.Objects.{is_of_class}
@@ -106,4 +107,5 @@ module _ (m : Module) (ready : ReadyModule) (entry : Beginning) (bound : ℕ) (t
           alike_by (ap (finish_with before o) count)
           (cond-true (not (strong_in st.heap o == 0)) (Stops end.Escaped st') (cond (machine.is_deiniting (phase_in st.heap o)) goes_on (faults fault.Slot st'))
           (ap not (ne_eqb (strong_in st.heap o) 0 (λ e. omega (arith, sym e ∙ strong_is ∙ count)))))
-          (ends before st' (low.Trapped trap.Escaped) end.Escaped escaped (rw (parts.events, parts.retains, parts.releases)))
+          (ends before st' (low.Trapped trap.Escaped) end.Escaped escaped (rw (parts.events, parts.retains, parts.releases))
+          (strongs_still st.heap s.numbers before.numbers (unnamed_same (object_at s.memory o).cells s.numbers) (strongs_of parts)))

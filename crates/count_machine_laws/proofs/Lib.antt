@@ -3,6 +3,10 @@ pub mod Objects
 pub mod Memories
 pub mod Entries
 pub mod Tasks
+pub mod NumbersPut
+pub mod LastStrongs
+pub mod StrongsAlone
+pub mod StopsAlone
 pub mod Agreement
 pub mod Ending
 pub mod LayoutsLists
@@ -30,7 +34,6 @@ pub mod PushesAddresses
 pub mod PushesData
 pub mod Pushes
 pub mod PushesSlots
-pub mod NumbersPut
 pub mod Numbers
 pub mod Counted
 pub mod CountedSteps
@@ -78,4 +81,6 @@ pub mod SlotsGone
 pub mod SlotsMade
 pub mod SlotRemoved
 pub mod Assembly
+pub mod LastMemory
+pub mod LastHeaps
 pub mod Runs

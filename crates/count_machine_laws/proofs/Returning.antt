@@ -51,7 +51,7 @@ use Rattle.holder_model_values.proofs.ValueParts.Suiting.{suits_fits}
 use Rattle.count_machine_laws.specs.inner.Told.{all_left, returned}
 use Rattle.count_machine_laws.proofs.Agreement.{PartsAgree, ends_of}
 use Rattle.count_machine_laws.proofs.CallingValues.{only_put, parts_values}
-use Rattle.count_machine_laws.proofs.Ending.{Alike, alike_by, ends, fault_alike, goes, parts_with}
+use Rattle.count_machine_laws.proofs.Ending.{Alike, alike_by, ends, fault_alike, goes, parts_with, strongs_of}
 use Rattle.count_machine_laws.proofs.Entries.{Ends, FrameAgrees}
 use Rattle.count_machine_laws.proofs.FinishedFields.{references_among}
 use Rattle.count_machine_laws.proofs.FrameGoes.{goes_on_plain}
@@ -160,7 +160,8 @@ module _ (m : Module) (ready : ReadyModule) (entry : Beginning) (bound : ℕ) (t
           → Alike m entry (run.returns_to m (shapes_of m) bound s (ValueOf x) []) (machine.returns_to ready bound st mf rest' l [])
       at None e =
           alike_by (ap (run.leaves_run m (shapes_of m) bound s x) e) (ap (machine.leaves_run ready bound st mf rest' l) (found ∙ e))
-          (ends (record s { tasks = [] }) (record st { tasks = [] }) (low.Returned x) (end.Returned l) (returned l x value) (rw (parts.events, parts.retains, parts.releases, left)))
+          (ends (record s { tasks = [] }) (record st { tasks = [] }) (low.Returned x) (end.Returned l) (returned l x value) (rw (parts.events, parts.retains, parts.releases, left))
+          (strongs_of parts))
       at (Some o) e =
           alike_by (ap (run.leaves_run m (shapes_of m) bound s x) e) (ap (machine.leaves_run ready bound st mf rest' l) (found ∙ e)) (fault_alike parts (fault.Dead o))
 

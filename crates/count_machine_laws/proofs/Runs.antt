@@ -28,13 +28,20 @@ use Rattle.holder_model_values.specs.RunValues.Memory.{Memory}
 use Rattle.sil_ast.specs.declared.module.Module.{Module}
 use Rattle.sil_ast.specs.declared.place.FuncId.{FuncId}
 use Rattle.sil_types_declarations.specs.TypeDefinitions.Declarations.{declarations_of}
+use Rattle.count_machine_laws.specs.inner.LastHeaps.{IsHeapOf, last_numbers}
 use Rattle.count_machine_laws.specs.inner.MachineRuns.{MachineRunsSo, Started}
 use Rattle.count_machine_laws.specs.inner.Told.{IsEnding, outcome_told}
 use Rattle.count_machine_laws.proofs.Agreement.{Agrees, Follows, ends_of, goes, stops}
 use Rattle.count_machine_laws.proofs.Assembly.{steps_follow}
+use Rattle.count_machine_laws.proofs.LastHeaps.{heap_is}
+use Rattle.count_machine_laws.proofs.LastMemory.{KeepsMemory, steps_keep}
+use Rattle.count_machine_laws.proofs.LastStrongs.{StrongsAre}
 use Rattle.count_machine_laws.proofs.Memories.{MemoryAgrees}
+use Rattle.count_machine_laws.proofs.Objects.{is_of_class}
 use Rattle.count_machine_laws.proofs.Pushes.{frame_made}
 use Rattle.count_machine_laws.proofs.Slots.{Made}
+use Rattle.count_machine_laws.proofs.StopsAlone.{stops_alone}
+use Rattle.count_machine_laws.proofs.StrongsAlone.{StopsAlone, StrongsAlone}
 use Rattle.count_machine_laws.proofs.Tasks.{Beginning, bottom, no_ends, runs}
 
 -- some steps, and then others
@@ -99,44 +106,83 @@ pub record EndsAs (m : Module) (entry : Beginning) (bound : ℕ) (s : LowState) 
   pub ending : Ending LowFault
   pub is_ending : IsEnding m entry.gives st end ending
   pub count : ℕ
+  pub found : LowState
+  pub comes : run (low_step m (shapes_of m) bound) count s ≡ low.Goes found
   pub last : LowState
-  pub ends : run (low_step m (shapes_of m) bound) count s ≡ low.Ends ending last
+  pub ends : low_step m (shapes_of m) bound found ≡ low.Ends ending last
   pub told : low_outcome_at ending last ≡ outcome_told st end ending
+  pub heap : IsHeapOf m found.memory (last_numbers found last) st.heap
 
 module _ (m : Module) (ready : ReadyModule) (entry : Beginning) (bound : ℕ) (typed : RunTyped m) (is_ready : IsReadyModule m entry.reached ready) (end : RunEnd) (last : MachineView) where
   follow : (k : ℕ) (made : List Made) (s : LowState) (st : MachineView) → Agrees m entry made s st → steps ready bound k st ≡ Stops end last → EndsAs m entry bound s end last
   follow zero made s st agrees leads = absurd (cc)
   follow (suc k) made s st agrees leads =
-      by (machine_step ready bound st) (steps_follow m ready entry bound typed is_ready made s st agrees) leads (λ made' s' st' agrees' leads'. follow k made' s' st' agrees' leads')
+      by (machine_step ready bound st) (steps_follow m ready entry bound typed is_ready made s st agrees) (stops_alone ready bound st) leads
+      (λ made' s' st' agrees' leads'. follow k made' s' st' agrees' leads')
     where
-      by : (w : Went) → Follows m entry bound s w → went_on (steps ready bound k) w ≡ Stops end last
+      -- the machine has stopped in this view
+      stopped : (found s' : LowState) (st' : MachineView) → found.memory ≡ s.memory → found.numbers ≡ s.numbers → StrongsAlone st.heap st'.heap → StrongsAre st'.heap s'.numbers
+          → IsHeapOf m found.memory (last_numbers found s') st'.heap
+      stopped found s' st' memory numbers alone strongs =
+          heap_is m (is_of_class m s.memory) found.memory found.numbers s'.numbers st.heap st'.heap
+          (rw (memory, numbers) agrees.parts.memory.objects) agrees.parts.memory.declared alone strongs
+
+      by : (w : Went) → Follows m entry bound s w → StopsAlone st.heap w → went_on (steps ready bound k) w ≡ Stops end last
           → ((made' : List Made) (s' : LowState) (st' : MachineView) → Agrees m entry made' s' st' → steps ready bound k st' ≡ Stops end last → EndsAs m entry bound s' end last)
           → EndsAs m entry bound s end last
-      by _ (goes made' j s' st' goes_to agrees') leads later =
+      by _ (goes made' j s' st' goes_to agrees') alone leads later =
           let rest = later made' s' st' agrees' leads in
-          let all = steps_then (low_step m (shapes_of m) bound) j s s' goes_to rest.count (low.Ends rest.ending rest.last) rest.ends in
-          record { ending = rest.ending; is_ending = rest.is_ending; count = all.0; last = rest.last; ends = all.1; told = rest.told }
-      by _ (stops j s' st' end' ending ends_in is_ending told) leads later =
+          let all = steps_then (low_step m (shapes_of m) bound) j s s' goes_to rest.count (low.Goes rest.found) rest.comes in
+          record {
+            ending = rest.ending;
+            is_ending = rest.is_ending;
+            count = all.0;
+            found = rest.found;
+            comes = all.1;
+            last = rest.last;
+            ends = rest.ends;
+            told = rest.told;
+            heap = rest.heap;
+          }
+      by _ (stops j found s' st' end' ending comes memory numbers ends_in is_ending told strongs) alone leads later =
           let same_end : end' ≡ end = cc in
           let same_view : st' ≡ last = cc in
           record {
             ending = ending;
             is_ending = subst (λ x. IsEnding m entry.gives last x ending) same_end (subst (λ v. IsEnding m entry.gives v end' ending) same_view is_ending);
             count = j;
+            found = found;
+            comes = comes;
             last = s';
             ends = ends_in;
             told = told ∙ ap (λ v. outcome_told v end' ending) same_view ∙ ap (λ x. outcome_told last x ending) same_end;
+            heap = subst (λ v. IsHeapOf m found.memory (last_numbers found s') v.heap) same_view (stopped found s' st' memory numbers alone strongs);
           }
 
 pub machine_runs_so : MachineRunsSo
 machine_runs_so m ready e bound started end st leads =
     let ended = follow m ready (beginning m ready e bound started) bound started.typed started.made end st leads.0 [] (low_begins e started.entry)
-    (begins (declarations_of m) e started.code) (begins_agree m ready e bound started) leads.1 in (
+    (begins (declarations_of m) e started.code) (begins_agree m ready e bound started) leads.1 in
+    let step = low_step m (shapes_of m) bound in
+    let whole = steps_then step ended.count (low_begins e started.entry) ended.found ended.comes (suc zero) (low.Ends ended.ending ended.last)
+    (ap (low.step_on (run step zero)) ended.ends) in (
       ended.ending,
       ended.is_ending,
       (
-        ended.count,
-        ap (option_and_then (λ f. low_outcome_after (run (low_step m (shapes_of m) bound) ended.count (low_begins e f)))) started.there
-            ∙ ap low_outcome_after ended.ends ∙ ap (λ x. Some x) ended.told,
+        whole.0,
+        ap (option_and_then (λ f. low_outcome_after (run (low_step m (shapes_of m) bound) whole.0 (low_begins e f)))) started.there
+            ∙ ap low_outcome_after whole.1 ∙ ap (λ x. Some x) ended.told,
       ),
+      record {
+        entry = started.entry;
+        there = started.there;
+        steps = ended.count;
+        found = ended.found;
+        comes = ended.comes;
+        left = ended.last;
+        ends = ended.ends;
+        told = ended.told;
+        stays = subst (KeepsMemory ended.found.memory) ended.ends (steps_keep m (shapes_of m) bound ended.found);
+        heap = ended.heap;
+      },
     )

@@ -2,7 +2,7 @@
 
 ghost use Rattle.count_machine_laws.specs.inner.MachineRuns.{MachineRunsSo};
 
-/// However the machine stops, the run of lowered code ends so.
+/// However the machine stops, the run of lowered code ends so, and the heap of the machine is that of the run.
 pub fn machine_runs_so()
     ensures { MachineRunsSo }
 {}

@@ -1,6 +1,6 @@
 -- Storage that is emptied, and what it gives.
 use Rattle.std.proofs.Common.{◌≡◌, ℕ, Bool, true, false, cond, List, [], ◌∷◌, Option, Some, None, refl, ap, ◌∙◌}
-use Rattle.std.specs.Prelude.{IfSome}
+use Rattle.std.specs.Prelude.{IfSome, is_none}
 use Rattle.count_machine_model.specs.count_heap.HeapModel.HeapViews.{HeapView, is_dead_in, phase_in}
 use Rattle.count_machine_model.specs.MachineSteps.Held.{empty_by, empty_slot, slot_in}
 use Rattle.count_machine_model.specs.MachineSteps.Naming.{leaf_unnamed, none_leaves, some_leaves}
@@ -24,7 +24,7 @@ use Rattle.sil_ast.specs.declared.decl.Storage.{Storage}
 use Rattle.sil_ast.specs.declared.decl.Storage.TheVariants as storage
 use Rattle.sil_ast.specs.declared.place.ObjectId.{ObjectId}
 use Rattle.count_machine_state.specs.inner.NameHeld.{is_live_in, live_of}
-use Rattle.count_machine_rows.specs.inner.LiveGiven.{is_strong, live_given, unowned_by, weak_by}
+use Rattle.count_machine_rows.specs.inner.LiveGiven.{is_strong, live_given, traps_at, unowned_by, weak_by}
 use Rattle.count_machine_rows.proofs.Phases.{leaf_unnamed-phase, without_field-phase}
 
 -- the tasks stay, and the phases of objects
@@ -87,18 +87,33 @@ module _ (st : MachineView) (fr : Frame) (rest : List Task) (next : MachineView)
   weak_told true x = refl
   weak_told false x = refl
 
-  unowned_told : (b : Bool) (x : ObjectId) →
-      cond b (retained_and st fr rest next to (leaf.Object x ∷ []) x) (Stops end.Unowned next) ≡ unowned_by next fr to (cond b (Some x) None) rest
-  unowned_told true x = refl
-  unowned_told false x = refl
+  unowned_told : (b : Bool) (x : ObjectId) → is_none (cond b (Some x) None) ≡ false →
+      cond b (retained_and st fr rest next to (leaf.Object x ∷ []) x) (Stops end.Unowned st) ≡ unowned_by next fr to (cond b (Some x) None) rest
+  unowned_told true x e = refl
+  unowned_told false x e = cc
 
-  pub given_told : (w : Storage) (l : Leaf) → is_strong w ≡ false → given st fr rest w next to (object_in_leaf l) ≡ live_given w next fr to (live_of st.heap l) rest
-  given_told storage.Strong l e = cc
-  given_told storage.Weak (leaf.Int n) e = refl
-  given_told storage.Weak (leaf.Object x) e = weak_told (is_live_in st.heap x) x
-  given_told storage.Weak (leaf.Tag k) e = refl
-  given_told storage.Weak leaf.Blank e = refl
-  given_told storage.Unowned (leaf.Int n) e = refl
-  given_told storage.Unowned (leaf.Object x) e = unowned_told (is_live_in st.heap x) x
-  given_told storage.Unowned (leaf.Tag k) e = refl
-  given_told storage.Unowned leaf.Blank e = refl
+  pub given_told : (w : Storage) (l : Leaf) → is_strong w ≡ false → traps_at w (live_of st.heap l) ≡ false
+      → given st fr rest w next to (object_in_leaf l) ≡ live_given w next fr to (live_of st.heap l) rest
+  given_told storage.Strong l e goes = cc
+  given_told storage.Weak (leaf.Int n) e goes = refl
+  given_told storage.Weak (leaf.Object x) e goes = weak_told (is_live_in st.heap x) x
+  given_told storage.Weak (leaf.Tag k) e goes = refl
+  given_told storage.Weak leaf.Blank e goes = refl
+  given_told storage.Unowned (leaf.Int n) e goes = cc
+  given_told storage.Unowned (leaf.Object x) e goes = unowned_told (is_live_in st.heap x) x goes
+  given_told storage.Unowned (leaf.Tag k) e goes = cc
+  given_told storage.Unowned leaf.Blank e goes = cc
+
+  -- where the program traps
+  trapped_told : (b : Bool) (x : ObjectId) → is_none (cond b (Some x) None) ≡ true →
+      cond b (retained_and st fr rest next to (leaf.Object x ∷ []) x) (Stops end.Unowned st) ≡ Stops end.Unowned st
+  trapped_told true x e = cc
+  trapped_told false x e = refl
+
+  pub traps_told : (w : Storage) (l : Leaf) → traps_at w (live_of st.heap l) ≡ true → given st fr rest w next to (object_in_leaf l) ≡ Stops end.Unowned st
+  traps_told storage.Strong l traps = cc
+  traps_told storage.Weak l traps = cc
+  traps_told storage.Unowned (leaf.Int n) traps = refl
+  traps_told storage.Unowned (leaf.Object x) traps = trapped_told (is_live_in st.heap x) x traps
+  traps_told storage.Unowned (leaf.Tag k) traps = refl
+  traps_told storage.Unowned leaf.Blank traps = refl

@@ -8,7 +8,7 @@ ghost use Rattle.count_machine_model.specs.MachineSteps.Operands.{object_in_leaf
 ghost use Rattle.count_machine_model.specs.MachineSteps.Places.{forgotten, given, loads_name};
 ghost use Rattle.count_machine_model.specs.declared.ready_code.op.ReadyOp.TheVariants as op;
 ghost use Rattle.count_machine_rows.specs.Performing.{Performs};
-ghost use Rattle.count_machine_rows.specs.inner.LiveGiven.{is_strong, live_given, unowned_by, weak_by};
+ghost use Rattle.count_machine_rows.specs.inner.LiveGiven.{is_strong, live_given, traps_at, unowned_by, weak_by};
 ghost use Rattle.count_machine_state.specs.GoingOn.{GoesOver};
 ghost use Rattle.count_machine_state.specs.inner.NameHeld.{as_name, LiesAlive, UnlessDead};
 
@@ -79,7 +79,7 @@ fn give_live(
     }
 }
 
-/// The result is what storage gives that keeps this leaf. It is emptied where `takes` says so.
+/// The result is what storage gives that keeps this leaf. It is emptied where `takes` says so, unless the program traps.
 fn give_named(
     machine: &mut Machine,
     frame: &Frame,
@@ -99,6 +99,9 @@ fn give_named(
         return Err(fault(LowFault::Empty));
     }
     let live = machine.live_object(leaf);
+    if traps_at(storage, live) {
+        return Err(Stop::Ends(RunEnd::Unowned));
+    }
     forget_if(machine, takes, frame, storage, place, leaf);
     give_live(machine, frame, storage, to, live)
 }
@@ -144,6 +147,17 @@ pub fn load_name(
     let place = machine.address(frame, address);
     let held = machine.held_name(place);
     load_held(machine, frame, storage, takes, place, to, held)
+}
+
+/// Whether the program traps where storage of this kind names this live object, or none.
+#[inline]
+fn traps_at(storage: Storage, live: Option<ObjectId>) -> bool
+    ensures { result ≡ traps_at storage live }
+{
+    match storage {
+        Storage::Strong | Storage::Weak => false,
+        Storage::Unowned => live.is_none(),
+    }
 }
 
 #[inline]

@@ -1,17 +1,25 @@
--- What is reported is how the run by holders ended, and the lowered run too.
-use Rattle.std.proofs.Common.{◌≡◌, ◌∙◌, ℕ, List, refl, sym, ap, subst}
+-- What is reported is how the run by holders ended, and the lowered run too, with its heap.
+use Rattle.std.proofs.Common.{◌≡◌, ◌∙◌, ◌+◌, ℕ, zero, suc, List, length, refl, sym, ap, subst}
+use Rattle.count_heap.specs.HeapModel.HeapViews.{HeapView}
+use Rattle.count_machine.specs.count_machine_laws.inner.LastHeaps.{EndsWithHeap}
 use Rattle.count_machine.specs.declared.low_run.LowEnd.{LowEnd}
 use Rattle.count_machine.specs.declared.low_run.LowEnd.TheVariants as end
 use Rattle.count_machine.specs.declared.low_run.LowRun.{LowRun}
 use Rattle.count_machine.specs.LowRuns as runs
-use Rattle.count_machine.specs.LowRuns.{EndsAsTold, ending_told}
+use Rattle.count_machine.specs.LowRuns.{EndsAsTold, HasLastHeap, ending_told}
 use Rattle.holder_model.specs.Faults.{HolderFault}
+use Rattle.holder_model.specs.ModuleShapes.{shapes_of}
+use Rattle.holder_model.specs.Outcomes as outcomes
 use Rattle.holder_model.specs.Outcomes.{EndsSo, Outcome}
-use Rattle.holder_model.specs.States.{Ending, Faulted, OutOfTurns, Returned, Trapped}
+use Rattle.holder_model.specs.States.{Ending, Ends, Faulted, Goes, Next, OutOfTurns, Returned, Trapped, step_on}
 use Rattle.holder_model.specs.declared.event.Event.{Event}
 use Rattle.holder_model.specs.declared.left_object.LeftObject.{LeftObject}
 use Rattle.holder_model.specs.declared.lowered_run.low_fault.LowFault.{LowFault}
-use Rattle.holder_model.specs.LoweredRun.LowOutcomes.{LowEndsSo}
+use Rattle.holder_model.specs.LoweredRun.LowOutcomes.{LowEndsSo, low_begins, low_outcome_at}
+use Rattle.holder_model.specs.LoweredRun.LowSteps.{low_step}
+use Rattle.holder_model_values.specs.RunValues.Memory.{Memory}
+use Rattle.holder_model_values.specs.RunValues.Values.{Value}
+use Rattle.holder_model_values.specs.declared.run_values.value.Val.{Val}
 use Rattle.ownership_lowering_model.specs.LoweredModules.{lowered}
 use Rattle.module_runner_report.specs.RunOutcomes.{ending_of, value_of}
 use Rattle.module_runner_report.specs.declared.outcome.Ending as told
@@ -20,6 +28,7 @@ use Rattle.module_runner_report.proofs.Told.{value_told}
 use Rattle.ownership_lowering_runs.specs.StoredRuns.inner.Runs.{AreRunsSame, IsEndingFor, IsOutcomeFor, out_of_turns, returned, trapped}
 use Rattle.sil_ast.specs.declared.module.Module.{Module}
 use Rattle.sil_ast.specs.declared.place.FuncId.{FuncId}
+use Rattle.sil_verifier.specs.holder_model_laws.ReferenceTotals.inner.Totals.{AreTotalsIn, AreTotalsLeft, strong_told}
 use Rattle.module_runner.specs.LoweredRuns.{LoweredNeverFaults}
 use Rattle.module_runner.specs.inner.Endings.{IsNoFault, end_of}
 
@@ -118,3 +127,38 @@ module _ (left made : Module) (e : FuncId) (bound : ℕ) (same : AreRunsSame lef
         where
           by : (o : Outcome HolderFault) × EndsSo left e bound o × IsOutcomeFor o low → EndsSo left e bound (outcome_with run x)
           by (o, ends_so, alike) = subst (λ y. EndsSo left e bound y) (same_outcome o run x ends.ending ending alike) ends_so
+
+-- references
+
+-- some steps, and then the one that ends the run
+ended_then : {X S : Type 0} (step : S → Next X S) (k : ℕ) (s t : S) → outcomes.run step k s ≡ Goes t → (e : Ending X) (u : S) → step t ≡ Ends e u
+    → (j : ℕ) × (outcomes.run step j s ≡ Ends e u)
+ended_then step zero s t comes e u ends = let same : s ≡ t = cc in (suc zero, ap (step_on (outcomes.run step zero)) (ap step same ∙ ends))
+ended_then {X = X} {S = S} step (suc k) s t comes e u ends = by (step s) refl comes (λ s' comes'. ended_then step k s' t comes' e u ends)
+  where
+    by : (n : Next X S) → step s ≡ n → step_on (outcomes.run step k) n ≡ Goes t → ((s' : S) → outcomes.run step k s' ≡ Goes t → (j : ℕ) × (outcomes.run step j s' ≡ Ends e u))
+        → (j : ℕ) × (outcomes.run step j s ≡ Ends e u)
+    by (Goes s') is comes' later = let rest = later s' comes' in (suc rest.0, ap (step_on (outcomes.run step rest.0)) is ∙ rest.1)
+    by (Ends e' u') is comes' later = absurd (cc)
+
+-- after a return what was made is what is told and what was released
+totals_of : AreTotalsLeft → (m : Module) (e : FuncId) (bound : ℕ) (o : Outcome LowFault) (h : HeapView) → EndsWithHeap m e bound o h → (y : Value) → o.ending ≡ Returned y
+    → AreTotalsIn (length h.objects) o
+totals_of law m e bound o h ends y is =
+    let whole = ended_then (low_step m (shapes_of m) bound) ends.steps (low_begins e ends.entry) ends.found ends.comes (Returned y) ends.left
+    (ends.ends ∙ ap (λ (z : Ending LowFault). Ends z ends.left) is) in
+    let even = law m (shapes_of m) bound e ends.entry whole.0 y ends.left whole.1 in
+    let same : low_outcome_at (Returned y) ends.left ≡ o = ap (λ (z : Ending LowFault). low_outcome_at z ends.left) (sym is) ∙ ends.told in
+    let count : length ends.left.memory.objects ≡ length h.objects = ap (λ (s : Memory). length s.objects) ends.stays ∙ sym ends.heap.allocated in
+    subst (λ k. AreTotalsIn k o) count (subst (AreTotalsIn (length ends.left.memory.objects)) same even)
+
+-- the heap that is reported
+module _ (made : Module) (e : FuncId) (bound : ℕ) (run : LowRun) (last : HasLastHeap made e bound run) (x : told.Ending) (is : end_of x ≡ run.ending) where
+  pub heap_reported : EndsWithHeap made e bound (outcome_with run x) run.heap
+  heap_reported =
+      let ending : ending_of x ≡ last.ending = low_reported x ∙ ap low_ending (is ∙ last.told) ∙ low_told last.ending in
+      subst (λ y. EndsWithHeap made e bound (runs.outcome_of run y) run.heap) (sym ending) last.ends
+
+  pub totals_reported : AreTotalsLeft → (v : Val) → x ≡ told_ending.Returned v → length run.heap.objects + run.retains ≡ strong_told run.left + run.releases
+  totals_reported law v gives =
+      totals_of law made e bound (outcome_with run x) run.heap heap_reported (value_of v) (ap (λ (y : told.Ending). ending_of {X = LowFault} y) gives)

@@ -4,7 +4,7 @@ ghost use Rattle.std.specs.Prelude.{◌≡◌, ◌≤◌, ◌↔◌, Err, IfOk};
 ghost use Rattle.sil_ast.specs.declared.function.Function.{Function};
 ghost use Rattle.sil_types_declarations.specs.TypeDefinitions.Mentions as mentions;
 ghost use Rattle.module_runner.specs.Entries.{HasEntry, IsEntry};
-ghost use Rattle.module_runner.specs.inner.RunReports.{HeapIsAsTold, IsReportable, TellsAsItself, TellsOfRun};
+ghost use Rattle.module_runner.specs.inner.RunReports.{AreTotalsLeft, HasLastHeap, HeapIsAsTold, IsReportable, TellsAsItself, TellsOfRun};
 ghost use Rattle.sil_verifier.specs.sil_verifier_accepted.AcceptedModules.inner.Checked.{IsVerifiedWith};
 ghost use Rattle.module_runner.specs.declared.runner.RunEnd.TheVariants.{NoEntry};
 
@@ -14,6 +14,7 @@ use crate::optimising::lower_if;
 use crate::report::RunReport;
 use copy_pairing::{optimised_outcomes_agree, rewriting_keeps_verified};
 use count_machine::{LowRun, run};
+use holder_model_laws::totals_are_left;
 use ownership_lowering_runs::lowered_runs_are_same;
 use sil_ast::{Boxed, Exhausted, FuncId, Given, List, Module, Signature, TryClone, TypeName};
 use sil_types::{TypeTable, only_direct_type};
@@ -44,6 +45,8 @@ pub fn run_checked<'c>(
     ensures run { IfOk result (TellsOfRun c.now entry.now turns optimise) }
     ensures optimised { IfOk result (TellsAsItself c.now entry.now turns) }
     ensures heap { IfOk result HeapIsAsTold }
+    ensures last_heap { IfOk result (HasLastHeap c.now entry.now turns) }
+    ensures totals { IfOk result AreTotalsLeft }
     ensures reportable { IfOk result IsReportable }
     ensures no_entry { (result ≡ Err NoEntry) ↔ ¬ HasEntry c.now entry.now }
 {
@@ -71,6 +74,8 @@ pub fn run_owned<'t>(
     ensures run { IfOk result (TellsOfRun m entry.now turns optimise) }
     ensures optimised { IfOk result (TellsAsItself m entry.now turns) }
     ensures heap { IfOk result HeapIsAsTold }
+    ensures last_heap { IfOk result (HasLastHeap m entry.now turns) }
+    ensures totals { IfOk result AreTotalsLeft }
     ensures reportable { IfOk result IsReportable }
     ensures no_entry { (result ≡ Err NoEntry) ↔ ¬ HasEntry m entry.now }
 {
@@ -101,11 +106,14 @@ fn run_from<'t>(
     ensures run { IfOk result (TellsOfRun m entry.now turns optimise) }
     ensures optimised { IfOk result (TellsAsItself m entry.now turns) }
     ensures heap { IfOk result HeapIsAsTold }
+    ensures last_heap { IfOk result (HasLastHeap m entry.now turns) }
+    ensures totals { IfOk result AreTotalsLeft }
     ensures reportable { IfOk result IsReportable }
 {
     rewriting_keeps_verified();
     optimised_outcomes_agree();
     lowered_runs_are_same();
+    totals_are_left();
     let result_type = given_type(alloc, &m.functions.as_slice()[start.0 as usize].signature)?;
     let mut module = m;
     lower_if(alloc, table, &mut module, optimise)?;

@@ -27,10 +27,11 @@ text_in (Some i) = unwrap_or i.text []
 abbrev pub IsToldAs : Module → Shape → MachineView → RunEnd → LowEnd → Type 0
 IsToldAs m s st stop told = (x : Ending LowFault) → IsEnding m s st stop x → told ≡ ending_told x
 
--- so is the outcome
+-- so is the outcome, and the heap is the machine's
 pub record IsOutcomeOf (st : MachineView) (stop : RunEnd) (x : Ending LowFault) (run : LowRun) : Type 0 where
   pub ending : run.ending ≡ ending_told x
   pub outcome : outcome_of run x ≡ outcome_told st stop x
+  pub heap : run.heap ≡ st.heap
 
 abbrev pub TellsOf : Module → Shape → MachineView → RunEnd → LowRun → Type 0
 TellsOf m s st stop run = (x : Ending LowFault) → IsEnding m s st stop x → IsOutcomeOf st stop x run

@@ -72,7 +72,7 @@ module _ {m : Module} {entry : Beginning} (r : Runs m entry) where
       (at (is_dead r.s.memory o))
     where
       at : (b : Bool) → Alike m entry (performed r r.s (dead_or (d r) (shapes_of m) (values r) r.s.memory r.i e (cond b (Some o) None))) (cond b (faults (fault.Dead o) r.st) w)
-      at true = faults_alike r r.s.numbers (fault.Dead o)
+      at true = faults_alike r r.s.numbers (λ p. refl) (fault.Dead o)
       at false = alike
 
   pub field_address_alike : (v u : ValueId) (k : ℕ) → effect_of r.i.op ≡ row.AddressesField → operands_of r.i ≡ v ∷ [] → r.i.results ≡ u ∷ []

@@ -28,7 +28,8 @@ use Rattle.sil_ast.specs.declared.place.FuncId.{FuncId}
 use Rattle.sil_ast.specs.declared.place.ValueId.{ValueId}
 use Rattle.holder_model_values.specs.ValueParts.inner.Suits.{suits}
 use Rattle.count_machine_laws.specs.inner.Told.{fault}
-use Rattle.count_machine_laws.proofs.Ending.{Alike, ends}
+use Rattle.count_machine_laws.proofs.Ending.{Alike, ends_alike_with}
+use Rattle.count_machine_laws.proofs.LastStrongs.{SameStrongs}
 use Rattle.count_machine_laws.proofs.Memories.{NamesPlace}
 use Rattle.count_machine_laws.proofs.Numbers.{numbers_stay}
 use Rattle.count_machine_laws.proofs.Objects.{is_of_class}
@@ -92,10 +93,9 @@ module _ {m : Module} {entry : Beginning} (r : Runs m entry) where
   pub same_numbers : numbers_for r.s.memory r.s.numbers ≡ r.s.numbers
   same_numbers = numbers_stay m (is_of_class m r.s.memory) r.s.memory r.s.numbers r.st.heap r.running.parts.memory.objects
 
-  -- a fault of both, whatever the numbers have become
-  pub faults_alike : (numbers : List Numbers) (x : LowFault) → Alike m entry (fails (record r.s { numbers = numbers }) x) (faults x r.st)
-  faults_alike numbers x =
-      ends (record r.s { numbers = numbers }) r.st (Faulted x) (end.Fault x) (fault x) (rw (r.running.parts.events, r.running.parts.retains, r.running.parts.releases))
+  -- a fault of both, whatever storage has come to name in the run
+  pub faults_alike : (numbers : List Numbers) → SameStrongs numbers r.s.numbers → (x : LowFault) → Alike m entry (fails (record r.s { numbers = numbers }) x) (faults x r.st)
+  faults_alike numbers same x = ends_alike_with r.running.parts numbers same (Faulted x) (end.Fault x) (fault x) refl
 
   module _ (there : inst_at r.f r.lf.at ≡ Some r.i) where
     pub gives_nothing : r.i.results ≡ [] → Alike m entry (performed r r.s (effects.gives r.s.memory [])) (go_on r.st r.mf r.rest')

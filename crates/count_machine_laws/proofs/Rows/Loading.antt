@@ -52,10 +52,11 @@ use Rattle.sil_ast.specs.declared.place.ValueId.{ValueId}
 use Rattle.holder_model_values.specs.ValueParts.inner.Suits.{suits}
 use Rattle.count_machine_laws.specs.inner.Told.{unowned}
 use Rattle.count_machine_laws.proofs.CountedSteps.{parts_retained}
-use Rattle.count_machine_laws.proofs.Ending.{Alike, alike_by, ends}
+use Rattle.count_machine_laws.proofs.Ending.{Alike, alike_by, ends_alike_with}
 use Rattle.count_machine_laws.proofs.FrameSteps.{Running, StandsAt}
 use Rattle.count_machine_laws.proofs.Grows.{suits_grows}
 use Rattle.count_machine_laws.proofs.Held.{IsReachable}
+use Rattle.count_machine_laws.proofs.LastStrongs.{SameStrongs, unnamed_same}
 use Rattle.count_machine_laws.proofs.Memories.{NamesPlace}
 use Rattle.count_machine_laws.proofs.Named.{name_is_leaf}
 use Rattle.count_machine_laws.proofs.NamedValues.{NameIs, optional_shape, stored_name_is}
@@ -80,7 +81,7 @@ live_is_not_dead Dead e = absurd (false≢true e)
 
 -- in a memory that may have changed: where the storage is taken, it is empty and names nothing
 module _ {m : Module} {entry : Beginning} (r : Runs m entry) {made : List Made} {mem : Memory} {ns : List Numbers} {st : MachineView}
-    (running : Running m entry made (record r.s { memory = mem; numbers = ns }) st r.f r.lf r.mf r.below r.rest r.rest')
+    (running : Running m entry made (record r.s { memory = mem; numbers = ns }) st r.f r.lf r.mf r.below r.rest r.rest') (same : SameStrongs ns r.s.numbers)
     (there : inst_at r.f r.lf.at ≡ Some r.i) (u : ValueId) (results : r.i.results ≡ u ∷ []) (is_of : IsOf r.f u) where
   abbrev s1 : LowState
   s1 = record r.s { numbers = ns }
@@ -123,8 +124,9 @@ module _ {m : Module} {entry : Beginning} (r : Runs m entry) {made : List Made} 
       at true is = live is
       at false is = else
 
-  trapped : Alike m entry (performed r s1 (effects.Traps trap.Unowned)) (Stops end.Unowned st)
-  trapped = ends s1 st (Trapped trap.Unowned) end.Unowned unowned (rw (running.parts.events, running.parts.retains, running.parts.releases))
+  -- the machine traps before it empties the storage
+  trapped : Alike m entry (performed r s1 (effects.Traps trap.Unowned)) (Stops end.Unowned r.st)
+  trapped = ends_alike_with r.running.parts ns same (Trapped trap.Unowned) end.Unowned unowned refl
 
   -- what is named is given, or `none` or the trap where it isn't live
   pub loaded : (w : Storage) (s : Shape) (x : Value) → NameIs (is_of_class m r.s.memory) w s x → (suits (is_of_class m r.s.memory) s x ≡ true → suits (is_of_class m mem) s x ≡ true)
@@ -137,7 +139,7 @@ module _ {m : Module} {entry : Beginning} (r : Runs m entry) {made : List Made} 
       (λ live. retained_given o live (optional_shape name first second class) form (value.Full 1 (value.Object o)) (wider is) (some_leaves o) refl)
       (plain_given (optional_shape name first second class) form (value.Case 0) refl none_leaves refl)
   loaded _ _ _ (NameIs.unowned class o is) wider form =
-      by_live o (named_again mem (value.Object o)) (effects.Traps trap.Unowned) (retained_and r.st r.mf r.rest' st (local (d r) r.f u) (leaf.Object o ∷ []) o) (Stops end.Unowned st)
+      by_live o (named_again mem (value.Object o)) (effects.Traps trap.Unowned) (retained_and r.st r.mf r.rest' st (local (d r) r.f u) (leaf.Object o ∷ []) o) (Stops end.Unowned r.st)
       (λ live. retained_given o live (Reference class) form (value.Object o) (wider is) (leaf.Object o ∷ []) refl) trapped
 
 module _ {m : Module} {entry : Beginning} (r : Runs m entry) where
@@ -170,9 +172,9 @@ module _ {m : Module} {entry : Beginning} (r : Runs m entry) where
       by_taking : (b : Bool) → Alike m entry (performed r (record r.s { numbers = numbers_by b }) (loaded_name (Some w) r.s.memory (memory_by b) x))
           (given r.st r.mf r.rest' w (machine_by b (first_leaf (leaves_of p.shape x))) (local (d r) r.f u) (references_of x))
       by_taking true =
-          loaded r (forgotten_runs r a p w s stored names reached x cells fits) there u results is_of w s x name
+          loaded r (forgotten_runs r a p w s stored names reached x cells fits) (unnamed_same (cells_at r.s.memory p) r.s.numbers) there u results is_of w s x name
           (suits_grows (emptied_so r a p w s stored names reached x cells fits).changes.grows s x) form
-      by_taking false = loaded r r.running there u results is_of w s x name (λ h. h) form
+      by_taking false = loaded r r.running (λ o. refl) there u results is_of w s x name (λ h. h) form
 
       name_given : (b : Bool) → Alike m entry (performed r (record r.s { numbers = numbers_by b }) (named_by b))
           (given r.st r.mf r.rest' w (machine_by b (first_leaf ls)) (local (d r) r.f u) (object_in_leaf (first_leaf ls)))
@@ -184,11 +186,15 @@ module _ {m : Module} {entry : Beginning} (r : Runs m entry) where
           ∙ ap (given r.st r.mf r.rest' w (machine_by b (first_leaf (leaves_of p.shape x))) (local (d r) r.f u)) found)
           (by_taking b)
 
+    names_same : (b : Bool) → SameStrongs (numbers_by b) r.s.numbers
+    names_same true o = unnamed_same (cells_at r.s.memory p) r.s.numbers o
+    names_same false o = refl
+
     name_loaded : (b : Bool) → Alike m entry (performed r (record r.s { numbers = numbers_by b }) (access r p [] true (named_by b)))
         (loads_name r.st r.mf r.rest' w b a (local (d r) r.f u) (held_at r.st a 1))
     name_loaded b =
-        access_alike r p [] true (named_by b) (numbers_by b) refl (loads_name r.st r.mf r.rest' w b a (local (d r) r.f u)) refl (λ o. refl)
-        (λ reached cells. faults_alike r (numbers_by b) fault.Empty) (λ x ls reached cells is fits leaves. name_given x ls reached cells is fits leaves b)
+        access_alike r p [] true (named_by b) (numbers_by b) (names_same b) refl (loads_name r.st r.mf r.rest' w b a (local (d r) r.f u)) refl (λ o. refl)
+        (λ reached cells. faults_alike r (numbers_by b) (names_same b) fault.Empty) (λ x ls reached cells is fits leaves. name_given x ls reached cells is fits leaves b)
         (held_at r.st a 1) (held_one r a p w s stored names)
 
   pub load_name_alike : (v u : ValueId) (w : Storage) (s : Shape) (o : Operation) → effect_of r.i.op ≡ row.LoadsName → operands_of r.i ≡ v ∷ [] → r.i.results ≡ u ∷ []

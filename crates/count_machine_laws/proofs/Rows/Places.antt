@@ -24,6 +24,7 @@ use Rattle.sil_ast.specs.declared.place.ObjectId.{ObjectId}
 use Rattle.holder_model_values.specs.ValueParts.inner.Suits.{suits}
 use Rattle.count_machine_laws.proofs.Ending.{Alike, alike_by}
 use Rattle.count_machine_laws.proofs.Held.{HeldIs, IsReachable}
+use Rattle.count_machine_laws.proofs.LastStrongs.{SameStrongs}
 use Rattle.count_machine_laws.proofs.Objects.{is_of_class}
 use Rattle.count_machine_laws.proofs.Rows.Effects.{Runs, d, performed, values}
 use Rattle.count_machine_laws.proofs.Rows.Gives.{faults_alike}
@@ -78,38 +79,39 @@ module _ {m : Module} {entry : Beginning} (r : Runs m entry) (p : Place) (os : L
     abbrev pub AccessAlike : Went → Type 0
     AccessAlike w = Alike m entry (performed r (record r.s { numbers = ns }) access) w
 
-    named_dead : (o : ObjectId) → first_dead os ≡ Some o → is_there_at r.s.memory p ≡ true → (w : Went) → w ≡ faults (fault.Dead o) r.st → AccessAlike w
-    named_dead o dead is w faulted =
+    named_dead : SameStrongs ns r.s.numbers → (o : ObjectId) → first_dead os ≡ Some o → is_there_at r.s.memory p ≡ true → (w : Went) → w ≡ faults (fault.Dead o) r.st → AccessAlike w
+    named_dead same o dead is w faulted =
         alike_by (ap (performed r (record r.s { numbers = ns })) (there is (Some o) (found_first (is_dead r.s.memory) os (home_references p.home) o dead))) faulted
-        (faults_alike r ns (fault.Dead o))
+        (faults_alike r ns same (fault.Dead o))
 
     -- an object that is to be named is dead
-    pub dead_alike : (o : ObjectId) → first_dead os ≡ Some o → (go : Held → Went) → go held.Gone ≡ faults fault.Slot r.st
+    pub dead_alike : SameStrongs ns r.s.numbers → (o : ObjectId) → first_dead os ≡ Some o → (go : Held → Went) → go held.Gone ≡ faults fault.Slot r.st
         → ((x : ObjectId) → go (held.OfDead x) ≡ faults (fault.Dead o) r.st) → go held.Empty ≡ faults (fault.Dead o) r.st
         → ((ls : List Leaf) → go (held.Full ls) ≡ faults (fault.Dead o) r.st) → (h : Held) → HeldIs m r.s.memory p h → AccessAlike (go h)
-    dead_alike o dead go at_gone at_dead at_empty at_full _ (HeldIs.gone is) =
-        alike_by (ap (performed r (record r.s { numbers = ns })) (gone is)) at_gone (faults_alike r ns fault.Slot)
-    dead_alike o dead go at_gone at_dead at_empty at_full _ (HeldIs.of_dead x is home died) = named_dead o dead is _ (at_dead x)
-    dead_alike o dead go at_gone at_dead at_empty at_full _ (HeldIs.empty reach has none) = named_dead o dead reach.there _ at_empty
-    dead_alike o dead go at_gone at_dead at_empty at_full _ (HeldIs.full x ls reach has is fits leaves) = named_dead o dead reach.there _ (at_full ls)
+    dead_alike same o dead go at_gone at_dead at_empty at_full _ (HeldIs.gone is) =
+        alike_by (ap (performed r (record r.s { numbers = ns })) (gone is)) at_gone (faults_alike r ns same fault.Slot)
+    dead_alike same o dead go at_gone at_dead at_empty at_full _ (HeldIs.of_dead x is home died) = named_dead same o dead is _ (at_dead x)
+    dead_alike same o dead go at_gone at_dead at_empty at_full _ (HeldIs.empty reach has none) = named_dead same o dead reach.there _ at_empty
+    dead_alike same o dead go at_gone at_dead at_empty at_full _ (HeldIs.full x ls reach has is fits leaves) = named_dead same o dead reach.there _ (at_full ls)
 
     -- the place is as the machine finds it, and none of the objects that are to be named is dead
-    pub access_alike : first_dead os ≡ None → (go : Held → Went) → go held.Gone ≡ faults fault.Slot r.st → ((o : ObjectId) → go (held.OfDead o) ≡ faults (fault.Dead o) r.st)
+    pub access_alike : SameStrongs ns r.s.numbers → first_dead os ≡ None → (go : Held → Went) → go held.Gone ≡ faults fault.Slot r.st
+        → ((o : ObjectId) → go (held.OfDead o) ≡ faults (fault.Dead o) r.st)
         → (IsReachable r.s.memory p → cells_at r.s.memory p ≡ replicate (cell_count p.shape) cells.Empty
         → Alike m entry (performed r (record r.s { numbers = ns }) (where_full None)) (go held.Empty))
         → ((x : Value) (ls : List Leaf) → IsReachable r.s.memory p → cells_at r.s.memory p ≡ (in_cells p.shape).cells x → value_at r.s.memory p ≡ Some x
         → suits (is_of_class m r.s.memory) p.shape x ≡ true → ls ≡ leaves_of p.shape x → Alike m entry (performed r (record r.s { numbers = ns }) e) (go (held.Full ls)))
         → (h : Held) → HeldIs m r.s.memory p h → AccessAlike (go h)
-    access_alike alive go at_gone at_dead at_empty at_full _ (HeldIs.gone is) =
-        alike_by (ap (performed r (record r.s { numbers = ns })) (gone is)) at_gone (faults_alike r ns fault.Slot)
-    access_alike alive go at_gone at_dead at_empty at_full _ (HeldIs.of_dead o is home dead) =
+    access_alike same alive go at_gone at_dead at_empty at_full _ (HeldIs.gone is) =
+        alike_by (ap (performed r (record r.s { numbers = ns })) (gone is)) at_gone (faults_alike r ns same fault.Slot)
+    access_alike same alive go at_gone at_dead at_empty at_full _ (HeldIs.of_dead o is home dead) =
         alike_by
         (ap (performed r (record r.s { numbers = ns })) (there is (Some o)
         (found_behind (is_dead r.s.memory) os (home_references p.home) alive ∙ ap first_dead home ∙ found_one (is_dead r.s.memory) o dead)))
-        (at_dead o) (faults_alike r ns (fault.Dead o))
-    access_alike alive go at_gone at_dead at_empty at_full _ (HeldIs.empty reach has none) =
+        (at_dead o) (faults_alike r ns same (fault.Dead o))
+    access_alike same alive go at_gone at_dead at_empty at_full _ (HeldIs.empty reach has none) =
         alike_by (ap (performed r (record r.s { numbers = ns })) (reached alive reach None none)) refl (at_empty reach has)
-    access_alike alive go at_gone at_dead at_empty at_full _ (HeldIs.full x ls reach has is fits leaves) =
+    access_alike same alive go at_gone at_dead at_empty at_full _ (HeldIs.full x ls reach has is fits leaves) =
         alike_by (ap (performed r (record r.s { numbers = ns })) (reached alive reach (Some x) is ∙ full_is (not full))) refl (at_full x ls reach has is fits leaves)
       where
         full_is : (b : Bool) → cond (b || true) e (Faults fault.Empty) ≡ e

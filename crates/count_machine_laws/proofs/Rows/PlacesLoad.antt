@@ -52,7 +52,7 @@ module _ {m : Module} {entry : Beginning} (r : Runs m entry) where
       (ap (does_at r row.LoadsValue) (one.1 ∙ ap (λ y. y ∷ []) x.1)
       ∙ ap (λ o. performed r r.s (loads p o)) forms.1)
       (ap (λ n. go (held_at r.st a n)) (ap leaves_in form ∙ ap size_of (sym x.2)))
-      (access_alike r p [] true (loaded (value_at r.s.memory p)) r.s.numbers refl go refl (λ o. refl) (λ reach has. faults_alike r r.s.numbers _)
+      (access_alike r p [] true (loaded (value_at r.s.memory p)) r.s.numbers (λ o. refl) refl go refl (λ o. refl) (λ reach has. faults_alike r r.s.numbers (λ o. refl) _)
       (λ y ls reach has at fits leaves.
       alike_by (ap (λ z. performed r r.s (loaded z)) at) refl
       (gives_value r stands.inst w results (one_of r.f r.i.results w [] results (results_of r stands row.LoadsValue is)) p.shape (form ∙ ap OfValue (sym x.2)) y fits ls leaves))

@@ -36,6 +36,7 @@ use Rattle.holder_model_values.specs.ValueParts.inner.Suits.{suits}
 use Rattle.count_machine_laws.proofs.Ending.{Alike, alike_by}
 use Rattle.count_machine_laws.proofs.FrameSteps.{StandsAt}
 use Rattle.count_machine_laws.proofs.Held.{HeldIs, IsReachable, held_agrees}
+use Rattle.count_machine_laws.proofs.LastStrongs.{SameStrongs, named_same, unnamed_same}
 use Rattle.count_machine_laws.proofs.Memories.{NamesPlace}
 use Rattle.count_machine_laws.proofs.Named.{empty_unnamed, plain_named, plain_unnamed}
 use Rattle.count_machine_laws.proofs.Objects.{is_of_class}
@@ -69,6 +70,9 @@ module _ {m : Module} {entry : Beginning} (r : Runs m entry) where
     abbrev goes_on : Went
     goes_on = go_on (write_at r.st a (leaves_of p.shape x)) r.mf r.rest'
 
+    behind_same : SameStrongs numbers_behind r.s.numbers
+    behind_same o = named_same ((in_cells p.shape).cells x) (unnamed (cells_at r.s.memory p) r.s.numbers) o ∙ unnamed_same (cells_at r.s.memory p) r.s.numbers o
+
     -- no object is named
     same_numbers : (cs : List Cell) → cells_at r.s.memory p ≡ cs → unnamed cs r.s.numbers ≡ r.s.numbers → numbers_behind ≡ r.s.numbers
     same_numbers cs has none =
@@ -83,12 +87,12 @@ module _ {m : Module} {entry : Beginning} (r : Runs m entry) where
     -- a part isn't written in an empty place
     in_empty : (b : Bool) → p.is_part ≡ b → IsReachable r.s.memory p → cells_at r.s.memory p ≡ replicate (cell_count p.shape) cells.Empty
         → Alike m entry (performed r (record r.s { numbers = numbers_behind }) (cond (not b || false) (written p x) (Faults fault.Empty))) (cond b (faults fault.Empty r.st) goes_on)
-    in_empty true part reach has = faults_alike r numbers_behind fault.Empty
+    in_empty true part reach has = faults_alike r numbers_behind behind_same fault.Empty
     in_empty false whole reach has =
         write reach (λ part. absurd (false≢true (sym whole ∙ part))) (same_numbers (replicate (cell_count p.shape) cells.Empty) has (empty_unnamed (cell_count p.shape) r.s.numbers))
 
     pub store : (h : Held) → HeldIs m r.s.memory p h → AccessAlike r p [] p.is_part (written p x) numbers_behind (machine.stores r.st r.mf r.rest' a (leaves_of p.shape x) h)
-    store = access_alike r p [] p.is_part (written p x) numbers_behind refl (machine.stores r.st r.mf r.rest' a (leaves_of p.shape x)) refl (λ o. refl)
+    store = access_alike r p [] p.is_part (written p x) numbers_behind behind_same refl (machine.stores r.st r.mf r.rest' a (leaves_of p.shape x)) refl (λ o. refl)
         (λ reach has. alike_by refl (ap (λ b. cond b (faults fault.Empty r.st) goes_on) (address_part names)) (in_empty p.is_part refl reach has))
         (λ y ls reach has at suit leaves. write reach (λ part. ap is_some at) (same_numbers ((in_cells p.shape).cells y) has (plain_unnamed p.shape y r.s.numbers bare)))
 

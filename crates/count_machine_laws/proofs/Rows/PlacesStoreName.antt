@@ -42,6 +42,7 @@ use Rattle.count_machine_laws.proofs.Ending.{Alike, alike_by}
 use Rattle.count_machine_laws.proofs.FrameSteps.{StandsAt}
 use Rattle.count_machine_laws.proofs.Held.{HeldIs, IsReachable, held_agrees}
 use Rattle.count_machine_laws.proofs.HeldObjects.{object_there}
+use Rattle.count_machine_laws.proofs.LastStrongs.{SameStrongs, named_same, unnamed_same}
 use Rattle.count_machine_laws.proofs.Memories.{MemoryAgrees, NamesPlace}
 use Rattle.count_machine_laws.proofs.Named.{leaf_named_only, memory_named, memory_renamed, name_is_leaf}
 use Rattle.count_machine_laws.proofs.NamedLists.{OnlyObjects}
@@ -72,6 +73,14 @@ module _ {m : Module} {entry : Beginning} (r : Runs m entry) where
 
     abbrev Stores : Held → Type 0
     Stores h = AccessAlike r p (references_of x) (not first) (written r p x) numbers_behind (stores_so h)
+
+    first_same : (b : Bool) → SameStrongs (cond b r.s.numbers (unnamed (cells_at r.s.memory p) r.s.numbers)) r.s.numbers
+    first_same true o = refl
+    first_same false o = unnamed_same (cells_at r.s.memory p) r.s.numbers o
+
+    behind_same : SameStrongs numbers_behind r.s.numbers
+    behind_same o =
+        named_same ((in_cells (Stored w s)).cells x) (cond first r.s.numbers (unnamed (cells_at r.s.memory p) r.s.numbers)) o ∙ first_same first o
 
     -- the storage has one leaf
     one_leaf : leaf ∷ [] ≡ leaves_of p.shape x
@@ -120,7 +129,7 @@ module _ {m : Module} {entry : Beginning} (r : Runs m entry) where
     of_dead : (o : ObjectId) → find (is_dead r.s.memory) (references_of x) ≡ Some o → (h : Held) → HeldIs m r.s.memory p h → Stores h
     of_dead o dead =
         let is = is_dead_so (Some o) dead in
-        dead_alike r p (references_of x) (not first) (written r p x) numbers_behind o dead stores_so refl
+        dead_alike r p (references_of x) (not first) (written r p x) numbers_behind behind_same o dead stores_so refl
         (λ y. ap (λ u. unless_dead u (alive_so (held.OfDead y))) is) (ap (λ u. unless_dead u (alive_so held.Empty)) is) (λ ls. ap (λ u. unless_dead u (alive_so (held.Full ls))) is)
 
     -- empty storage is written for the first time alone
@@ -132,7 +141,7 @@ module _ {m : Module} {entry : Beginning} (r : Runs m entry) where
         (subst (λ b. MemoryAgrees m r.made r.s.memory (named ((in_cells (Stored w s)).cells x) (cond b r.s.numbers (unnamed (cells_at r.s.memory p) r.s.numbers)))
         (record r.st { heap = leaf_named w leaf r.st.heap })) (sym is)
         (memory_named m r.made r.s.memory r.s.numbers r.st w s x fits r.running.parts.memory alive)) reach
-    in_empty alive false is reach = faults_alike r numbers_behind fault.Empty
+    in_empty alive false is reach = faults_alike r numbers_behind behind_same fault.Empty
 
     in_full : find (is_dead r.s.memory) (references_of x) ≡ None → (y : Value) (ls : List Leaf) → IsReachable r.s.memory p → cells_at r.s.memory p ≡ (in_cells p.shape).cells y
         → suits (is_of_class m r.s.memory) p.shape y ≡ true → ls ≡ leaves_of p.shape y
@@ -150,7 +159,7 @@ module _ {m : Module} {entry : Beginning} (r : Runs m entry) where
     none_dead : find (is_dead r.s.memory) (references_of x) ≡ None → (h : Held) → HeldIs m r.s.memory p h → Stores h
     none_dead alive =
         let is = is_dead_so None alive in
-        access_alike r p (references_of x) (not first) (written r p x) numbers_behind alive stores_so refl
+        access_alike r p (references_of x) (not first) (written r p x) numbers_behind behind_same alive stores_so refl
         (λ o. ap (λ u. unless_dead u (alive_so (held.OfDead o))) is)
         (λ reach has. alike_by refl (ap (λ u. unless_dead u (alive_so held.Empty)) is) (in_empty alive first refl reach))
         (λ y ls reach has at old leaves. alike_by refl (ap (λ u. unless_dead u (alive_so (held.Full ls))) is) (in_full alive y ls reach has old leaves))

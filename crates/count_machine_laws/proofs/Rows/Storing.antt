@@ -37,6 +37,7 @@ use Rattle.count_machine_laws.proofs.Emptying.{empty_agrees}
 use Rattle.count_machine_laws.proofs.Ending.{Alike, alike_by}
 use Rattle.count_machine_laws.proofs.FrameSteps.{Running, StandsAt}
 use Rattle.count_machine_laws.proofs.Held.{HeldIs, IsReachable, held_agrees}
+use Rattle.count_machine_laws.proofs.LastStrongs.{unnamed_same}
 use Rattle.count_machine_laws.proofs.Memories.{MemoryAgrees, NamesPlace}
 use Rattle.count_machine_laws.proofs.Named.{leaf_unnamed_only, memory_unnamed}
 use Rattle.count_machine_laws.proofs.NamedLists.{OnlyObjects}
@@ -100,8 +101,9 @@ module _ {m : Module} {entry : Beginning} (r : Runs m entry) where
       → Alike m entry (performed r (record r.s { numbers = unnamed (cells_at r.s.memory p) r.s.numbers }) (destroys_by (d r) (shapes_of m) (values r) r.s.memory r.i operation.Take p))
       (forgets_name r.st r.mf r.rest' w a (held_at r.st a 1))
   forgets a p w s stored names there results =
-      access_alike r p [] true (effects.Makes (unchanged (emptied r.s.memory p))) (unnamed (cells_at r.s.memory p) r.s.numbers) refl (forgets_name r.st r.mf r.rest' w a) refl (λ o. refl)
-      (λ reached cells. faults_alike r (unnamed (cells_at r.s.memory p) r.s.numbers) fault.Empty)
+      access_alike r p [] true (effects.Makes (unchanged (emptied r.s.memory p))) (unnamed (cells_at r.s.memory p) r.s.numbers) (unnamed_same (cells_at r.s.memory p) r.s.numbers) refl
+      (forgets_name r.st r.mf r.rest' w a) refl (λ o. refl)
+      (λ reached cells. faults_alike r (unnamed (cells_at r.s.memory p) r.s.numbers) (unnamed_same (cells_at r.s.memory p) r.s.numbers) fault.Empty)
       (λ x ls reached cells is fits leaves.
       alike_by refl (ap (λ ms. go_on (forgotten r.st r.mf r.rest' w a (first_leaf ms)) r.mf r.rest') leaves)
       (nothing_given m entry r.bound r.f r.lf r.mf r.below r.rest r.rest' r.i there (record r.s { numbers = unnamed (cells_at r.s.memory p) r.s.numbers })

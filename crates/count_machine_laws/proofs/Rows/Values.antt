@@ -39,7 +39,7 @@ use Rattle.sil_ast.specs.declared.place.PointId.{PointId}
 use Rattle.sil_ast.specs.declared.place.ValueId.{ValueId}
 use Rattle.holder_model_values.proofs.ValueParts.Plain.{integer_suits, suits_integer, suits_reference}
 use Rattle.count_machine_laws.specs.inner.Told.{IsEnding, cond_fail}
-use Rattle.count_machine_laws.proofs.Ending.{Alike, alike_by, ends}
+use Rattle.count_machine_laws.proofs.Ending.{Alike, alike_by, ends, strongs_of}
 use Rattle.count_machine_laws.proofs.FrameSteps.{StandsAt}
 use Rattle.count_machine_laws.proofs.Objects.{is_of_class}
 use Rattle.count_machine_laws.proofs.Operands.{read_value}
@@ -113,6 +113,7 @@ module _ {m : Module} {entry : Beginning} (r : Runs m entry) where
       (cond_fail r.mf.function (point r.ready r.bound r.st r.mf r.rest') r.f r.i text (ap (λ g. slice_get m.functions g.0) r.running.frame.same ∙ r.running.frame.there)
       (ap (inst_at r.f) at_point ∙ there) is))
       (rw (r.running.parts.events, r.running.parts.retains, r.running.parts.releases))
+      (strongs_of r.running.parts)
 
   pub traps_alike : (v : ValueId) → effect_of r.i.op ≡ row.TrapsWhereSet → operands_of r.i ≡ v ∷ [] → StandsAt m r.f r.lf r.i (op.TrapWhereSet (local (d r) r.f v))
       → RowAlike r (op.TrapWhereSet (local (d r) r.f v))

@@ -1,4 +1,4 @@
--- The law of the machine: however it stops, the run of lowered code ends so.
+-- The law of the machine: however it stops, the run of lowered code ends so, with the machine's heap.
 use Rattle.std.specs.Prelude.{◌≡◌, ◌≤◌, ℕ, List, Bool, true, Some, slice_get}
 use Rattle.count_machine_model.specs.holder_model.Outcomes.{may_start}
 use Rattle.count_machine_model.specs.holder_model.States.{Ending}
@@ -16,6 +16,7 @@ use Rattle.sil_ast.specs.declared.function.Function.{Function}
 use Rattle.sil_ast.specs.declared.module.Module.{Module}
 use Rattle.sil_ast.specs.declared.place.FuncId.{FuncId}
 use Rattle.sil_types_declarations.specs.TypeDefinitions.Declarations.{declarations_of}
+use Rattle.count_machine_laws.specs.inner.LastHeaps.{EndsWithHeap}
 use Rattle.count_machine_laws.specs.inner.Told.{IsEnding, outcome_told}
 
 -- a run of ready code from an entry function, for a bound of at least one turn
@@ -35,3 +36,4 @@ abbrev pub MachineRunsSo : Type 0
 MachineRunsSo = (m : Module) (ready : ReadyModule) (e : FuncId) (bound : ℕ) (run : Started m ready e bound) (end : RunEnd) (st : MachineView)
     → Leads ready bound (begins (declarations_of m) e run.code) (Stops end st)
     → (x : Ending LowFault) × IsEnding m (given_shape (declarations_of m) run.entry) st end x × LowEndsSo m e bound (outcome_told st end x)
+    × EndsWithHeap m e bound (outcome_told st end x) st.heap

@@ -83,9 +83,10 @@ module _ (st : MachineView) (fr : Frame) (rest : List Task) where
   weak_given after to [] = gives after fr rest to none_leaves
   weak_given after to (x ∷ xs) = cond (is_live_in x) (retained_and after to (some_leaves x) x) (gives after fr rest to none_leaves)
 
+  -- where the program traps, the storage stays as it was
   abbrev pub unowned_given : MachineView → Local → List ObjectId → Went
-  unowned_given after to [] = Stops end.Unowned after
-  unowned_given after to (x ∷ xs) = cond (is_live_in x) (retained_and after to (leaf.Object x ∷ []) x) (Stops end.Unowned after)
+  unowned_given after to [] = Stops end.Unowned st
+  unowned_given after to (x ∷ xs) = cond (is_live_in x) (retained_and after to (leaf.Object x ∷ []) x) (Stops end.Unowned st)
 
   abbrev pub given : Storage → MachineView → Local → List ObjectId → Went
   given storage.Strong after to xs = faults fault.Empty st

@@ -1,5 +1,5 @@
 -- What storage gives, by the live object that it names.
-use Rattle.std.specs.Prelude.{List, [], ◌∷◌, Bool, true, false, Option, Some, None}
+use Rattle.std.specs.Prelude.{List, [], ◌∷◌, Bool, true, false, Option, Some, None, is_none}
 use Rattle.holder_model.specs.declared.lowered_run.low_fault.LowFault.TheVariants as fault
 use Rattle.count_machine_model.specs.MachineSteps.Held.{Empty, Full, Gone, OfDead}
 use Rattle.count_machine_model.specs.MachineSteps.Naming.{none_leaves, some_leaves}
@@ -35,6 +35,12 @@ abbrev pub is_strong : Storage → Bool
 is_strong storage.Strong = true
 is_strong storage.Weak = false
 is_strong storage.Unowned = false
+
+-- the program traps where unowned storage names no live object
+abbrev pub traps_at : Storage → Option ObjectId → Bool
+traps_at storage.Strong live = false
+traps_at storage.Weak live = false
+traps_at storage.Unowned live = is_none live
 
 abbrev pub is_gone : NameHeld → Bool
 is_gone name.Gone = true

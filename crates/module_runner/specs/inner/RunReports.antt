@@ -1,10 +1,12 @@
 -- What a report tells of a run.
-use Rattle.std.specs.Prelude.{◌≡◌, ℕ, Bool, List}
+use Rattle.std.specs.Prelude.{◌≡◌, ◌+◌, ℕ, Bool, List, length}
 use Rattle.sil_verifier.specs.holder_model_laws.LockstepRuns.inner.Agreeing.{TellsAsItDid}
+use Rattle.sil_verifier.specs.holder_model_laws.ReferenceTotals.inner.Totals.{strong_told}
 use Rattle.holder_model.specs.Faults.{HolderFault}
 use Rattle.holder_model.specs.Outcomes.{EndsSo, Outcome}
 use Rattle.holder_model.specs.LoweredRun.LowOutcomes.{LowEndsSo}
 use Rattle.ownership_lowering_model.specs.LoweredModules.{lowered}
+use Rattle.count_machine.specs.count_machine_laws.inner.LastHeaps.{EndsWithHeap}
 use Rattle.count_machine.specs.count_machine_laws.inner.Told.{all_left}
 use Rattle.numbered_form.specs.Names.{Name}
 use Rattle.module_runner_report.specs.RunOutcomes.{ending_of}
@@ -71,6 +73,17 @@ pub record HeapIsAsTold (r : RunReport) : Type 0 where
   pub retains : r.heap.retains ≡ r.retains
   pub releases : r.heap.releases ≡ r.releases
   pub left : (x : Val) → r.ending ≡ Returned x → r.left ≡ all_left r.heap
+
+-- the run of the lowered module from the entry function ended with the outcome that is told, and the heap is that in which it has ended
+pub record HasLastHeap (m : Module) (name : Name) (bound : ℕ) (r : RunReport) : Type 0 where
+  pub entry : FuncId
+  pub function : Function
+  pub begins : IsEntry m name entry function
+  pub ends : EndsWithHeap r.module entry bound (outcome_of r) r.heap
+
+-- after a return each reference that was made, with an object or by a retain, was released or is one to an object that is left
+abbrev pub AreTotalsLeft : RunReport → Type 0
+AreTotalsLeft r = (x : Val) → r.ending ≡ Returned x → length r.heap.objects + r.retains ≡ strong_told r.left + r.releases
 
 -- the module of the report can be run, and the table is its own
 pub record IsReportable (r : RunReport) : Type 0 where

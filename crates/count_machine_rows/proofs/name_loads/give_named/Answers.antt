@@ -5,7 +5,7 @@ use Rattle.count_machine_model.specs.MachineSteps.Places.{forgotten}
 use Rattle.count_machine_model.specs.MachineSteps.Views.{MachineView, Went}
 use Rattle.sil_ast.specs.declared.place.ObjectId.{ObjectId}
 use Rattle.count_machine_state.specs.Went.{HasGone}
-use Rattle.count_machine_rows.specs.inner.LiveGiven.{live_given}
+use Rattle.count_machine_rows.specs.inner.LiveGiven.{live_given, traps_at}
 use Rattle.count_machine_rows.proofs.Forgotten.{after-tasks, given_told, live_still}
 use Rattle.count_machine_rows.proofs.Rooms.{room-in, room-taken}
 use Rattle.count_machine_rows.proofs.name_loads.give_named.Goals as goal
@@ -31,4 +31,5 @@ returns c = λ rest h.
     let Gone : Went → Type 0 = λ went. HasGone went c.give_live.result c.give_live.new.machine in
     let here = subst (λ (it : MachineView). Gone (live_given c.args.storage it fr c.args.to c.live_object-live.result rest)) c.forget_if.ensures (c.give_live.ensures rest tasks) in
     let live = subst (λ (x : Option ObjectId). Gone (live_given c.args.storage next fr c.args.to x rest)) c.live_object-live.ensures here in
-    subst Gone (sym (given_told st fr rest next c.args.to c.args.storage c.args.leaf (sym c.if-is_strong.ensures))) live
+    let goes = subst (λ (x : Option ObjectId). traps_at c.args.storage x ≡ false) c.live_object-live.ensures (sym c.if-traps_at.ensures) in
+    subst Gone (sym (given_told st fr rest next c.args.to c.args.storage c.args.leaf (sym c.if-is_strong.ensures) goes)) live

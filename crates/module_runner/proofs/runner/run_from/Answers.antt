@@ -3,7 +3,7 @@ use Rattle.std.proofs.Common.{◌∙◌, sym, subst}
 use Rattle.count_machine.specs.LowRuns.{MayStartAt}
 use Rattle.module_runner.proofs.Entering.{entry_gives, lowered_starts}
 use Rattle.module_runner.proofs.LeftRuns.{as_itself, left_same}
-use Rattle.module_runner.proofs.Reported.{ends_reported, lowered_ends, never_faults, no_fault}
+use Rattle.module_runner.proofs.Reported.{ends_reported, heap_reported, lowered_ends, never_faults, no_fault, totals_reported}
 use Rattle.module_runner.proofs.Stays.{left_enters}
 use Rattle.module_runner.proofs.runner.run_from.Goals as goal
 
@@ -65,3 +65,16 @@ returns-clause-optimised c =
       begins = c.requires.entry.1;
       tells = record { itself = itself.0; ends = itself.1; as_it_did = itself.2 };
     }
+
+pub returns-clause-last_heap : goal.returns-clause-last_heap
+returns-clause-last_heap c = record {
+  entry = c.args.start;
+  function = c.requires.entry.0;
+  begins = c.requires.entry.1;
+  ends = heap_reported c.lower_if.new.m c.args.start c.args.turns c.in_ok-events.field-0 c.in_ok-events.ensures.last_heap c.reported.result c.reported.ensures;
+}
+
+pub returns-clause-totals : goal.returns-clause-totals
+returns-clause-totals c = λ v gives.
+    totals_reported c.lower_if.new.m c.args.start c.args.turns c.in_ok-events.field-0 c.in_ok-events.ensures.last_heap c.reported.result c.reported.ensures
+    c.totals_are_left.ensures v gives
