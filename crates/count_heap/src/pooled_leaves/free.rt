@@ -1,16 +1,17 @@
 //! The free pieces, in a stack for each size.
 
-ghost use Rattle.std.specs.Prelude.{◌≡◌, ◌<◌, ◌≤◌, IfSome, IsNone, length, set, slice_index_or};
+ghost use Rattle.std.specs.Prelude.{◌≡◌, ◌<◌, ◌≤◌, ℕ, IfSome, IsNone, length, set, slice_index_or};
 ghost use Rattle.count_heap.specs.PooledLeaves.inner.Layout.{AreFreeListed, depth_at, given_back, given_out, no_piece, size_at};
 ghost use Rattle.count_heap.specs.PooledLeaves.inner.Stacks.{level};
 
 use crate::pooled_leaves::piece::Piece;
 
-/// Takes the top of a stack, if there is one.
+/// Takes the top of a stack: a free piece of this size, if there is one.
 pub(crate) fn pop(tops: &mut [u32], pieces: &mut [Piece], size: usize) -> Option<usize>
     requires { AreFreeListed pieces.old tops.old }
     ensures listed { AreFreeListed pieces.new tops.new }
-    ensures none { IsNone result → (pieces.new ≡ pieces.old) × (tops.new ≡ tops.old) }
+    ensures none { IsNone result → (p : ℕ) → p < length pieces.old → size_at pieces.old p ≡ size → depth_at pieces.old p ≡ 0 }
+    ensures unchanged { IsNone result → (pieces.new ≡ pieces.old) × (tops.new ≡ tops.old) }
     ensures there { IfSome result (λ p. p < length pieces.old) }
     ensures size { IfSome result (λ p. size_at pieces.old p ≡ size) }
     ensures free { IfSome result (λ p. 1 ≤ depth_at pieces.old p) }

@@ -51,4 +51,4 @@ invariant_of-self-in-Err c =
     let e = c.slot_for_new.ensures in
     same_heap d t records sides pieces c.self.invariant c.slot_for_new.new.numbers c.slot_for_new.new.records.items c.slot_for_new.new.sides
     c.give_back.new.self e.numbers e.kept e.slots e.records c.in-Err.ensures.err
-    (given_back pieces c.take.new.self c.give_back.new.self c.in_ok-piece.piece _ c.in_ok-piece.ensures.taken c.in_ok-piece.ensures.ok c.give_back.ensures)
+    (given_back pieces c.take.new.self c.give_back.new.self c.in_ok-piece.piece _ c.in_ok-piece.ensures.taken c.in_ok-piece.ensures.ok c.give_back.ensures.freed)
