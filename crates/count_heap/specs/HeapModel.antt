@@ -1,2 +1,3 @@
 pub mod HeapViews
 pub mod HeapCalls
+pub mod FieldLimits
