@@ -51,10 +51,10 @@ pub(crate) fn push(tops: &mut [u32], pieces: &mut [Piece], p: usize)
     ensures freed { pieces.new ≡ set pieces.old p (given_back pieces.old tops.old (slice_index_or pieces.old p no_piece)) }
 {
     let size = pieces[p].size as usize;
-    let top = tops[size];
-    let depth = level_at(pieces, top);
+    let below = tops[size];
+    let depth = level_at(pieces, below);
     let piece = &mut pieces[p];
     piece.depth = depth + 1;
-    piece.next = top;
+    piece.next = below;
     tops[size] = p as u32 + 1;
 }

@@ -1,4 +1,4 @@
-use Rattle.std.proofs.Common.{◌∙◌, List, Some, sym, ap}
+use Rattle.std.proofs.Common.{◌∙◌, List, Some, sym, ap, subst}
 use Rattle.std.specs.Prelude.{slice_get}
 use Rattle.std.proofs.lemmas.Option.{get_or_from_slice_get, slice_get_within}
 use Rattle.std.proofs.lemmas.Result.{IfOk-weaker}
@@ -6,6 +6,7 @@ use Rattle.holder_model.specs.Outcomes.{may_start}
 use Rattle.holder_model.specs.RunTyping.Forms.{given_shape}
 use Rattle.sil_ast.specs.declared.function.Function.{Function}
 use Rattle.sil_types_declarations.specs.TypeDefinitions.Declarations.{declarations_of}
+use Rattle.count_heap.specs.HeapModel.FieldLimits.{AreFieldsInLimits}
 use Rattle.count_machine.specs.LowRuns.{EndsAsTold, MayStartAt}
 use Rattle.count_machine.specs.inner.Stopped.{TellsOf}
 use Rattle.count_machine.proofs.Starting.{ends_told}
@@ -14,6 +15,11 @@ use Rattle.count_machine.proofs.module_run.run.Goals as goal
 pub make_ready-requires-clause-there : goal.make_ready-requires-clause-there
 make_ready-requires-clause-there c =
     let starts = c.requires.starts in slice_get_within c.args.m.now.functions c.args.entry.0 starts.entry starts.there
+
+pub begin-requires : goal.begin-requires
+begin-requires c =
+    let runnable = c.requires.runnable in
+    subst AreFieldsInLimits (sym c.requires.of_it) (c.no_class_is_too_large.ensures.fields c.args.m.now runnable.numbered.limits.members runnable.limits)
 
 pub returns-in-Ends-clause-outcome : goal.returns-in-Ends-clause-outcome
 returns-in-Ends-clause-outcome c =
