@@ -24,8 +24,8 @@ use Rattle.sil_types.specs.sil_types_declarations.TypeDefinitions.Lookups.{chain
 use Rattle.sil_types.specs.sil_types_declarations.TypeDefinitions.Measures.{leaves_in, leaves_of, measure_at, measure_over, measures_of}
 use Rattle.sil_types.specs.sil_types_declarations.TypeDefinitions.Mentions.{in_decl, in_field, in_function, in_members, mention}
 use Rattle.sil_types.specs.sil_types_declarations.TypeDefinitions.Rules.{InLimits, has_too_many_leaves}
-use Rattle.sil_types_declarations.specs.declared.type_definitions.measure.Measure.{Measure}
-use Rattle.sil_types_declarations.specs.declared.type_definitions.standing.Standing.TheVariants.{Unwritten}
+use Rattle.sil_types.specs.sil_types_declarations.declared.type_definitions.measure.Measure.{Measure}
+use Rattle.sil_types.specs.sil_types_declarations.declared.type_definitions.standing.Standing.TheVariants.{Unwritten}
 use Rattle.sil_types.specs.Typing.Shapes.{stored_as}
 use Rattle.count_heap.specs.LayoutsByClass.ClassFields.{AreFieldsInLimits, IsFieldInLimits, field_leaves, leaves_by_field, named_fields}
 use Rattle.count_heap.specs.LayoutsByClass.Layouts.{size_of}
