@@ -55,7 +55,7 @@ fn add_chain(
     class: Option<&Text>,
 ) -> Result<(), Exhausted>
     requires limits { AreFieldsInLimits table.now }
-    requires room { places.old.size + size_of (map (field_leaves table.now) (chain_fields table.now (chain table.now most (option_copied class.entry))))
+    requires room { places.old.size + size_of (map (field_leaves table.now) (chain_fields table.now (chain table.now most (option_copied class))))
         < 2 ^ 32 }
     ensures places { OnOk result (places.new.places.items ≡ places.old.places.items ++ places_from places.old.size (map (field_leaves table.now)
         (chain_fields table.now (chain table.now most (option_copied class.entry))))) }
