@@ -2,6 +2,7 @@
 use Rattle.std.proofs.Common.{◌≡◌, ℕ, zero, suc, ◌+◌, ◌<◌, ◌≤◌, List, [], ◌∷◌, ◌++◌, true, cond, Option, Some, None, inl, inr, is_some, length, length-set, set, map, get_or, replicate, refl, sym, ap}
 use Rattle.std.proofs.Common.{◌∙◌, subst, arith}
 use Rattle.std.specs.Prelude.{◌⊎◌, count_by, max, option_map, take, drop, unwrap_or}
+use Rattle.std.proofs.Math.Path.{fun_ext}
 use Rattle.std.proofs.lemmas.Bool.{cases_eq, eq-eqb, ne_eqb}
 use Rattle.std.proofs.lemmas.List.{ext_get_or, get_or-set_same, get_or-set_other, get_or_append_left, get_or_push, length-map, length-replicate, map-append}
 use Rattle.std.proofs.lemmas.List.Sums.{sum_by-append}
@@ -81,6 +82,19 @@ module _ (d : Declarations) (t : Numbers) (records : List SlotRecord) (sides : L
       count =
           ap (λ ps. count_by is_some ps + idle_count sides') places ∙ ap (λ xs. count_by is_some t.places + idle_count xs) sides_are ∙ heap.count ∙ ap (λ xs. length xs) (sym sides_are);
     }
+
+    same_object : (u : ℕ) → object_at d records' sides' pieces' u ≡ object_at d records sides pieces u
+    same_object u =
+        ap (λ r. object_of d r (sides_at sides' u) pieces') (kept u)
+        ∙ ap (λ xs. object_of d (record_at records u) (sides_at xs u) pieces') sides_are
+        ∙ ap (λ fs. record (object_of d (record_at records u) (sides_at sides u) pieces) { fields = fs })
+        (same_fields d (record_at records u) pieces' pieces (λ _. same_pieces (record_at records u).piece))
+
+    pub same_view : (a b : ℕ) → heap_of d t' records' sides' pieces' a b ≡ heap_of d t records sides pieces a b
+    same_view a b =
+        ap (λ n. record { declarations = d; objects = objects_in d t' records' sides' pieces'; retains = a; releases = b; slots = n }) (ap (λ xs. length xs) sides_are)
+        ∙ ap (λ xs. record { declarations = d; objects = xs; retains = a; releases = b; slots = length sides })
+        (ap (λ ps. map (option_map (object_at d records' sides' pieces')) ps) places ∙ ap (λ f. map (option_map f) t.places) (fun_ext same_object))
 
 -- ---- one more object
 

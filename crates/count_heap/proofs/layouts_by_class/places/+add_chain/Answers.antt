@@ -9,14 +9,14 @@ use Rattle.count_heap.proofs.LayoutsByClass.Lists.{both_places, both_sizes, fiel
 use Rattle.count_heap.proofs.LayoutsByClass.FieldLimits.{size_both}
 use Rattle.count_heap.proofs.layouts_by_class.places.+add_chain.Goals as goal
 
-pub add_chain-requires-clause-room : goal.add_chain-requires-clause-room
-add_chain-requires-clause-room t c =
+pub add_chain-requires : goal.add_chain-requires
+add_chain-requires t c =
     let d = c.args.table.now in
     let some : 1 ≤ c.args.most = omega arith in
     let all = sym (fields_on d c.args.most c.in-Some.class.now some) ∙ ap (λ o. chain_fields d (chain d c.args.most (option_copied o))) (sym c.in-Some.is) in
     let both = size_both d (chain_fields d (chain d (c.args.most - 1) (superclass_of d c.in-Some.class.now))) (own_fields d c.in-Some.class.now) in
     let above = ap (λ o. size_of (map (field_leaves d) (chain_fields d (chain d (c.args.most - 1) o)))) c.superclass.ensures in
-    omega (arith, both, ap (λ fs. size_of (map (field_leaves d) fs)) all, above, c.requires.room)
+    record { limits = c.requires.limits; room = omega (arith, both, ap (λ fs. size_of (map (field_leaves d) fs)) all, above, c.requires.room) }
 
 pub add_fields-requires-clause-limits : goal.add_fields-requires-clause-limits
 add_fields-requires-clause-limits t c =
