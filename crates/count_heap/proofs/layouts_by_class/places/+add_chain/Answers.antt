@@ -16,7 +16,7 @@ add_chain-requires t c =
     let all = sym (fields_on d c.args.most c.in-Some.class.now some) ∙ ap (λ o. chain_fields d (chain d c.args.most (option_copied o))) (sym c.in-Some.is) in
     let both = size_both d (chain_fields d (chain d (c.args.most - 1) (superclass_of d c.in-Some.class.now))) (own_fields d c.in-Some.class.now) in
     let above = ap (λ o. size_of (map (field_leaves d) (chain_fields d (chain d (c.args.most - 1) o)))) c.superclass.ensures in
-    record { limits = c.requires.limits; room = omega (arith, both, ap (λ fs. size_of (map (field_leaves d) fs)) all, above, c.requires.room) }
+    (omega arith, (c.requires.limits, omega (arith, both, ap (λ fs. size_of (map (field_leaves d) fs)) all, above, c.requires.room)))
 
 pub add_fields-requires-clause-limits : goal.add_fields-requires-clause-limits
 add_fields-requires-clause-limits t c =
