@@ -10,7 +10,6 @@ use Rattle.sil_ast.specs.declared.decl.Decl.TheVariants.{Class, Enum, Struct}
 use Rattle.sil_ast.specs.declared.decl.Field.{Field}
 use Rattle.sil_ast.specs.declared.decl.Storage.{Storage}
 use Rattle.sil_ast.specs.declared.decl.Storage.TheVariants as storage
-use Rattle.sil_ast.specs.declared.module.Module.{Module}
 use Rattle.sil_ast.specs.declared.type_name.TypeName.{TypeName, TypeName-F, fold-TypeName, fold-roll-TypeName}
 use Rattle.sil_ast.specs.declared.type_name.TypeName.TheVariants as type
 use Rattle.sil_ast.specs.declared.type_name.TypeName.TheVariants.{rolls-Int, rolls-Weak, rolls-Unowned}
@@ -18,16 +17,16 @@ use Rattle.sil_rules.specs.declared.limits.TheConstants.{DEPTH, LEAVES, MEMBERS}
 use Rattle.sil_types.specs.numbered_form.Lists.{Each}
 use Rattle.sil_types.specs.numbered_form.Names.{Name, decl_name, field_name}
 use Rattle.sil_types.specs.numbered_form.inner.Limits.{IsDeclInLimits}
-use Rattle.sil_types.specs.sil_types_declarations.TypeDefinitions.Declarations.{Declarations, all_decls, all_names, at_place, chain, decl_of, declarations_of, place_of}
+use Rattle.sil_types.specs.sil_types_declarations.TypeDefinitions.Declarations.{Declarations, all_decls, all_names, at_place, chain, declarations_of, place_of}
 use Rattle.sil_types.specs.sil_types_declarations.TypeDefinitions.Declarations.{superclass_of, swift_structs}
 use Rattle.sil_types.specs.sil_types_declarations.TypeDefinitions.Lookups.{chain_fields, class_at, decl_fields, fields_of, own_fields}
 use Rattle.sil_types.specs.sil_types_declarations.TypeDefinitions.Measures.{leaves_in, leaves_of, measure_at, measure_over, measures_of}
 use Rattle.sil_types.specs.sil_types_declarations.TypeDefinitions.Mentions.{in_decl, in_field, in_function, in_members, mention}
-use Rattle.sil_types.specs.sil_types_declarations.TypeDefinitions.Rules.{InLimits, has_too_many_leaves}
+use Rattle.sil_types.specs.sil_types_declarations.TypeDefinitions.Rules.{has_too_many_leaves}
 use Rattle.sil_types.specs.sil_types_declarations.declared.type_definitions.measure.Measure.{Measure}
 use Rattle.sil_types.specs.sil_types_declarations.declared.type_definitions.standing.Standing.TheVariants.{Unwritten}
 use Rattle.sil_types.specs.Typing.Shapes.{stored_as}
-use Rattle.count_heap.specs.LayoutsByClass.ClassFields.{AreFieldsInLimits, IsFieldInLimits, field_leaves, leaves_by_field, named_fields}
+use Rattle.count_heap.specs.LayoutsByClass.ClassFields.{AreFieldsInLimits, IsFieldInLimits, field_leaves, named_fields}
 use Rattle.count_heap.specs.LayoutsByClass.Layouts.{size_of}
 use Rattle.count_heap.specs.inner.Laws.{ClassesAreSmall, FieldsAreInLimits}
 use Rattle.count_heap.proofs.LayoutsByClass.Lists.{fields_are, size_append}
