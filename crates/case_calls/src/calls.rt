@@ -10,6 +10,7 @@ use crate::modules::{module_of, table_of};
 use crate::searches::answer_on_walks;
 use crate::tokens::answer_on_tokens;
 use crate::typing::answer_on_types;
+use count_heap::no_class_is_too_large;
 use sil_ast::{Exhausted, Module};
 use sil_rules::Status;
 use sil_types::TypeTable;
@@ -71,6 +72,7 @@ fn answer_on_table(
     requires numbered { IsNumbered m.now }
     requires table { AreDeclarationsOf table.now m.now }
 {
+    no_class_is_too_large();
     match words {
         [_name, "typing"] => answer_on_types(alloc, m, table, written),
         [_name, "lowered-run", turns] => answer_on_run(alloc, turns, m, table, true, written),

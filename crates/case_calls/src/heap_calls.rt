@@ -1,6 +1,7 @@
 //! Calls of the heap, one after another, on a new heap for the classes of a module.
 
 ghost use Rattle.std.specs.Prelude.{◌≡◌, ◌<◌, ◌^◌, false, true};
+ghost use Rattle.count_heap.specs.HeapModel.FieldLimits.{AreFieldsInLimits};
 ghost use Rattle.count_heap.specs.HeapModel.HeapViews.{is_dead_in};
 
 use crate::answer::Answer;
@@ -34,7 +35,9 @@ pub(crate) fn answer_on_heap(
     words: &[&str],
     table: &TypeTable,
     written: &mut Answer,
-) -> Result<u8, Exhausted> {
+) -> Result<u8, Exhausted>
+    requires { AreFieldsInLimits table.now }
+{
     let mut heap = Heap::new(alloc, table)?;
     for word in words {
         let (call, number) = parts_of(word);

@@ -1,9 +1,10 @@
 -- A heap with one more object.
-use Rattle.std.proofs.Common.{◌≡◌, ℕ, zero, suc, ◌+◌, ◌<◌, ◌≤◌, List, [], ◌∷◌, ◌++◌, cond, Option, Some, None, inl, inr, is_some, length, length-set, set, map, get_or, replicate, refl, sym, ap}
+use Rattle.std.proofs.Common.{◌≡◌, ℕ, zero, suc, ◌+◌, ◌<◌, ◌≤◌, List, [], ◌∷◌, ◌++◌, true, cond, Option, Some, None, inl, inr, is_some, length, length-set, set, map, get_or, replicate, refl, sym, ap}
 use Rattle.std.proofs.Common.{◌∙◌, subst, arith}
 use Rattle.std.specs.Prelude.{◌⊎◌, count_by, max, option_map, take, drop, unwrap_or}
+use Rattle.std.proofs.Math.Path.{fun_ext}
 use Rattle.std.proofs.lemmas.Bool.{cases_eq, eq-eqb, ne_eqb}
-use Rattle.std.proofs.lemmas.List.{ext_get_or, get_or-set_same, get_or-set_other, length-map, length-replicate, map-append}
+use Rattle.std.proofs.lemmas.List.{ext_get_or, get_or-set_same, get_or-set_other, get_or_append_left, get_or_push, length-map, length-replicate, map-append}
 use Rattle.std.proofs.lemmas.List.Sums.{sum_by-append}
 use Rattle.sil_types.specs.sil_types_declarations.TypeDefinitions.Declarations.{Declarations}
 use Rattle.holder_model_values.specs.RunValues.Memory.{is_dead_phase}
@@ -21,10 +22,10 @@ use Rattle.count_heap.proofs.LayoutsByClass.Lists.{length_places}
 use Rattle.count_heap.specs.HeapModel.HeapCalls.{allocated_in, new_object}
 use Rattle.count_heap.specs.HeapModel.HeapViews.{HeapObject, class_fields, unfreed_count}
 use Rattle.count_heap.specs.declared.slot_record.SlotRecord.{SlotRecord}
-use Rattle.count_heap.specs.inner.Kept.{IsAlive, IsHeap, IsKept}
+use Rattle.count_heap.specs.inner.Kept.{HasOwner, IsAlive, IsHeap, IsKept}
 use Rattle.count_heap.specs.inner.Objects.{field_at, heap_of, is_mark, no_record, object_at, object_of, objects_in, places_of, record_at}
 use Rattle.count_heap.proofs.NewSlot.{IsFresh}
-use Rattle.count_heap.proofs.OneObject.{mapped_at, same_fields}
+use Rattle.count_heap.proofs.OneObject.{is_there, mapped_at, same_fields}
 
 -- ---- a piece that is given back as soon as it was taken
 
@@ -62,6 +63,12 @@ module _ (d : Declarations) (t : Numbers) (records : List SlotRecord) (sides : L
         }
 
   module _ (slots : length sides' ≤ t'.slots) (records_are : length sides' ≤ length records') (sides_are : sides' ≡ sides) (same_pieces : (q : ℕ) → piece_in pieces' q ≡ piece_in pieces q) where
+    same_owned : (p : ℕ) → is_some (piece_in pieces' p) ≡ true → HasOwner t' records' p
+    same_owned p out =
+        let old = heap.owned p (sym (ap is_some (same_pieces p)) ∙ out) in
+        let r = kept old.1 in
+        (old.0, old.1, ap (λ ps. get_or ps old.0 None) places ∙ old.2, ap (λ x. is_dead_phase x.phase) r ∙ old.3, ap (λ x. x.piece) r ∙ old.4)
+
     pub same_heap : IsHeap d t' records' sides' pieces'
     same_heap = record {
       slots = slots;
@@ -71,9 +78,23 @@ module _ (d : Declarations) (t : Numbers) (records : List SlotRecord) (sides : L
       apart = λ n m u v named_u named_v alive_u alive_v equal.
           heap.apart n m u v (was n u named_u) (was m v named_v) (sym (ap (λ x. is_dead_phase x.phase) (kept u)) ∙ alive_u) (sym (ap (λ x. is_dead_phase x.phase) (kept v)) ∙ alive_v)
           (sym (ap (λ x. x.piece) (kept u)) ∙ equal ∙ ap (λ x. x.piece) (kept v));
+      owned = same_owned;
       count =
           ap (λ ps. count_by is_some ps + idle_count sides') places ∙ ap (λ xs. count_by is_some t.places + idle_count xs) sides_are ∙ heap.count ∙ ap (λ xs. length xs) (sym sides_are);
     }
+
+    same_object : (u : ℕ) → object_at d records' sides' pieces' u ≡ object_at d records sides pieces u
+    same_object u =
+        ap (λ r. object_of d r (sides_at sides' u) pieces') (kept u)
+        ∙ ap (λ xs. object_of d (record_at records u) (sides_at xs u) pieces') sides_are
+        ∙ ap (λ fs. record (object_of d (record_at records u) (sides_at sides u) pieces) { fields = fs })
+        (same_fields d (record_at records u) pieces' pieces (λ _. same_pieces (record_at records u).piece))
+
+    pub same_view : (a b : ℕ) → heap_of d t' records' sides' pieces' a b ≡ heap_of d t records sides pieces a b
+    same_view a b =
+        ap (λ n. record { declarations = d; objects = objects_in d t' records' sides' pieces'; retains = a; releases = b; slots = n }) (ap (λ xs. length xs) sides_are)
+        ∙ ap (λ xs. record { declarations = d; objects = xs; retains = a; releases = b; slots = length sides })
+        (ap (λ ps. map (option_map (object_at d records' sides' pieces')) ps) places ∙ ap (λ f. map (option_map f) t.places) (fun_ext same_object))
 
 -- ---- one more object
 
@@ -189,6 +210,32 @@ module _ (d : Declarations) (t : Numbers) (records : List SlotRecord) (sides : L
       by (inr is_u) (inl was_v) = absurd (other_piece m v was_v (old_alive m v was_v alive_v) (sym (old_piece m v was_v) ∙ sym equal ∙ new_piece u is_u))
       by (inr is_u) (inr is_v) = is_u ∙ sym is_v
 
+  -- the new piece is the new object's, and the others are those of the objects whose they were
+  now_owned : (q : ℕ) → is_some (piece_in pieces' q) ≡ true → HasOwner t'' records'' q
+  now_owned q out =
+      elim (cases_eq q p) [
+        | inl new ↦ (
+          length t'.places,
+          s,
+          get_or_push t'.places (Some s) None (length t'.places) refl,
+          ap (λ x. is_dead_phase x.phase) record_is,
+          ap (λ x. x.piece) record_is ∙ sym new,
+        )
+        | inr differs ↦
+            let same = given q ∙ ap (λ b. cond b (Some (replicate size Blank)) (piece_in pieces q)) (ne_eqb q p differs) in
+            let old = heap.owned q (sym (ap is_some same) ∙ out) in
+            let r = record_else old.1 (others old.0 old.1 old.2) in
+            let there = is_there t.places old.0 old.1 old.2 in
+            let count = ap (λ ps. length ps) places in
+            let within : old.0 < length t'.places = omega arith in (
+              old.0,
+              old.1,
+              get_or_append_left t'.places (Some s ∷ []) None old.0 within ∙ ap (λ ps. get_or ps old.0 None) places ∙ old.2,
+              ap (λ x. is_dead_phase x.phase) r ∙ old.3,
+              ap (λ x. x.piece) r ∙ old.4,
+            )
+      ]
+
   one_more_place : count_by is_some (t'.places ++ Some s ∷ []) ≡ count_by is_some t.places + 1
   one_more_place = ap (λ ps. count_by is_some (ps ++ Some s ∷ [])) places ∙ sum_by-append (λ x. cond (is_some x) 1 0) t.places (Some s ∷ [])
 
@@ -201,6 +248,7 @@ module _ (d : Declarations) (t : Numbers) (records : List SlotRecord) (sides : L
       | inr is ↦ subst (λ x. IsKept d records'' sides' pieces' x) (sym is) new_kept
     ];
     apart = still_apart;
+    owned = now_owned;
     count = let total = fresh.idle in let old = heap.count in omega (arith, one_more_place, total, old);
   }
 

@@ -239,24 +239,24 @@ module _ (d : Declarations) (t : Numbers) (records : List SlotRecord) (sides_now
 
     module _ (taken : is_idle (sides.marked side) ≡ false) where
       pub death_inv : IsHeap d t (set records s r) sides_marked pieces'
-      death_inv = dead_heap d t records sides_now pieces inv apart o.0 s is alive pieces' None given_back r dead_now (sides.marked side) refl taken
+      death_inv = dead_heap d t records sides_now pieces inv apart o.0 s is alive pieces' None given_back refl r dead_now (sides.marked side) refl taken
 
       pub death_left : heap_of d t (set records s r) sides_marked pieces' a b ≡ finished before o
       death_left =
           ap (λ n. made d (objects_in d t (set records s r) sides_marked pieces') a b n) size_marked
           ∙ ap (λ xs. made d xs a b (length sides_now))
           (one_left dead (objects_in d t (set records s r) sides_marked pieces') (object_of d r (sides.marked side) pieces')
-          (dead_view d t records sides_now pieces inv apart o.0 s is alive pieces' None given_back r dead_now (sides.marked side) refl taken) dead_object
+          (dead_view d t records sides_now pieces inv apart o.0 s is alive pieces' None given_back refl r dead_now (sides.marked side) refl taken) dead_object
           (left_is d r (sides.marked side) pieces' (sym dead_now) ∙ ap not taken))
 
     module _ (idle : is_idle (sides.marked side) ≡ true) where
       pub death_gone_inv : IsHeap d (without t o.0) (set records s r) sides_marked pieces'
-      death_gone_inv = freed_dead_heap d t records sides_now pieces inv apart o.0 s is alive pieces' None given_back r dead_now (sides.marked side) refl idle
+      death_gone_inv = freed_dead_heap d t records sides_now pieces inv apart o.0 s is alive pieces' None given_back refl r dead_now (sides.marked side) refl idle
 
       pub death_gone : heap_of d (without t o.0) (set records s r) sides_marked pieces' a b ≡ finished before o
       death_gone =
           ap (λ n. made d (objects_in d (without t o.0) (set records s r) sides_marked pieces') a b n) size_marked
           ∙ ap (λ xs. made d xs a b (length sides_now))
           (one_freed dead (objects_in d (without t o.0) (set records s r) sides_marked pieces') (object_of d r (sides.marked side) pieces')
-          (freed_dead_view d t records sides_now pieces inv apart o.0 s is alive pieces' None given_back r dead_now (sides.marked side) refl idle) dead_object
+          (freed_dead_view d t records sides_now pieces inv apart o.0 s is alive pieces' None given_back refl r dead_now (sides.marked side) refl idle) dead_object
           (left_is d r (sides.marked side) pieces' (sym dead_now) ∙ ap not idle))

@@ -1,12 +1,12 @@
 -- What each part of a heap's memory changes in one object.
-use Rattle.std.proofs.Common.{◌≡◌, ℕ, ◌<◌, List, true, false, cond, Option, Some, None, length, length-set, set, refl, sym, ap, ◌∙◌, arith}
+use Rattle.std.proofs.Common.{◌≡◌, ℕ, ◌<◌, List, true, false, cond, Option, Some, None, inl, inr, is_some, length, length-set, set, refl, sym, ap, ◌∙◌, arith}
 use Rattle.std.specs.Prelude.{option_map}
-use Rattle.std.proofs.lemmas.Bool.{eq-eqb, false≢true, ne_eqb}
+use Rattle.std.proofs.lemmas.Bool.{and_parts, cases_eq, eq-eqb, false≢true, ne_eqb}
 use Rattle.std.proofs.lemmas.List.{get_or-set_same, get_or-set_other}
 use Rattle.sil_types.specs.sil_types_declarations.TypeDefinitions.Declarations.{Declarations}
 use Rattle.holder_model_values.specs.RunValues.Memory.{is_dead_phase}
 use Rattle.holder_model_values.specs.declared.run_values.leaf.Leaf.{Leaf}
-use Rattle.weak_unowned.specs.Sides.{is_idle, no_sides, sides_at}
+use Rattle.weak_unowned.specs.Sides.{is_idle, is_unnamed, no_sides, sides_at}
 use Rattle.weak_unowned.specs.declared.side.SlotSides.{SlotSides}
 use Rattle.weak_unowned.proofs.Idle.{count_kept, count_more}
 use Rattle.number_tables.specs.TableByNumber.Numbers.{AreApart, Numbers, slot_in, without}
@@ -17,6 +17,10 @@ use Rattle.count_heap.specs.declared.slot_record.SlotRecord.{SlotRecord}
 use Rattle.count_heap.specs.inner.Kept.{IsAlive, IsHeap, IsKept}
 use Rattle.count_heap.specs.inner.Objects.{no_record, object_at, object_of, objects_in, record_at}
 use Rattle.count_heap.proofs.OneObject.{Elsewhere, freed_heap, freed_view, kept_heap, kept_view}
+
+sized_is_some : (x : Option (List Leaf)) (n : ℕ) → option_map (λ ls. length ls) x ≡ Some n → is_some x ≡ true
+sized_is_some None n e = absurd (cc)
+sized_is_some (Some ls) n e = refl
 
 module _ (d : Declarations) (t : Numbers) (records : List SlotRecord) (sides : List SlotSides) (pieces : Pieces) (heap : IsHeap d t records sides pieces) (apart : AreApart t)
     (o s : ℕ) (is : slot_in t o ≡ Some s) where
@@ -40,6 +44,8 @@ module _ (d : Declarations) (t : Numbers) (records : List SlotRecord) (sides : L
       record_of = λ u other. get_or-set_other records s u r no_record other;
       sides_of = λ u other. refl;
       piece_of = λ n u named other alive. refl;
+      out_before = λ p out. out;
+      out_here = λ p out alive of_it. (ap (λ x. is_dead_phase x.phase) record_is ∙ phase ∙ alive, ap (λ x. x.piece) record_is ∙ piece ∙ of_it);
     }
 
     was_alive : IsAlive (set records s r) s → IsAlive records s
@@ -78,6 +84,8 @@ module _ (d : Declarations) (t : Numbers) (records : List SlotRecord) (sides : L
       record_of = λ u other. refl;
       sides_of = λ u other. get_or-set_other sides s u x no_sides other;
       piece_of = λ n u named other alive. refl;
+      out_before = λ p out. out;
+      out_here = λ p out alive of_it. (alive, of_it);
     }
 
     pub sides_view : objects_in d t records (set sides s x) pieces ≡ set (objects_in d t records sides pieces) o (Some (object_of d (record_at records s) x pieces))
@@ -100,8 +108,12 @@ module _ (d : Declarations) (t : Numbers) (records : List SlotRecord) (sides : L
           (count_kept sides s x here.there (taken ∙ sym here.taken))
 
     module _ (idle : is_idle x ≡ true) where
+      is_dead : IsAlive records s → ⊥
+      is_dead alive = false≢true (sym alive ∙ sym here.marked ∙ sym marked ∙ (and_parts x.marked (is_unnamed x) idle).0)
+
       pub sides_freed_heap : IsHeap d (without t o) records (set sides s x) pieces
-      sides_freed_heap = freed_heap d t records sides pieces heap apart o s is records (set sides s x) pieces sides_else (count_more sides s x here.there here.taken idle)
+      sides_freed_heap =
+          freed_heap d t records sides pieces heap apart o s is records (set sides s x) pieces sides_else is_dead (count_more sides s x here.there here.taken idle)
 
       pub sides_freed_view : objects_in d (without t o) records (set sides s x) pieces ≡ set (objects_in d t records sides pieces) o None
       sides_freed_view = freed_view d t records sides pieces heap apart o s is records (set sides s x) pieces sides_else
@@ -120,6 +132,17 @@ module _ (d : Declarations) (t : Numbers) (records : List SlotRecord) (sides : L
         ∙ ap (λ b. cond b new (piece_in pieces (record_at records u).piece))
         (ne_eqb (record_at records u).piece (record_at records s).piece (λ same. other (heap.apart n o u s named is alive_u alive same)))
 
+    -- the piece was given out, and so were all others
+    out_was : (p : ℕ) → is_some (piece_in pieces' p) ≡ true → is_some (piece_in pieces p) ≡ true
+    out_was p out =
+        elim (cases_eq p (record_at records s).piece) [
+          | inl of_it ↦
+              ap (λ q. is_some (piece_in pieces q)) of_it
+              ∙ sized_is_some (piece_in pieces (record_at records s).piece) (size_of (leaves_by_field d (record_at records s).class)) (here.piece alive)
+          | inr other ↦
+              sym (ap is_some (changed p ∙ ap (λ b. cond b new (piece_in pieces p)) (ne_eqb p (record_at records s).piece other))) ∙ out
+        ]
+
     module _ (size : option_map (λ ls. length ls) new ≡ option_map (λ ls. length ls) (piece_in pieces (record_at records s).piece)) where
       leaves_else : Elsewhere t records sides pieces records sides pieces' s
       leaves_else = record {
@@ -128,6 +151,8 @@ module _ (d : Declarations) (t : Numbers) (records : List SlotRecord) (sides : L
         record_of = λ u other. refl;
         sides_of = λ u other. refl;
         piece_of = piece_other;
+        out_before = out_was;
+        out_here = λ p out alive_s of_it. (alive_s, of_it);
       }
 
       leaves_kept : IsKept d records sides pieces' s
@@ -146,7 +171,11 @@ module _ (d : Declarations) (t : Numbers) (records : List SlotRecord) (sides : L
 
     -- ---- death: the record, the side counts and the leaves
 
-    module _ (r : SlotRecord) (dead : is_dead_phase r.phase ≡ true) (x : SlotSides) (marked : x.marked ≡ true) where
+    module _ (none : new ≡ None) (r : SlotRecord) (dead : is_dead_phase r.phase ≡ true) (x : SlotSides) (marked : x.marked ≡ true) where
+      -- the piece isn't given out any more
+      not_out : (p : ℕ) → is_some (piece_in pieces' p) ≡ true → (record_at records s).piece ≡ p → ⊥
+      not_out p out of_it = false≢true (sym (ap (λ q. is_some (piece_in pieces' q)) (sym of_it) ∙ ap is_some (piece_now ∙ none)) ∙ out)
+
       death_else : Elsewhere t records sides pieces (set records s r) (set sides s x) pieces' s
       death_else = record {
         sides_are = length-set sides s x;
@@ -154,6 +183,8 @@ module _ (d : Declarations) (t : Numbers) (records : List SlotRecord) (sides : L
         record_of = λ u other. get_or-set_other records s u r no_record other;
         sides_of = λ u other. get_or-set_other sides s u x no_sides other;
         piece_of = piece_other;
+        out_before = out_was;
+        out_here = λ p out alive_s of_it. absurd (not_out p out of_it);
       }
 
       record_dead : record_at (set records s r) s ≡ r
@@ -188,7 +219,7 @@ module _ (d : Declarations) (t : Numbers) (records : List SlotRecord) (sides : L
       module _ (idle : is_idle x ≡ true) where
         pub freed_dead_heap : IsHeap d (without t o) (set records s r) (set sides s x) pieces'
         freed_dead_heap =
-            freed_heap d t records sides pieces heap apart o s is (set records s r) (set sides s x) pieces' death_else (count_more sides s x here.there here.taken idle)
+            freed_heap d t records sides pieces heap apart o s is (set records s r) (set sides s x) pieces' death_else not_alive (count_more sides s x here.there here.taken idle)
 
         pub freed_dead_view : objects_in d (without t o) (set records s r) (set sides s x) pieces' ≡ set (objects_in d t records sides pieces) o None
         freed_dead_view = freed_view d t records sides pieces heap apart o s is (set records s r) (set sides s x) pieces' death_else

@@ -1,5 +1,6 @@
 -- A heap in which one object changes, or is freed.
-use Rattle.std.proofs.Common.{◌≡◌, ℕ, zero, suc, ◌+◌, ◌<◌, List, [], ◌∷◌, false, cond, Option, Some, None, is_some, inl, inr, length, length-set, set, map, get_or, refl, sym, ap, ◌∙◌, subst, arith}
+use Rattle.std.proofs.Common.{◌≡◌, ℕ, zero, suc, ◌+◌, ◌<◌, List, [], ◌∷◌, false, true, cond, Option, Some, None, is_some, inl, inr, length, length-set, set, map, get_or}
+use Rattle.std.proofs.Common.{refl, sym, ap, ◌∙◌, subst, arith}
 use Rattle.std.specs.Prelude.{option_map, unwrap_or}
 use Rattle.std.proofs.lemmas.Bool.{cases_Bool, cases_eq, cases_lt, cond-true}
 use Rattle.std.proofs.lemmas.List.{ext_get_or, get_or-set_same, get_or-set_other, get_or_past, length-map}
@@ -13,7 +14,7 @@ use Rattle.count_heap.specs.PooledLeaves.Pieces.{Pieces, piece_in}
 use Rattle.count_heap.specs.LayoutsByClass.ClassFields.{leaves_by_field}
 use Rattle.count_heap.specs.LayoutsByClass.Layouts.{size_of}
 use Rattle.count_heap.specs.declared.slot_record.SlotRecord.{SlotRecord}
-use Rattle.count_heap.specs.inner.Kept.{IsAlive, IsHeap, IsKept}
+use Rattle.count_heap.specs.inner.Kept.{HasOwner, IsAlive, IsHeap, IsKept}
 use Rattle.count_heap.specs.inner.Objects.{field_at, fields_at, leaves_in, object_at, object_of, objects_in, places_of, record_at}
 
 abbrev pub as_one : Option ℕ → ℕ
@@ -50,6 +51,10 @@ pub record Elsewhere (t : Numbers) (records : List SlotRecord) (sides : List Slo
   pub record_of : (u : ℕ) → (u ≡ s → ⊥) → record_at records' u ≡ record_at records u
   pub sides_of : (u : ℕ) → (u ≡ s → ⊥) → sides_at sides' u ≡ sides_at sides u
   pub piece_of : (n u : ℕ) → slot_in t n ≡ Some u → (u ≡ s → ⊥) → IsAlive records u → piece_in pieces' (record_at records u).piece ≡ piece_in pieces (record_at records u).piece
+  -- no further piece is given out, and the slot's own only while its object isn't dead
+  pub out_before : (p : ℕ) → is_some (piece_in pieces' p) ≡ true → is_some (piece_in pieces p) ≡ true
+  pub out_here : (p : ℕ) → is_some (piece_in pieces' p) ≡ true → IsAlive records s → (record_at records s).piece ≡ p
+      → IsAlive records' s × ((record_at records' s).piece ≡ p)
 
 module _ (d : Declarations) (t : Numbers) (records : List SlotRecord) (sides : List SlotSides) (pieces : Pieces) (heap : IsHeap d t records sides pieces) (apart : AreApart t)
     (o s : ℕ) (is : slot_in t o ≡ Some s) (records' : List SlotRecord) (sides' : List SlotSides) (pieces' : Pieces)
@@ -109,6 +114,28 @@ module _ (d : Declarations) (t : Numbers) (records : List SlotRecord) (sides : L
         ]
       ]
 
+  -- each piece that is given out then is still that of an object that isn't dead
+  module _ (p : ℕ) (out : is_some (piece_in pieces' p) ≡ true) where
+    owner : HasOwner t records p
+    owner = heap.owned p (else.out_before p out)
+
+    owned_here : owner.1 ≡ s → IsAlive records' s × ((record_at records' s).piece ≡ p)
+    owned_here is_s =
+        else.out_here p out (subst (λ x. IsAlive records x) is_s owner.3) (ap (λ x. (record_at records x).piece) (sym is_s) ∙ owner.4)
+
+    alive_else : (owner.1 ≡ s → ⊥) → IsAlive records' owner.1
+    alive_else other = ap (λ x. is_dead_phase x.phase) (else.record_of owner.1 other) ∙ owner.3
+
+    piece_else : (owner.1 ≡ s → ⊥) → (record_at records' owner.1).piece ≡ p
+    piece_else other = ap (λ x. x.piece) (else.record_of owner.1 other) ∙ owner.4
+
+    still_owned : HasOwner t records' p
+    still_owned =
+        elim (cases_eq owner.1 s) [
+          | inl is_s ↦ let now = owned_here is_s in (o, s, is, now.0, now.1)
+          | inr other ↦ (owner.0, owner.1, owner.2, alive_else other, piece_else other)
+        ]
+
   -- ---- the object stays
 
   pub kept_heap : IsKept d records' sides' pieces' s → (IsAlive records' s → IsAlive records s × ((record_at records' s).piece ≡ (record_at records s).piece))
@@ -121,6 +148,7 @@ module _ (d : Declarations) (t : Numbers) (records : List SlotRecord) (sides : L
       | inr other ↦ other_kept n u named other
     ];
     apart = still_apart same;
+    owned = still_owned;
     count = omega (arith, heap.count, else.sides_are);
   }
 
@@ -170,8 +198,18 @@ module _ (d : Declarations) (t : Numbers) (records : List SlotRecord) (sides : L
         | inr differs ↦ (differs, sym (stays n differs) ∙ named)
       ]
 
-  pub freed_heap : idle_count sides' ≡ idle_count sides + 1 → IsHeap d rest records' sides' pieces'
-  freed_heap idle = record {
+  rest_owned : (IsAlive records' s → ⊥) → (p : ℕ) → is_some (piece_in pieces' p) ≡ true → HasOwner rest records' p
+  rest_owned dead p out =
+      let was = owner p out in
+      elim (cases_eq was.1 s) [
+        | inl is_s ↦ absurd (dead (owned_here p out is_s).0)
+        | inr other ↦
+            let differs : was.0 ≡ o → ⊥ = λ same. other (let equal : Some was.1 ≡ Some s = sym was.2 ∙ ap (slot_in t) same ∙ is in cc) in
+            (was.0, was.1, stays was.0 differs ∙ was.2, alive_else p out other, piece_else p out other)
+      ]
+
+  pub freed_heap : (IsAlive records' s → ⊥) → idle_count sides' ≡ idle_count sides + 1 → IsHeap d rest records' sides' pieces'
+  freed_heap dead idle = record {
     slots = omega (arith, heap.slots, else.sides_are);
     records_are = omega (arith, heap.records_are, else.sides_are, else.records_are);
     kept = λ n u named. let was = named_before n u named in other_kept n u was.1 (other_slot n u was.0 was.1);
@@ -182,6 +220,7 @@ module _ (d : Declarations) (t : Numbers) (records : List SlotRecord) (sides : L
         let other_v = other_slot m v was_v.0 was_v.1 in
         heap.apart n m u v was_u.1 was_v.1 (was_alive n u was_u.1 other_u alive_u) (was_alive m v was_v.1 other_v alive_v)
         (sym (ap (λ r. r.piece) (else.record_of u other_u)) ∙ equal ∙ ap (λ r. r.piece) (else.record_of v other_v));
+    owned = rest_owned dead;
     count =
         let one : as_one (slot_in t o) ≡ 1 = ap as_one is in
         let less = sum_by-set as_one t.places o None None (is_there t.places o s is) in

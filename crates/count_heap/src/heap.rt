@@ -1,6 +1,7 @@
 //! The heap.
 
 ghost use Rattle.std.specs.Prelude.{◌≡◌, IfOk, length};
+ghost use Rattle.count_heap.specs.HeapModel.FieldLimits.{AreFieldsInLimits};
 ghost use Rattle.count_heap.specs.HeapModel.HeapCalls.{empty_heap};
 
 use crate::layouts_by_class::ClassLayouts;
@@ -48,8 +49,9 @@ impl Model for Heap {
 }
 
 impl Heap {
-    /// A heap without objects, for the classes of a table. No class of a table that was built is too large to be laid out.
+    /// A heap without objects, for the classes of a table. No class whose fields are in their limits is too large to be laid out.
     pub fn new(alloc: Global, table: &TypeTable) -> Result<Heap, Exhausted>
+        requires { AreFieldsInLimits table.now }
         ensures { IfOk result (λ heap. heap ≡ empty_heap table.now) }
     {
         let layouts = ClassLayouts::of(alloc, table)?;

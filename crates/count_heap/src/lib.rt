@@ -22,7 +22,9 @@ mod totals;
 
 pub use heap::Heap;
 pub use heap_model::{Released, Underflow};
-pub use laws::{finished_objects_are_dead, freed_objects_are_dead, slots_are_few};
+pub use laws::{
+    finished_objects_are_dead, freed_objects_are_dead, no_class_is_too_large, slots_are_few,
+};
 pub use layouts_by_class::{ClassLayouts, FieldPlace};
 pub use pooled_leaves::LeafPool;
 pub use totals::Totals;

@@ -11,6 +11,7 @@ ghost use Rattle.count_machine.specs.inner.Stopped.{TellsOf};
 use crate::ending::ending_of;
 use crate::left::left_after;
 use crate::low_run::LowRun;
+use count_heap::no_class_is_too_large;
 use count_machine_engine::{Machine, Stop, run_to_end};
 use count_machine_laws::machine_runs_so;
 use count_machine_model::RunEnd;
@@ -42,6 +43,7 @@ pub fn run(
 {
     runnable_is_typed();
     machine_runs_so();
+    no_class_is_too_large();
     let ready = make_ready(alloc, m, table, entry)?;
     let mut machine = Machine::begin(alloc, table, &ready, entry)?;
     match run_to_end(&mut machine, &ready, turns) {

@@ -1,6 +1,7 @@
 //! How a run begins, and what is taken out of the machine when it has ended.
 
 ghost use Rattle.std.specs.Prelude.{◌≡◌, IfOk, Some, drop, slice_get, take};
+ghost use Rattle.count_heap.specs.HeapModel.FieldLimits.{AreFieldsInLimits};
 ghost use Rattle.count_machine_model.specs.MachineSteps.Runs.{begins, no_tasks};
 ghost use Rattle.count_machine_model.specs.declared.ready_code.function.ReadyFunction.{ReadyFunction};
 
@@ -17,6 +18,7 @@ use std::alloc::Global;
 impl Machine {
     /// A machine without tasks, on a heap without objects.
     fn new(alloc: Global, table: &TypeTable) -> Result<Machine, Exhausted>
+        requires { AreFieldsInLimits table.now }
         ensures { IfOk result (λ machine. machine ≡ no_tasks table.now) }
     {
         let heap = Heap::new(alloc, table)?;
@@ -44,6 +46,7 @@ impl Machine {
         ready: &ReadyModule,
         entry: FuncId,
     ) -> Result<Machine, Exhausted>
+        requires { AreFieldsInLimits table.now }
         ensures { IfOk result (λ machine. (f : ReadyFunction) → slice_get ready.now.functions entry.0 ≡ Some f → machine ≡ begins table.now entry f) }
     {
         let mut machine = Machine::new(alloc, table)?;

@@ -72,6 +72,20 @@ not_all_free pieces p s lt none is =
     let x : Piece = record (piece_at pieces p) { depth = 1 } in
     omega (arith, count_more pieces p x lt refl s none (omega arith), ap as_one (eq-eqb (size_at pieces p) s is), count_by-le-length (is_free_of s) (set pieces p x), length-set pieces p x)
 
+-- ---- no piece is free where a stack is empty
+
+pub none_free : (pieces : List Piece) (tops : List ℕ) → AreFreeListed pieces tops → (s : ℕ) → top_at tops s ≡ 0
+    → (p : ℕ) → p < length pieces → size_at pieces p ≡ s → depth_at pieces p ≡ 0
+none_free pieces tops are s none p lt size =
+    elim (cases_eq (depth_at pieces p) 0) [
+      | inl out ↦ out
+      | inr free ↦
+          let some : 1 ≤ depth_at pieces p = omega arith in
+          let high : depth_at pieces p ≤ level (depth_at pieces) (top_at tops (size_at pieces p)) = are.stacks.top_highest p lt some in
+          let bottom : level (depth_at pieces) (top_at tops (size_at pieces p)) ≡ 0 = ap (λ t. level (depth_at pieces) (top_at tops t)) size ∙ ap (level (depth_at pieces)) none in
+          absurd (omega arith)
+    ]
+
 -- ---- the top of a stack is taken
 
 module _ (pieces : List Piece) (tops : List ℕ) (are : AreFreeListed pieces tops) (s p : ℕ) (within : s < length tops) (is_top : top_at tops s ≡ suc p) where

@@ -1,14 +1,14 @@
 -- What contracts see of a pool, through its calls.
 use Rattle.std.proofs.Common.{append-nil, ◌≡◌, ℕ, zero, suc, ◌+◌, ◌<◌, ◌≤◌, List, [], ◌∷◌, ◌++◌, true, cond, Option, Some, None, is_some, inl, inr, length, length-append, length-set, set}
 use Rattle.std.proofs.Common.{replicate, map, get_or, refl, sym, ap, ◌∙◌, subst, arith}
-use Rattle.std.specs.Prelude.{option_map, take, drop, ◌==◌}
+use Rattle.std.specs.Prelude.{option_map, slice_get, take, drop, ◌==◌}
 use Rattle.std.proofs.lemmas.Bool.{cases_eq, cases_lt, cases_order, eq-eqb, false≢true, ne_eqb}
 use Rattle.std.proofs.lemmas.List.{drop_all, get_or_append_left, get_or_past, get_or_push, length-drop, length-map, length-replicate, length-take-le}
 use Rattle.holder_model_values.specs.declared.run_values.leaf.Leaf.{Leaf}
 use Rattle.holder_model_values.specs.declared.run_values.leaf.Leaf.TheVariants.{Blank}
-use Rattle.count_heap.specs.PooledLeaves.Pieces.{IsChanged, piece_in, put_leaves}
+use Rattle.count_heap.specs.PooledLeaves.Pieces.{HasFree, IsChanged, piece_in, put_leaves}
 use Rattle.count_heap.specs.declared.pooled_leaves.piece.Piece.{Piece}
-use Rattle.count_heap.specs.PooledLeaves.inner.Layout.{AreLaidOut, depth_at, first_at, given_out, held_by, leaves_of, no_piece, pieces_in, size_at}
+use Rattle.count_heap.specs.PooledLeaves.inner.Layout.{AreLaidOut, depth_at, first_at, given_out, held_by, leaves_of, no_piece, piece_size, pieces_in, size_at}
 use Rattle.count_heap.proofs.PooledLeaves.Freed.{all_same, at_other, at_same, first_of, piece_at, size_of}
 use Rattle.count_heap.proofs.PooledLeaves.ListParts.{new_part, part_after, part_before, part_inside, part_of_longer}
 use Rattle.std.proofs.Math.Path.{fun_ext}
@@ -23,7 +23,7 @@ module _ (leaves : List Leaf) (pieces : List Piece) where
   seen q lt = mapped (held_by leaves) pieces q no_piece None lt
 
   pub not_seen : (q : ℕ) → length pieces ≤ q → piece_in (pieces_in leaves pieces) q ≡ None
-  not_seen q le = get_or_past (pieces_in leaves pieces) q None (omega (arith, length-map pieces (held_by leaves)))
+  not_seen q le = get_or_past (map (held_by leaves) pieces) q None (omega (arith, length-map pieces (held_by leaves)))
 
   held_out : (x : Piece) → x.depth ≡ 0 → held_by leaves x ≡ Some (leaves_of leaves x)
   held_out x none = ap (λ b. cond b (Some (leaves_of leaves x)) None) (eq-eqb x.depth 0 none)
@@ -49,6 +49,33 @@ module _ (leaves : List Leaf) (pieces : List Piece) where
         ]
         | inr le ↦ absurd (false≢true (sym (ap is_some (not_seen p le)) ∙ some))
       ]
+
+-- how many leaves pieces have
+
+size_told : (pieces : List Piece) (p s : ℕ) → p < length pieces → size_at pieces p ≡ s → slice_get (map piece_size pieces) p ≡ Some s
+size_told [] p s lt is = absurd (omega arith)
+size_told (x ∷ pieces) zero s lt is = ap Some is
+size_told (x ∷ pieces) (suc p) s lt is = size_told pieces p s (omega arith) is
+
+size_there : (pieces : List Piece) (p s : ℕ) → slice_get (map piece_size pieces) p ≡ Some s → (p < length pieces) × (size_at pieces p ≡ s)
+size_there [] p s is = absurd (cc)
+size_there (x ∷ pieces) zero s is = (omega arith, let same : Some x.size ≡ Some s = is in cc)
+size_there (x ∷ pieces) (suc p) s is = let rest = size_there pieces p s is in (omega (arith, rest.0), rest.1)
+
+pub sizes_set : (pieces : List Piece) (p : ℕ) (x : Piece) → x.size ≡ size_at pieces p → map piece_size (set pieces p x) ≡ map piece_size pieces
+sizes_set [] p x same = refl
+sizes_set (y ∷ pieces) zero x same = ap (λ n. n ∷ map piece_size pieces) same
+sizes_set (y ∷ pieces) (suc p) x same = ap (λ ns. y.size ∷ ns) (sizes_set pieces p x same)
+
+module _ (leaves : List Leaf) (pieces : List Piece) where
+  pub has_free : (p s : ℕ) → p < length pieces → size_at pieces p ≡ s → 1 ≤ depth_at pieces p → HasFree (pieces_in leaves pieces) s
+  has_free p s lt size free = (p, size_told pieces p s lt size, seen_free leaves pieces p lt free)
+
+  pub no_free : (s : ℕ) → ((p : ℕ) → p < length pieces → size_at pieces p ≡ s → depth_at pieces p ≡ 0) → HasFree (pieces_in leaves pieces) s → ⊥
+  no_free s none free =
+      let there = size_there pieces free.0 s free.1 in
+      let out = seen_out leaves pieces free.0 there.0 (none free.0 there.0 there.1) in
+      let impossible : None ≡ Some (leaves_of leaves (piece_at pieces free.0)) = sym free.2 ∙ out in cc
 
 -- one piece holds something else
 changed_at : (leaves : List Leaf) (pieces : List Piece) (leaves' : List Leaf) (pieces' : List Piece) (p : ℕ) (x : Option (List Leaf))

@@ -1,5 +1,5 @@
 -- What contracts see of a heap.
-use Rattle.std.specs.Prelude.{ℕ, ◌==◌, List, [], ◌∷◌, Bool, ◌&&◌, ◌||◌, not, Option, Some, None, is_some, map, option_and_then}
+use Rattle.std.specs.Prelude.{ℕ, ◌==◌, List, [], Bool, ◌&&◌, not, Option, Some, None, is_some, map, option_and_then}
 use Rattle.std.specs.Prelude.{slice_get, unwrap_or, count_by}
 use Rattle.sil_ast.specs.declared.decl.Field.{Field}
 use Rattle.sil_ast.specs.declared.place.ObjectId.{ObjectId}

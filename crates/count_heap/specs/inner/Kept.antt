@@ -1,5 +1,5 @@
 -- What holds of a heap's memory.
-use Rattle.std.specs.Prelude.{◌≡◌, ◌<◌, ◌≤◌, ◌+◌, ℕ, List, Some, false, is_some, count_by, length, option_map}
+use Rattle.std.specs.Prelude.{◌≡◌, ◌<◌, ◌≤◌, ◌+◌, ℕ, List, Some, false, true, is_some, count_by, length, option_map}
 use Rattle.sil_types.specs.sil_types_declarations.TypeDefinitions.Declarations.{Declarations}
 use Rattle.holder_model_values.specs.RunValues.Memory.{is_dead_phase}
 use Rattle.weak_unowned.specs.Sides.{idle_count, is_idle_at, sides_at}
@@ -23,6 +23,10 @@ pub record IsKept (d : Declarations) (records : List SlotRecord) (sides : List S
   pub piece : IsAlive records s → option_map (λ ls. length ls) (piece_in pieces (record_at records s).piece) ≡ Some (size_of (leaves_by_field d
       (record_at records s).class))
 
+-- the piece is that of an object that isn't dead
+abbrev pub HasOwner : Numbers → List SlotRecord → ℕ → Type 0
+HasOwner t records p = (n : ℕ) × (s : ℕ) × (slot_in t n ≡ Some s) × IsAlive records s × ((record_at records s).piece ≡ p)
+
 pub record IsHeap (d : Declarations) (t : Numbers) (records : List SlotRecord) (sides : List SlotSides) (pieces : Pieces) : Type 0 where
   pub slots : length sides ≤ t.slots
   pub records_are : length sides ≤ length records
@@ -30,5 +34,7 @@ pub record IsHeap (d : Declarations) (t : Numbers) (records : List SlotRecord) (
   -- no two objects have one piece
   pub apart : (n m s u : ℕ) → slot_in t n ≡ Some s → slot_in t m ≡ Some u → IsAlive records s → IsAlive records u
       → (record_at records s).piece ≡ (record_at records u).piece → s ≡ u
+  -- each piece that is given out is that of an object that isn't dead
+  pub owned : (p : ℕ) → is_some (piece_in pieces p) ≡ true → HasOwner t records p
   -- each slot is an object's, or idle
   pub count : count_by is_some t.places + idle_count sides ≡ length sides

@@ -1,13 +1,19 @@
 -- What the laws of heaps say.
-use Rattle.std.specs.Prelude.{◌≡◌, ◌≤◌, ◌&&◌, ◌==◌, ℕ, List, [], ◌∷◌, None, false, true, max, not}
+use Rattle.std.specs.Prelude.{◌≡◌, ◌<◌, ◌≤◌, ◌^◌, ◌&&◌, ◌==◌, ℕ, List, [], ◌∷◌, None, false, true, max, not}
+use Rattle.sil_ast.specs.declared.module.Module.{Module}
 use Rattle.sil_ast.specs.declared.place.ObjectId.{ObjectId}
-use Rattle.sil_types.specs.sil_types_declarations.TypeDefinitions.Declarations.{Declarations}
+use Rattle.sil_types.specs.numbered_form.Lists.{Each}
+use Rattle.sil_types.specs.numbered_form.inner.Limits.{IsDeclInLimits}
+use Rattle.sil_types.specs.sil_types_declarations.TypeDefinitions.Declarations.{Declarations, declarations_of}
+use Rattle.sil_types.specs.sil_types_declarations.TypeDefinitions.Rules.{InLimits}
 use Rattle.holder_model_values.specs.declared.run_values.leaf.Leaf.{Leaf}
 use Rattle.holder_model_values.specs.declared.run_values.phase.Phase.TheVariants.{Dead}
 use Rattle.count_heap.specs.HeapModel.HeapCalls.{allocated_in, empty_heap, finished, release_tried, released, retained, started}
 use Rattle.count_heap.specs.HeapModel.HeapCalls.{unowned_named, unowned_unnamed, weakly_named, weakly_unnamed}
 use Rattle.count_heap.specs.HeapModel.HeapCalls.{changed, with_field, with_field_of, with_part}
-use Rattle.count_heap.specs.HeapModel.HeapViews.{HeapView, is_unfreed, phase_in, strong_in, unfreed_count, unowned_in, weak_in}
+use Rattle.count_heap.specs.HeapModel.HeapViews.{HeapView, is_unfreed, leaves_by_field, phase_in, strong_in, unfreed_count, unowned_in, weak_in}
+use Rattle.count_heap.specs.HeapModel.FieldLimits.{AreFieldsInLimits}
+use Rattle.count_heap.specs.LayoutsByClass.Layouts.{size_of}
 
 pub record IsNothing (h : HeapView) (o : ObjectId) : Type 0 where
   pub phase : phase_in h o ≡ Dead
@@ -67,3 +73,11 @@ most_unfreed h (c ∷ cs) = max (unfreed_count h.objects) (most_unfreed (after_c
 
 abbrev pub SlotsAreFew : Type 0
 SlotsAreFew = (d : Declarations) (calls : List HeapCall) → (after_calls (empty_heap d) calls).slots ≤ most_unfreed (empty_heap d) calls
+
+-- a module's fields are in their limits where its declarations have no more members than the limit, and its types are in theirs
+abbrev pub FieldsAreInLimits : Type 0
+FieldsAreInLimits = (m : Module) → Each IsDeclInLimits m.decls → InLimits m → AreFieldsInLimits (declarations_of m)
+
+-- an object of a class has fewer leaves than 2^32
+abbrev pub ClassesAreSmall : Type 0
+ClassesAreSmall = (d : Declarations) → AreFieldsInLimits d → (class : ℕ) → size_of (leaves_by_field d class) < 2 ^ 32

@@ -3,7 +3,7 @@
 ghost use Rattle.std.specs.Prelude.{◌≡◌, IfOk, length};
 ghost use Rattle.std.specs.Option.{option_copied};
 ghost use Rattle.sil_types.specs.sil_types_declarations.TypeDefinitions.Lookups as lookups;
-ghost use Rattle.count_heap.specs.LayoutsByClass.ClassFields.{leaves_by_field};
+ghost use Rattle.count_heap.specs.LayoutsByClass.ClassFields.{AreFieldsInLimits, leaves_by_field};
 ghost use Rattle.count_heap.specs.LayoutsByClass.Layouts.{places_from, size_of};
 ghost use Rattle.count_heap.specs.LayoutsByClass.inner.Kept.{AreLayouts};
 
@@ -70,6 +70,7 @@ struct AllPlaces {
 }
 
 fn all_places(alloc: Global, table: &TypeTable) -> Result<AllPlaces, Exhausted>
+    requires { AreFieldsInLimits table.now }
     ensures { IfOk result (λ all. AreLayouts table.now all.places all.sizes.items) }
 {
     let decls = table.decls();
@@ -84,8 +85,9 @@ fn all_places(alloc: Global, table: &TypeTable) -> Result<AllPlaces, Exhausted>
 }
 
 impl ClassLayouts {
-    /// The layouts of the classes of a table. A class that is too large to be laid out is refused.
+    /// The layouts of the classes of a table. No class whose fields are in their limits is too large to be laid out.
     pub fn of(alloc: Global, table: &TypeTable) -> Result<ClassLayouts, Exhausted>
+        requires { AreFieldsInLimits table.now }
         ensures { IfOk result (λ layouts. layouts ≡ table.now) }
     {
         let AllPlaces { places, sizes } = all_places(alloc, table)?;

@@ -1,14 +1,15 @@
 //! The places of one class's fields.
 
-ghost use Rattle.std.specs.Prelude.{◌≡◌, ◌+◌, ◌++◌, ◌∷◌, [], OnOk, IfOk, Some, map};
+ghost use Rattle.std.specs.Prelude.{◌≡◌, ◌<◌, ◌+◌, ◌^◌, ◌++◌, ◌∷◌, [], OnOk, IfOk, Some, map};
 ghost use Rattle.std.specs.Option.{option_copied};
 ghost use Rattle.sil_types.specs.sil_types_declarations.TypeDefinitions.Declarations.{chain};
 ghost use Rattle.sil_types.specs.sil_types_declarations.TypeDefinitions.Lookups.{chain_fields, class_named, fields_of};
-ghost use Rattle.count_heap.specs.LayoutsByClass.ClassFields.{field_leaves, named_fields};
+ghost use Rattle.sil_types.specs.numbered_form.Lists.{Each};
+ghost use Rattle.count_heap.specs.LayoutsByClass.ClassFields.{AreFieldsInLimits, IsFieldInLimits, field_leaves, named_fields};
 ghost use Rattle.count_heap.specs.LayoutsByClass.Layouts.{places_from, size_of};
 
 use crate::layouts_by_class::field_place::FieldPlace;
-use crate::layouts_by_class::fields::leaves_of_field;
+use crate::layouts_by_class::fields::count_of_field;
 use sil_ast::{Decl, Exhausted, Field, Text};
 use sil_rules::limits::DEPTH;
 use sil_types::TypeTable;
@@ -21,15 +22,13 @@ pub(crate) struct Places {
     pub size: u32,
 }
 
-/// A field with so many leaves lies behind the others. One that lies too far behind is refused: there is no memory for such an object.
+/// A field with so many leaves lies behind the others.
 fn add_field(places: &mut Places, count: u32) -> Result<(), Exhausted>
+    requires { places.old.size + count + 1 < 2 ^ 32 }
     ensures places { OnOk result (places.new.places.items ≡ places.old.places.items ++ record { from = places.old.size; count = count } ∷ []) }
     ensures size { OnOk result (places.new.size ≡ places.old.size + count + 1) }
 {
     let from = places.size;
-    if count >= u32::MAX - from {
-        return Err(Exhausted);
-    }
     places.places.push(FieldPlace { from, count })?;
     places.size = from + count + 1;
     Ok(())
@@ -37,14 +36,13 @@ fn add_field(places: &mut Places, count: u32) -> Result<(), Exhausted>
 
 /// Fields lie behind the others.
 fn add_fields(places: &mut Places, table: &TypeTable, fields: &[Field]) -> Result<(), Exhausted>
+    requires limits { Each (IsFieldInLimits table.now) fields.now }
+    requires room { places.old.size + size_of (map (field_leaves table.now) fields.now) < 2 ^ 32 }
     ensures places { OnOk result (places.new.places.items ≡ places.old.places.items ++ places_from places.old.size (map (field_leaves table.now) fields.now)) }
     ensures size { OnOk result (places.new.size ≡ places.old.size + size_of (map (field_leaves table.now) fields.now)) }
 {
     for field in fields {
-        let Some(count) = leaves_of_field(table, field) else {
-            return Err(Exhausted);
-        };
-        add_field(places, count)?;
+        add_field(places, count_of_field(table, field))?;
     }
     Ok(())
 }
@@ -56,6 +54,9 @@ fn add_chain(
     most: u32,
     class: Option<&Text>,
 ) -> Result<(), Exhausted>
+    requires limits { AreFieldsInLimits table.now }
+    requires room { places.old.size + size_of (map (field_leaves table.now) (chain_fields table.now (chain table.now most (option_copied class))))
+        < 2 ^ 32 }
     ensures places { OnOk result (places.new.places.items ≡ places.old.places.items ++ places_from places.old.size (map (field_leaves table.now)
         (chain_fields table.now (chain table.now most (option_copied class.entry))))) }
     ensures size { OnOk result (places.new.size ≡ places.old.size + size_of (map (field_leaves table.now) (chain_fields table.now (chain table.now most
@@ -74,6 +75,7 @@ fn add_chain(
 
 /// The places of a class's fields, those of its ancestors first.
 pub(crate) fn places_of(alloc: Global, table: &TypeTable, class: &Text) -> Result<Places, Exhausted>
+    requires { AreFieldsInLimits table.now }
     ensures places { IfOk result (λ p. p.places.items ≡ places_from 0 (map (field_leaves table.now) (fields_of table.now class.now))) }
     ensures size { IfOk result (λ p. p.size ≡ size_of (map (field_leaves table.now) (fields_of table.now class.now))) }
 {
@@ -92,6 +94,7 @@ pub(crate) fn places_of_decl(
     table: &TypeTable,
     decl: &Decl,
 ) -> Result<Places, Exhausted>
+    requires { AreFieldsInLimits table.now }
     ensures places { IfOk result (λ p. p.places.items ≡ places_from 0 (map (field_leaves table.now) (named_fields table.now (class_named (Some decl.now))))) }
     ensures size { IfOk result (λ p. p.size ≡ size_of (map (field_leaves table.now) (named_fields table.now (class_named (Some decl.now))))) }
 {

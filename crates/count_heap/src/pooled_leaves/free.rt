@@ -1,16 +1,17 @@
 //! The free pieces, in a stack for each size.
 
-ghost use Rattle.std.specs.Prelude.{◌≡◌, ◌<◌, ◌≤◌, IfSome, IsNone, length, set, slice_index_or};
+ghost use Rattle.std.specs.Prelude.{◌≡◌, ◌<◌, ◌≤◌, ℕ, IfSome, IsNone, length, set, slice_index_or};
 ghost use Rattle.count_heap.specs.PooledLeaves.inner.Layout.{AreFreeListed, depth_at, given_back, given_out, no_piece, size_at};
 ghost use Rattle.count_heap.specs.PooledLeaves.inner.Stacks.{level};
 
 use crate::pooled_leaves::piece::Piece;
 
-/// Takes the top of a stack, if there is one.
+/// Takes the top of a stack: a free piece of this size, if there is one.
 pub(crate) fn pop(tops: &mut [u32], pieces: &mut [Piece], size: usize) -> Option<usize>
     requires { AreFreeListed pieces.old tops.old }
     ensures listed { AreFreeListed pieces.new tops.new }
-    ensures none { IsNone result → (pieces.new ≡ pieces.old) × (tops.new ≡ tops.old) }
+    ensures none { IsNone result → (p : ℕ) → p < length pieces.old → size_at pieces.old p ≡ size → depth_at pieces.old p ≡ 0 }
+    ensures unchanged { IsNone result → (pieces.new ≡ pieces.old) × (tops.new ≡ tops.old) }
     ensures there { IfSome result (λ p. p < length pieces.old) }
     ensures size { IfSome result (λ p. size_at pieces.old p ≡ size) }
     ensures free { IfSome result (λ p. 1 ≤ depth_at pieces.old p) }
@@ -50,10 +51,10 @@ pub(crate) fn push(tops: &mut [u32], pieces: &mut [Piece], p: usize)
     ensures freed { pieces.new ≡ set pieces.old p (given_back pieces.old tops.old (slice_index_or pieces.old p no_piece)) }
 {
     let size = pieces[p].size as usize;
-    let top = tops[size];
-    let depth = level_at(pieces, top);
+    let below = tops[size];
+    let depth = level_at(pieces, below);
     let piece = &mut pieces[p];
     piece.depth = depth + 1;
-    piece.next = top;
+    piece.next = below;
     tops[size] = p as u32 + 1;
 }

@@ -1,8 +1,8 @@
 //! The pool.
 
-ghost use Rattle.std.specs.Prelude.{◌≡◌, ◌≤◌, ◌+◌, [], IfOk, IfSome, None, OnErr, Some, is_some, length, option_map, replicate, true};
+ghost use Rattle.std.specs.Prelude.{◌≡◌, ◌≤◌, ◌+◌, ◌++◌, ◌∷◌, [], IfOk, IfSome, IsOk, None, OnErr, Some, is_some, length, option_map, replicate, true};
 ghost use Rattle.holder_model_values.specs.declared.run_values.leaf.Leaf.TheVariants.{Blank};
-ghost use Rattle.count_heap.specs.PooledLeaves.Pieces.{IsChanged, piece_in, put_leaves};
+ghost use Rattle.count_heap.specs.PooledLeaves.Pieces.{HasFree, IsChanged, no_pieces, piece_in, put_leaves};
 
 use crate::pooled_leaves::free::{pop, push};
 use crate::pooled_leaves::grow::{add_leaves, add_stack};
@@ -13,7 +13,7 @@ use sil_ast::Exhausted;
 use std::alloc::Global;
 use std::marker::Model;
 
-/// Leaves, of which pieces are given out. To a contract it is what its pieces hold.
+/// Leaves, of which pieces are given out. To a contract it is what its pieces hold, and how many leaves each has.
 #[derive(Drop)]
 pub struct LeafPool {
     leaves: Vec<Leaf>,
@@ -24,9 +24,12 @@ pub struct LeafPool {
 }
 
 impl Model for LeafPool {
+    ghost use Rattle.std.specs.Coded.{codes};
     ghost use Rattle.count_heap.specs.PooledLeaves.Pieces.{Pieces};
 
     ghost Value = { Pieces };
+
+    ghost coded = { Prim.hlevel codes };
 
     ghost use Rattle.count_heap.specs.PooledLeaves.inner.Layout.{IsPool, pieces_in};
 
@@ -38,7 +41,7 @@ impl Model for LeafPool {
 impl LeafPool {
     /// A pool without pieces.
     pub fn new(alloc: Global) -> LeafPool
-        ensures { result ≡ [] }
+        ensures { result ≡ no_pieces }
     {
         LeafPool {
             leaves: Vec::new(alloc),
@@ -47,10 +50,13 @@ impl LeafPool {
         }
     }
 
-    /// A piece of blank leaves that wasn't given out. Where there is no memory for one, nothing changes.
+    /// A piece of blank leaves that wasn't given out: a free one of this size, where there is one, and else a new one. Where there is no memory
+    /// for a new one, nothing changes.
     pub fn take(&mut self, size: u32) -> Result<usize, Exhausted>
         ensures taken { IfOk result (λ p. piece_in self.old p ≡ None) }
         ensures ok { IfOk result (λ p. IsChanged self.old self.new p (Some (replicate size Blank))) }
+        ensures free { HasFree self.old size → IsOk result × (self.new.sizes ≡ self.old.sizes) }
+        ensures grown { IfOk result (λ _. (HasFree self.old size → ⊥) → self.new.sizes ≡ self.old.sizes ++ size ∷ []) }
         ensures err { OnErr result (self.new ≡ self.old) }
     {
         match pop(&mut self.tops, &mut self.pieces, size as usize) {
@@ -67,6 +73,7 @@ impl LeafPool {
     fn add(&mut self, size: u32) -> Result<usize, Exhausted>
         ensures taken { IfOk result (λ p. piece_in self.old p ≡ None) }
         ensures ok { IfOk result (λ p. IsChanged self.old self.new p (Some (replicate size Blank))) }
+        ensures grown { IfOk result (λ _. self.new.sizes ≡ self.old.sizes ++ size ∷ []) }
         ensures err { OnErr result (self.new ≡ self.old) }
     {
         let p = self.pieces.len();
@@ -89,7 +96,8 @@ impl LeafPool {
     #[inline]
     pub fn give_back(&mut self, p: usize)
         requires { is_some (piece_in self.old p) ≡ true }
-        ensures { IsChanged self.old self.new p None }
+        ensures freed { IsChanged self.old self.new p None }
+        ensures sizes { self.new.sizes ≡ self.old.sizes }
     {
         push(&mut self.tops, &mut self.pieces, p);
     }
@@ -108,7 +116,8 @@ impl LeafPool {
     pub fn write(&mut self, p: usize, from: usize, leaves: &[Leaf])
         requires there { is_some (piece_in self.old p) ≡ true }
         requires within { IfSome (piece_in self.old p) (λ old. from + length leaves.now ≤ length old) }
-        ensures { IsChanged self.old self.new p (option_map (put_leaves from leaves.now) (piece_in self.old p)) }
+        ensures written { IsChanged self.old self.new p (option_map (put_leaves from leaves.now) (piece_in self.old p)) }
+        ensures sizes { self.new.sizes ≡ self.old.sizes }
     {
         put_part(&mut self.leaves, &self.pieces, p, from, leaves);
     }

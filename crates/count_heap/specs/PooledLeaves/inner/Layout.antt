@@ -31,8 +31,11 @@ leaves_of leaves p = take p.size (drop p.first leaves)
 abbrev pub held_by : List Leaf → Piece → Option (List Leaf)
 held_by leaves p = cond (p.depth == 0) (Some (leaves_of leaves p)) None
 
+abbrev pub piece_size : Piece → ℕ
+piece_size p = p.size
+
 abbrev pub pieces_in : List Leaf → List Piece → Pieces
-pieces_in leaves pieces = map (held_by leaves) pieces
+pieces_in leaves pieces = record { held = map (held_by leaves) pieces; sizes = map piece_size pieces }
 
 -- no two pieces have a leaf in common
 pub record AreLaidOut (count : ℕ) (leaves : ℕ) (first size : ℕ → ℕ) : Type 0 where

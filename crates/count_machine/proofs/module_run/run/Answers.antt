@@ -3,6 +3,7 @@ use Rattle.std.proofs.lemmas.Option.{slice_get_within}
 use Rattle.std.proofs.lemmas.Result.{IfOk-weaker}
 use Rattle.holder_model.specs.RunTyping.Forms.{given_shape}
 use Rattle.sil_types_declarations.specs.TypeDefinitions.Declarations.{declarations_of}
+use Rattle.count_heap.specs.HeapModel.FieldLimits.{AreFieldsInLimits}
 use Rattle.count_machine.specs.LowRuns.{EndsAsTold, HasLastHeap}
 use Rattle.count_machine.specs.inner.Stopped.{TellsOf}
 use Rattle.count_heap.specs.HeapModel.Counts.{CountsFit}
@@ -15,6 +16,11 @@ use Rattle.count_machine.proofs.module_run.run.Goals as goal
 pub make_ready-requires-clause-there : goal.make_ready-requires-clause-there
 make_ready-requires-clause-there c =
     let starts = c.requires.starts in slice_get_within c.args.m.now.functions c.args.entry.0 starts.entry starts.there
+
+pub begin-requires : goal.begin-requires
+begin-requires c =
+    let runnable = c.requires.runnable in
+    subst AreFieldsInLimits (sym c.requires.of_it) (c.no_class_is_too_large.ensures.fields c.args.m.now runnable.numbered.limits.members runnable.limits)
 
 pub returns-in-Ends-clause-outcome : goal.returns-in-Ends-clause-outcome
 returns-in-Ends-clause-outcome c =

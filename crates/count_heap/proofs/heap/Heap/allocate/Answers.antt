@@ -4,7 +4,7 @@ use Rattle.count_heap.specs.HeapModel.HeapCalls.{allocated_in}
 use Rattle.count_heap.specs.HeapModel.HeapViews.{HeapView}
 use Rattle.count_heap.specs.inner.Kept.{IsHeap}
 use Rattle.count_heap.specs.inner.Objects.{heap_of}
-use Rattle.count_heap.proofs.Allocation.{allocated_heap, allocated_view, given_back, same_heap}
+use Rattle.count_heap.proofs.Allocation.{allocated_heap, allocated_view, given_back, same_heap, same_view}
 use Rattle.count_heap.proofs.NewSlot.{fresh}
 use Rattle.count_heap.proofs.heap.Heap.allocate.Goals as goal
 
@@ -51,4 +51,18 @@ invariant_of-self-in-Err c =
     let e = c.slot_for_new.ensures in
     same_heap d t records sides pieces c.self.invariant c.slot_for_new.new.numbers c.slot_for_new.new.records.items c.slot_for_new.new.sides
     c.give_back.new.self e.numbers e.kept e.slots e.records c.in-Err.ensures.err
-    (given_back pieces c.take.new.self c.give_back.new.self c.in_ok-piece.piece _ c.in_ok-piece.ensures.taken c.in_ok-piece.ensures.ok c.give_back.ensures)
+    (given_back pieces c.take.new.self c.give_back.new.self c.in_ok-piece.piece _ c.in_ok-piece.ensures.taken c.in_ok-piece.ensures.ok c.give_back.ensures.freed)
+
+pub returns-in-Err-clause-heap : goal.returns-in-Err-clause-heap
+returns-in-Err-clause-heap c =
+    let d = c.self.inside.layouts in
+    let t = c.self.inside.numbers in
+    let records = c.self.inside.records.items in
+    let sides = c.self.inside.sides in
+    let pieces = c.self.inside.pool in
+    let e = c.slot_for_new.ensures in
+    same_view d t records sides pieces c.self.invariant c.slot_for_new.new.numbers c.slot_for_new.new.records.items c.slot_for_new.new.sides
+    c.give_back.new.self e.numbers e.kept e.slots e.records c.in-Err.ensures.err
+    (given_back pieces c.take.new.self c.give_back.new.self c.in_ok-piece.piece _ c.in_ok-piece.ensures.taken c.in_ok-piece.ensures.ok c.give_back.ensures.freed)
+    c.self.inside.retains c.self.inside.releases
+    ∙ c.self.view_is

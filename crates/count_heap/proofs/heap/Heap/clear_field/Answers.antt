@@ -54,7 +54,7 @@ invariant_of-self c =
     (piece_in pieces (record_at records s).piece)) =
     subst (λ (p : FieldPlace). IsChanged pieces c.write.new.self (record_at records s).piece (option_map (put_leaves p.from (Blank ∷ [])) (piece_in pieces (record_at records s).piece))) place_is
     (subst (λ (y : SlotRecord). IsChanged pieces c.write.new.self y.piece (option_map (put_leaves (slice_index_or c.fields.result.now c.args.index no_place).from (Blank ∷ []))
-    (piece_in pieces y.piece))) read c.write.ensures) in
+    (piece_in pieces y.piece))) read c.write.ensures.written) in
     clear_inv d t records sides pieces c.self.invariant c.slot_of.ensures.apart c.args.o s is a b alive c.args.index within c.write.new.self write
 
 pub returns : goal.returns
@@ -77,6 +77,6 @@ returns c =
     (piece_in pieces (record_at records s).piece)) =
     subst (λ (p : FieldPlace). IsChanged pieces c.write.new.self (record_at records s).piece (option_map (put_leaves p.from (Blank ∷ [])) (piece_in pieces (record_at records s).piece))) place_is
     (subst (λ (y : SlotRecord). IsChanged pieces c.write.new.self y.piece (option_map (put_leaves (slice_index_or c.fields.result.now c.args.index no_place).from (Blank ∷ []))
-    (piece_in pieces y.piece))) read c.write.ensures) in
+    (piece_in pieces y.piece))) read c.write.ensures.written) in
     clear_is d t records sides pieces c.self.invariant c.slot_of.ensures.apart c.args.o s is a b alive c.args.index within c.write.new.self write
     ∙ ap (λ (v : HeapView). calls.changed (calls.with_field_of c.args.index None) v c.args.o) c.self.view_is

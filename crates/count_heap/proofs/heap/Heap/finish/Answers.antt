@@ -30,7 +30,7 @@ invariant_of-self c =
     sym (ap views.phase_told (object_seen d t records sides pieces c.self.inside.retains c.self.inside.releases c.args.o s is)) ∙ ap (λ (v : HeapView). views.phase_in v c.args.o) c.self.view_is
     ∙ c.requires.deiniting in
     let alive : is_dead_phase (record_at records s).phase ≡ false = ap is_dead_phase phase in
-    let back : IsChanged pieces c.give_back.new.self (record_at records s).piece None = subst (λ (y : SlotRecord). IsChanged pieces c.give_back.new.self y.piece None) read c.give_back.ensures in
+    let back : IsChanged pieces c.give_back.new.self (record_at records s).piece None = subst (λ (y : SlotRecord). IsChanged pieces c.give_back.new.self y.piece None) read c.give_back.ensures.freed in
     let seen : is_idle (side.marked (sides_at sides s)) ≡ c.is_idle.result =
     sym (c.is_idle.ensures ∙ ap (λ xs. is_idle_at xs s) c.mark.ensures
     ∙ changed_idle d t records sides pieces c.self.invariant c.slot_of-slot.ensures.apart c.args.o s is c.self.inside.retains c.self.inside.releases side.marked) in
@@ -55,7 +55,7 @@ invariant_of-self-else-is_idle c =
     sym (ap views.phase_told (object_seen d t records sides pieces c.self.inside.retains c.self.inside.releases c.args.o s is)) ∙ ap (λ (v : HeapView). views.phase_in v c.args.o) c.self.view_is
     ∙ c.requires.deiniting in
     let alive : is_dead_phase (record_at records s).phase ≡ false = ap is_dead_phase phase in
-    let back : IsChanged pieces c.give_back.new.self (record_at records s).piece None = subst (λ (y : SlotRecord). IsChanged pieces c.give_back.new.self y.piece None) read c.give_back.ensures in
+    let back : IsChanged pieces c.give_back.new.self (record_at records s).piece None = subst (λ (y : SlotRecord). IsChanged pieces c.give_back.new.self y.piece None) read c.give_back.ensures.freed in
     let seen : is_idle (side.marked (sides_at sides s)) ≡ c.is_idle.result =
     sym (c.is_idle.ensures ∙ ap (λ xs. is_idle_at xs s) c.mark.ensures
     ∙ changed_idle d t records sides pieces c.self.invariant c.slot_of-slot.ensures.apart c.args.o s is c.self.inside.retains c.self.inside.releases side.marked) in
@@ -79,7 +79,7 @@ returns-then-is_idle c =
     sym (ap views.phase_told (object_seen d t records sides pieces c.self.inside.retains c.self.inside.releases c.args.o s is)) ∙ ap (λ (v : HeapView). views.phase_in v c.args.o) c.self.view_is
     ∙ c.requires.deiniting in
     let alive : is_dead_phase (record_at records s).phase ≡ false = ap is_dead_phase phase in
-    let back : IsChanged pieces c.give_back.new.self (record_at records s).piece None = subst (λ (y : SlotRecord). IsChanged pieces c.give_back.new.self y.piece None) read c.give_back.ensures in
+    let back : IsChanged pieces c.give_back.new.self (record_at records s).piece None = subst (λ (y : SlotRecord). IsChanged pieces c.give_back.new.self y.piece None) read c.give_back.ensures.freed in
     let seen : is_idle (side.marked (sides_at sides s)) ≡ c.is_idle.result =
     sym (c.is_idle.ensures ∙ ap (λ xs. is_idle_at xs s) c.mark.ensures
     ∙ changed_idle d t records sides pieces c.self.invariant c.slot_of-slot.ensures.apart c.args.o s is c.self.inside.retains c.self.inside.releases side.marked) in
@@ -105,7 +105,7 @@ returns-else-is_idle c =
     sym (ap views.phase_told (object_seen d t records sides pieces c.self.inside.retains c.self.inside.releases c.args.o s is)) ∙ ap (λ (v : HeapView). views.phase_in v c.args.o) c.self.view_is
     ∙ c.requires.deiniting in
     let alive : is_dead_phase (record_at records s).phase ≡ false = ap is_dead_phase phase in
-    let back : IsChanged pieces c.give_back.new.self (record_at records s).piece None = subst (λ (y : SlotRecord). IsChanged pieces c.give_back.new.self y.piece None) read c.give_back.ensures in
+    let back : IsChanged pieces c.give_back.new.self (record_at records s).piece None = subst (λ (y : SlotRecord). IsChanged pieces c.give_back.new.self y.piece None) read c.give_back.ensures.freed in
     let seen : is_idle (side.marked (sides_at sides s)) ≡ c.is_idle.result =
     sym (c.is_idle.ensures ∙ ap (λ xs. is_idle_at xs s) c.mark.ensures
     ∙ changed_idle d t records sides pieces c.self.invariant c.slot_of-slot.ensures.apart c.args.o s is c.self.inside.retains c.self.inside.releases side.marked) in

@@ -75,7 +75,7 @@ invariant_of-self c =
     subst (λ (p : FieldPlace). IsChanged pieces c.write.new.self (record_at records s).piece (option_map (put_leaves (p.from + 1 + c.args.from) c.args.leaves.now) (piece_in pieces
     (record_at records s).piece))) place_is
     (subst (λ (y : SlotRecord). IsChanged pieces c.write.new.self y.piece (option_map (put_leaves
-    ((slice_index_or c.fields.result.now c.args.index no_place).from + 1 + c.args.from) c.args.leaves.now) (piece_in pieces y.piece))) read c.write.ensures) in
+    ((slice_index_or c.fields.result.now c.args.index no_place).from + 1 + c.args.from) c.args.leaves.now) (piece_in pieces y.piece))) read c.write.ensures.written) in
     set_part_inv d t records sides pieces c.self.invariant c.slot_of.ensures.apart c.args.o s is c.self.inside.retains c.self.inside.releases (ap (λ
     (v : HeapView). views.is_dead_in v c.args.o) c.self.view_is ∙ c.requires.alive) c.args.index c.args.from c.args.leaves.now there fits c.write.new.self write
 
@@ -101,7 +101,7 @@ returns c =
     subst (λ (p : FieldPlace). IsChanged pieces c.write.new.self (record_at records s).piece (option_map (put_leaves (p.from + 1 + c.args.from) c.args.leaves.now) (piece_in pieces
     (record_at records s).piece))) place_is
     (subst (λ (y : SlotRecord). IsChanged pieces c.write.new.self y.piece (option_map (put_leaves
-    ((slice_index_or c.fields.result.now c.args.index no_place).from + 1 + c.args.from) c.args.leaves.now) (piece_in pieces y.piece))) read c.write.ensures) in
+    ((slice_index_or c.fields.result.now c.args.index no_place).from + 1 + c.args.from) c.args.leaves.now) (piece_in pieces y.piece))) read c.write.ensures.written) in
     set_part_is d t records sides pieces c.self.invariant c.slot_of.ensures.apart c.args.o s is c.self.inside.retains c.self.inside.releases (ap (λ
     (v : HeapView). views.is_dead_in v c.args.o) c.self.view_is ∙ c.requires.alive) c.args.index c.args.from c.args.leaves.now there fits c.write.new.self write
     ∙ ap (λ (v : HeapView). calls.with_part v c.args.o c.args.index c.args.from c.args.leaves.now) c.self.view_is

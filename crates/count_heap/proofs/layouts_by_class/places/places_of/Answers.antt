@@ -1,13 +1,28 @@
-use Rattle.std.proofs.Common.{◌≡◌, ◌+◌, ◌++◌, [], List, map, sym, ap, ◌∙◌, arith}
+use Rattle.std.proofs.Common.{◌≡◌, ◌+◌, ◌++◌, [], List, map, sym, ap, ◌∙◌, subst, arith}
 use Rattle.std.specs.Option.{option_copied}
 use Rattle.sil_rules.specs.declared.limits.TheConstants.{DEPTH}
 use Rattle.sil_types.specs.sil_types_declarations.TypeDefinitions.Declarations.{chain, superclass_of}
 use Rattle.sil_types.specs.sil_types_declarations.TypeDefinitions.Lookups.{chain_fields, own_fields}
-use Rattle.count_heap.specs.LayoutsByClass.ClassFields.{field_leaves}
+use Rattle.sil_types.specs.numbered_form.Lists.{Each}
+use Rattle.count_heap.specs.LayoutsByClass.ClassFields.{IsFieldInLimits, field_leaves}
 use Rattle.count_heap.specs.LayoutsByClass.Layouts.{places_from, size_of}
 use Rattle.count_heap.specs.declared.layouts_by_class.field_place.FieldPlace.{FieldPlace}
 use Rattle.count_heap.proofs.LayoutsByClass.Lists.{both_places, both_sizes, fields_are}
+use Rattle.count_heap.proofs.LayoutsByClass.FieldLimits.{chain_small, own_small}
 use Rattle.count_heap.proofs.layouts_by_class.places.places_of.Goals as goal
+
+pub add_chain-requires-clause-room : goal.add_chain-requires-clause-room
+add_chain-requires-clause-room c = omega (arith, chain_small c.args.table.now c.requires DEPTH (option_copied c.superclass.result))
+
+pub add_fields-requires-clause-limits : goal.add_fields-requires-clause-limits
+add_fields-requires-clause-limits c =
+    subst (Each (IsFieldInLimits c.args.table.now)) (sym c.own_fields.ensures) (c.requires.leaves c.args.class.now)
+
+pub add_fields-requires-clause-room : goal.add_fields-requires-clause-room
+add_fields-requires-clause-room c =
+    let d = c.args.table.now in
+    let own = ap (λ fs. size_of (map (field_leaves d) fs)) c.own_fields.ensures in
+    omega (arith, chain_small d c.requires DEPTH (option_copied c.superclass.result), own, own_small d c.requires c.args.class.now, c.in_ok-add_chain.ensures.size)
 
 pub returns-clause-places : goal.returns-clause-places
 returns-clause-places c =

@@ -1,11 +1,11 @@
-use Rattle.std.proofs.Common.{◌≡◌, ◌+◌, ◌<◌, ◌^◌, ◌++◌, ◌∷◌, [], List, Some, length, refl, sym, ap, ◌∙◌, subst, arith}
+use Rattle.std.proofs.Common.{◌≡◌, ◌+◌, ◌<◌, ◌^◌, ◌++◌, ◌∷◌, [], List, Some, length, map, refl, sym, ap, ◌∙◌, subst, arith}
 use Rattle.std.specs.Prelude.{replicate}
-use Rattle.std.proofs.lemmas.List.{length-replicate}
+use Rattle.std.proofs.lemmas.List.{length-replicate, map-append}
 use Rattle.holder_model_values.specs.declared.run_values.leaf.Leaf.{Leaf}
 use Rattle.holder_model_values.specs.declared.run_values.leaf.Leaf.TheVariants.{Blank}
-use Rattle.count_heap.specs.PooledLeaves.Pieces.{IsChanged}
+use Rattle.count_heap.specs.PooledLeaves.Pieces.{IsChanged, Pieces}
 use Rattle.count_heap.specs.declared.pooled_leaves.piece.Piece.{Piece}
-use Rattle.count_heap.specs.PooledLeaves.inner.Layout.{AreFreeListed, IsPool, pieces_in}
+use Rattle.count_heap.specs.PooledLeaves.inner.Layout.{AreFreeListed, IsPool, piece_size, pieces_in}
 use Rattle.count_heap.proofs.PooledLeaves.Freed.{more_listed}
 use Rattle.count_heap.proofs.PooledLeaves.Pools.{added_laid, added_view}
 use Rattle.count_heap.proofs.pooled_leaves.pool.LeafPool.add.Goals as goal
@@ -39,3 +39,10 @@ returns-clause-ok c =
     (subst (λ ps. IsChanged (pieces_in leaves pieces) (pieces_in (leaves ++ more) ps) c.len-p.result (Some (replicate c.args.size Blank))) (sym items)
     (subst (λ n. IsChanged (pieces_in leaves pieces) (pieces_in (leaves ++ more) (pieces ++ new ∷ [])) n (Some (replicate c.args.size Blank))) place
     (added_view leaves pieces c.self.invariant.laid_out more new refl c.in_ok-first.ensures.first (sym (length-replicate c.args.size Blank))))))
+
+pub returns-clause-grown : goal.returns-clause-grown
+returns-clause-grown c =
+    let pieces = c.self.inside.pieces.items in
+    let new : Piece = record { first = c.in_ok-first.first; size = c.args.size; depth = 0; next = 0 } in
+    let items : c.push_reserved.new.self.items ≡ pieces ++ new ∷ [] = c.push_reserved.ensures.items ∙ ap (λ ps. ps ++ new ∷ []) c.in_ok-reserve.ensures.items in
+    ap (map piece_size) items ∙ map-append piece_size pieces (new ∷ []) ∙ ap (λ (v : Pieces). v.sizes ++ c.args.size ∷ []) c.self.view_is

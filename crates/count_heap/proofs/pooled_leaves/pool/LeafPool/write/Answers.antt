@@ -8,8 +8,8 @@ use Rattle.count_heap.proofs.PooledLeaves.Freed.{piece_at}
 use Rattle.count_heap.proofs.PooledLeaves.Pools.{is_out, put_view, seen_out, size_is}
 use Rattle.count_heap.proofs.pooled_leaves.pool.LeafPool.write.Goals as goal
 
-pub returns : goal.returns
-returns c =
+pub returns-clause-written : goal.returns-clause-written
+returns-clause-written c =
     let leaves = c.self.inside.leaves.items in
     let pieces = c.self.inside.pieces.items in
     let laid = c.self.invariant.laid_out in
