@@ -103,6 +103,7 @@ fn run_from(
     requires table { AreDeclarationsOf table.now m.now }
     requires starts { MayStartAt m.now entry }
     requires some_turns { 1 ≤ turns }
+    requires few_turns { turns ≤ 1000000 }
 {
     let run = run(alloc, m, table, entry, turns)?;
     add_run(alloc, m, table, given, run, tells_events, written)

@@ -8,3 +8,4 @@ pub mod FieldCalls
 pub mod HeapLaws
 pub mod LayoutsByClass
 pub mod PooledLeaves
+pub mod Rooms

@@ -1,3 +1,4 @@
 pub mod HeapViews
 pub mod HeapCalls
+pub mod Counts
 pub mod FieldLimits

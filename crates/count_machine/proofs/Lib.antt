@@ -1,3 +1,4 @@
+mod Counting
 mod Endings
 mod Starting
 mod Leaving

@@ -1,6 +1,7 @@
 //! The run of a lowered module.
 
 ghost use Rattle.std.specs.Prelude.{◌≡◌, ◌≤◌, ℕ, IfOk, slice_get};
+ghost use Rattle.count_heap.specs.HeapModel.Counts.{CountsFit};
 ghost use Rattle.holder_model.specs.RunTyping.Forms.{given_shape};
 ghost use Rattle.holder_model.specs.RunTyping.Runnable.{IsRunnable};
 ghost use Rattle.sil_types_declarations.specs.TypeDefinitions.Declarations.{declarations_of};
@@ -22,6 +23,7 @@ use std::alloc::Global;
 
 /// Runs a lowered module from an entry function that has a body and no arguments, for a bound on turns: the run of lowered code by stored
 /// numbers, as `docs/RUNS.md` defines it, and the heap in which it has ended. Memory for frames, slots, objects and events is taken as the run needs it.
+/// No number that the heap stores reaches 2^63: a turn runs fewer than 2^32 instructions, and each of them makes 64 references or names at most.
 pub fn run(
     alloc: Global,
     m: &Module,
@@ -33,8 +35,10 @@ pub fn run(
     requires of_it { table.now ≡ declarations_of m.now }
     requires starts { MayStartAt m.now entry }
     requires some_turns { 1 ≤ turns }
+    requires few_turns { turns ≤ 1000000 }
     ensures outcome { IfOk result (EndsAsTold m.now entry turns) }
     ensures heap { IfOk result HeapIsAsTold }
+    ensures counts { IfOk result (λ run. CountsFit run.heap) }
     ensures last_heap { IfOk result (HasLastHeap m.now entry turns) }
 {
     runnable_is_typed();
@@ -65,6 +69,7 @@ fn told(
     requires there { (n : ℕ) × (slice_get m.now.functions n ≡ Some entry.now) }
     ensures outcome { IfOk result (TellsOf m.now (given_shape (declarations_of m.now) entry.now) machine stop) }
     ensures heap { IfOk result HeapIsAsTold }
+    ensures same_heap { IfOk result (λ run. run.heap ≡ machine.heap) }
 {
     let ending = ending_of(alloc, m, table, entry, &machine, stop)?;
     let (events, heap) = machine.into_events_and_heap();

@@ -3,12 +3,15 @@ pub mod Continuing
 pub mod DeinitCalled
 pub mod Dropped
 pub mod Falling
+pub mod Fitting
 pub mod Followed
 pub mod Leaving
 pub mod Onward
 pub mod Performing
 pub mod Returned
+pub mod Rooms
 pub mod SharedDrops
+pub mod Starting
 pub mod Stepped
 pub mod Stretched
 pub mod Taken

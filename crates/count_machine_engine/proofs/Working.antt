@@ -73,3 +73,8 @@ module _ (ready : ReadyModule) (bound : ℕ) where
   work-turn st after h e less =
       let k = longest ready + 3 in
       rw e (less_turned (bound - (st.turns + 1)) k (left_in ready after.tasks) (left_in ready st.tasks) ((bound - st.turns) * k) (sym (turned st.turns k h)) (omega arith) (omega arith))
+
+  -- what is left of a task is work
+  pub work-positive : (st : MachineView) → 1 ≤ left_in ready st.tasks → 1 ≤ work ready bound st
+  unfolding work
+  work-positive st h = omega (arith, h)

@@ -1,2 +1,3 @@
 pub mod Advanced
 pub mod Work
+pub mod Counting

@@ -1,9 +1,12 @@
 //! How a frame goes on within its block. A reference of an object that has others is dropped at once: no drop is made of it that waits.
 
 ghost use Rattle.std.specs.Prelude.{◌≡◌, ◌≤◌, ◌∷◌, IfSome, List, Some, false, slice_get};
+ghost use Rattle.holder_model.specs.ownership_kinds_origins.sil_rules.declared.limits.TheConstants.{LEAVES};
+ghost use Rattle.count_heap.specs.HeapModel.Counts.{HasRoom};
 ghost use Rattle.count_heap.specs.HeapModel.HeapCalls.{released};
 ghost use Rattle.count_heap.specs.HeapModel.HeapViews.{is_dead_in, strong_in};
 ghost use Rattle.count_machine_model.specs.MachineSteps.Ends.{block_at};
+ghost use Rattle.count_machine_model.specs.ReadyCode.Short.{MakesFew};
 ghost use Rattle.count_machine_model.specs.declared.machine_steps.frame.Task.{Task};
 ghost use Rattle.count_machine_model.specs.declared.machine_steps.frame.Task.TheVariants.{Runs};
 ghost use Rattle.count_machine_model.specs.declared.ready_code.block.ReadyBlock.{ReadyBlock};
@@ -41,9 +44,10 @@ fn shared_object(machine: &Machine, frame: &Frame, operand: Local) -> Option<Obj
 fn release_shared(machine: &mut Machine, frame: &Frame, object: ObjectId) -> Result<(), Stop>
     requires alive { is_dead_in machine.old.heap object ≡ false }
     requires some { 1 ≤ strong_in machine.old.heap object }
+    requires room { HasRoom 0 machine.old.heap }
     ensures { GoesOn machine.old frame.now (record machine.old { heap = released machine.old.heap object }) result machine.new }
 {
-    machine.release_one(object)?;
+    machine.release_one(object);
     machine.go_on()
 }
 
@@ -56,6 +60,8 @@ pub(crate) fn advance(
     frame: &Frame,
     op: &ReadyOp,
 ) -> Result<(), Stop>
+    requires few { MakesFew op.now }
+    requires room { HasRoom LEAVES machine.old.heap }
     ensures { (rest : List Task) (b : ReadyBlock) → machine.old.tasks ≡ Runs frame.now ∷ rest → block_at ready.now frame.now.function frame.now.block ≡ Some b →
         slice_get b.ops frame.now.index ≡ Some op.now → HasAdvanced ready.now bound machine.old frame.now rest result machine.new }
 {

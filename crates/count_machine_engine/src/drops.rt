@@ -1,6 +1,7 @@
 //! References that wait to be dropped.
 
 ghost use Rattle.std.specs.Prelude.{◌≡◌, ◌∷◌, List};
+ghost use Rattle.count_heap.specs.HeapModel.Counts.{HasRoom};
 ghost use Rattle.count_heap.specs.HeapModel.HeapViews.{phase_in, strong_in};
 ghost use Rattle.count_machine_model.specs.MachineSteps.Steps.{deinitialises, drops, releases};
 ghost use Rattle.count_machine_model.specs.declared.machine_steps.frame.Task.{Task};
@@ -31,6 +32,7 @@ fn deinitialise(machine: &mut Machine, bound: u32, object: ObjectId) -> Result<(
 
 /// A reference is dropped.
 fn release(machine: &mut Machine, bound: u32, object: ObjectId) -> Result<(), Stop>
+    requires { HasRoom 0 machine.old.heap }
     ensures { (ready : ReadyModule) → HasGone (releases ready bound machine.old object) result machine.new }
 {
     if machine.is_dead(object) {
@@ -39,7 +41,8 @@ fn release(machine: &mut Machine, bound: u32, object: ObjectId) -> Result<(), St
     if machine.strong(object) == 0 {
         return Err(fault(LowFault::Underflow { object, count: 0 }));
     }
-    match machine.release_one(object)? {
+    let answer = machine.release_one(object);
+    match answer {
         Released::Held => Ok(()),
         Released::LastGone => deinitialise(machine, bound, object),
     }
@@ -47,6 +50,7 @@ fn release(machine: &mut Machine, bound: u32, object: ObjectId) -> Result<(), St
 
 /// The next of the references that wait is dropped. With the last one of its drop, the drop is gone.
 pub(crate) fn drop_next(machine: &mut Machine, bound: u32, from: usize) -> Result<(), Stop>
+    requires { HasRoom 0 machine.old.heap }
     ensures { (ready : ReadyModule) (rest : List Task) → machine.old.tasks ≡ Drops from ∷ rest
         → HasGone (drops ready bound machine.old from rest) result machine.new }
 {

@@ -6,9 +6,11 @@ mod call_rows;
 mod deinits;
 mod drops;
 mod ends;
+mod laws;
 mod lookups;
 mod rows;
 mod run;
 
 pub use count_machine_state::{Machine, Stop};
+pub use laws::counts_stay_under;
 pub use run::run_to_end;

@@ -1,5 +1,7 @@
 //! Each instruction by its row.
 
+ghost use Rattle.count_heap.specs.HeapModel.Counts.{HasRoom};
+ghost use Rattle.count_machine_model.specs.ReadyCode.Short.{made_by};
 ghost use Rattle.count_machine_rows.specs.Performing.{PerformsIn};
 
 use crate::call_rows::{call, call_out};
@@ -20,6 +22,7 @@ pub(crate) fn perform(
     frame: &Frame,
     op: &ReadyOp,
 ) -> Result<(), Stop>
+    requires { HasRoom (made_by op.now) machine.old.heap }
     ensures { PerformsIn ready.now bound machine.old frame.now op.now result machine.new }
 {
     match op {

@@ -3,6 +3,8 @@
 ghost use Rattle.std.specs.Prelude.{◌≡◌, ◌<◌, ◌≤◌, IsSome, OnOk, Some, false, slice_get};
 ghost use Rattle.count_machine_model.specs.declared.machine_steps.frame.Task.TheVariants.{Runs};
 ghost use Rattle.count_machine_state.specs.GoingOn.{frame_of};
+ghost use Rattle.count_machine_model.specs.ReadyCode.Short.{IsShortCode};
+ghost use Rattle.count_machine_engine.specs.Fits.{Fits};
 ghost use Rattle.count_machine_engine.specs.Led.{HasEnded, HasLed, is_dropping};
 ghost use Rattle.count_machine_engine.specs.inner.Work.{work};
 
@@ -15,8 +17,11 @@ use count_machine_model::{Frame, ReadyModule, Task};
 use count_machine_state::{Machine, Stop, fault};
 use holder_model::LowFault;
 
-/// Steps until the run ends, or there is no memory for it.
+/// Steps until the run ends, or there is no memory for it. No number that the heap stores reaches 2^63 on the way: what is left of the run
+/// makes fewer references and names.
 pub fn run_to_end(machine: &mut Machine, ready: &ReadyModule, bound: u32) -> Stop
+    requires short { IsShortCode ready.now }
+    requires fits { Fits ready.now bound machine.old }
     ensures { HasEnded ready.now bound machine.old result machine.new }
 {
     loop {
@@ -31,7 +36,9 @@ pub fn run_to_end(machine: &mut Machine, ready: &ReadyModule, bound: u32) -> Sto
 
 /// A task that isn't a drop goes on: a frame by a stretch of its block, another one by a step.
 fn run_task(machine: &mut Machine, ready: &ReadyModule, bound: u32) -> Result<(), Stop>
-    requires { is_dropping machine.old.tasks ≡ false }
+    requires going { is_dropping machine.old.tasks ≡ false }
+    requires short { IsShortCode ready.now }
+    requires fits { Fits ready.now bound machine.old }
     ensures led { HasLed ready.now bound machine.old result machine.new }
     ensures work { OnOk result (work ready.now bound machine.new < work ready.now bound machine.old) }
 {
@@ -45,7 +52,9 @@ fn run_task(machine: &mut Machine, ready: &ReadyModule, bound: u32) -> Result<()
 
 /// Frames, block by block, until another task goes on.
 fn run_frames(machine: &mut Machine, ready: &ReadyModule, bound: u32) -> Result<(), Stop>
-    requires { IsSome (frame_of (slice_get machine.old.tasks 0)) }
+    requires going { IsSome (frame_of (slice_get machine.old.tasks 0)) }
+    requires short { IsShortCode ready.now }
+    requires fits { Fits ready.now bound machine.old }
     ensures led { HasLed ready.now bound machine.old result machine.new }
     ensures work { OnOk result (work ready.now bound machine.new < work ready.now bound machine.old) }
 {
@@ -66,7 +75,9 @@ fn run_block(
     bound: u32,
     mut frame: Frame,
 ) -> Result<(), Stop>
-    requires { slice_get machine.old.tasks 0 ≡ Some (Runs frame) }
+    requires going { slice_get machine.old.tasks 0 ≡ Some (Runs frame) }
+    requires short { IsShortCode ready.now }
+    requires fits { Fits ready.now bound machine.old }
     ensures led { HasLed ready.now bound machine.old result machine.new }
     ensures work { OnOk result (work ready.now bound machine.new < work ready.now bound machine.old) }
 {
@@ -89,6 +100,8 @@ fn run_block(
 
 /// Drops until something else goes on.
 fn drain(machine: &mut Machine, ready: &ReadyModule, bound: u32) -> Result<(), Stop>
+    requires short { IsShortCode ready.now }
+    requires fits { Fits ready.now bound machine.old }
     ensures led { HasLed ready.now bound machine.old result machine.new }
     ensures work { OnOk result (work ready.now bound machine.new ≤ work ready.now bound machine.old) }
     ensures done { OnOk result (is_dropping machine.new.tasks ≡ false) }

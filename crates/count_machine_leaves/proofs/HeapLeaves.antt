@@ -1,3 +1,4 @@
 pub mod Alike
 pub mod HeapChanges
 pub mod Unnamed
+pub mod Rooms

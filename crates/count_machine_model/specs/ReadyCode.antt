@@ -3,3 +3,4 @@ pub mod Layout
 pub mod ReadyOps
 pub mod ReadyEnds
 pub mod ReadyModules
+pub mod Short

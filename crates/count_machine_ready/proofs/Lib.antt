@@ -15,4 +15,5 @@ pub mod Offsets
 pub mod OneByOne
 pub mod ReachedCode
 pub mod RowParts
+pub mod ShortCode
 pub mod TypedRows

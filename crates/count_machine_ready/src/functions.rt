@@ -8,6 +8,7 @@ ghost use Rattle.sil_cfg.specs.declared.item.Item.TheVariants as item;
 ghost use Rattle.sil_types_declarations.specs.TypeDefinitions.Declarations.{declarations_of};
 ghost use Rattle.count_machine_model.specs.ReadyCode.Matched.{Matched};
 ghost use Rattle.count_machine_model.specs.ReadyCode.ReadyModules.{IsClosed, IsReadyBlock, IsReadyFunction, first_local};
+ghost use Rattle.count_machine_model.specs.ReadyCode.Short.{AreShort};
 ghost use Rattle.count_machine_layouts.specs.FrameLayouts.inner.Laid.{AreLaid};
 ghost use Rattle.count_machine_ready.specs.inner.Bodies.{HasOwnRow, HasRows, IsBody, IsReadyOp, declared};
 ghost use Rattle.count_machine_ready.specs.inner.Functions.{AreReady};
@@ -78,7 +79,8 @@ fn first_argument(body: &Body<'_>) -> Option<Local>
 
 fn ready_function(alloc: Global, body: &Body<'_>) -> Result<ReadyFunction, Exhausted>
     requires { IsBody body.now }
-    ensures { IfOk result (IsReadyFunction body.now.m.now body.now.function.now) }
+    ensures ready { IfOk result (IsReadyFunction body.now.m.now body.now.function.now) }
+    ensures short { IfOk result AreShort }
 {
     Ok(ReadyFunction {
         values: body.layout.spots.len() as u32,
@@ -92,7 +94,8 @@ fn ready_function(alloc: Global, body: &Body<'_>) -> Result<ReadyFunction, Exhau
 /// A function, made ready if it is reached; one that isn't takes no memory.
 fn function_where(alloc: Global, body: &Body<'_>, reached: bool) -> Result<ReadyFunction, Exhausted>
     requires { reached ≡ true → IsBody body.now }
-    ensures { IfOk result (λ code. reached ≡ true → IsReadyFunction body.now.m.now body.now.function.now code) }
+    ensures ready { IfOk result (λ code. reached ≡ true → IsReadyFunction body.now.m.now body.now.function.now code) }
+    ensures short { IfOk result AreShort }
 {
     if reached {
         ready_function(alloc, body)
@@ -120,7 +123,8 @@ pub(crate) fn ready_functions(
     requires closed { IsClosed m.now reached.now }
     requires marks { length reached.now ≡ length m.now.functions }
     requires laid { AreLaid m.now reached.now layouts.now }
-    ensures { IfOk result (AreReady m.now reached.now) }
+    ensures ready { IfOk result (AreReady m.now reached.now) }
+    ensures short { IfOk result (Each AreShort) }
 {
     let mut functions = List::with_capacity(alloc, m.functions.len())?;
     for (number, f) in m.functions.as_slice().iter().enumerate() {

@@ -4,6 +4,7 @@ ghost use Rattle.std.specs.Prelude.{◌≡◌, ◌<◌, IfOk, List, Bool, length
 ghost use Rattle.holder_model.specs.RunTyping.Runnable.{IsRunnable};
 ghost use Rattle.sil_types_declarations.specs.TypeDefinitions.Declarations.{declarations_of};
 ghost use Rattle.count_machine_model.specs.ReadyCode.ReadyModules.{IsReadyModule, Reaches};
+ghost use Rattle.count_machine_model.specs.ReadyCode.Short.{IsShortCode};
 
 use crate::functions::ready_functions;
 use count_machine_layouts::{layouts_of, reached_from, ready_classes};
@@ -23,7 +24,8 @@ pub fn make_ready(
     requires runnable { IsRunnable m.now }
     requires of_it { table.now ≡ declarations_of m.now }
     requires there { entry.0 < length m.now.functions }
-    ensures { IfOk result (λ ready. (reached : List Bool) × IsReadyModule m.now reached ready × Reaches reached entry) }
+    ensures ready { IfOk result (λ ready. (reached : List Bool) × IsReadyModule m.now reached ready × Reaches reached entry) }
+    ensures short { IfOk result IsShortCode }
 {
     let classes = ready_classes(alloc, table, m.decls.as_slice())?;
     let found = reached_from(alloc, m, classes.as_slice(), entry)?;

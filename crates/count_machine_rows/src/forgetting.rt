@@ -1,6 +1,7 @@
 //! Weak and unowned storage is emptied, or names an object anew.
 
 ghost use Rattle.std.specs.Prelude.{◌≡◌, ◌∷◌, [], cond, find, None, OnOk};
+ghost use Rattle.count_machine_model.specs.count_heap.HeapModel.Counts.{HasRoom};
 ghost use Rattle.count_machine_model.specs.count_heap.HeapModel.HeapViews.{is_dead_in};
 ghost use Rattle.count_machine_model.specs.MachineSteps.Held.{write_at};
 ghost use Rattle.count_machine_model.specs.MachineSteps.Naming.{leaf_named};
@@ -57,8 +58,9 @@ pub(crate) fn name_anew(
 ) -> Result<(), Exhausted>
     requires alive { find (is_dead_in machine.old.heap) (object_in_leaf leaf) ≡ None }
     requires lies { LiesAlive machine.old.heap place.home }
+    requires room { HasRoom 1 machine.old.heap }
     ensures { OnOk result (machine.new ≡ write_at (record machine.old { heap = leaf_named storage leaf machine.old.heap }) place (leaf ∷ [])) }
 {
-    machine.name(storage, leaf)?;
+    machine.name(storage, leaf);
     machine.write_leaf(place, leaf)
 }

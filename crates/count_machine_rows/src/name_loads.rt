@@ -1,6 +1,7 @@
 //! Reads of weak and unowned storage.
 
 ghost use Rattle.std.specs.Prelude.{◌≡◌, cond, false, IfSome};
+ghost use Rattle.count_machine_model.specs.count_heap.HeapModel.Counts.{HasRoom};
 ghost use Rattle.count_machine_model.specs.count_heap.HeapModel.HeapViews.{is_dead_in};
 ghost use Rattle.count_machine_model.specs.MachineSteps.Held.{Held};
 ghost use Rattle.count_machine_model.specs.MachineSteps.Operands.{object_in_leaf};
@@ -26,12 +27,13 @@ fn give_weak(
     to: Local,
     live: Option<ObjectId>,
 ) -> Result<(), Stop>
-    requires { IfSome live (λ o. is_dead_in machine.old.heap o ≡ false) }
+    requires alive { IfSome live (λ o. is_dead_in machine.old.heap o ≡ false) }
+    requires room { HasRoom 1 machine.old.heap }
     ensures { GoesOver machine.old frame.now (weak_by machine.old frame.now to live) result machine.new }
 {
     match live {
         Some(object) => {
-            machine.retain_one(object)?;
+            machine.retain_one(object);
             give_two(machine, frame, to, Leaf::Tag(1), Leaf::Object(object))
         }
         None => give_two(machine, frame, to, Leaf::Tag(0), Leaf::Blank),
@@ -45,12 +47,13 @@ fn give_unowned(
     to: Local,
     live: Option<ObjectId>,
 ) -> Result<(), Stop>
-    requires { IfSome live (λ o. is_dead_in machine.old.heap o ≡ false) }
+    requires alive { IfSome live (λ o. is_dead_in machine.old.heap o ≡ false) }
+    requires room { HasRoom 1 machine.old.heap }
     ensures { GoesOver machine.old frame.now (unowned_by machine.old frame.now to live) result machine.new }
 {
     match live {
         Some(object) => {
-            machine.retain_one(object)?;
+            machine.retain_one(object);
             give_leaf(machine, frame, to, Leaf::Object(object))
         }
         None => Err(Stop::Ends(RunEnd::Unowned)),
@@ -65,7 +68,8 @@ fn give_live(
     to: Local,
     live: Option<ObjectId>,
 ) -> Result<(), Stop>
-    requires { IfSome live (λ o. is_dead_in machine.old.heap o ≡ false) }
+    requires alive { IfSome live (λ o. is_dead_in machine.old.heap o ≡ false) }
+    requires room { HasRoom 1 machine.old.heap }
     ensures { GoesOver machine.old frame.now (live_given storage machine.old frame.now to live) result machine.new }
 {
     match storage {
@@ -85,7 +89,8 @@ fn give_named(
     to: Local,
     leaf: Leaf,
 ) -> Result<(), Stop>
-    requires { LiesAlive machine.old.heap place.home }
+    requires lies { LiesAlive machine.old.heap place.home }
+    requires room { HasRoom 1 machine.old.heap }
     ensures { GoesOver machine.old frame.now (λ rest.
         given machine.old frame.now rest storage (cond takes (forgotten machine.old frame.now rest storage place leaf) machine.old) to
         (object_in_leaf leaf)) result machine.new }
@@ -111,7 +116,8 @@ fn load_held(
     to: Local,
     held: NameHeld,
 ) -> Result<(), Stop>
-    requires { UnlessDead held (LiesAlive machine.old.heap place.home) }
+    requires lies { UnlessDead held (LiesAlive machine.old.heap place.home) }
+    requires room { HasRoom 1 machine.old.heap }
     ensures { (x : Held) → held ≡ as_name x → GoesOver machine.old frame.now
         (λ rest. loads_name machine.old frame.now rest storage takes place to x) result machine.new }
 {
@@ -132,6 +138,7 @@ pub fn load_name(
     address: LocalAddress,
     to: Local,
 ) -> Result<(), Stop>
+    requires { HasRoom 1 machine.old.heap }
     ensures { Performs machine.old frame.now (op.LoadName storage takes address to) result machine.new }
 {
     if !machine.is_there(frame, address.value) {

@@ -1,6 +1,7 @@
 //! Weak and unowned storage that is written or emptied.
 
 ghost use Rattle.std.specs.Prelude.{◌≡◌, cond, find, None};
+ghost use Rattle.count_machine_model.specs.count_heap.HeapModel.Counts.{HasRoom};
 ghost use Rattle.count_machine_model.specs.count_heap.HeapModel.HeapViews.{is_dead_in};
 ghost use Rattle.count_machine_model.specs.MachineSteps.Held.{Held};
 ghost use Rattle.count_machine_model.specs.MachineSteps.Naming.{leaf_unnamed};
@@ -29,6 +30,7 @@ fn give_name(
 ) -> Result<(), Stop>
     requires alive { find (is_dead_in machine.old.heap) (object_in_leaf leaf) ≡ None }
     requires lies { LiesAlive machine.old.heap place.home }
+    requires room { HasRoom 1 machine.old.heap }
     ensures { (fr : Frame) → GoesOver machine.old fr (λ rest. named_anew machine.old fr rest storage place leaf machine.old.heap) result machine.new }
 {
     name_anew(machine, storage, place, leaf)?;
@@ -46,6 +48,7 @@ fn give_other_name(
 ) -> Result<(), Stop>
     requires alive { find (is_dead_in machine.old.heap) (object_in_leaf leaf) ≡ None }
     requires lies { LiesAlive machine.old.heap place.home }
+    requires room { HasRoom 1 machine.old.heap }
     ensures { let heap = cond first machine.old.heap (leaf_unnamed storage held machine.old.heap) in
         (fr : Frame) → GoesOver machine.old fr (λ rest. named_anew machine.old fr rest storage place leaf heap) result machine.new }
 {
@@ -66,7 +69,8 @@ fn store_held(
     leaf: Leaf,
     held: NameHeld,
 ) -> Result<(), Stop>
-    requires { UnlessDead held (LiesAlive machine.old.heap place.home) }
+    requires lies { UnlessDead held (LiesAlive machine.old.heap place.home) }
+    requires room { HasRoom 1 machine.old.heap }
     ensures { (x : Held) → held ≡ as_name x → GoesOver machine.old frame.now
         (λ rest. stores_name machine.old frame.now rest storage first place leaf x) result machine.new }
 {
@@ -100,6 +104,7 @@ pub fn store_name(
     from: Local,
     address: LocalAddress,
 ) -> Result<(), Stop>
+    requires { HasRoom 1 machine.old.heap }
     ensures { Performs machine.old frame.now (op.StoreName storage first from address) result machine.new }
 {
     if !machine.is_there(frame, from.value) {

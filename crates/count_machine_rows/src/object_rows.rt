@@ -1,6 +1,7 @@
 //! Objects: how they are made, and the addresses of their fields.
 
 ghost use Rattle.std.specs.Prelude.{◌≡◌, List, slice_get};
+ghost use Rattle.count_machine_model.specs.count_heap.HeapModel.Counts.{HasRoom};
 ghost use Rattle.count_machine_model.specs.MachineSteps.Places.{field_address};
 ghost use Rattle.count_machine_model.specs.declared.ready_code.op.ReadyOp.TheVariants as op;
 ghost use Rattle.sil_ast.specs.declared.place.ObjectId.{ObjectId};
@@ -16,6 +17,7 @@ use sil_ast::ObjectId;
 
 /// The result is a new object of a class.
 pub fn make_object(machine: &mut Machine, frame: &Frame, class: u32, to: Local) -> Result<(), Stop>
+    requires { HasRoom 1 machine.old.heap }
     ensures { Performs machine.old frame.now (op.MakeObject class to) result machine.new }
 {
     if !machine.is_class(class) {

@@ -1,6 +1,7 @@
 //! References that are made once more, or dropped.
 
 ghost use Rattle.std.specs.Prelude.{◌≡◌, OnOk, ◌∷◌, List};
+ghost use Rattle.count_machine_model.specs.count_heap.HeapModel.Counts.{HasRoom};
 ghost use Rattle.count_machine_model.specs.MachineSteps.Operands.{contents, objects_among, behind_op};
 ghost use Rattle.count_machine_model.specs.MachineSteps.Turning.{dropping};
 ghost use Rattle.count_machine_model.specs.declared.machine_steps.frame.Task.{Task};
@@ -15,6 +16,7 @@ use sil_ast::Exhausted;
 /// One reference more of each object of a value.
 #[inline]
 pub fn retain(machine: &mut Machine, frame: &Frame, operand: Local) -> Result<(), Stop>
+    requires { HasRoom operand.size machine.old.heap }
     ensures { Performs machine.old frame.now (op.Retain operand) result machine.new }
 {
     if !machine.is_there(frame, operand.value) {

@@ -1,15 +1,18 @@
 -- References that are made once more, one object after another.
-use Rattle.std.proofs.Common.{◌≡◌, ℕ, ◌+◌, ◌<◌, List, [], ◌∷◌, ◌++◌, cond, true, false, drop, get_or, length, sym, ap, ◌∙◌}
-use Rattle.std.proofs.lemmas.List.{append-nil, drop_more}
+use Rattle.std.proofs.Common.{◌≡◌, ℕ, ◌+◌, ◌<◌, List, [], ◌∷◌, ◌++◌, cond, true, false, drop, get_or, length, take, sym, ap, subst, ◌∙◌, arith}
+use Rattle.std.proofs.lemmas.List.{append-nil, drop_more, length-take}
 use Rattle.std.specs.Prelude.{Err}
+use Rattle.count_heap.specs.HeapModel.Counts.{HasRoom}
 use Rattle.count_heap.specs.HeapModel.HeapCalls.{retained}
 use Rattle.count_heap.specs.HeapModel.HeapViews.{HeapView, is_dead_in}
+use Rattle.count_heap.proofs.Rooms.{room-less, room-retained}
 use Rattle.holder_model.specs.declared.lowered_run.low_fault.LowFault.TheVariants as fault
 use Rattle.count_machine_model.specs.MachineSteps.Operands.{faults, object_in_leaf, objects_among}
 use Rattle.count_machine_model.specs.MachineSteps.Turning.{retains_all}
 use Rattle.count_machine_model.specs.MachineSteps.Views.{Goes, MachineView, Stops, Went}
 use Rattle.count_machine_model.specs.declared.machine_steps.run_end.RunEnd.{RunEnd}
 use Rattle.holder_model_values.specs.declared.run_values.leaf.Leaf.{Leaf}
+use Rattle.holder_model_values.specs.declared.run_values.leaf.Leaf.TheVariants as leaf
 use Rattle.sil_ast.specs.declared.place.ObjectId.{ObjectId}
 use Rattle.count_machine_state.specs.Went.{HasGone}
 use Rattle.count_machine_state.specs.declared.stop.Stop.{Stop}
@@ -75,3 +78,26 @@ retained_tasks (o ∷ os) st after e =
       | true ↦ λ f. cc
       | false ↦ λ f. retained_tasks os (with_heap st (retained st.heap o)) after f
     ] e
+
+-- room for the references of leaves
+
+still_room : (n : ℕ) (st after : MachineView) → st ≡ after → HasRoom n st.heap → HasRoom n after.heap
+still_room n st after same room = subst (λ (x : MachineView). HasRoom n x.heap) same room
+
+pub room_left : (n : ℕ) (l : Leaf) (st after : MachineView) → retains_all (object_in_leaf l) st Goes ≡ Goes after → HasRoom (n + 1) st.heap → HasRoom n after.heap
+room_left n (leaf.Int k) st after e room = let same : st ≡ after = cc in still_room n st after same (room-less (omega arith) room)
+room_left n (leaf.Object o) st after e room =
+    elim (is_dead_in st.heap o) as (λ b. cond b (faults (fault.Dead o) st) (Goes (with_heap st (retained st.heap o))) ≡ Goes after → HasRoom n after.heap) [
+      | true ↦ λ f. cc
+      | false ↦ λ f. let same : with_heap st (retained st.heap o) ≡ after = cc in still_room n (with_heap st (retained st.heap o)) after same (room-retained o room)
+    ] e
+room_left n (leaf.Tag k) st after e room = let same : st ≡ after = cc in still_room n st after same (room-less (omega arith) room)
+room_left n leaf.Blank st after e room = let same : st ≡ after = cc in still_room n st after same (room-less (omega arith) room)
+
+-- one leaf after another
+pub room_next : (ls : List Leaf) (i : ℕ) → i < length ls → length (drop i ls) ≡ length (drop (i + 1) ls) + 1
+room_next ls i h = let one = ap (λ (xs : List Leaf). length xs) (drop_more ls i leaf.Blank h) in omega (arith, one)
+
+-- some leaves of a list
+pub room_for_part : (size : ℕ) (all ls : List Leaf) (h : HeapView) → ls ≡ take size all → HasRoom size h → HasRoom (length ls) h
+room_for_part size all ls h is room = let same = ap (λ (xs : List Leaf). length xs) is in room-less (omega (arith, same, length-take size all)) room

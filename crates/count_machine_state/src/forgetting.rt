@@ -1,6 +1,7 @@
 //! Weak and unowned storage that begins to name an object, or names it no longer.
 
 ghost use Rattle.std.specs.Prelude.{◌≡◌, ◌∷◌, [], find, None, OnOk, Some};
+ghost use Rattle.count_heap.specs.HeapModel.Counts.{HasRoom};
 ghost use Rattle.count_heap.specs.HeapModel.HeapViews.{is_dead_in};
 ghost use Rattle.count_machine_model.specs.MachineSteps.Held.{write_at, write_slot};
 ghost use Rattle.count_machine_model.specs.MachineSteps.Naming.{leaf_named, leaf_unnamed};
@@ -25,11 +26,12 @@ impl Machine {
 
     /// The object of a leaf, which isn't dead, is named once more.
     #[inline]
-    pub fn name(&mut self, storage: Storage, leaf: Leaf) -> Result<(), Exhausted>
-        requires { find (is_dead_in self.old.heap) (object_in_leaf leaf) ≡ None }
-        ensures { OnOk result (self.new ≡ record self.old { heap = leaf_named storage leaf self.old.heap }) }
+    pub fn name(&mut self, storage: Storage, leaf: Leaf)
+        requires alive { find (is_dead_in self.old.heap) (object_in_leaf leaf) ≡ None }
+        requires room { HasRoom 1 self.old.heap }
+        ensures { self.new ≡ record self.old { heap = leaf_named storage leaf self.old.heap } }
     {
-        name_leaf(&mut self.heap, storage, leaf)
+        name_leaf(&mut self.heap, storage, leaf);
     }
 
     /// A place becomes one leaf.

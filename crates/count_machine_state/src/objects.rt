@@ -1,6 +1,7 @@
 //! The objects of the heap: what is read of them, and how they come and go.
 
 ghost use Rattle.std.specs.Prelude.{◌≡◌, IfOk, is_some, length, OnOk, true, find, false, ◌≤◌};
+ghost use Rattle.count_heap.specs.HeapModel.Counts.{HasRoom};
 ghost use Rattle.count_heap.specs.HeapModel.HeapCalls.{allocated_in, finished, release_answer, released, started};
 ghost use Rattle.count_heap.specs.HeapModel.HeapViews.{is_dead_in, fields_in, phase_in, strong_in, class_in};
 ghost use Rattle.count_machine_model.specs.MachineSteps.Operands.{object_in_leaf};
@@ -18,13 +19,11 @@ use sil_ast::{Exhausted, ObjectId, Storage, Text, TryClone};
 impl Machine {
     /// A new object of a class.
     pub fn allocate(&mut self, class: u32) -> Result<ObjectId, Exhausted>
-        requires { is_some (lookups.class_at self.old.heap.declarations class) ≡ true }
+        requires class { is_some (lookups.class_at self.old.heap.declarations class) ≡ true }
+        requires room { HasRoom 1 self.old.heap }
         ensures number { IfOk result (λ o. o.0 ≡ length self.old.heap.objects) }
         ensures heap { OnOk result (self.new ≡ record self.old { heap = allocated_in self.old.heap class }) }
     {
-        if self.heap.allocated() >= 1 << 63 {
-            return Err(Exhausted);
-        }
         self.heap.allocate(class)
     }
 
@@ -127,16 +126,14 @@ impl Machine {
 
     /// One strong reference less of an object that isn't dead and has one.
     #[inline]
-    pub fn release_one(&mut self, object: ObjectId) -> Result<Released, Exhausted>
+    pub fn release_one(&mut self, object: ObjectId) -> Released
         requires alive { is_dead_in self.old.heap object ≡ false }
         requires some { 1 ≤ strong_in self.old.heap object }
-        ensures answer { IfOk result (λ answer. answer ≡ release_answer self.old.heap object) }
-        ensures state { OnOk result (self.new ≡ record self.old { heap = released self.old.heap object }) }
+        requires room { HasRoom 0 self.old.heap }
+        ensures answer { result ≡ release_answer self.old.heap object }
+        ensures state { self.new ≡ record self.old { heap = released self.old.heap object } }
     {
-        if self.heap.totals().releases >= 1 << 63 {
-            return Err(Exhausted);
-        }
-        Ok(self.heap.release(object))
+        self.heap.release(object)
     }
 
     /// A live object without strong references starts to deinitialise.

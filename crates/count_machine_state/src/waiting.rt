@@ -69,8 +69,9 @@ impl Machine {
     /// A drop is gone where no reference of it waits.
     #[inline]
     pub fn end_drop(&mut self, from: usize)
-        ensures { (ready : ReadyModule) (bound : ℕ) (rest : List Task) → self.old.tasks ≡ Drops from ∷ rest →
+        ensures drop { (ready : ReadyModule) (bound : ℕ) (rest : List Task) → self.old.tasks ≡ Drops from ∷ rest →
             self.new ≡ record self.old { tasks = still_dropping ready bound from (length self.old.waiting) rest } }
+        ensures heap { self.new.heap ≡ self.old.heap }
     {
         if self.waiting_count() == from {
             self.pop_task();

@@ -40,7 +40,8 @@ pub fn run_checked<'c>(
     turns: u32,
     optimise: bool,
 ) -> Result<RunReport<'c>, RunEnd>
-    requires { 1 ≤ turns }
+    requires some_turns { 1 ≤ turns }
+    requires few_turns { turns ≤ 1000000 }
     ensures run { IfOk result (TellsOfRun c.now entry.now turns optimise) }
     ensures optimised { IfOk result (TellsAsItself c.now entry.now turns) }
     ensures heap { IfOk result HeapIsAsTold }
@@ -69,6 +70,7 @@ pub fn run_owned<'t>(
 ) -> Result<RunReport<'t>, RunEnd>
     requires verified { IsVerifiedWith m table.now }
     requires some_turns { 1 ≤ turns }
+    requires few_turns { turns ≤ 1000000 }
     ensures run { IfOk result (TellsOfRun m entry.now turns optimise) }
     ensures optimised { IfOk result (TellsAsItself m entry.now turns) }
     ensures heap { IfOk result HeapIsAsTold }
@@ -100,6 +102,7 @@ fn run_from<'t>(
     requires verified { IsVerifiedWith m table.now }
     requires entry { (f : Function) × IsEntry m entry.now start f }
     requires some_turns { 1 ≤ turns }
+    requires few_turns { turns ≤ 1000000 }
     ensures run { IfOk result (TellsOfRun m entry.now turns optimise) }
     ensures optimised { IfOk result (TellsAsItself m entry.now turns) }
     ensures heap { IfOk result HeapIsAsTold }

@@ -26,6 +26,14 @@ bound_some (Some digits) bound is = is.some
 pub some_turns : (entry : List ℕ) (bound : ℕ) (optimises : Bool) → IsAskedFor (Run entry bound optimises) → 1 ≤ bound
 some_turns entry bound optimises (words, asks) = bound_some asks.turns bound asks.takes.1
 
+bound_few : (turns : Option (List ℕ)) (bound : ℕ) → IsBoundBy turns bound → bound ≤ 1000000
+bound_few None bound is = omega (arith, is)
+bound_few (Some digits) bound is = is.most
+
+-- and of a million at most
+pub few_turns : (entry : List ℕ) (bound : ℕ) (optimises : Bool) → IsAskedFor (Run entry bound optimises) → bound ≤ 1000000
+few_turns entry bound optimises (words, asks) = bound_few asks.turns bound asks.takes.1
+
 module _ (m : Module) (name : List ℕ) (bound : ℕ) (optimises : Bool) (report : RunReport) (tells : TellsOfRun m name bound optimises report) where
   abbrev left : Module
   left = tells.tells.left

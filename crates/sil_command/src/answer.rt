@@ -115,6 +115,7 @@ fn run_module(
 ) -> Result<Answer, Exhausted>
     requires numbered { IsNumbered «module» }
     requires some_turns { 1 ≤ turns }
+    requires few_turns { turns ≤ 1000000 }
     ensures { IfOk result (λ a. AnswersModule (Run entry.now turns optimise) «module» a.text.items (code_of a.status)) }
 {
     match verify(alloc, module) {

@@ -26,6 +26,7 @@ pub(crate) fn answer_run(
 ) -> Result<Answer, Exhausted>
     requires verified { IsVerifiedWith «module» table.now }
     requires some_turns { 1 ≤ turns }
+    requires few_turns { turns ≤ 1000000 }
     ensures { IfOk result (λ a. AnswersRun «module» entry.now turns optimise a.text.items (code_of a.status)) }
 {
     match run_owned(alloc, module, table, entry, turns, optimise) {

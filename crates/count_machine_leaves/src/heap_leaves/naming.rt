@@ -1,35 +1,25 @@
 //! Weak and unowned storage: the numbers of places that name an object.
 
-ghost use Rattle.std.specs.Prelude.{◌≡◌, None, find, OnOk, false};
+ghost use Rattle.std.specs.Prelude.{◌≡◌, None, find, false};
+ghost use Rattle.count_heap.specs.HeapModel.Counts.{HasRoom};
 ghost use Rattle.count_heap.specs.HeapModel.HeapViews.{is_dead_in};
 ghost use Rattle.count_machine_model.specs.MachineSteps.Naming.{leaf_named, leaf_unnamed, less_named, more_named};
 ghost use Rattle.count_machine_model.specs.MachineSteps.Operands.{object_in_leaf};
 
 use count_heap::Heap;
 use holder_model_values::Leaf;
-use sil_ast::{Exhausted, ObjectId, Storage};
+use sil_ast::{ObjectId, Storage};
 
 /// One place more names an object that isn't dead.
-fn name_more(heap: &mut Heap, storage: Storage, object: ObjectId) -> Result<(), Exhausted>
-    requires { is_dead_in heap.old object ≡ false }
-    ensures { OnOk result (heap.new ≡ more_named storage heap.old object) }
+fn name_more(heap: &mut Heap, storage: Storage, object: ObjectId)
+    requires alive { is_dead_in heap.old object ≡ false }
+    requires room { HasRoom 1 heap.old }
+    ensures { heap.new ≡ more_named storage heap.old object }
 {
     match storage {
-        Storage::Strong => Ok(()),
-        Storage::Weak => {
-            if heap.counts(object).weak >= 1 << 63 {
-                return Err(Exhausted);
-            }
-            heap.add_weak(object);
-            Ok(())
-        }
-        Storage::Unowned => {
-            if heap.counts(object).unowned >= 1 << 63 {
-                return Err(Exhausted);
-            }
-            heap.add_unowned(object);
-            Ok(())
-        }
+        Storage::Strong => {}
+        Storage::Weak => heap.add_weak(object),
+        Storage::Unowned => heap.add_unowned(object),
     }
 }
 
@@ -54,15 +44,16 @@ fn name_less(heap: &mut Heap, storage: Storage, object: ObjectId)
 
 /// A leaf of storage begins to name its object, which isn't dead.
 #[inline]
-pub fn name_leaf(heap: &mut Heap, storage: Storage, leaf: Leaf) -> Result<(), Exhausted>
-    requires { find (is_dead_in heap.old) (object_in_leaf leaf) ≡ None }
-    ensures { OnOk result (heap.new ≡ leaf_named storage leaf heap.old) }
+pub fn name_leaf(heap: &mut Heap, storage: Storage, leaf: Leaf)
+    requires alive { find (is_dead_in heap.old) (object_in_leaf leaf) ≡ None }
+    requires room { HasRoom 1 heap.old }
+    ensures { heap.new ≡ leaf_named storage leaf heap.old }
 {
     match leaf {
-        Leaf::Int(_) => Ok(()),
+        Leaf::Int(_) => {}
         Leaf::Object(object) => name_more(heap, storage, object),
-        Leaf::Tag(_) => Ok(()),
-        Leaf::Blank => Ok(()),
+        Leaf::Tag(_) => {}
+        Leaf::Blank => {}
     }
 }
 

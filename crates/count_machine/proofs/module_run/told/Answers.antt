@@ -21,3 +21,6 @@ returns-clause-outcome c =
     let heap : HeapIsAsTold run = record { retains = sym totals.ensures.retains; releases = sym totals.ensures.releases; left = c.in_ok-left.ensures } in
     outcome_told_so m (given_shape (declarations_of m) c.args.entry.now) c.args.machine c.args.stop run c.in_ok-ending.ensures
     c.into_events_and_heap-events.ensures.events c.into_events_and_heap-events.ensures.heap heap
+
+pub returns-clause-same_heap : goal.returns-clause-same_heap
+returns-clause-same_heap c = c.into_events_and_heap-events.ensures.heap

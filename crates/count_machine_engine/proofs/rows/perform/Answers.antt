@@ -1,7 +1,11 @@
 -- Each arm is what its row says.
-use Rattle.std.proofs.Common.{SFits, rules, w64}
+use Rattle.std.proofs.Common.{◌≡◌, SFits, rules, subst, w64}
 use Rattle.std.proofs.lemmas.Int.{to_z-of_z}
 use Rattle.count_machine_rows.proofs.GoingOn.{performed}
+use Rattle.count_heap.specs.HeapModel.Counts.{HasRoom}
+use Rattle.count_heap.specs.HeapModel.HeapViews.{HeapView}
+use Rattle.count_machine_model.specs.ReadyCode.Short.{made_by}
+use Rattle.count_machine_model.specs.declared.ready_code.op.ReadyOp.{ReadyOp}
 use Rattle.count_machine_engine.proofs.rows.perform.Goals as goal
 
 pub returns-in-Look : goal.returns-in-Look
@@ -76,3 +80,20 @@ returns-in-Call c = performed c.args.ready.now c.args.bound c.args.machine.now _
 
 pub returns-in-CallOut : goal.returns-in-CallOut
 returns-in-CallOut c = performed c.args.ready.now c.args.bound c.args.machine.now _ c.args.frame.now _ c.args.op.now _ c.in-CallOut.is (c.call_out.ensures c.args.ready.now)
+
+-- the room that an instruction needs
+
+made-in : (h : HeapView) (o p : ReadyOp) → p ≡ o → HasRoom (made_by p) h → HasRoom (made_by o) h
+made-in h o p is room = subst (λ (x : ReadyOp). HasRoom (made_by x) h) is room
+
+pub make_object-requires : goal.make_object-requires
+make_object-requires c = made-in _ _ _ c.in-MakeObject.is c.requires
+
+pub retain-requires : goal.retain-requires
+retain-requires c = made-in _ _ _ c.in-Retain.is c.requires
+
+pub load_name-requires : goal.load_name-requires
+load_name-requires c = made-in _ _ _ c.in-LoadName.is c.requires
+
+pub store_name-requires : goal.store_name-requires
+store_name-requires c = made-in _ _ _ c.in-StoreName.is c.requires

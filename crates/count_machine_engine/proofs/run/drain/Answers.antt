@@ -3,6 +3,7 @@ use Rattle.std.specs.Prelude.{Err, Ok}
 use Rattle.count_machine_model.specs.declared.machine_steps.frame.Task.TheVariants.{Drops}
 use Rattle.count_machine_engine.proofs.Followed.{drop-falls, ended-on, leads-on}
 use Rattle.count_machine_engine.proofs.Stepped.{stepped, top-is}
+use Rattle.count_machine_engine.proofs.Fitting.{leads-fit, room-now}
 use Rattle.count_machine_engine.proofs.run.drain.Goals as goal
 
 pub returns-in-Err-clause-led : goal.returns-in-Err-clause-led
@@ -28,3 +29,8 @@ loop-from-preserved c =
       led = leads-on c.args.ready.now c.args.bound c.args.machine.now st _ c.loop-from.invariant.led gone;
       less = omega (arith, (drop-falls c.args.ready.now c.args.bound st c.drop_next.new.machine arm.from _ (top-is st.tasks (Drops arm.from) next) gone).0);
     }
+
+pub drop_next-requires : goal.drop_next-requires
+drop_next-requires c =
+    room-now c.args.ready.now c.args.bound c.loop-from.machine
+    (leads-fit c.args.ready.now c.args.bound c.args.machine.now c.loop-from.machine c.requires.short c.requires.fits c.loop-from.invariant.led)

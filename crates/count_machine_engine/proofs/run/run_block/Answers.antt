@@ -8,6 +8,7 @@ use Rattle.count_machine_engine.specs.inner.Advanced.{HasAdvanced}
 use Rattle.count_machine_engine.proofs.Followed.{ended-behind, leads-behind}
 use Rattle.count_machine_engine.proofs.Stepped.{top-is}
 use Rattle.count_machine_engine.proofs.Stretched.{end-gone, led-on, less-on, not_dropping}
+use Rattle.count_machine_engine.proofs.Fitting.{few-made, leads-fit, room-frame, short-block}
 use Rattle.count_machine_engine.proofs.run.run_block.Goals as goal
 use Rattle.count_machine_engine.proofs.run.run_block.Goals.{After-advance, After-end_block}
 
@@ -39,7 +40,7 @@ pub loop-frame-preserved : goal.loop-frame-preserved
 loop-frame-preserved c =
     let p = (goal.at.loop-frame-preserved c).After-advance in
     let on = c.in_default-advance.ensures (drop 1 c.args.machine.now.tasks) c.in-Some.block.now c.loop-frame.invariant.top c.loop-frame.invariant.block (op-is p) in
-    let began = top-is c.args.machine.now.tasks (Runs c.args.frame) (sym c.requires) in
+    let began = top-is c.args.machine.now.tasks (Runs c.args.frame) (sym c.requires.going) in
     record {
       top = on.2 (omega (arith, c.task_count.ensures, c.if-task_count-count.false, c.task_count-count.ensures, ap length began, ap length c.loop-frame.invariant.top));
       led = leads-behind c.args.ready.now c.args.bound c.args.machine.now c.loop-frame.machine _ c.loop-frame.invariant.led on.0;
@@ -65,3 +66,17 @@ returns-clause-work c =
     less-on c.args.ready.now c.args.bound c.args.machine.now c.loop-frame.machine c.end_block.new.machine c.end_block.result c.loop-frame.invariant.less
     (not_dropping c.args.ready.now c.args.bound c.loop-frame.machine c.loop-frame.frame (drop 1 c.args.machine.now.tasks) c.in-Some.block.now c.loop-frame.invariant.top)
     (ended (goal.at.returns-clause-work c).After-end_block)
+
+pub advance-requires-clause-few : goal.advance-requires-clause-few
+advance-requires-clause-few c =
+    let b = c.in-Some.block.now in
+    let at : slice_get b.ops c.loop-frame.frame.index ≡ Some c.index-ops-frame.result =
+    ap (λ xs. slice_get xs c.loop-frame.frame.index) (sym c.as_slice-ops.ensures)
+    ∙ slice_get_read c.as_slice-ops.result.now _ c.loop-frame.frame.index c.index-ops-frame.result refl c.loop-frame-test.true c.index-ops-frame.is in
+    few-made b c.loop-frame.frame.index c.index-ops-frame.result
+    (short-block c.args.ready.now c.loop-frame.frame.function c.loop-frame.frame.block b c.requires.short c.loop-frame.invariant.block) at
+
+pub advance-requires-clause-room : goal.advance-requires-clause-room
+advance-requires-clause-room c =
+    room-frame c.args.ready.now c.args.bound c.loop-frame.machine c.loop-frame.frame _ c.loop-frame.invariant.top
+    (leads-fit c.args.ready.now c.args.bound c.args.machine.now c.loop-frame.machine c.requires.short c.requires.fits c.loop-frame.invariant.led)

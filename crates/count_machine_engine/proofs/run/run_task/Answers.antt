@@ -5,6 +5,7 @@ use Rattle.count_machine_state.specs.Went.{HasGone}
 use Rattle.count_machine_engine.proofs.Followed.{leads-self}
 use Rattle.count_machine_engine.proofs.Stepped.{stepped}
 use Rattle.count_machine_engine.proofs.Stretched.{led-on, less-on}
+use Rattle.count_machine_engine.proofs.Fitting.{room-now}
 use Rattle.count_machine_engine.proofs.run.run_task.Goals as goal
 use Rattle.count_machine_engine.proofs.run.run_task.Goals.{After-deinit, After-drop_next}
 
@@ -27,7 +28,7 @@ returns-in-Some-Drops-clause-led c =
 
 pub returns-in-Some-Drops-clause-work : goal.returns-in-Some-Drops-clause-work
 returns-in-Some-Drops-clause-work c =
-    less-on c.args.ready.now c.args.bound c.args.machine.now c.args.machine.now c.drop_next.new.machine c.drop_next.result (omega arith) c.requires
+    less-on c.args.ready.now c.args.bound c.args.machine.now c.args.machine.now c.drop_next.new.machine c.drop_next.result (omega arith) c.requires.going
     (dropped (goal.at.returns-in-Some-Drops-clause-work c).After-drop_next)
 
 pub returns-in-Some-Finishes-clause-led : goal.returns-in-Some-Finishes-clause-led
@@ -37,5 +38,8 @@ returns-in-Some-Finishes-clause-led c =
 
 pub returns-in-Some-Finishes-clause-work : goal.returns-in-Some-Finishes-clause-work
 returns-in-Some-Finishes-clause-work c =
-    less-on c.args.ready.now c.args.bound c.args.machine.now c.args.machine.now c.deinit.new.machine c.deinit.result (omega arith) c.requires
+    less-on c.args.ready.now c.args.bound c.args.machine.now c.args.machine.now c.deinit.new.machine c.deinit.result (omega arith) c.requires.going
     (finished (goal.at.returns-in-Some-Finishes-clause-work c).After-deinit)
+
+pub drop_next-requires : goal.drop_next-requires
+drop_next-requires c = room-now c.args.ready.now c.args.bound c.args.machine.now c.requires.fits

@@ -4,6 +4,7 @@ use Rattle.count_machine_layouts.proofs.FrameLayouts.Lists.{item_at}
 use Rattle.count_machine_layouts.proofs.FrameLayouts.Numbers.{laid_there, numbers_begun, numbers_done, numbers_more}
 use Rattle.count_machine_ready.specs.inner.Functions.{IsReadyAt}
 use Rattle.count_machine_ready.proofs.ReachedCode.{ready_at}
+use Rattle.count_machine_ready.proofs.ShortCode.{short-more, short-none}
 use Rattle.count_machine_ready.proofs.functions.ready_functions.Goals as goal
 
 pub bounds-layouts-number : goal.bounds-layouts-number
@@ -38,7 +39,10 @@ function_where-requires c on =
     }
 
 pub loop-number-init : goal.loop-number-init
-loop-number-init c = numbers_begun (IsReadyAt c.args.m.now c.args.reached.now) c.in_ok-functions.functions c.in_ok-functions.ensures
+loop-number-init c = record {
+  ready = numbers_begun (IsReadyAt c.args.m.now c.args.reached.now) c.in_ok-functions.functions c.in_ok-functions.ensures;
+  short = short-none c.in_ok-functions.functions c.in_ok-functions.ensures;
+}
 
 pub loop-number-preserved : goal.loop-number-preserved
 loop-number-preserved c =
@@ -47,10 +51,13 @@ loop-number-preserved c =
     let f = c.f-item.result in
     let reached = c.args.reached.now in
     let there = item_at m.functions c.as_slice-f-items.result.now n f c.as_slice-f-items.ensures c.loop-number-test.true c.f-item.is in
-    numbers_more (IsReadyAt m reached) n c.loop-number.functions c.push.new.self c.in_ok-function_where.field-0 c.loop-number.invariant c.in_ok-push.ensures.ok
-    (ready_at m reached n f c.in_ok-function_where.field-0 there (λ own. c.in_ok-function_where.ensures (get_or_from_slice_get reached n true _ own)))
+    record {
+      ready = numbers_more (IsReadyAt m reached) n c.loop-number.functions c.push.new.self c.in_ok-function_where.field-0 c.loop-number.invariant.ready c.in_ok-push.ensures.ok
+          (ready_at m reached n f c.in_ok-function_where.field-0 there (λ own. c.in_ok-function_where.ensures.ready (get_or_from_slice_get reached n true _ own)));
+      short = short-more c.loop-number.functions c.push.new.self c.in_ok-function_where.field-0 c.loop-number.invariant.short c.in_ok-push.ensures.ok c.in_ok-function_where.ensures.short;
+    }
 
-pub returns : goal.returns
-returns c =
+pub returns-clause-ready : goal.returns-clause-ready
+returns-clause-ready c =
     numbers_done (IsReadyAt c.args.m.now c.args.reached.now) c.loop-number.number c.as_slice-f-items.result.now c.args.m.now.functions c.loop-number.functions
-    (omega arith) c.as_slice-f-items.ensures c.loop-number.invariant
+    (omega arith) c.as_slice-f-items.ensures c.loop-number.invariant.ready

@@ -10,15 +10,15 @@ reached_from-requires-clause-classes c =
 pub ready_functions-requires-clause-closed : goal.ready_functions-requires-clause-closed
 ready_functions-requires-clause-closed c = subst (IsClosed c.args.m.now) (sym c.as_slice-reached.ensures.value) c.in_ok-found.ensures.closed
 
-pub returns : goal.returns
-returns c =
+pub returns-clause-ready : goal.returns-clause-ready
+returns-clause-ready c =
     let m = c.args.m.now in
     let reached = c.as_slice-reached.result.now in
     let is = sym c.as_slice-reached.ensures.value in (
       reached,
       record {
         closed = subst (IsClosed m) is c.in_ok-found.ensures.closed;
-        functions = code_there m reached c.in_ok-functions.functions c.in_ok-functions.ensures;
+        functions = code_there m reached c.in_ok-functions.functions c.in_ok-functions.ensures.ready;
         classes = c.in_ok-classes.ensures ∙ ap₂ (λ d ds. map (ready_class d) ds) c.requires.of_it c.as_slice.ensures;
       },
       subst (λ r. Reaches r c.args.entry) is c.in_ok-found.ensures.begun,

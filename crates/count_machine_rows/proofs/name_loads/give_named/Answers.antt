@@ -7,15 +7,20 @@ use Rattle.sil_ast.specs.declared.place.ObjectId.{ObjectId}
 use Rattle.count_machine_state.specs.Went.{HasGone}
 use Rattle.count_machine_rows.specs.inner.LiveGiven.{live_given, traps_at}
 use Rattle.count_machine_rows.proofs.Forgotten.{after-tasks, given_told, live_still}
+use Rattle.count_machine_rows.proofs.Rooms.{room-in, room-taken}
 use Rattle.count_machine_rows.proofs.name_loads.give_named.Goals as goal
 
-pub give_live-requires : goal.give_live-requires
-give_live-requires c =
+pub give_live-requires-clause-alive : goal.give_live-requires-clause-alive
+give_live-requires-clause-alive c =
     let still = live_still c.args.machine.now c.args.frame.now [] c.args.storage c.args.place c.args.leaf c.args.takes in
     let here = subst (λ (x : Option ObjectId). IfSome x (λ o. is_dead_in (cond c.args.takes
     (forgotten c.args.machine.now c.args.frame.now [] c.args.storage c.args.place c.args.leaf) c.args.machine.now).heap o ≡ false))
     (sym c.live_object-live.ensures) still in
     subst (λ (st : MachineView). IfSome c.live_object-live.result (λ o. is_dead_in st.heap o ≡ false)) (sym c.forget_if.ensures) here
+
+pub give_live-requires-clause-room : goal.give_live-requires-clause-room
+give_live-requires-clause-room c =
+    room-in 1 _ _ c.forget_if.ensures (room-taken 1 c.args.takes c.args.machine.now c.args.frame.now [] c.args.storage c.args.place c.args.leaf c.requires.room)
 
 pub returns : goal.returns
 returns c = λ rest h.

@@ -5,8 +5,8 @@ use Rattle.count_machine_model.specs.MachineSteps.Views.{MachineView}
 use Rattle.count_machine_rows.proofs.GoingOn.{gives_in}
 use Rattle.count_machine_rows.proofs.name_loads.give_weak.Goals as goal
 
-pub returns-in_ok-retain_one-in-Some : goal.returns-in_ok-retain_one-in-Some
-returns-in_ok-retain_one-in-Some c = λ rest h.
+pub returns-in-Some : goal.returns-in-Some
+returns-in-Some c = λ rest h.
     let st = c.args.machine.now in
     let given : MachineView = record st { heap = retained st.heap c.in-Some.object } in
-    rw c.in-Some.is (gives_in c.args.frame.now c.args.to (some_leaves c.in-Some.object) c.retain_one.new.self given _ _ c.in_ok-retain_one-in-Some.ensures c.give_two.ensures rest h)
+    rw c.in-Some.is (gives_in c.args.frame.now c.args.to (some_leaves c.in-Some.object) c.retain_one.new.self given _ _ c.retain_one.ensures c.give_two.ensures rest h)

@@ -17,6 +17,7 @@ run-requires c =
       of_it = c.requires.verified.declarations.copied ∙ sym made.declares;
       starts = subst (λ m. MayStartAt m c.args.start) (sym made.lowered) (lowered_starts made.left c.args.entry.now c.args.start there.0 there.1);
       some_turns = c.requires.some_turns;
+      few_turns = c.requires.few_turns;
     }
 
 pub reported-requires : goal.reported-requires

@@ -1,5 +1,5 @@
 -- The answer to a module, by the mode.
-use Rattle.sil_command.proofs.RunAnswers.{some_turns}
+use Rattle.sil_command.proofs.RunAnswers.{few_turns, some_turns}
 use Rattle.sil_command.proofs.answer.answer_module.Goals as goal
 
 pub returns-in-Check : goal.returns-in-Check
@@ -18,6 +18,7 @@ pub run_module-requires : goal.run_module-requires
 run_module-requires c = record {
   numbered = c.requires.numbered;
   some_turns = some_turns c.in-Run.entry c.in-Run.turns c.in-Run.optimise (rw c.in-Run.is at c.requires.asked);
+  few_turns = few_turns c.in-Run.entry c.in-Run.turns c.in-Run.optimise (rw c.in-Run.is at c.requires.asked);
 }
 
 pub unreachable-requires : goal.unreachable-requires
