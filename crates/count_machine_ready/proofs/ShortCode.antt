@@ -27,7 +27,7 @@ use Rattle.count_machine_model.specs.ReadyCode.Short.{AreShort, MakesFew}
 use Rattle.count_machine_model.specs.declared.ready_code.block.ReadyBlock.{ReadyBlock}
 use Rattle.count_machine_model.specs.declared.ready_code.function.ReadyFunction.{ReadyFunction}
 use Rattle.count_machine_model.specs.declared.ready_code.op.ReadyOp.{ReadyOp}
-use Rattle.holder_model_typing.proofs.RunTypingLaws.Rows.Finding.{each_at}
+use Rattle.count_machine_layouts.proofs.holder_model_typing.RunTypingLaws.Rows.Finding.{each_at}
 use Rattle.count_machine_layouts.specs.FrameLayouts.inner.Sized.{HasSize, HaveSizes}
 use Rattle.count_machine_layouts.proofs.FrameLayouts.Targets.{of_other}
 use Rattle.count_machine_layouts.proofs.FrameLayouts.ValueSizes.{value_sizes}
