@@ -76,7 +76,7 @@ module _ (m : Module) (f : Function) (few : (v : ValueId) → leaves_in (form_of
   few_made i _ (IsReadyOp.retains v e operands) = few v
   few_made i _ (IsReadyOp.drops v e operands) = omega arith
   few_made i _ (IsReadyOp.loads v u e operands results) = omega arith
-  few_made i _ (IsReadyOp.stores v p s e operands form none) = omega arith
+  few_made i _ (IsReadyOp.stores v p s e operands form unreleased) = omega arith
   few_made i _ (IsReadyOp.loads_name v u w s o e operands results form done) = omega arith
   few_made i _ (IsReadyOp.stores_name v p w s o e operands form done) = omega arith
   few_made i _ (IsReadyOp.forgets_name v w s e operands form) = omega arith

@@ -8,8 +8,8 @@ use Rattle.count_machine_leaves.proofs.HeapLeaves.Rooms.{room-leaf_unnamed}
 use Rattle.count_machine_rows.proofs.Rooms.{room-in}
 use Rattle.count_machine_rows.proofs.name_stores.give_other_name.Goals as goal
 
-pub give_name-2-requires-clause-room : goal.give_name-2-requires-clause-room
-give_name-2-requires-clause-room c =
+pub give_name-requires-2-clause-room : goal.give_name-requires-2-clause-room
+give_name-requires-2-clause-room c =
     room-in 1 _ _ c.unname.ensures (room-leaf_unnamed c.args.storage c.args.held c.args.machine.now.heap c.requires.room)
 
 pub returns : goal.returns
