@@ -1,5 +1,6 @@
 //! Instructions and blocks, with numbers for their names. What has no name is moved out of the written module. Each use of
 //! a name is looked up once: a name that isn't defined is noted, and its number is 0.
+//! What is large is owned by a function that ends at one place, where one call drops it, and lent to one that may end early.
 
 ghost use Rattle.std.specs.Prelude.{◌≡◌, ◌+◌, [], ◌∷◌, ◌++◌, length, map, IfOk, OnOk};
 ghost use Rattle.std.specs.List.{flat_map};
@@ -24,7 +25,7 @@ use crate::name_resolution::first_faults::CodeFaults;
 use crate::name_scopes::{SymbolTable, advanced};
 use instruction_table::has_one_result;
 use sil_ast::{
-    Block, BlockArg, BlockId, Boxed, Edge, Exhausted, FuncId, Inst, List, Operand, Operands,
+    Block, BlockArg, BlockId, Boxed, Debug, Edge, Exhausted, FuncId, Inst, List, Operand, Operands,
     ShortList, ValueId,
 };
 use sil_grammar_tree::{
@@ -49,14 +50,6 @@ struct Names {
     function: Option<FuncId>,
     operands: Operands,
     edges: List<Edge>,
-}
-
-/// A block's arguments and instructions, and the names of its terminator.
-#[derive(Drop)]
-struct Parts {
-    args: List<BlockArg>,
-    insts: List<Boxed<Inst>>,
-    names: Names,
 }
 
 #[tactic(auto, using(crate::proofs::NameResolution::Steps::blocks))]
@@ -96,29 +89,23 @@ fn add_block(
     ensures faults { OnOk result (faults.new ≡ with_code
         (known_in tables.entry.functions.now tables.entry.blocks.now tables.entry.values.now) faults.old (code_of block)) }
 {
-    let parts = resolve_parts(alloc, tables, faults, next, &mut block)?;
-    resolved.push(Block {
-        args: parts.args,
-        insts: parts.insts,
-        terminator: with_names(block.terminator, parts.names),
-    })
+    let added = add_parts(alloc, tables, faults, next, &mut block, resolved);
+    drop::<WrittenBlock>(block);
+    added
 }
 
-// Takes out of the block what is resolved: of its terminator the rest stays.
-fn resolve_parts(
+// Takes out of the block what is resolved.
+fn add_parts(
     alloc: Global,
     tables: Tables<'_>,
     faults: &mut CodeFaults,
     next: &mut u32,
     block: &mut WrittenBlock,
-) -> Result<Parts, Exhausted>
+    resolved: &mut List<Block>,
+) -> Result<(), Exhausted>
     ghost s: { Scope }
     requires { FindsScope tables.functions.now tables.blocks.now tables.values.now s }
-    ensures block { IfOk result (λ parts. resolved_block s next.old block.old ≡ record {
-      args = parts.args;
-      insts = parts.insts;
-      terminator = with_numbers block.new.terminator parts.names.results parts.names.function parts.names.operands parts.names.edges;
-    }) }
+    ensures block { OnOk result (resolved.new ≡ resolved.old ++ resolved_block s next.old block.old ∷ []) }
     ensures next { OnOk result (next.new ≡ next.old + length (defined_in block.old)) }
     ensures faults { OnOk result (faults.new ≡ with_code
         (known_in tables.entry.functions.now tables.entry.blocks.now tables.entry.values.now) faults.old (code_of block.old)) }
@@ -128,8 +115,12 @@ fn resolve_parts(
     let insts = mem::replace(&mut block.insts, List::new(alloc));
     let insts = resolve_insts(alloc, tables, faults, next, insts)?;
     let mut behind = *next;
-    let names = resolve_names(alloc, tables, faults, &mut behind, &mut block.terminator)?;
-    Ok(Parts { args, insts, names })
+    let terminator = resolve_inst(alloc, tables, faults, &mut behind, &mut block.terminator)?;
+    resolved.push(Block {
+        args,
+        insts,
+        terminator,
+    })
 }
 
 fn resolve_args(
@@ -141,15 +132,37 @@ fn resolve_args(
     ensures next { OnOk result (next.new ≡ next.old + length args) }
 {
     let mut resolved = List::with_capacity(alloc, args.len())?;
-    for arg in args.into_vec() {
-        resolved.push(BlockArg {
-            value: ValueId(*next),
-            kind: arg.kind,
-            ty: arg.ty,
-        })?;
-        *next = advanced(*next, 1)?;
-    }
+    add_args(next, args, &mut resolved)?;
     Ok(resolved)
+}
+
+fn add_args(
+    next: &mut u32,
+    args: List<WrittenArg>,
+    resolved: &mut List<BlockArg>,
+) -> Result<(), Exhausted>
+    ensures args { OnOk result (resolved.new ≡ resolved.old ++ resolved_args next.old args) }
+    ensures next { OnOk result (next.new ≡ next.old + length args) }
+{
+    for arg in args.into_vec() {
+        add_arg(next, arg, resolved)?;
+    }
+    Ok(())
+}
+
+fn add_arg(next: &mut u32, arg: WrittenArg, resolved: &mut List<BlockArg>) -> Result<(), Exhausted>
+    ensures arg { OnOk result (resolved.new ≡ resolved.old ++ resolved_args next.old (arg ∷ [])) }
+    ensures next { OnOk result (next.new ≡ next.old + 1) }
+{
+    let WrittenArg { name, kind, ty } = arg;
+    drop::<WrittenToken>(name);
+    resolved.push(BlockArg {
+        value: ValueId(*next),
+        kind,
+        ty,
+    })?;
+    *next = advanced(*next, 1)?;
+    Ok(())
 }
 
 #[tactic(auto, using(crate::proofs::NameResolution::Steps::insts))]
@@ -197,8 +210,48 @@ fn add_inst(
     ensures faults { OnOk result (faults.new ≡ with_code
         (known_in tables.entry.functions.now tables.entry.blocks.now tables.entry.values.now) faults.old (inst ∷ [])) }
 {
-    let names = resolve_names(alloc, tables, faults, next, &mut inst)?;
-    resolved.push(Boxed::new(alloc, with_names(inst, names))?)
+    let added = add_named(alloc, tables, faults, next, &mut inst, resolved);
+    drop::<WrittenInst>(inst);
+    added
+}
+
+// Takes out of the instruction what is resolved.
+fn add_named(
+    alloc: Global,
+    tables: Tables<'_>,
+    faults: &mut CodeFaults,
+    next: &mut u32,
+    inst: &mut WrittenInst,
+    resolved: &mut List<Boxed<Inst>>,
+) -> Result<(), Exhausted>
+    ghost s: { Scope }
+    requires { FindsScope tables.functions.now tables.blocks.now tables.values.now s }
+    ensures inst { OnOk result (resolved.new ≡ resolved.old ++ resolved_inst s next.old inst.old ∷ []) }
+    ensures next { OnOk result (next.new ≡ next.old + length (defined_by_inst inst.old)) }
+    ensures faults { OnOk result (faults.new ≡ with_code
+        (known_in tables.entry.functions.now tables.entry.blocks.now tables.entry.values.now) faults.old (inst.old ∷ [])) }
+{
+    let inst = resolve_inst(alloc, tables, faults, next, inst)?;
+    resolved.push(Boxed::new(alloc, inst)?)
+}
+
+// Takes out of the instruction what is resolved.
+fn resolve_inst(
+    alloc: Global,
+    tables: Tables<'_>,
+    faults: &mut CodeFaults,
+    next: &mut u32,
+    inst: &mut WrittenInst,
+) -> Result<Inst, Exhausted>
+    ghost s: { Scope }
+    requires { FindsScope tables.functions.now tables.blocks.now tables.values.now s }
+    ensures inst { IfOk result (λ resolved. resolved ≡ resolved_inst s next.old inst.old) }
+    ensures next { OnOk result (next.new ≡ next.old + length (defined_by_inst inst.old)) }
+    ensures faults { OnOk result (faults.new ≡ with_code
+        (known_in tables.entry.functions.now tables.entry.blocks.now tables.entry.values.now) faults.old (inst.old ∷ [])) }
+{
+    let names = resolve_names(alloc, tables, faults, next, inst)?;
+    Ok(with_names(inst, names))
 }
 
 // Takes the operands and the edges out of the instruction.
@@ -218,11 +271,11 @@ fn resolve_names(
         (known_in tables.entry.functions.now tables.entry.blocks.now tables.entry.values.now) faults.old (inst.old ∷ [])) }
 {
     let function = resolve_callee(tables.functions, &mut faults.functions, &inst.function);
-    let results = resolve_results(alloc, next, inst)?;
     let operands = mem::replace(&mut inst.operands, List::new(alloc));
     let operands = resolve_operands(alloc, tables.values, &mut faults.values, operands)?;
     let edges = mem::replace(&mut inst.edges, List::new(alloc));
     let edges = resolve_edges(alloc, tables, faults, edges)?;
+    let results = resolve_results(alloc, next, inst)?;
     Ok(Names {
         results,
         function,
@@ -231,8 +284,9 @@ fn resolve_names(
     })
 }
 
-fn with_names(inst: WrittenInst, names: Names) -> Inst
-    ensures { result ≡ with_numbers inst names.results names.function names.operands names.edges }
+// Takes out of the instruction what has no name.
+fn with_names(inst: &mut WrittenInst, names: Names) -> Inst
+    ensures { result ≡ with_numbers inst.old names.results names.function names.operands names.edges }
 {
     Inst {
         op: inst.op,
@@ -242,13 +296,24 @@ fn with_names(inst: WrittenInst, names: Names) -> Inst
         function: names.function,
         results: names.results,
         operands: names.operands,
-        ty: inst.ty,
-        signature: inst.signature,
-        member: inst.member,
+        ty: inst.ty.take(),
+        signature: inst.signature.take(),
+        member: inst.member.take(),
         number: inst.number,
-        text: inst.text,
-        debug: inst.debug,
+        text: inst.text.take(),
+        debug: taken_debug(&mut inst.debug),
         edges: names.edges,
+    }
+}
+
+fn taken_debug(debug: &mut Debug) -> Debug
+    ensures { result ≡ debug.old }
+{
+    Debug {
+        name: debug.name.take(),
+        binding: debug.binding,
+        argno: debug.argno,
+        deref: debug.deref,
     }
 }
 
@@ -332,10 +397,17 @@ fn resolve_edge(
     ensures faults { OnOk result (faults.new ≡ with_edges
         (known_in tables.entry.functions.now tables.entry.blocks.now tables.entry.values.now) faults.old (edge ∷ [])) }
 {
+    let WrittenEdge {
+        label,
+        args,
+        case_of,
+    } = edge;
+    let block = BlockId(tables.blocks.number_of(&label, &mut faults.labels));
+    drop::<WrittenToken>(label);
     Ok(Edge {
-        block: BlockId(tables.blocks.number_of(&edge.label, &mut faults.labels)),
-        args: resolve_edge_args(alloc, tables.values, &mut faults.values, edge.args)?,
-        case_of: edge.case_of,
+        block,
+        args: resolve_edge_args(alloc, tables.values, &mut faults.values, args)?,
+        case_of,
     })
 }
 

@@ -27,7 +27,9 @@ pub fn resolve(alloc: Global, w: WrittenModule) -> Result<Module, NameRefusal>
     ensures refused { IfErr result (IsRefusalOf w) }
 {
     let functions = functions(alloc, w.items.as_slice())?;
-    resolve_with(alloc, &functions, w)
+    let resolved = resolve_with(alloc, &functions, w);
+    drop::<SymbolTable>(functions);
+    resolved
 }
 
 // `functions` are those of the module.
@@ -62,8 +64,8 @@ fn twice_fault(
     ensures { IfOk result (λ fault. fault ≡ said.earlier (twice_after (reserved imports) (map name_of_decl (flat_map decls_of items.now)))
         (said.earlier functions (twice_after [] (map vtable_name (flat_map vtables_of items.now))))) }
 {
-    let declarations = declared(alloc, imports, items)?.twice();
-    let vtables = classes_of_vtables(alloc, items)?.twice();
+    let declarations = declared(alloc, imports, items)?.into_twice();
+    let vtables = classes_of_vtables(alloc, items)?.into_twice();
     Ok(earlier(declarations, earlier(functions, vtables)))
 }
 

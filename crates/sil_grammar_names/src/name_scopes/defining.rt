@@ -4,7 +4,7 @@ ghost use Rattle.std.specs.Prelude.{◌≡◌, [], map, IfOk, OnOk};
 ghost use Rattle.std.specs.List.{flat_map};
 ghost use Rattle.sil_grammar_tree.specs.WrittenTree.Places.{name_of_decl};
 ghost use Rattle.sil_grammar_names.specs.NameScopes.Names.{arg_name, case_name, decls_of, field_name, function_name, functions_of};
-ghost use Rattle.sil_grammar_names.specs.NameScopes.Names.{member_names, vtable_name, vtables_of};
+ghost use Rattle.sil_grammar_names.specs.NameScopes.Names.{label_of, member_names, vtable_name, vtables_of};
 ghost use Rattle.sil_ast.specs.Imports.{reserved};
 ghost use Rattle.sil_grammar_names.specs.NameScopes.inner.Symbols.{definitions_by, definitions_in, labels_in, numbered, numbered_by};
 ghost use Rattle.sil_grammar_names.specs.NameScopes.inner.Symbols.{unnumbered, unnumbered_after, values_in, with_definitions};
@@ -27,12 +27,19 @@ pub fn declared(
     ensures { IfOk result (λ t. t ≡ unnumbered_after (reserved imports) (map name_of_decl (flat_map decls_of items.now))) }
 {
     let mut table = SymbolTable::of_imports(alloc, imports)?;
+    define_decls(&mut table, items)?;
+    Ok(table)
+}
+
+fn define_decls(table: &mut SymbolTable, items: &[WrittenItem]) -> Result<(), Exhausted>
+    ensures { OnOk result (table.new ≡ with_definitions table.old (map unnumbered (map name_of_decl (flat_map decls_of items.now)))) }
+{
     for item in items {
         if let WrittenItem::Decl(decl) = item {
             table.define_unnumbered(decl.name())?;
         }
     }
-    Ok(table)
+    Ok(())
 }
 
 /// The names of the functions, each with its number.
@@ -40,12 +47,19 @@ pub fn functions(alloc: Global, items: &[WrittenItem]) -> Result<SymbolTable, Ex
     ensures { IfOk result (λ t. t ≡ numbered_by (map function_name (flat_map functions_of items.now))) }
 {
     let mut table = SymbolTable::with_capacity(alloc, items.len())?;
+    define_functions(&mut table, items)?;
+    Ok(table)
+}
+
+fn define_functions(table: &mut SymbolTable, items: &[WrittenItem]) -> Result<(), Exhausted>
+    ensures { OnOk result (table.new ≡ with_definitions table.old (map numbered (map function_name (flat_map functions_of items.now)))) }
+{
     for item in items {
         if let WrittenItem::Function(function) = item {
             table.define(&function.name)?;
         }
     }
-    Ok(table)
+    Ok(())
 }
 
 /// The classes that have a vtable.
@@ -53,43 +67,63 @@ pub fn classes_of_vtables(alloc: Global, items: &[WrittenItem]) -> Result<Symbol
     ensures { IfOk result (λ t. t ≡ unnumbered_after [] (map vtable_name (flat_map vtables_of items.now))) }
 {
     let mut table = SymbolTable::with_capacity(alloc, 0)?;
+    define_classes(&mut table, items)?;
+    Ok(table)
+}
+
+fn define_classes(table: &mut SymbolTable, items: &[WrittenItem]) -> Result<(), Exhausted>
+    ensures { OnOk result (table.new ≡ with_definitions table.old (map unnumbered (map vtable_name (flat_map vtables_of items.now)))) }
+{
     for item in items {
         if let WrittenItem::Vtable(vtable) = item {
             table.define_unnumbered(&vtable.class_name)?;
         }
     }
-    Ok(table)
+    Ok(())
 }
 
 /// The names of the members of a declaration.
 pub fn members(alloc: Global, decl: &WrittenDecl) -> Result<SymbolTable, Exhausted>
     ensures { IfOk result (λ t. t ≡ unnumbered_after [] (member_names decl.now)) }
 {
+    let mut table = SymbolTable::with_capacity(alloc, count_of_members(decl))?;
+    define_members(&mut table, decl)?;
+    Ok(table)
+}
+
+fn count_of_members(decl: &WrittenDecl) -> usize {
     match decl {
-        WrittenDecl::Class { fields, .. } => names_of_fields(alloc, fields.as_slice()),
-        WrittenDecl::Struct { fields, .. } => names_of_fields(alloc, fields.as_slice()),
-        WrittenDecl::Enum { cases, .. } => names_of_cases(alloc, cases.as_slice()),
+        WrittenDecl::Class { fields, .. } | WrittenDecl::Struct { fields, .. } => fields.len(),
+        WrittenDecl::Enum { cases, .. } => cases.len(),
     }
 }
 
-fn names_of_fields(alloc: Global, fields: &[WrittenField]) -> Result<SymbolTable, Exhausted>
-    ensures { IfOk result (λ t. t ≡ unnumbered_after [] (map field_name fields.now)) }
+fn define_members(table: &mut SymbolTable, decl: &WrittenDecl) -> Result<(), Exhausted>
+    ensures { OnOk result (table.new ≡ with_definitions table.old (map unnumbered (member_names decl.now))) }
 {
-    let mut table = SymbolTable::with_capacity(alloc, fields.len())?;
+    match decl {
+        WrittenDecl::Class { fields, .. } => define_fields(table, fields.as_slice()),
+        WrittenDecl::Struct { fields, .. } => define_fields(table, fields.as_slice()),
+        WrittenDecl::Enum { cases, .. } => define_cases(table, cases.as_slice()),
+    }
+}
+
+fn define_fields(table: &mut SymbolTable, fields: &[WrittenField]) -> Result<(), Exhausted>
+    ensures { OnOk result (table.new ≡ with_definitions table.old (map unnumbered (map field_name fields.now))) }
+{
     for field in fields {
         table.define_unnumbered(&field.name)?;
     }
-    Ok(table)
+    Ok(())
 }
 
-fn names_of_cases(alloc: Global, cases: &[WrittenCase]) -> Result<SymbolTable, Exhausted>
-    ensures { IfOk result (λ t. t ≡ unnumbered_after [] (map case_name cases.now)) }
+fn define_cases(table: &mut SymbolTable, cases: &[WrittenCase]) -> Result<(), Exhausted>
+    ensures { OnOk result (table.new ≡ with_definitions table.old (map unnumbered (map case_name cases.now))) }
 {
-    let mut table = SymbolTable::with_capacity(alloc, cases.len())?;
     for case in cases {
         table.define_unnumbered(&case.name)?;
     }
-    Ok(table)
+    Ok(())
 }
 
 /// The labels of a function, each with the number of its block.
@@ -97,10 +131,17 @@ pub fn labels(alloc: Global, blocks: &[WrittenBlock]) -> Result<SymbolTable, Exh
     ensures { IfOk result (λ t. t ≡ labels_in blocks.now) }
 {
     let mut table = SymbolTable::with_capacity(alloc, blocks.len())?;
+    define_labels(&mut table, blocks)?;
+    Ok(table)
+}
+
+fn define_labels(table: &mut SymbolTable, blocks: &[WrittenBlock]) -> Result<(), Exhausted>
+    ensures { OnOk result (table.new ≡ with_definitions table.old (map numbered (map label_of blocks.now))) }
+{
     for block in blocks {
         table.define(&block.label)?;
     }
-    Ok(table)
+    Ok(())
 }
 
 /// The values of a function, each with its number.
@@ -108,9 +149,7 @@ pub fn values(alloc: Global, blocks: &[WrittenBlock]) -> Result<SymbolTable, Exh
     ensures { IfOk result (λ t. t ≡ values_in blocks.now) }
 {
     let mut table = SymbolTable::with_capacity(alloc, room_for_values(blocks))?;
-    for block in blocks {
-        define_in_block(&mut table, block)?;
-    }
+    define_in_blocks(&mut table, blocks)?;
     Ok(table)
 }
 
@@ -123,6 +162,15 @@ fn room_for_values(blocks: &[WrittenBlock]) -> usize {
             .saturating_add(block.insts.len());
     }
     room
+}
+
+fn define_in_blocks(table: &mut SymbolTable, blocks: &[WrittenBlock]) -> Result<(), Exhausted>
+    ensures { OnOk result (table.new ≡ with_definitions table.old (flat_map definitions_in blocks.now)) }
+{
+    for block in blocks {
+        define_in_block(table, block)?;
+    }
+    Ok(())
 }
 
 fn define_in_block(table: &mut SymbolTable, block: &WrittenBlock) -> Result<(), Exhausted>

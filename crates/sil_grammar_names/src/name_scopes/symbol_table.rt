@@ -48,11 +48,18 @@ impl SymbolTable {
         ensures { IfOk result (λ t. t ≡ reserved_only (reserved imports)) }
     {
         let mut table = SymbolTable::with_capacity(alloc, 0)?;
-        table.reserve(alloc, b"Builtin")?;
-        if imports.swift {
-            table.reserve_swift(alloc)?;
-        }
+        table.reserve_imports(alloc, imports)?;
         Ok(table)
+    }
+
+    fn reserve_imports(&mut self, alloc: Global, imports: Imports) -> Result<(), Exhausted>
+        ensures { OnOk result (self.new ≡ with_reserved self.old (reserved imports)) }
+    {
+        self.reserve(alloc, b"Builtin")?;
+        if imports.swift {
+            self.reserve_swift(alloc)?;
+        }
+        Ok(())
     }
 
     fn reserve_swift(&mut self, alloc: Global) -> Result<(), Exhausted>
@@ -120,6 +127,13 @@ impl SymbolTable {
     /// The first token whose name stood before.
     pub fn twice(&self) -> Option<Fault>
         ensures { result ≡ self.now.twice }
+    {
+        self.twice
+    }
+
+    /// The same, where nothing else of the table is asked.
+    pub(crate) fn into_twice(self) -> Option<Fault>
+        ensures { result ≡ self.twice }
     {
         self.twice
     }

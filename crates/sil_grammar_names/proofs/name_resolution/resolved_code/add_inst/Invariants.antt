@@ -1,4 +1,4 @@
 use Rattle.sil_grammar_names.proofs.name_resolution.resolved_code.add_inst.Given as goal
 
-abbrev pub ghost-resolve_names : goal.ghost-resolve_names
-ghost-resolve_names g a = g.s
+abbrev pub ghost-add_named : goal.ghost-add_named
+ghost-add_named g a = g.s

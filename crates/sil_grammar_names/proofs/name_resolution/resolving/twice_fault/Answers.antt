@@ -9,6 +9,6 @@ use Rattle.sil_grammar_names.proofs.name_resolution.resolving.twice_fault.Goals 
 pub returns : goal.returns
 returns c =
     let items = c.args.items.now in
-    let declarations = rw (c.in_ok-declared.ensures, twice_of_unnumbered (reserved c.args.imports) (map name_of_decl (flat_map decls_of items))) at c.twice-declarations.ensures in
-    let vtables = rw (c.in_ok-classes_of_vtables.ensures, twice_of_unreserved (map vtable_name (flat_map vtables_of items))) at c.twice-vtables.ensures in
+    let declarations = rw (c.in_ok-declared.ensures, twice_of_unnumbered (reserved c.args.imports) (map name_of_decl (flat_map decls_of items))) at c.into_twice-declarations.ensures in
+    let vtables = rw (c.in_ok-classes_of_vtables.ensures, twice_of_unreserved (map vtable_name (flat_map vtables_of items))) at c.into_twice-vtables.ensures in
     rw (c.earlier-2.ensures, c.earlier.ensures, declarations, vtables) refl
