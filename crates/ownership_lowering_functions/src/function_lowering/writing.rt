@@ -12,24 +12,22 @@ use crate::function_lowering::staying::Kept;
 use crate::value_renumbering::NewNumbers;
 use instruction_table::Op;
 use sil_ast::{
-    Boxed, Debug, Exhausted, Inst, List, Member, Operand, Qualifier, ShortList, Text, TryClone,
-    TypeName, ValueId,
+    Boxed, Debug, Exhausted, Inst, List, Member, Operand, Operands, Qualifier, ShortList, Text,
+    TryClone, TypeName, ValueId,
 };
 use std::alloc::Global;
 
-/// An instruction of one operand, with no result and no other part.
-fn new_inst(alloc: Global, op: Op, operand: Operand) -> Result<Inst, Exhausted>
-    ensures { IfOk result (λ inst. inst ≡ insts.with_operands op [] (operand ∷ [])) }
+/// An instruction that has results and operands and no other part.
+fn new_inst(alloc: Global, op: Op, results: ShortList<ValueId, 4>, operands: Operands) -> Inst
+    ensures { result ≡ insts.with_operands op results operands }
 {
-    let mut operands = ShortList::new(alloc);
-    operands.push(operand)?;
-    Ok(Inst {
+    Inst {
         op,
         qualifier: Qualifier::Plain,
         lexical: false,
         var_decl: false,
         function: None,
-        results: ShortList::new(alloc),
+        results,
         operands,
         ty: None,
         signature: None,
@@ -43,10 +41,26 @@ fn new_inst(alloc: Global, op: Op, operand: Operand) -> Result<Inst, Exhausted>
             deref: false,
         },
         edges: List::new(alloc),
-    })
+    }
 }
 
-/// One that has a result.
+fn one_operand(alloc: Global, operand: Operand) -> Result<Operands, Exhausted>
+    ensures { IfOk result (λ operands. operands ≡ operand ∷ []) }
+{
+    let mut operands = ShortList::new(alloc);
+    operands.push(operand)?;
+    Ok(operands)
+}
+
+fn one_result(alloc: Global, value: ValueId) -> Result<ShortList<ValueId, 4>, Exhausted>
+    ensures { IfOk result (λ results. results ≡ value ∷ []) }
+{
+    let mut results = ShortList::new(alloc);
+    results.push(value)?;
+    Ok(results)
+}
+
+/// One of one operand that has a result.
 fn new_inst_giving(
     alloc: Global,
     op: Op,
@@ -55,9 +69,9 @@ fn new_inst_giving(
 ) -> Result<Inst, Exhausted>
     ensures { IfOk result (λ inst. inst ≡ insts.with_operands op (result_value ∷ []) (operand ∷ [])) }
 {
-    let mut inst = new_inst(alloc, op, operand)?;
-    inst.results.push(result_value)?;
-    Ok(inst)
+    let operands = one_operand(alloc, operand)?;
+    let results = one_result(alloc, result_value)?;
+    Ok(new_inst(alloc, op, results, operands))
 }
 
 /// A copy of an operand, with its new number.
@@ -110,7 +124,9 @@ fn written_counted(
         value: numbers.number(value),
         ty: copied_type(alloc, ty)?,
     };
-    Boxed::new(alloc, new_inst(alloc, op, operand)?)
+    let operands = one_operand(alloc, operand)?;
+    let inst = new_inst(alloc, op, ShortList::new(alloc), operands);
+    Boxed::new(alloc, inst)
 }
 
 /// The field of a struct.
