@@ -9,13 +9,14 @@ ghost use Rattle.sil_grammar_values.specs.inner.PartFaults.{part_fault};
 ghost use Rattle.sil_grammar_values.specs.inner.Reduced.{parts_of, reduced};
 ghost use Rattle.sil_grammar_values.specs.Values.{operand_of, operands_of};
 
+use crate::faultless::put_faultless;
 use sil_ast::{Boxed, Exhausted, List, Member};
 use sil_grammar_tables::Production;
 use sil_grammar_tree::{Fault, WrittenEdge, WrittenOperand};
 use sil_grammar_values::faults::too_many;
 use sil_grammar_values::nothing::skip;
 use sil_grammar_values::prepended::Prepended;
-use sil_grammar_values::put::{put, put_value};
+use sil_grammar_values::put::put;
 use sil_grammar_values::starred::starred;
 use sil_grammar_values::value::{Reduced, Value};
 use sil_rules::{LimitWord, limits};
@@ -24,9 +25,13 @@ use std::alloc::Global;
 /// Puts an operand of its name and its type.
 #[inline(never)]
 #[tactic(auto, unfolding(sil_grammar_values::specs::inner::Reduced::standing))]
-pub(crate) fn operand(alloc: Global, values: &mut Prepended<Value>) -> Result<(), Exhausted>
+pub(crate) fn operand(
+    alloc: Global,
+    values: &mut Prepended<Value>,
+) -> Result<Option<Fault>, Exhausted>
     requires { 5 ≤ length values.old }
     ensures values { OnOk result (values.new ≡ reduced Production.WholeOperand values.old) }
+    ensures fault { IfOk result (λ fault. fault ≡ None) }
 {
     let name = values.pop_front().into_token();
     skip(values);
@@ -34,7 +39,7 @@ pub(crate) fn operand(alloc: Global, values: &mut Prepended<Value>) -> Result<()
     let star = values.pop_front();
     let ty = values.pop_front().into_type().ty;
     let ty = Some(starred(alloc, star, ty)?);
-    put_value(Value::Operand(WrittenOperand { name, ty }), values)
+    put_faultless(Value::Operand(WrittenOperand { name, ty }), values)
 }
 
 /// An operand, and the operands behind it.
@@ -51,34 +56,46 @@ fn operands_before(alloc: Global, values: &mut Prepended<Value>) -> Result<Value
 
 /// Puts an operand, and the operands behind it.
 #[inline(never)]
-pub(crate) fn operands(alloc: Global, values: &mut Prepended<Value>) -> Result<(), Exhausted>
+pub(crate) fn operands(
+    alloc: Global,
+    values: &mut Prepended<Value>,
+) -> Result<Option<Fault>, Exhausted>
     requires { 2 ≤ length values.old }
     ensures values { OnOk result ((first others : Value) × (rest : List Value) × (values.old ≡ first ∷ others ∷ rest)
         × (values.new ≡ v.Operands (operand_of first ∷ operands_of others) ∷ rest)) }
+    ensures fault { IfOk result (λ fault. fault ≡ None) }
 {
     let operands = operands_before(alloc, values)?;
-    put_value(operands, values)
+    put_faultless(operands, values)
 }
 
 /// Puts the operands between the parentheses of an edge.
 #[inline(never)]
 #[tactic(auto, unfolding(sil_grammar_values::specs::inner::Reduced::standing))]
-pub(crate) fn edge_operands(alloc: Global, values: &mut Prepended<Value>) -> Result<(), Exhausted>
+pub(crate) fn edge_operands(
+    alloc: Global,
+    values: &mut Prepended<Value>,
+) -> Result<Option<Fault>, Exhausted>
     requires { 4 ≤ length values.old }
     ensures values { OnOk result (values.new ≡ reduced Production.EdgeArgsSome values.old) }
+    ensures fault { IfOk result (λ fault. fault ≡ None) }
 {
     skip(values);
     let operands = operands_before(alloc, values)?;
     skip(values);
-    put_value(operands, values)
+    put_faultless(operands, values)
 }
 
 /// Puts that there are no operands, or no more of them.
 #[inline(never)]
-pub(crate) fn no_operands(alloc: Global, values: &mut Prepended<Value>) -> Result<(), Exhausted>
+pub(crate) fn no_operands(
+    alloc: Global,
+    values: &mut Prepended<Value>,
+) -> Result<Option<Fault>, Exhausted>
     ensures values { OnOk result (values.new ≡ v.Operands [] ∷ values.old) }
+    ensures fault { IfOk result (λ fault. fault ≡ None) }
 {
-    put_value(Value::Operands(Prepended::new(alloc)), values)
+    put_faultless(Value::Operands(Prepended::new(alloc)), values)
 }
 
 /// Puts an edge of its label and its operands.
@@ -104,9 +121,13 @@ pub(crate) fn edge(alloc: Global, values: &mut Prepended<Value>) -> Result<Optio
 /// Puts the edge of a case, and the edges behind it.
 #[inline(never)]
 #[tactic(auto, unfolding(sil_grammar_values::specs::inner::Reduced::standing))]
-pub(crate) fn switch_case(alloc: Global, values: &mut Prepended<Value>) -> Result<(), Exhausted>
+pub(crate) fn switch_case(
+    alloc: Global,
+    values: &mut Prepended<Value>,
+) -> Result<Option<Fault>, Exhausted>
     requires { 5 ≤ length values.old }
     ensures values { OnOk result (values.new ≡ reduced Production.SwitchCase values.old) }
+    ensures fault { IfOk result (λ fault. fault ≡ None) }
 {
     skip(values);
     let case_of = Some(values.pop_front().into_member(alloc)?);
@@ -118,15 +139,19 @@ pub(crate) fn switch_case(alloc: Global, values: &mut Prepended<Value>) -> Resul
         args: List::new(alloc),
         case_of,
     })?;
-    put_value(Value::Edges(edges), values)
+    put_faultless(Value::Edges(edges), values)
 }
 
 /// Puts the edge of a default, behind which there are no edges.
 #[inline(never)]
 #[tactic(auto, unfolding(sil_grammar_values::specs::inner::Reduced::standing))]
-pub(crate) fn switch_default(alloc: Global, values: &mut Prepended<Value>) -> Result<(), Exhausted>
+pub(crate) fn switch_default(
+    alloc: Global,
+    values: &mut Prepended<Value>,
+) -> Result<Option<Fault>, Exhausted>
     requires { 2 ≤ length values.old }
     ensures values { OnOk result (values.new ≡ reduced Production.SwitchDefault values.old) }
+    ensures fault { IfOk result (λ fault. fault ≡ None) }
 {
     skip(values);
     let label = values.pop_front().into_token();
@@ -136,28 +161,36 @@ pub(crate) fn switch_default(alloc: Global, values: &mut Prepended<Value>) -> Re
         args: List::new(alloc),
         case_of: None,
     })?;
-    put_value(Value::Edges(edges), values)
+    put_faultless(Value::Edges(edges), values)
 }
 
 /// Puts that there are no more edges.
 #[inline(never)]
-pub(crate) fn no_edges(alloc: Global, values: &mut Prepended<Value>) -> Result<(), Exhausted>
+pub(crate) fn no_edges(
+    alloc: Global,
+    values: &mut Prepended<Value>,
+) -> Result<Option<Fault>, Exhausted>
     ensures values { OnOk result (values.new ≡ v.Edges [] ∷ values.old) }
+    ensures fault { IfOk result (λ fault. fault ≡ None) }
 {
-    put_value(Value::Edges(Prepended::new(alloc)), values)
+    put_faultless(Value::Edges(Prepended::new(alloc)), values)
 }
 
 /// Puts the operand of a case, alone in a list.
 #[inline(never)]
 #[tactic(auto, unfolding(sil_grammar_values::specs::inner::Reduced::standing))]
-pub(crate) fn enum_operand(alloc: Global, values: &mut Prepended<Value>) -> Result<(), Exhausted>
+pub(crate) fn enum_operand(
+    alloc: Global,
+    values: &mut Prepended<Value>,
+) -> Result<Option<Fault>, Exhausted>
     requires { 2 ≤ length values.old }
     ensures values { OnOk result (values.new ≡ reduced Production.EnumOperandSome values.old) }
+    ensures fault { IfOk result (λ fault. fault ≡ None) }
 {
     skip(values);
     let mut operands = Prepended::new(alloc);
     operands.push_front(values.pop_front().into_operand())?;
-    put_value(Value::Operands(operands), values)
+    put_faultless(Value::Operands(operands), values)
 }
 
 /// `#C.f` of a member's name, or of a case before its suffix.
@@ -175,24 +208,32 @@ fn member(alloc: Global, values: &mut Prepended<Value>) -> Result<Value, Exhaust
 /// Puts the name of a member.
 #[inline(never)]
 #[tactic(auto, unfolding(sil_grammar_values::specs::inner::Reduced::standing))]
-pub(crate) fn member_name(alloc: Global, values: &mut Prepended<Value>) -> Result<(), Exhausted>
+pub(crate) fn member_name(
+    alloc: Global,
+    values: &mut Prepended<Value>,
+) -> Result<Option<Fault>, Exhausted>
     requires { 4 ≤ length values.old }
     ensures values { OnOk result (values.new ≡ reduced Production.WholeMemberName values.old) }
+    ensures fault { IfOk result (λ fault. fault ≡ None) }
 {
     let member = member(alloc, values)?;
-    put_value(member, values)
+    put_faultless(member, values)
 }
 
 /// Puts the name of a case, of whose suffix nothing is kept.
 #[inline(never)]
 #[tactic(auto, unfolding(sil_grammar_values::specs::inner::Reduced::standing))]
-pub(crate) fn enum_element(alloc: Global, values: &mut Prepended<Value>) -> Result<(), Exhausted>
+pub(crate) fn enum_element(
+    alloc: Global,
+    values: &mut Prepended<Value>,
+) -> Result<Option<Fault>, Exhausted>
     requires { 7 ≤ length values.old }
     ensures values { OnOk result (values.new ≡ reduced Production.WholeEnumElement values.old) }
+    ensures fault { IfOk result (λ fault. fault ≡ None) }
 {
     let member = member(alloc, values)?;
     skip(values);
     skip(values);
     skip(values);
-    put_value(member, values)
+    put_faultless(member, values)
 }

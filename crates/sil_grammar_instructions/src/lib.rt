@@ -7,6 +7,7 @@ mod build_operands;
 mod build_row_parts;
 mod build_rows;
 mod build_words;
+mod faultless;
 mod reduce_operands;
 mod reduce_words;
 

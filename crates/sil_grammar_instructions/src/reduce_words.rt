@@ -31,50 +31,58 @@ pub fn reduce_word(
 {
     match production {
         Production::FlagsNone | Production::VarDeclAfterNone | Production::LexicalAfterNone => {
-            build_words::flags(false, false, values)?
+            build_words::flags(false, false, values)
         }
-        Production::LexicalFirst => build_words::lexical_first(values)?,
-        Production::VarDeclFirst => build_words::var_decl_first(values)?,
+        Production::LexicalFirst => build_words::lexical_first(values),
+        Production::VarDeclFirst => build_words::var_decl_first(values),
         Production::VarDeclAfterSome => {
             skip(values);
             skip(values);
             skip(values);
-            build_words::flags(false, true, values)?
+            build_words::flags(false, true, values)
         },
         Production::LexicalAfterSome => {
             skip(values);
             skip(values);
             skip(values);
-            build_words::flags(true, false, values)?
+            build_words::flags(true, false, values)
         },
         Production::QualifierNone | Production::TakeFlagNone | Production::InitFlagNone => {
-            build_words::unqualified(values)?
+            build_words::unqualified(values)
         }
-        Production::QualifierCopy => build_words::qualifier(Qualifier::Copy, values)?,
-        Production::QualifierTake => build_words::qualifier(Qualifier::Take, values)?,
-        Production::QualifierTrivial => build_words::qualifier(Qualifier::Trivial, values)?,
+        Production::QualifierCopy => build_words::qualifier(Qualifier::Copy, values),
+        Production::QualifierTake => build_words::qualifier(Qualifier::Take, values),
+        Production::QualifierTrivial => build_words::qualifier(Qualifier::Trivial, values),
         Production::QualifierInit | Production::InitShort | Production::InitLong => {
-            build_words::qualifier(Qualifier::Init, values)?
+            build_words::qualifier(Qualifier::Init, values)
         }
-        Production::QualifierAssign => build_words::qualifier(Qualifier::Assign, values)?,
-        Production::TakeFlagSome => build_words::take_flag(values)?,
+        Production::QualifierAssign => build_words::qualifier(Qualifier::Assign, values),
+        Production::TakeFlagSome => build_words::take_flag(values),
         Production::DebugNone
         | Production::DebugAfterBindingNone
         | Production::DebugAfterNameNone
-        | Production::DebugAfterNumberNone => build_words::no_more_debug(values)?,
-        Production::DebugLet => build_words::debug_binding(Binding::Let, values)?,
-        Production::DebugVar => build_words::debug_binding(Binding::Var, values)?,
-        Production::DebugName => build_words::debug_name(alloc, values)?,
-        Production::DebugNumber => return build_words::debug_number(values),
-        Production::DebugDeref => build_words::debug_deref(values)?,
-        Production::DebugRest | Production::DebugNoName | Production::DebugNoNumber => pass(values),
+        | Production::DebugAfterNumberNone => build_words::no_more_debug(values),
+        Production::DebugLet => build_words::debug_binding(Binding::Let, values),
+        Production::DebugVar => build_words::debug_binding(Binding::Var, values),
+        Production::DebugName => build_words::debug_name(alloc, values),
+        Production::DebugNumber => build_words::debug_number(values),
+        Production::DebugDeref => build_words::debug_deref(values),
+        Production::DebugRest | Production::DebugNoName | Production::DebugNoNumber => {
+            pass(values);
+            Ok(None)
+        }
         Production::FlagsSome
         | Production::DebugSome
         | Production::DebugAfterBindingSome
         | Production::DebugAfterNameSome
-        | Production::DebugAfterNumberSome => put_second(values)?,
-        Production::QualifierSome | Production::InitFlagSome => put_second_of_three(values)?,
+        | Production::DebugAfterNumberSome => {
+            put_second(values)?;
+            Ok(None)
+        }
+        Production::QualifierSome | Production::InitFlagSome => {
+            put_second_of_three(values)?;
+            Ok(None)
+        }
         _ => unreachable!(),
     }
-    Ok(None)
 }
