@@ -93,7 +93,8 @@ pub fn members(alloc: Global, decl: &WrittenDecl) -> Result<SymbolTable, Exhaust
 
 fn count_of_members(decl: &WrittenDecl) -> usize {
     match decl {
-        WrittenDecl::Class { fields, .. } | WrittenDecl::Struct { fields, .. } => fields.len(),
+        WrittenDecl::Class { fields, .. } => fields.len(),
+        WrittenDecl::Struct { fields, .. } => fields.len(),
         WrittenDecl::Enum { cases, .. } => cases.len(),
     }
 }
