@@ -89,23 +89,22 @@ fn add_block(
     ensures faults { OnOk result (faults.new ≡ with_code
         (known_in tables.entry.functions.now tables.entry.blocks.now tables.entry.values.now) faults.old (code_of block)) }
 {
-    let added = add_parts(alloc, tables, faults, next, &mut block, resolved);
+    let whole = resolve_block(alloc, tables, faults, next, &mut block);
     drop::<WrittenBlock>(block);
-    added
+    resolved.push(whole?)
 }
 
 // Takes out of the block what is resolved.
-fn add_parts(
+fn resolve_block(
     alloc: Global,
     tables: Tables<'_>,
     faults: &mut CodeFaults,
     next: &mut u32,
     block: &mut WrittenBlock,
-    resolved: &mut List<Block>,
-) -> Result<(), Exhausted>
+) -> Result<Block, Exhausted>
     ghost s: { Scope }
     requires { FindsScope tables.functions.now tables.blocks.now tables.values.now s }
-    ensures block { OnOk result (resolved.new ≡ resolved.old ++ resolved_block s next.old block.old ∷ []) }
+    ensures block { IfOk result (λ resolved. resolved ≡ resolved_block s next.old block.old) }
     ensures next { OnOk result (next.new ≡ next.old + length (defined_in block.old)) }
     ensures faults { OnOk result (faults.new ≡ with_code
         (known_in tables.entry.functions.now tables.entry.blocks.now tables.entry.values.now) faults.old (code_of block.old)) }
@@ -115,11 +114,11 @@ fn add_parts(
     let insts = mem::replace(&mut block.insts, List::new(alloc));
     let insts = resolve_insts(alloc, tables, faults, next, insts)?;
     let mut behind = *next;
-    let terminator = resolve_inst(alloc, tables, faults, &mut behind, &mut block.terminator)?;
-    resolved.push(Block {
+    let names = resolve_names(alloc, tables, faults, &mut behind, &mut block.terminator)?;
+    Ok(Block {
         args,
         insts,
-        terminator,
+        terminator: with_names(&mut block.terminator, names),
     })
 }
 
@@ -231,27 +230,8 @@ fn add_named(
     ensures faults { OnOk result (faults.new ≡ with_code
         (known_in tables.entry.functions.now tables.entry.blocks.now tables.entry.values.now) faults.old (inst.old ∷ [])) }
 {
-    let inst = resolve_inst(alloc, tables, faults, next, inst)?;
-    resolved.push(Boxed::new(alloc, inst)?)
-}
-
-// Takes out of the instruction what is resolved.
-fn resolve_inst(
-    alloc: Global,
-    tables: Tables<'_>,
-    faults: &mut CodeFaults,
-    next: &mut u32,
-    inst: &mut WrittenInst,
-) -> Result<Inst, Exhausted>
-    ghost s: { Scope }
-    requires { FindsScope tables.functions.now tables.blocks.now tables.values.now s }
-    ensures inst { IfOk result (λ resolved. resolved ≡ resolved_inst s next.old inst.old) }
-    ensures next { OnOk result (next.new ≡ next.old + length (defined_by_inst inst.old)) }
-    ensures faults { OnOk result (faults.new ≡ with_code
-        (known_in tables.entry.functions.now tables.entry.blocks.now tables.entry.values.now) faults.old (inst.old ∷ [])) }
-{
     let names = resolve_names(alloc, tables, faults, next, inst)?;
-    Ok(with_names(inst, names))
+    resolved.push(Boxed::new(alloc, with_names(inst, names))?)
 }
 
 // Takes the operands and the edges out of the instruction.
