@@ -54,7 +54,7 @@ fn kind_name(kind: TokenKind) -> &'static str {
         TokenKind::Percent => "Percent ",
         TokenKind::Number => "Number ",
         TokenKind::Text => "Text ",
-        TokenKind::Punctuation => "Punctuation ",
+        TokenKind::Mark => "Mark ",
     }
 }
 

@@ -22,6 +22,7 @@ mod totals;
 
 pub use heap::Heap;
 pub use heap_model::{Released, Underflow};
+pub use holder_model_values::{Leaf, Phase};
 pub use laws::{finished_objects_are_dead, freed_objects_are_dead, slots_are_few};
 pub use layouts_by_class::{ClassLayouts, FieldPlace};
 pub use pooled_leaves::LeafPool;

@@ -9,6 +9,7 @@ mod low_run;
 mod module_run;
 mod value_reading;
 
+pub use holder_model::LowFault;
 pub use low_run::{LowEnd, LowRun};
 pub use module_run::run;
 pub use value_reading::{read_given, read_value};

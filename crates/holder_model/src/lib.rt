@@ -15,6 +15,7 @@ mod trap;
 
 pub use columns::EFFECTS;
 pub use event::Event;
+pub use holder_model_values::Val;
 pub use laws::runs_end_once;
 pub use left_object::LeftObject;
 pub use limits::FRAMES;

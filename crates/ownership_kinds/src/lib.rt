@@ -15,4 +15,4 @@ mod rings;
 
 pub use find::{FunctionKinds, kinds_in};
 pub use laws::facts_are_told;
-pub use ownership_kinds_chains::Kinds;
+pub use ownership_kinds_chains::{Kinds, Mark, MarkSort};

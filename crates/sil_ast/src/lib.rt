@@ -28,6 +28,7 @@ pub use decl::{Case, Decl, Field, Storage};
 pub use exhausted::Exhausted;
 pub use function::{ArgKind, Block, BlockArg, Form, Function, Linkage};
 pub use inst::{Edge, Inst, Qualifier};
+pub use instruction_table::{FormRow, Op, Part, row_of};
 pub use list::List;
 pub use member::Member;
 pub use module::{Imports, Module, Stage};

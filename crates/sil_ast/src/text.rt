@@ -1,6 +1,6 @@
 //! Names and texts as bytes. Nothing here knows which bytes a name may have.
 
-ghost use Rattle.std.specs.Prelude.{◌≡◌, [], ◌≤◌, ◌↔◌, length, slice_get, IsTrue, IsNone, IfOk};
+ghost use Rattle.std.specs.Prelude.{◌≡◌, [], ◌∷◌, ◌++◌, ◌≤◌, ◌↔◌, length, slice_get, IsTrue, IsNone, IfOk, OnErr, OnOk};
 ghost use Rattle.std.specs.Option.{option_copied};
 
 use crate::exhausted::Exhausted;
@@ -87,6 +87,27 @@ impl Text {
             Bytes::Short { count, bytes } => Ok(bytes[..count as usize].to_vec(alloc)?),
             Bytes::Long(bytes) => Ok(Box::into_inner(bytes)),
         }
+    }
+
+    /// One more byte behind the others. Where there is no memory for it, the text stays as it was.
+    pub fn push(&mut self, alloc: Global, byte: u8) -> Result<(), Exhausted>
+        ensures ok { OnOk result (self.new ≡ self.old ++ byte ∷ []) }
+        ensures err { OnErr result (self.new ≡ self.old) }
+    {
+        match &mut self.bytes {
+            Bytes::Short { count, bytes } if (*count as usize) < MOST_SHORT => {
+                bytes[*count as usize] = byte;
+                *count += 1;
+            }
+            Bytes::Short { bytes, .. } => {
+                let mut long = Vec::with_capacity(alloc, 2 * MOST_SHORT)?;
+                long.extend_from_slice(bytes)?;
+                long.push(byte)?;
+                self.bytes = Bytes::Long(Box::new(alloc, long)?);
+            }
+            Bytes::Long(bytes) => bytes.push(byte)?,
+        }
+        Ok(())
     }
 
     pub fn len(&self) -> usize

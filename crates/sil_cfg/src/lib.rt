@@ -15,3 +15,4 @@ pub use graph::Graph;
 pub use item::Item;
 pub use linked::has_graph;
 pub use returns::returns_by_item;
+pub use sil_rules::{RuleEnd, RuleFault};

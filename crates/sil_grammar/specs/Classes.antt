@@ -25,7 +25,7 @@ class_by kind.AtName spelling = At (at_word_of (without_sigil spelling))
 class_by kind.Percent spelling = Percent
 class_by kind.Number spelling = Number
 class_by kind.Text spelling = text_class (is_builtin_name (without_quotes spelling))
-class_by kind.Punctuation spelling = punctuation_class (punctuation_of spelling)
+class_by kind.Mark spelling = punctuation_class (punctuation_of spelling)
 
 abbrev pub token_class : Lexeme → Class
 token_class l = class_by l.kind l.spelling

@@ -42,7 +42,7 @@ fn class_by(kind: TokenKind, spelling: &[u8]) -> Class
         TokenKind::Percent => Class::Percent,
         TokenKind::Number => Class::Number,
         TokenKind::Text => text_class(without_quotes(spelling)),
-        TokenKind::Punctuation => punctuation_class(spelling),
+        TokenKind::Mark => punctuation_class(spelling),
     }
 }
 

@@ -14,7 +14,7 @@ kept_of token.AtName spelling = without_sigil spelling
 kept_of token.Percent spelling = without_sigil spelling
 kept_of token.Number spelling = spelling
 kept_of token.Text spelling = without_quotes spelling
-kept_of token.Punctuation spelling = []
+kept_of token.Mark spelling = []
 
 abbrev pub leaf_of : Lexeme → Value
 leaf_of l = v.Token (record { text = kept_of l.kind l.spelling; place = l.place })

@@ -53,7 +53,7 @@ fn kept_of(
         TokenKind::Percent => without_sigil(text, from, count),
         TokenKind::Number => Spelling::part(text, from, count),
         TokenKind::Text => without_quotes(text, from, count),
-        TokenKind::Punctuation => Ok(Spelling::none()),
+        TokenKind::Mark => Ok(Spelling::none()),
     }
 }
 

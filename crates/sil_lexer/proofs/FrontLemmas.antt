@@ -6,7 +6,7 @@ use Rattle.std.specs.Char.{is_ascii_digit}
 use Rattle.std.proofs.lemmas.List.{length_push}
 use Rattle.std.proofs.lemmas.Bool.{and_parts, and_left, or_from, or_cases, or_parts, eqb-true, leb-true, lt-leb, false≢true, not-true, ne_eqb}
 use Rattle.sil_lexer.specs.declared.token.TokenKind.{TokenKind}
-use Rattle.sil_lexer.specs.declared.token.TokenKind.TheVariants.{Word, AtName, Percent, Number, Text, Punctuation}
+use Rattle.sil_lexer.specs.declared.token.TokenKind.TheVariants.{Word, AtName, Percent, Number, Text, Mark}
 use Rattle.sil_ast.specs.TextBytes.Bytes.{is_word_start, is_name_byte, is_text_byte, is_punctuation}
 use Rattle.sil_lexer.specs.Spelling.{Spells, word, at_name, percent, number, negative, quoted, punctuation, arrow, IsSpelled, begins_with, continues}
 use Rattle.sil_lexer.specs.inner.Lexing.{IsLongestTaken}
@@ -17,15 +17,15 @@ Front = TokenKind × ℕ
 
 -- the token that begins the list, where one does
 front_of : List ℕ → Front
-front_of [] = (Punctuation, 0)
+front_of [] = (Mark, 0)
 front_of (b ∷ bytes) =
     cond (is_word_start b) (Word, 1 + prefix_len is_name_byte bytes)
     (cond (is_ascii_digit b) (Number, 1 + prefix_len is_ascii_digit bytes)
     (cond (b == 64) (AtName, 1 + prefix_len is_name_byte bytes)
     (cond (b == 37) (Percent, 1 + prefix_len is_name_byte bytes)
     (cond (b == 34) (Text, 2 + prefix_len is_text_byte bytes)
-    (cond (b == 45) (cond (begins_with is_ascii_digit bytes) (Number, 1 + prefix_len is_ascii_digit bytes) (Punctuation, 2))
-    (Punctuation, 1))))))
+    (cond (b == 45) (cond (begins_with is_ascii_digit bytes) (Number, 1 + prefix_len is_ascii_digit bytes) (Mark, 2))
+    (Mark, 1))))))
 
 -- a run and what goes on behind it
 pub run_goes_on : (p : ℕ → Bool) (run after : List ℕ) → list_all p run ≡ true → prefix_len p (run ++ after) ≡ length run + prefix_len p after
@@ -56,7 +56,7 @@ none_continued (b ∷ after) = refl
 is_other : ℕ → Bool
 is_other b = is_word_start b || is_ascii_digit b || b == 64 || b == 37 || b == 34 || b == 45
 
-front-punctuation : (b : ℕ) (after : List ℕ) → is_punctuation b ≡ true → front_of (b ∷ after) ≡ (Punctuation, 1)
+front-punctuation : (b : ℕ) (after : List ℕ) → is_punctuation b ≡ true → front_of (b ∷ after) ≡ (Mark, 1)
 unfolding front_of is_other
 front-punctuation b after passes =
     let other = not-true _ (signs_all (λ m. not (is_other m)) b (codes "{}()[]<>,:.?*=!$#") refl passes) in
@@ -97,10 +97,10 @@ front-spelling kind spelling after (quoted inside passes) =
     rw (append_assoc inside (34 ∷ []) after) (same_kind Text _ _ (omega arith))
 front-spelling kind spelling after (punctuation b passes) =
     let none = none_continued after in
-    front-punctuation b after passes ∙ same_kind Punctuation _ _ (omega arith)
+    front-punctuation b after passes ∙ same_kind Mark _ _ (omega arith)
 front-spelling kind spelling after arrow =
     let none = none_continued after in
-    same_kind Punctuation _ _ (omega arith)
+    same_kind Mark _ _ (omega arith)
 
 pub ended_run : (p : ℕ → Bool) (after : List ℕ) → begins_with p after ≡ false → prefix_len p after ≡ 0
 ended_run p [] ended = refl

@@ -8,7 +8,7 @@ use Rattle.std.proofs.lemmas.List.{take_more}
 use Rattle.std.proofs.lemmas.Bool.{eqb-true, or_cases, or_left, or_right, false≢true}
 use Rattle.sil_ast.specs.declared.place.Place.{Place}
 use Rattle.sil_lexer.specs.declared.token.TokenKind.{TokenKind}
-use Rattle.sil_lexer.specs.declared.token.TokenKind.TheVariants.{Word, AtName, Percent, Number, Text, Punctuation}
+use Rattle.sil_lexer.specs.declared.token.TokenKind.TheVariants.{Word, AtName, Percent, Number, Text, Mark}
 use Rattle.sil_ast.specs.TextBytes.Bytes.{is_word_start, is_name_byte, is_text_byte, is_punctuation}
 use Rattle.sil_lexer.specs.Spelling.{Spells, word, at_name, percent, number, negative, quoted, punctuation, arrow, IsSpelled, begins_with, continues, name_length}
 use Rattle.sil_lexer.specs.inner.Scan.{is_sigil, IsTokenAt}
@@ -89,7 +89,7 @@ at_sigil P at_sign percent_sign kind [] first = absurd (false≢true first)
 at_sigil P at_sign percent_sign Word (b ∷ rest) first = absurd (false≢true first)
 at_sigil P at_sign percent_sign Number (b ∷ rest) first = absurd (false≢true first)
 at_sigil P at_sign percent_sign Text (b ∷ rest) first = absurd (false≢true first)
-at_sigil P at_sign percent_sign Punctuation (b ∷ rest) first = absurd (false≢true first)
+at_sigil P at_sign percent_sign Mark (b ∷ rest) first = absurd (false≢true first)
 
 pub takes_sigil_name : (kind : TokenKind) (rest : List ℕ) → begins_with (is_sigil kind) rest ≡ true → 0 < prefix_len is_name_byte (drop 1 rest)
     → Takes kind (1 + prefix_len is_name_byte (drop 1 rest)) rest
@@ -106,21 +106,21 @@ length_of_sigil_name =
       without_sigil : (sigil : ℕ) (name : List ℕ) (n : ℕ) → 1 + n ≤ length (sigil ∷ name) → length (take (1 + n) (sigil ∷ name)) - 1 ≡ n
       without_sigil sigil name n inside = let size = length-take-le (1 + n) (sigil ∷ name) inside in omega arith
 
-pub takes_arrow : (rest : List ℕ) → begins_with (λ b. b == 45) rest ≡ true → 1 < length rest → get_or rest 1 0 ≡ 62 → Takes Punctuation 2 rest
+pub takes_arrow : (rest : List ℕ) → begins_with (λ b. b == 45) rest ≡ true → 1 < length rest → get_or rest 1 0 ≡ 62 → Takes Mark 2 rest
 takes_arrow [] first some second = absurd (omega arith)
 takes_arrow (a ∷ []) first some second = absurd (omega arith)
 takes_arrow (a ∷ b ∷ rest) first some second =
     let start : a ≡ 45 = eqb-true a 45 first in
-    let spelled : Spells Punctuation (a ∷ b ∷ []) = subst (λ x. Spells Punctuation (x ∷ b ∷ [])) (sym start) (subst (λ y. Spells Punctuation (45 ∷ y ∷ [])) (sym second) arrow) in
+    let spelled : Spells Mark (a ∷ b ∷ []) = subst (λ x. Spells Mark (x ∷ b ∷ [])) (sym start) (subst (λ y. Spells Mark (45 ∷ y ∷ [])) (sym second) arrow) in
     record { spelled = spelled; ended = never_continued rest } where
-      never_continued : (bytes : List ℕ) → begins_with (continues Punctuation) bytes ≡ false
+      never_continued : (bytes : List ℕ) → begins_with (continues Mark) bytes ≡ false
       never_continued [] = refl
       never_continued (c ∷ bytes) = refl
 
-pub takes_punctuation : (rest : List ℕ) → begins_with is_punctuation rest ≡ true → Takes Punctuation 1 rest
+pub takes_punctuation : (rest : List ℕ) → begins_with is_punctuation rest ≡ true → Takes Mark 1 rest
 takes_punctuation [] first = absurd (false≢true first)
 takes_punctuation (b ∷ rest) passes = record { spelled = punctuation b passes; ended = never_continued rest } where
-  never_continued : (bytes : List ℕ) → begins_with (continues Punctuation) bytes ≡ false
+  never_continued : (bytes : List ℕ) → begins_with (continues Mark) bytes ≡ false
   never_continued [] = refl
   never_continued (c ∷ bytes) = refl
 

@@ -3,7 +3,7 @@ use Rattle.std.specs.Prelude.{ℕ, ◌-◌, Bool, false, List, [], ◌∷◌, �
 use Rattle.std.specs.List.{list_all}
 use Rattle.std.specs.Char.{is_ascii_digit}
 use Rattle.sil_lexer.specs.declared.token.TokenKind.{TokenKind}
-use Rattle.sil_lexer.specs.declared.token.TokenKind.TheVariants.{Word, AtName, Percent, Number, Text, Punctuation}
+use Rattle.sil_lexer.specs.declared.token.TokenKind.TheVariants.{Word, AtName, Percent, Number, Text, Mark}
 use Rattle.sil_ast.specs.TextBytes.Bytes.{is_word_start, is_name_byte, is_text_byte, is_punctuation}
 
 -- a name without its sigil, and a text without its quotes
@@ -26,8 +26,8 @@ pub data Spells : TokenKind → List ℕ → Type 0 where
   negative : (first : ℕ) (more : List ℕ) → IsTrue (list_all is_ascii_digit (first ∷ more))
       → Spells Number (45 ∷ first ∷ more)
   quoted : (inside : List ℕ) → IsTrue (list_all is_text_byte inside) → Spells Text (34 ∷ inside ++ 34 ∷ [])
-  punctuation : (byte : ℕ) → IsTrue (is_punctuation byte) → Spells Punctuation (byte ∷ [])
-  arrow : Spells Punctuation (45 ∷ 62 ∷ [])
+  punctuation : (byte : ℕ) → IsTrue (is_punctuation byte) → Spells Mark (byte ∷ [])
+  arrow : Spells Mark (45 ∷ 62 ∷ [])
 
 -- a spelling of the kind would go on with this byte
 abbrev pub continues : TokenKind → ℕ → Bool
@@ -36,7 +36,7 @@ continues AtName b = is_name_byte b
 continues Percent b = is_name_byte b
 continues Number b = is_ascii_digit b
 continues Text b = false
-continues Punctuation b = false
+continues Mark b = false
 
 -- the first byte, if there is one, passes the test
 abbrev pub begins_with : (ℕ → Bool) → List ℕ → Bool
@@ -50,7 +50,7 @@ name_length AtName spelling = length spelling - 1
 name_length Percent spelling = length spelling - 1
 name_length Number spelling = 0
 name_length Text spelling = 0
-name_length Punctuation spelling = 0
+name_length Mark spelling = 0
 
 -- the spelling is the longest one in front of the bytes that follow it
 pub record IsSpelled (kind : TokenKind) (spelling after : List ℕ) : Type 0 where

@@ -31,7 +31,7 @@ pub(crate) fn token_at(rest: &[u8], at: Place) -> Result<Token, LexRefusal>
         Start::Minus => minus_at(rest, at),
         Start::Quote => text_at(rest, at),
         Start::Mark => Ok(Token {
-            kind: TokenKind::Punctuation,
+            kind: TokenKind::Mark,
             place: at,
             length: 1,
         }),
@@ -102,7 +102,7 @@ fn minus_at(rest: &[u8], at: Place) -> Result<Token, LexRefusal>
     }
     if rest.len() > 1 && rest[1] == b'>' {
         return Ok(Token {
-            kind: TokenKind::Punctuation,
+            kind: TokenKind::Mark,
             place: at,
             length: 2,
         });

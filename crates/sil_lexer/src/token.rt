@@ -16,7 +16,7 @@ pub enum TokenKind {
     /// `"`, bytes from 0x20 to 0x7E other than `"` and `\`, and `"`
     Text,
     /// one of `{ } ( ) [ ] < > , : . ? * = ! $ #`, or `->`
-    Punctuation,
+    Mark,
 }
 
 /// A token without its bytes: `length` of them from `place` on.

@@ -48,6 +48,6 @@ any_at name spelled ends r = at_token name spelled refl ends r
 -- punctuation of one byte
 pub punctuation_here : {text : List ℕ} {ss : List Symbol} {rest : List ℕ} {values : List PartValue} {after : List ℕ} → (sign : Punctuation) (byte : ℕ)
     → punctuation_spelling sign ≡ byte ∷ [] → IsTrue (is_punctuation byte) → Reads text ss rest values after
-    → Reads text (Read (punctuation sign) ∷ ss) (byte ∷ rest) (leaf_of (lexeme_before text kind.Punctuation (byte ∷ []) rest) ∷ values) after
+    → Reads text (Read (punctuation sign) ∷ ss) (byte ∷ rest) (leaf_of (lexeme_before text kind.Mark (byte ∷ []) rest) ∷ values) after
 punctuation_here sign byte spelled is_one r =
     punctuation_token byte is_one (sym (ap (λ bytes. punctuation_class (punctuation_of bytes)) (sym spelled) ∙ ap punctuation_class (punctuation_of-punctuation_spelling sign))) r

@@ -176,20 +176,20 @@ text_token {s = s} inside rest quotable accepted r =
     (subst (λ name. Accepts s (text_class (is_builtin_name name))) (sym (between_quotes inside)) accepted)
     (record { spelled = spells.quoted inside quotable; ended = nothing_behind_text rest }) (omega arith) r
 
-no_more : (rest : List ℕ) → IsFalse (begins_with (continues kind.Punctuation) rest)
+no_more : (rest : List ℕ) → IsFalse (begins_with (continues kind.Mark) rest)
 no_more [] = refl
 no_more (byte ∷ rest) = refl
 
 -- punctuation of one byte
 pub punctuation_token : {text : List ℕ} {s : Symbol} {ss : List Symbol} {rest : List ℕ} {values : List PartValue} {after : List ℕ} → (byte : ℕ)
     → IsTrue (is_punctuation byte) → Accepts s (punctuation_class (punctuation_of (byte ∷ []))) → Reads text ss rest values after
-    → Reads text (s ∷ ss) (byte ∷ rest) (leaf_of (lexeme_before text kind.Punctuation (byte ∷ []) rest) ∷ values) after
+    → Reads text (s ∷ ss) (byte ∷ rest) (leaf_of (lexeme_before text kind.Mark (byte ∷ []) rest) ∷ values) after
 unfolding class_by
-punctuation_token {rest = rest} byte is_one accepted r = reads.token kind.Punctuation (byte ∷ []) accepted (record { spelled = spells.punctuation byte is_one; ended = no_more rest }) (omega arith) r
+punctuation_token {rest = rest} byte is_one accepted r = reads.token kind.Mark (byte ∷ []) accepted (record { spelled = spells.punctuation byte is_one; ended = no_more rest }) (omega arith) r
 
 -- `->`
 pub arrow_token : {text : List ℕ} {s : Symbol} {ss : List Symbol} {rest : List ℕ} {values : List PartValue} {after : List ℕ}
     → Accepts s (punctuation_class (punctuation_of (45 ∷ 62 ∷ []))) → Reads text ss rest values after
-    → Reads text (s ∷ ss) (45 ∷ 62 ∷ rest) (leaf_of (lexeme_before text kind.Punctuation (45 ∷ 62 ∷ []) rest) ∷ values) after
+    → Reads text (s ∷ ss) (45 ∷ 62 ∷ rest) (leaf_of (lexeme_before text kind.Mark (45 ∷ 62 ∷ []) rest) ∷ values) after
 unfolding class_by
-arrow_token {rest = rest} accepted r = reads.token kind.Punctuation (45 ∷ 62 ∷ []) accepted (record { spelled = spells.arrow; ended = no_more rest }) (omega arith) r
+arrow_token {rest = rest} accepted r = reads.token kind.Mark (45 ∷ 62 ∷ []) accepted (record { spelled = spells.arrow; ended = no_more rest }) (omega arith) r

@@ -19,5 +19,5 @@ mod wrong;
 pub use parts::{is_external, only_direct_type, written};
 pub use refusal::TypeRefusal;
 pub use same::{is_unowned_of, is_weak_of, same_signature, same_type, same_types};
-pub use sil_types_declarations::{FieldRef, PayloadRef};
+pub use sil_types_declarations::{FieldRef, Kind, PayloadRef};
 pub use table::TypeTable;

@@ -4,7 +4,7 @@ use Rattle.std.specs.List.{prefix_len}
 use Rattle.std.specs.Char.{is_ascii_digit}
 use Rattle.std.proofs.lemmas.List.{take_rest}
 use Rattle.std.proofs.lemmas.List.Sums.{prefix_len-le-length}
-use Rattle.sil_lexer.specs.declared.token.TokenKind.TheVariants.{Number, Punctuation}
+use Rattle.sil_lexer.specs.declared.token.TokenKind.TheVariants.{Number, Mark}
 use Rattle.sil_lexer.proofs.SpellLemmas.{takes_negative, takes_arrow, token_is}
 use Rattle.sil_lexer.proofs.StopLemmas.{no_arrow, stops_at_minus}
 use Rattle.sil_lexer.proofs.scan.minus_at.Goals as goal
@@ -22,7 +22,7 @@ returns-then-digits-gt0 c =
 pub returns-then-rest-eq62 : goal.returns-then-rest-eq62
 returns-then-rest-eq62 c =
     let rest = c.args.rest.now in
-    token_is rest c.args.at Punctuation 2 2 refl (omega arith) (takes_arrow rest c.requires.first (omega arith) c.if-rest-eq62.true) (omega arith)
+    token_is rest c.args.at Mark 2 2 refl (omega arith) (takes_arrow rest c.requires.first (omega arith) c.if-rest-eq62.true) (omega arith)
 
 pub returns : goal.returns
 returns c =

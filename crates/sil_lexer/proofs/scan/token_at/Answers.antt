@@ -1,6 +1,6 @@
 use Rattle.std.proofs.Common.{refl, arith}
 use Rattle.sil_lexer.specs.declared.starts.Start.TheVariants.{Nothing, Letter, AtSign, Percent, Digit, Minus, Quote, Mark}
-use Rattle.sil_lexer.specs.declared.token.TokenKind.TheVariants.{Punctuation}
+use Rattle.sil_lexer.specs.declared.token.TokenKind.TheVariants.{Mark}
 use Rattle.sil_lexer.proofs.SpellLemmas.{takes_punctuation, token_is}
 use Rattle.sil_lexer.proofs.StopLemmas.{stops_at_byte}
 use Rattle.sil_lexer.proofs.StartLemmas.{begins_so}
@@ -40,7 +40,7 @@ pub returns-in-Mark : goal.returns-in-Mark
 returns-in-Mark c =
     let byte = c.type_inv.rest 0 in
     let rest = c.args.rest.now in
-    token_is rest c.args.at Punctuation 1 1 refl c.requires.some_byte
+    token_is rest c.args.at Mark 1 1 refl c.requires.some_byte
     (takes_punctuation rest (begins_so Nothing Mark rest c.requires.some_byte (omega arith) c.in-Mark.is)) (omega arith)
 
 pub returns-in-Nothing : goal.returns-in-Nothing
