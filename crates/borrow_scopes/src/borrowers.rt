@@ -6,16 +6,16 @@ ghost use Rattle.ownership_kinds_chains.specs.OwnershipMarks.Known.{facts_of};
 ghost use Rattle.borrow_scopes.specs.inner.Tables as tables;
 ghost use Rattle.borrow_scopes.specs.inner.Tables.{borrowers_at, ends_with, lent_bases_in, with_last, with_last_if};
 
-use numbered_form::{Borrow, lent_by};
+use numbered_form::lent_by;
 use ownership_kinds_chains::Kinds;
 use sil_ast::{Exhausted, ValueId};
 use std::alloc::Global;
 
 /// The bases of what the value lends, and none where it lends nothing.
-pub(crate) fn lent_bases<'a>(k: &'a Kinds, borrows: &[Borrow], value: ValueId) -> &'a [ValueId]
-    ensures { result.now ≡ lent_bases_in (facts_of k.now) borrows.now value.0 }
+pub(crate) fn lent_bases(k: &Kinds, value: ValueId) -> &[ValueId]
+    ensures { result.now ≡ lent_bases_in (facts_of k.now) k.now.borrows value.0 }
 {
-    match lent_by(borrows, value) {
+    match lent_by(k.borrows(), value) {
         None => &[],
         Some(lent) => k.bases(lent),
     }
@@ -82,16 +82,12 @@ fn add_to_bases(
 
 /// For each base, by its number, the scopes that borrow from it, in ascending order. A number that has no place here is no base.
 /// The time goes with the lengths of the lists of bases.
-pub(crate) fn borrowers_of(
-    alloc: Global,
-    k: &Kinds,
-    borrows: &[Borrow],
-) -> Result<Vec<Vec<u32>>, Exhausted>
-    ensures { IfOk result (λ v. (base : ℕ) → borrowers_at v.items base ≡ tables.borrowers_of (facts_of k.now) borrows.now (length k.now.table) base) }
+pub(crate) fn borrowers_of(alloc: Global, k: &Kinds) -> Result<Vec<Vec<u32>>, Exhausted>
+    ensures { IfOk result (λ v. (base : ℕ) → borrowers_at v.items base ≡ tables.borrowers_of (facts_of k.now) k.now.borrows (length k.now.table) base) }
 {
     let mut rows = Vec::new(alloc);
     for n in 0..k.values() {
-        let bases = lent_bases(k, borrows, ValueId(n as u32));
+        let bases = lent_bases(k, ValueId(n as u32));
         add_to_bases(alloc, &mut rows, bases, n as u32)?;
     }
     Ok(rows)

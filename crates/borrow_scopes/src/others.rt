@@ -3,13 +3,12 @@
 ghost use Rattle.std.specs.Prelude.{◌≡◌, find, option_map, IfOk};
 ghost use Rattle.ownership_kinds_chains.specs.OwnershipChains.Facts.{has, told_at};
 ghost use Rattle.ownership_kinds_chains.specs.OwnershipMarks.Known.{facts_of};
-ghost use Rattle.numbered_form.specs.ValueTables.Borrows as borrowing;
 ghost use Rattle.borrow_scopes.specs.Others as others;
 ghost use Rattle.borrow_scopes.specs.Others.{ends_one, marked_value, taken_value};
+ghost use Rattle.borrow_scopes.specs.inner.Tables as tables;
 
 use crate::borrowers::lent_bases;
 use crate::scopes::is_guaranteed;
-use numbered_form::Borrow;
 use ownership_kinds_chains::{Kinds, Mark, MarkSort};
 use sil_ast::{Exhausted, Function, ValueId};
 use sil_cfg::Item;
@@ -88,15 +87,13 @@ fn ended_base(
     alloc: Global,
     f: &Function,
     k: &Kinds,
-    borrows: &[Borrow],
     scope: ValueId,
     item: Item,
 ) -> Result<Option<ValueId>, Exhausted>
-    requires { borrows.now ≡ borrowing.borrows_of f.now }
-    ensures { IfOk result (λ o. o ≡ others.ended_base (told_at k.now.table) f.now scope item) }
+    ensures { IfOk result (λ o. o ≡ tables.ended_base_in k.now.borrows (told_at k.now.table) f.now scope item) }
 {
     let marks = k.marks_of(alloc, f, item)?;
-    let bases = lent_bases(k, borrows, scope);
+    let bases = lent_bases(k, scope);
     Ok(first_ended(bases, marks.as_slice()))
 }
 
@@ -119,18 +116,16 @@ pub(crate) fn other_of(
     alloc: Global,
     f: &Function,
     k: &Kinds,
-    borrows: &[Borrow],
     rule: Rule,
     scope: ValueId,
     item: Item,
 ) -> Result<Option<ValueId>, Exhausted>
-    requires { borrows.now ≡ borrowing.borrows_of f.now }
-    ensures { IfOk result (λ o. o ≡ others.other_of rule (told_at k.now.table) f.now scope item) }
+    ensures { IfOk result (λ o. o ≡ tables.other_in k.now.borrows rule (told_at k.now.table) f.now scope item) }
 {
     if is_on_uses(rule) {
         used_operand(alloc, f, k, scope, item)
     } else if is_on_bases(rule) {
-        ended_base(alloc, f, k, borrows, scope, item)
+        ended_base(alloc, f, k, scope, item)
     } else {
         Ok(None)
     }

@@ -9,7 +9,7 @@ ghost use Rattle.borrow_scopes.specs.Scopes.{lost_at_end};
 ghost use Rattle.borrow_scopes.specs.inner.Tables as tables;
 ghost use Rattle.borrow_scopes.specs.inner.Tables.{borrowers_at, lost_at, mark_entries_in, scope_entries_in};
 
-use numbered_form::{Borrow, is_borrow};
+use numbered_form::is_borrow;
 use ownership_kinds_chains::{Kinds, Mark, MarkSort};
 use reach_engine_marks::{Entry, ItemTable, SubjectMarks};
 use sil_ast::{Exhausted, ValueId};
@@ -24,10 +24,10 @@ pub(crate) fn is_guaranteed(kind: Kind) -> bool
 }
 
 /// Whether the value is a scope: Guaranteed, and the result of a borrow itself.
-fn is_scope(k: &Kinds, borrows: &[Borrow], value: ValueId) -> bool
-    ensures { result ≡ tables.is_scope_in borrows.now (facts_of k.now) value }
+fn is_scope(k: &Kinds, value: ValueId) -> bool
+    ensures { result ≡ tables.is_scope_in k.now.borrows (facts_of k.now) value }
 {
-    is_guaranteed(k.kind(value)) && is_borrow(borrows, value)
+    is_guaranteed(k.kind(value)) && is_borrow(k.borrows(), value)
 }
 
 /// A use and an end need the scope open, and a begin needs it not open.
@@ -42,15 +42,10 @@ fn turned_by(sort: MarkSort) -> reach_engine_marks::Mark
 }
 
 /// The entry of a mark of a scope.
-fn add_scope_entry(
-    entries: &mut Vec<Entry>,
-    k: &Kinds,
-    borrows: &[Borrow],
-    mark: Mark,
-) -> Result<(), Exhausted>
-    ensures { OnOk result (entries.new.items ≡ entries.old.items ++ scope_entries_in borrows.now (facts_of k.now) mark) }
+fn add_scope_entry(entries: &mut Vec<Entry>, k: &Kinds, mark: Mark) -> Result<(), Exhausted>
+    ensures { OnOk result (entries.new.items ≡ entries.old.items ++ scope_entries_in k.now.borrows (facts_of k.now) mark) }
 {
-    if is_scope(k, borrows, mark.subject) {
+    if is_scope(k, mark.subject) {
         entries.push(Entry {
             subject: mark.subject.0,
             mark: turned_by(mark.sort),
@@ -96,13 +91,12 @@ fn add_lost_at(entries: &mut Vec<Entry>, rows: &[Vec<u32>], mark: Mark) -> Resul
 fn add_mark(
     entries: &mut Vec<Entry>,
     k: &Kinds,
-    borrows: &[Borrow],
     rows: &[Vec<u32>],
     mark: Mark,
 ) -> Result<(), Exhausted>
-    ensures { OnOk result (entries.new.items ≡ entries.old.items ++ mark_entries_in borrows.now (facts_of k.now) rows.now mark) }
+    ensures { OnOk result (entries.new.items ≡ entries.old.items ++ mark_entries_in k.now.borrows (facts_of k.now) rows.now mark) }
 {
-    add_scope_entry(entries, k, borrows, mark)?;
+    add_scope_entry(entries, k, mark)?;
     add_lost_at(entries, rows, mark)
 }
 
@@ -110,24 +104,22 @@ fn add_mark(
 fn add_marks(
     entries: &mut Vec<Entry>,
     k: &Kinds,
-    borrows: &[Borrow],
     rows: &[Vec<u32>],
     marks: &[Mark],
 ) -> Result<(), Exhausted>
-    ensures { OnOk result (entries.new.items ≡ entries.old.items ++ flat_map (mark_entries_in borrows.now (facts_of k.now) rows.now) marks.now) }
+    ensures { OnOk result (entries.new.items ≡ entries.old.items ++ flat_map (mark_entries_in k.now.borrows (facts_of k.now) rows.now) marks.now) }
 {
     for mark in marks {
-        add_mark(entries, k, borrows, rows, *mark)?;
+        add_mark(entries, k, rows, *mark)?;
     }
     Ok(())
 }
 
 /// What the items of a function do to its scopes, by the marks of each item. A `return` has for each scope the mark that it is not open.
-/// `borrows` tells what each value borrows, and `rows` has the scopes that borrow from each base.
+/// `rows` has the scopes that borrow from each base.
 #[derive(Drop)]
 pub(crate) struct Scopes<'a> {
     pub k: &'a Kinds,
-    pub borrows: &'a [Borrow],
     pub rows: &'a [Vec<u32>],
 }
 
@@ -136,7 +128,7 @@ impl ItemTable for Scopes<'_> {
 
     ghost fits = { λ _. Unit {0} };
 
-    ghost entries_at = { λ t n _. flat_map (mark_entries_in t.borrows.now (facts_of t.k.now) t.rows.now) (marks_at t.k.now n) };
+    ghost entries_at = { λ t n _. flat_map (mark_entries_in t.k.now.borrows (facts_of t.k.now) t.rows.now) (marks_at t.k.now n) };
 
     fn add_entries(
         &self,
@@ -145,21 +137,15 @@ impl ItemTable for Scopes<'_> {
         number: usize,
         _item: Item,
     ) -> Result<(), Exhausted> {
-        add_marks(
-            entries,
-            self.k,
-            self.borrows,
-            self.rows,
-            self.k.marks(number),
-        )
+        add_marks(entries, self.k, self.rows, self.k.marks(number))
     }
 }
 
 impl SubjectMarks for Scopes<'_> {
-    ghost mark_of = { λ t n. tables.left_mark t.borrows.now (facts_of t.k.now) n };
+    ghost mark_of = { λ t n. tables.left_mark t.k.now.borrows (facts_of t.k.now) n };
 
     fn shared_mark(&self, subject: u32) -> Option<reach_engine_marks::Mark> {
-        if is_scope(self.k, self.borrows, ValueId(subject)) {
+        if is_scope(self.k, ValueId(subject)) {
             Some(reach_engine_marks::Mark::needs_off(Rule::ScopeLeft))
         } else {
             None

@@ -16,7 +16,6 @@ ghost use Rattle.ownership_kinds.specs.inner.Ends.{AreKindsOf, IsFirstFault};
 ghost use Rattle.ownership_kinds.specs.Statics.{HasKinds};
 
 use crate::check::{KindCheck, first_broken};
-use crate::find::FunctionKinds;
 use numbered_form::{Borrow, PointFault};
 use ownership_kinds_chains::{Definition, Facts, Kinds, Outcome, kinds_of};
 use ownership_kinds_origins::Switched;
@@ -76,7 +75,7 @@ pub(crate) fn decide(
     definitions: &[Definition],
     borrows: Vec<Borrow>,
     renamed: Option<ValueId>,
-) -> Result<Result<FunctionKinds, PointFault>, Exhausted>
+) -> Result<Result<Kinds, PointFault>, Exhausted>
     requires counted { AreCountedFrom 0 (values_of f.now.blocks) }
     requires of_module { IsOfNumberedModule f.now }
     requires switches { AreSwitches f.now switches.now }
@@ -104,8 +103,8 @@ pub(crate) fn decide(
     )? {
         Some(fault) => Ok(Err(fault)),
         None => {
-            let kinds = Kinds::with(alloc, table, f, g)?;
-            Ok(Ok(FunctionKinds { kinds, borrows }))
+            let kinds = Kinds::with(alloc, table, borrows, f, g)?;
+            Ok(Ok(kinds))
         }
     }
 }

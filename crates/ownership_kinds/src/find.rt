@@ -10,7 +10,7 @@ ghost use Rattle.ownership_kinds.specs.inner.Ends.{AreKindsOf, IsEndOn, IsFirstF
 ghost use Rattle.ownership_kinds.specs.Statics.{HasKinds};
 
 use crate::decide::decide;
-use numbered_form::{Borrow, PointFault, borrows_of, rule_fault};
+use numbered_form::{PointFault, borrows_of, rule_fault};
 use ownership_kinds_chains::{Kinds, first_cyclic};
 use ownership_kinds_origins::{Switched, are_renamed_in_order, definitions, renamings, switches};
 use sil_ast::{Exhausted, Function, ValueId};
@@ -18,15 +18,6 @@ use sil_cfg::Graph;
 use sil_rules::RuleEnd;
 use sil_types::TypeTable;
 use std::alloc::Global;
-
-/// What the checks on walks ask of a function's values.
-#[derive(Drop)]
-pub struct FunctionKinds {
-    /// The kinds and bases of the values, and the marks of the items.
-    pub kinds: Kinds,
-    /// By value what it borrows.
-    pub borrows: Vec<Borrow>,
-}
 
 /// The first value on a ring of renamings. Most functions have no renaming of a value behind it, and are asked for no more.
 fn first_renamed(
@@ -52,7 +43,7 @@ fn find(
     types: &TypeTable,
     f: &Function,
     g: &Graph,
-) -> Result<Result<FunctionKinds, PointFault>, Exhausted>
+) -> Result<Result<Kinds, PointFault>, Exhausted>
     requires of_module { IsOfNumberedModule f.now }
     requires graph { HasGraph f.now }
     ensures kinds { IfOk result (λ r. IfOk r (AreKindsOf types.now f.now g.now)) }
@@ -78,12 +69,7 @@ fn find(
 /// The kinds and bases of a function's values, the marks of its items and what its values borrow, where the function keeps the
 /// rules on kinds, 302 to 305.
 /// Else the fault is the first that is broken, by value, then by rule, then by point. It has no walk and no other value.
-pub fn kinds_in(
-    alloc: Global,
-    f: &Function,
-    g: &Graph,
-    types: &TypeTable,
-) -> Result<FunctionKinds, RuleEnd>
+pub fn kinds_in(alloc: Global, f: &Function, g: &Graph, types: &TypeTable) -> Result<Kinds, RuleEnd>
     requires of_module { IsOfNumberedModule f.now }
     requires graph { HasGraph f.now }
     ensures kinds { IfOk result (AreKindsOf types.now f.now g.now) }

@@ -13,6 +13,6 @@ mod mismatch;
 mod mixed;
 mod rings;
 
-pub use find::{FunctionKinds, kinds_in};
+pub use find::kinds_in;
 pub use laws::facts_are_told;
 pub use ownership_kinds_chains::Kinds;

@@ -16,6 +16,7 @@ use Rattle.ownership_kinds_chains.specs.declared.ownership_chains.facts.Facts.{F
 use Rattle.ownership_kinds_chains.specs.OwnershipMarks.Known.{AreKindsBy, Known}
 use Rattle.borrow_scopes.specs.Others.{other_of}
 use Rattle.borrow_scopes.specs.Scopes.{scopes_of}
+use Rattle.borrow_scopes.specs.inner.Tables.{other_in}
 
 -- this comes first of what walks show, whichever facts the kinds are by
 abbrev pub IsFirstScope : Function → Layout → Known → Option PathFault → Type 0
@@ -38,7 +39,7 @@ pub record IsFirstBrokenScope (f : Function) (g : Layout) (k : Known) (fault : R
 -- what the first fault of the table is reported as
 pub record IsFaultOf (f : Function) (k : Known) (x : PathFault) (y : RuleFault) : Type 0 where
   pub found : found_at y x.item ≡ x
-  pub other : y.other ≡ other_of x.rule (told_at k.table) f (value_of x.subject) x.item
+  pub other : y.other ≡ other_in k.borrows x.rule (told_at k.table) f (value_of x.subject) x.item
 
 abbrev pub IsScopeBroken : Function → Layout → Known → RuleEnd → Type 0
 IsScopeBroken f g k (Fault fault) = IsFirstBrokenScope f g k fault

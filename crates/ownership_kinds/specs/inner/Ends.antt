@@ -1,5 +1,5 @@
 -- How a search for the kinds of a function ends, with them or without.
-use Rattle.std.specs.Prelude.{◌≡◌, None, length, ⊤}
+use Rattle.std.specs.Prelude.{None, length, ⊤}
 use Rattle.sil_ast.specs.declared.function.Function.{Function}
 use Rattle.sil_cfg.specs.Layout.{Layout}
 use Rattle.sil_rules.specs.declared.rule_faults.fault.RuleEnd.{RuleEnd}
@@ -9,16 +9,13 @@ use Rattle.numbered_form.specs.Numbering.{values_of}
 use Rattle.numbered_form.specs.PointChecks.inner.Reports.{IsReport}
 use Rattle.numbered_form.specs.declared.point_checks.fault.PointFault.{PointFault}
 use Rattle.sil_types_declarations.specs.TypeDefinitions.Declarations.{Declarations}
-use Rattle.numbered_form.specs.ValueTables.Borrows.{borrows_of}
-use Rattle.ownership_kinds_chains.specs.OwnershipMarks.Known.{AreKindsBy}
+use Rattle.ownership_kinds_chains.specs.OwnershipMarks.Known.{AreKindsBy, Known}
 use Rattle.ownership_kinds_origins.specs.Facts.{facts_in}
 use Rattle.ownership_kinds.specs.Statics.{IsFirstBroken}
-use Rattle.ownership_kinds.specs.declared.find.FunctionKinds.{FunctionKinds}
 
 -- what is handed out is so of the function's values
-pub record AreKindsOf (d : Declarations) (f : Function) (g : Layout) (found : FunctionKinds) : Type 0 where
-  pub kinds : AreKindsBy (length (values_of f.blocks)) (facts_in d f) f g found.kinds
-  pub borrows : found.borrows.items ≡ borrows_of f
+abbrev pub AreKindsOf : Declarations → Function → Layout → Known → Type 0
+AreKindsOf d f g k = AreKindsBy (length (values_of f.blocks)) (facts_in d f) f g k
 
 abbrev pub IsFirstFault : Declarations → Function → PointFault → Type 0
 IsFirstFault d f x = IsFirstBroken d f x.rule x.subject x.point.block.0 x.point.index

@@ -9,5 +9,5 @@ pub loop-n-preserved : goal.loop-n-preserved
 loop-n-preserved c = λ base.
     c.in_ok-add_to_bases.ensures base
     ∙ ap (λ row. with_last_if (has c.lent_bases-bases.result.now base) row c.loop-n.n) (c.loop-n.invariant base)
-    ∙ ap (λ bases. with_last_if (has bases base) (borrowers_of (facts_of c.args.k.now) c.args.borrows.now c.loop-n.n base) c.loop-n.n) c.lent_bases-bases.ensures
-    ∙ more_values (λ n. has (lent_bases_in (facts_of c.args.k.now) c.args.borrows.now n) base) c.loop-n.n
+    ∙ ap (λ bases. with_last_if (has bases base) (borrowers_of (facts_of c.args.k.now) c.args.k.now.borrows c.loop-n.n base) c.loop-n.n) c.lent_bases-bases.ensures
+    ∙ more_values (λ n. has (lent_bases_in (facts_of c.args.k.now) c.args.k.now.borrows n) base) c.loop-n.n

@@ -27,11 +27,11 @@ returns c =
     h (scopes_of count facts c.args.f.now)
     (scopes_agree c.args.f.now c.args.g.now c.args.k.now rows own c.deref.result.now c.deref-2.result.now
     (λ base. ap (λ (v : List (Vec ℕ Global)). borrowers_at v base) c.as_slice.ensures.value ∙ c.in_ok-rows.ensures base
-    ∙ ap (λ b. borrowers_of (facts_of c.args.k.now) b (length c.args.k.now.table) base) c.requires.borrows)
+    ∙ ap (λ b. borrowers_of (facts_of c.args.k.now) b (length c.args.k.now.table) base) by.borrows_are)
     (λ n item e. c.in_ok-entries.ensures.entries n item e
-    ∙ ap (λ b. flat_map (mark_entries_in b (facts_of c.args.k.now) rows) (marks_at c.args.k.now n)) c.requires.borrows)
+    ∙ ap (λ b. flat_map (mark_entries_in b (facts_of c.args.k.now) rows) (marks_at c.args.k.now n)) by.borrows_are)
     (c.deref.ensures.value ∙ c.in_ok-marks.ensures.marks
-    ∙ ap₂ (λ b n. map (left_mark b (facts_of c.args.k.now)) (range_with_len 0 n)) c.requires.borrows c.values.ensures.count)
+    ∙ ap₂ (λ b n. map (left_mark b (facts_of c.args.k.now)) (range_with_len 0 n)) by.borrows_are c.values.ensures.count)
     (λ n item e. ap (λ (v : List Bool). is_sharing v n) c.deref-2.ensures.value ∙ c.in_ok-returns.ensures n item e)
     count facts by))
     c.first_fault.ensures
