@@ -40,7 +40,7 @@ pub kept_in : (types : Declarations) (m : Module) (n : ℕ) (f : Function) (kept
 kept_in types m n f kept there h g at = subst (λ x. IsKeptFor types x kept) (same_Some f g (sym there ∙ at)) h
 
 pub values_by_survey : (types : Declarations) (f : Function) (s : Survey) → IsSurveyOf types f s → AreValuesOf types f s
-values_by_survey types f s h = record { size = h.kinds.kinds.size; facts = h.kinds.kinds.facts_are; borrows = h.kinds.borrows }
+values_by_survey types f s h = record { size = h.kinds.size; facts = h.kinds.facts_are; borrows = h.kinds.borrows_are }
 
 -- the function with the number, where it was changed
 

@@ -106,30 +106,30 @@ scopes_more P old m n e = at (cases_eq m n) (cases_lt m n)
         let within : nat_lt m (n + 1) ≡ false = grind (arith, nat_tests) in
         ap₂ (λ a b. a || (P n && b)) (e ∙ ap (λ b. b && P m) under) here ∙ and_false (P n) ∙ sym (ap (λ b. b && P m) within)
 
-module _ (f : Function) (k : Known) (borrows : List Borrow) (same : borrows ≡ borrows_of f) (size : length borrows ≡ length k.table) (facts : ValueId → Option Facts)
+module _ (f : Function) (k : Known) (same : k.borrows ≡ borrows_of f) (size : length k.borrows ≡ length k.table) (facts : ValueId → Option Facts)
     (told : (v : ValueId) → facts_of k v ≡ known_or facts v) where
-  lent_same : (n : ℕ) (v : ValueId) → has (lent_bases_in (facts_of k) borrows n) v.0 ≡ has (lent_bases f (known_or facts) n) v.0
+  lent_same : (n : ℕ) (v : ValueId) → has (lent_bases_in (facts_of k) k.borrows n) v.0 ≡ has (lent_bases f (known_or facts) n) v.0
   lent_same n v =
-      ap (λ bases. has bases v.0) (same_bases (facts_of k) (known_or facts) told (lends (borrow_in borrows n)))
+      ap (λ bases. has bases v.0) (same_bases (facts_of k) (known_or facts) told (lends (borrow_in k.borrows n)))
       ∙ ap (λ table. has (bases_in (known_or facts) (lends (borrow_in table n))) v.0) same
 
   pub unlent : (c v : ValueId) (scopes : List ValueId) →
-      ((n : ℕ) → has scopes n ≡ (nat_lt n (length k.table) && has (lent_bases_in (facts_of k) borrows n) v.0)) → AreFreeAt facts f Begin (c ∷ []) scopes ↔ IsUnlent facts f c v
+      ((n : ℕ) → has scopes n ≡ (nat_lt n (length k.table) && has (lent_bases_in (facts_of k) k.borrows n) v.0)) → AreFreeAt facts f Begin (c ∷ []) scopes ↔ IsUnlent facts f c v
   unlent c v scopes are = (
     λ all s lent.
-        let here : has (lent_bases_in (facts_of k) borrows s.0) v.0 ≡ true = lent_same s.0 v ∙ lent in
-        let below : s.0 < length borrows = borrower_below borrows (facts_of k) s.0 v here in
-        all s (are s.0 ∙ both (nat_lt s.0 (length k.table)) (has (lent_bases_in (facts_of k) borrows s.0) v.0) (below_true s.0 (length k.table) (omega arith)) here),
+        let here : has (lent_bases_in (facts_of k) k.borrows s.0) v.0 ≡ true = lent_same s.0 v ∙ lent in
+        let below : s.0 < length k.borrows = borrower_below k.borrows (facts_of k) s.0 v here in
+        all s (are s.0 ∙ both (nat_lt s.0 (length k.table)) (has (lent_bases_in (facts_of k) k.borrows s.0) v.0) (below_true s.0 (length k.table) (omega arith)) here),
     λ un s among.
-        un s (sym (lent_same s.0 v) ∙ second (nat_lt s.0 (length k.table)) (has (lent_bases_in (facts_of k) borrows s.0) v.0) (sym (are s.0) ∙ among)),
+        un s (sym (lent_same s.0 v) ∙ second (nat_lt s.0 (length k.table)) (has (lent_bases_in (facts_of k) k.borrows s.0) v.0) (sym (are s.0) ∙ among)),
   )
 
-  pub unlent_by : (c v : ValueId) (scopes : List ValueId) → ((n : ℕ) → has scopes n ≡ (nat_lt n (length k.table) && has (lent_bases_in (facts_of k) borrows n) v.0))
+  pub unlent_by : (c v : ValueId) (scopes : List ValueId) → ((n : ℕ) → has scopes n ≡ (nat_lt n (length k.table) && has (lent_bases_in (facts_of k) k.borrows n) v.0))
       → (r : Bool) → IsTrue r ↔ AreFreeAt facts f Begin (c ∷ []) scopes → IsTrue r ↔ IsUnlent facts f c v
   unlent_by c v scopes are r free = let both = unlent c v scopes are in (λ t. both.0 (free.0 t), λ h. free.1 (both.1 h))
 
   -- where there is no such scope
-  pub unlent_without : (c v : ValueId) (scopes : List ValueId) → ((n : ℕ) → has scopes n ≡ (nat_lt n (length k.table) && has (lent_bases_in (facts_of k) borrows n) v.0))
+  pub unlent_without : (c v : ValueId) (scopes : List ValueId) → ((n : ℕ) → has scopes n ≡ (nat_lt n (length k.table) && has (lent_bases_in (facts_of k) k.borrows n) v.0))
       → scopes ≡ [] → IsTrue true ↔ IsUnlent facts f c v
   unlent_without c v scopes are none = (
     λ t. (unlent c v scopes are).0 (λ h among. absurd (let wrong : false ≡ true = sym (ap (λ vs. has vs h.0) none) ∙ among in cc)),

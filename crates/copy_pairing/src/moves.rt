@@ -20,7 +20,7 @@ ghost use Rattle.copy_pairing.specs.inner.Turns.{IsMovableTo, IsOwnedUpTo};
 
 use crate::notes::{Notes, surveyed, with_values};
 use copy_pairing_search::{Copied, are_free_at, is_among, is_destroyed_at, is_mark};
-use numbered_form::{Borrow, lent_by};
+use numbered_form::lent_by;
 use ownership_kinds_chains::{Kinds, Mark, MarkSort};
 use sil_ast::{Block, Exhausted, Function, PointId, ValueId};
 use sil_cfg::Item;
@@ -35,10 +35,10 @@ fn is_owned(kind: Kind) -> bool
 }
 
 /// Whether the value lends one of which `base` is a base.
-fn borrows_from(k: &Kinds, borrows: &[Borrow], value: ValueId, base: ValueId) -> bool
-    ensures { result ≡ has (lent_bases_in (facts_of k.now) borrows.now value.0) base.0 }
+fn borrows_from(k: &Kinds, value: ValueId, base: ValueId) -> bool
+    ensures { result ≡ has (lent_bases_in (facts_of k.now) k.now.borrows value.0) base.0 }
 {
-    match lent_by(borrows, value) {
+    match lent_by(k.borrows(), value) {
         None => false,
         Some(lent) => is_among(base, k.bases(lent)),
     }
@@ -56,18 +56,13 @@ fn push_if(scopes: &mut Vec<ValueId>, scope: ValueId, is_one: bool) -> Result<()
 }
 
 /// The scopes that borrow from the value.
-fn scopes_over(
-    alloc: Global,
-    k: &Kinds,
-    borrows: &[Borrow],
-    base: ValueId,
-) -> Result<Vec<ValueId>, Exhausted>
-    ensures { IfOk result (λ v. (n : ℕ) → has v.items n ≡ (nat_lt n (length k.now.table) && has (lent_bases_in (facts_of k.now) borrows.now n) base.0)) }
+fn scopes_over(alloc: Global, k: &Kinds, base: ValueId) -> Result<Vec<ValueId>, Exhausted>
+    ensures { IfOk result (λ v. (n : ℕ) → has v.items n ≡ (nat_lt n (length k.now.table) && has (lent_bases_in (facts_of k.now) k.now.borrows n) base.0)) }
 {
     let mut scopes = Vec::new(alloc);
     for n in 0..k.values() {
         let scope = ValueId(n as u32);
-        push_if(&mut scopes, scope, borrows_from(k, borrows, scope, base))?;
+        push_if(&mut scopes, scope, borrows_from(k, scope, base))?;
     }
     Ok(scopes)
 }
@@ -182,13 +177,7 @@ fn is_unlent(
     ensures unlent { IfOk result (λ r. IsTrue r.0 ↔ IsUnlent (facts_in types.now f.now) f.now copied.value copied.operand) }
     ensures notes { IfOk result (λ r. AreNotesOf types.now f.now r.1) }
 {
-    let found = &notes.survey.found;
-    let scopes = scopes_over(
-        alloc,
-        &found.kinds,
-        found.borrows.as_slice(),
-        copied.operand,
-    )?;
+    let scopes = scopes_over(alloc, &notes.survey.kinds, copied.operand)?;
     let lenders = scopes.as_slice();
     if lenders.is_empty() {
         return Ok((true, notes));
@@ -198,7 +187,7 @@ fn is_unlent(
         alloc,
         f,
         &notes.survey.graph,
-        &notes.survey.found.kinds,
+        &notes.survey.kinds,
         MarkSort::Begin,
         &[copied.value],
         lenders,
@@ -223,7 +212,7 @@ pub(crate) fn moves_to(
     ensures notes { IfOk result (λ r. AreNotesOf types.now f.now r.1) }
 {
     let notes = with_values(alloc, types, f, notes)?;
-    let next = destroyed_if_owned(alloc, f, &notes.survey.found.kinds, p, copied)?;
+    let next = destroyed_if_owned(alloc, f, &notes.survey.kinds, p, copied)?;
     let Some(last) = next else {
         return Ok((None, notes));
     };

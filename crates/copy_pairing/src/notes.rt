@@ -38,10 +38,10 @@ fn new_notes(alloc: Global, types: &TypeTable, f: &Function) -> Result<Notes, Ex
     requires of_module { IsOfNumberedModule f.now }
     requires graph { HasGraph f.now }
     ensures notes { IfOk result (AreNotesOf types.now f.now) }
-    ensures all { IfOk result (λ n. AreAnswered f.now (length n.survey.found.kinds.table) n.answers.items) }
+    ensures all { IfOk result (λ n. AreAnswered f.now (length n.survey.kinds.table) n.answers.items) }
 {
     let survey = new_survey(alloc, types, f)?;
-    let answers = all_answers(alloc, f, &survey.graph, &survey.found.kinds)?;
+    let answers = all_answers(alloc, f, &survey.graph, &survey.kinds)?;
     Ok(Notes {
         answers,
         survey,

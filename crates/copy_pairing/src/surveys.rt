@@ -5,7 +5,7 @@ ghost use Rattle.sil_cfg.specs.inner.Build.{HasGraph};
 ghost use Rattle.numbered_form.specs.PointChecks.inner.Numbered.{IsOfNumberedModule};
 ghost use Rattle.copy_pairing.specs.inner.Surveys.{IsSurveyOf};
 
-use ownership_kinds::{FunctionKinds, kinds_in};
+use ownership_kinds::{Kinds, kinds_in};
 use sil_ast::{Exhausted, Function};
 use sil_cfg::Graph;
 use sil_types::TypeTable;
@@ -15,7 +15,7 @@ use std::alloc::Global;
 #[derive(Drop)]
 pub(crate) struct Survey {
     pub graph: Graph,
-    pub found: FunctionKinds,
+    pub kinds: Kinds,
 }
 
 /// The survey of the function.
@@ -31,6 +31,6 @@ pub(crate) fn new_survey(
     let graph = Graph::build(alloc, f)?;
     match kinds_in(alloc, f, &graph, types) {
         Err(_) => Err(Exhausted),
-        Ok(found) => Ok(Survey { graph, found }),
+        Ok(kinds) => Ok(Survey { graph, kinds }),
     }
 }

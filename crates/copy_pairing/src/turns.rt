@@ -44,7 +44,7 @@ fn asked_anew(
 {
     let notes = surveyed(alloc, types, f, notes)?;
     let survey = &notes.survey;
-    let borrowable = is_borrowable(alloc, f, &survey.graph, &survey.found.kinds, copied)?;
+    let borrowable = is_borrowable(alloc, f, &survey.graph, &survey.kinds, copied)?;
     Ok((borrowable, notes))
 }
 

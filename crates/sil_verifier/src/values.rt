@@ -29,10 +29,10 @@ fn check_function(alloc: Global, f: &Function, table: &TypeTable) -> Result<(), 
         Err(_) => return Err(RuleEnd::Memory),
     };
     value_availability::check(alloc, f, &graph)?;
-    let found = kinds_in(alloc, f, &graph, table)?;
-    lifetime_worklist::check(alloc, f, &graph, &found.kinds)?;
-    borrow_scopes::check(alloc, f, &graph, &found.kinds, &found.borrows)?;
-    memory_rules::check(alloc, f, &graph, &found.kinds, table)
+    let kinds = kinds_in(alloc, f, &graph, table)?;
+    lifetime_worklist::check(alloc, f, &graph, &kinds)?;
+    borrow_scopes::check(alloc, f, &graph, &kinds)?;
+    memory_rules::check(alloc, f, &graph, &kinds, table)
 }
 
 /// The checks of the function with this number, where it has a body.

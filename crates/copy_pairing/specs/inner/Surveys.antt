@@ -20,13 +20,13 @@ use Rattle.copy_pairing_search.specs.BorrowableCopies.inner.Answers.{AreAnswers,
 -- the survey is the function's
 pub record IsSurveyOf (types : Declarations) (f : Function) (s : Survey) : Type 0 where
   pub graph : IsGraphOf s.graph f
-  pub kinds : AreKindsOf types f s.graph s.found
+  pub kinds : AreKindsOf types f s.graph s.kinds
 
 -- the kinds, bases and borrows of values are the function's
 pub record AreValuesOf (types : Declarations) (f : Function) (s : Survey) : Type 0 where
-  pub size : length s.found.kinds.table ≡ length (values_of f.blocks)
-  pub facts : (v : ValueId) → facts_of s.found.kinds v ≡ known_or (facts_in types f) v
-  pub borrows : s.found.borrows.items ≡ borrows_of f
+  pub size : length s.kinds.table ≡ length (values_of f.blocks)
+  pub facts : (v : ValueId) → facts_of s.kinds v ≡ known_or (facts_in types f) v
+  pub borrows : s.kinds.borrows ≡ borrows_of f
 
 abbrev pub HoldsAt : Age → Declarations → Function → Survey → Type 0
 HoldsAt Current types f s = IsSurveyOf types f s

@@ -10,14 +10,14 @@ use Rattle.copy_pairing.proofs.moves.is_unlent.Goals as goal
 
 pub returns-then-is_empty-clause-unlent : goal.returns-then-is_empty-clause-unlent
 returns-then-is_empty-clause-unlent c =
-    unlent_without c.args.f.now c.args.notes.survey.found.kinds c.as_slice.result.now (c.as_slice.ensures.value ∙ c.requires.values.borrows)
-    (ap length (c.as_slice.ensures.value ∙ c.requires.values.borrows) ∙ borrows_count c.args.f.now ∙ sym c.requires.values.size) (facts_in c.args.types.now c.args.f.now) c.requires.values.facts
+    unlent_without c.args.f.now c.args.notes.survey.kinds c.requires.values.borrows
+    (ap length c.requires.values.borrows ∙ borrows_count c.args.f.now ∙ sym c.requires.values.size) (facts_in c.args.types.now c.args.f.now) c.requires.values.facts
     c.args.copied.value c.args.copied.operand c.as_slice-lenders.result.now (λ n. ap (λ v. has v n) c.as_slice-lenders.ensures.value ∙ c.in_ok-scopes.ensures n)
     (nil_from_length c.as_slice-lenders.result.now (eqb-true (length c.as_slice-lenders.result.now) 0 (sym c.is_empty.ensures ∙ c.if-is_empty.true)))
 
 pub returns-clause-unlent : goal.returns-clause-unlent
 returns-clause-unlent c =
-    unlent_by c.args.f.now c.args.notes.survey.found.kinds c.as_slice.result.now (c.as_slice.ensures.value ∙ c.requires.values.borrows)
-    (ap length (c.as_slice.ensures.value ∙ c.requires.values.borrows) ∙ borrows_count c.args.f.now ∙ sym c.requires.values.size) (facts_in c.args.types.now c.args.f.now) c.requires.values.facts
+    unlent_by c.args.f.now c.args.notes.survey.kinds c.requires.values.borrows
+    (ap length c.requires.values.borrows ∙ borrows_count c.args.f.now ∙ sym c.requires.values.size) (facts_in c.args.types.now c.args.f.now) c.requires.values.facts
     c.args.copied.value c.args.copied.operand c.as_slice-lenders.result.now (λ n. ap (λ v. has v n) c.as_slice-lenders.ensures.value ∙ c.in_ok-scopes.ensures n) c.in_ok-free.free
-    (c.in_ok-free.ensures (length (values_of c.args.f.now.blocks)) (facts_in c.args.types.now c.args.f.now) c.in_ok-notes.ensures.survey.kinds.kinds)
+    (c.in_ok-free.ensures (length (values_of c.args.f.now.blocks)) (facts_in c.args.types.now c.args.f.now) c.in_ok-notes.ensures.survey.kinds)

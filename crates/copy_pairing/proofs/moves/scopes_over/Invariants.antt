@@ -6,4 +6,4 @@ use Rattle.borrow_scopes.specs.inner.Tables.{lent_bases_in}
 use Rattle.copy_pairing.proofs.moves.scopes_over.Given as goal
 
 abbrev pub invariant-loop-n : goal.invariant-loop-n
-invariant-loop-n l = (m : ℕ) → has l.scopes.items m ≡ (nat_lt m l.n && has (lent_bases_in (facts_of l.k) l.borrows m) l.base.0)
+invariant-loop-n l = (m : ℕ) → has l.scopes.items m ≡ (nat_lt m l.n && has (lent_bases_in (facts_of l.k) l.k.borrows m) l.base.0)

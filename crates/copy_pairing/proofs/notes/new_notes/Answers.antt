@@ -5,6 +5,6 @@ use Rattle.copy_pairing.proofs.notes.new_notes.Goals as goal
 
 pub returns-clause-notes : goal.returns-clause-notes
 returns-clause-notes c = record {
-  answers = c.in_ok-answers.ensures.answers (length (values_of c.args.f.now.blocks)) (facts_in c.args.types.now c.args.f.now) c.in_ok-survey.ensures.kinds.kinds;
+  answers = c.in_ok-answers.ensures.answers (length (values_of c.args.f.now.blocks)) (facts_in c.args.types.now c.args.f.now) c.in_ok-survey.ensures.kinds;
   survey = c.in_ok-survey.ensures;
 }

@@ -18,30 +18,30 @@ returns-in_err-check-clause-end c =
     let told : IsEndIn c.args.table.now c.args.f.now c.in_err-check.field-0.0 = end_undefined c.args.table.now c.args.f.now c.in_err-check.field-0.0 c.in_err-check.ensures.fault in
     search rules
 
-pub returns-in_err-found-clause-end : goal.returns-in_err-found-clause-end
-returns-in_err-found-clause-end c =
-    let told : IsEndIn c.args.table.now c.args.f.now c.in_err-found.field-0.0 = end_kind c.args.table.now c.args.f.now c.in_ok-check.ensures.ok c.in_err-found.field-0.0 c.in_err-found.ensures.end in
+pub returns-in_err-kinds-clause-end : goal.returns-in_err-kinds-clause-end
+returns-in_err-kinds-clause-end c =
+    let told : IsEndIn c.args.table.now c.args.f.now c.in_err-kinds.field-0.0 = end_kind c.args.table.now c.args.f.now c.in_ok-check.ensures.ok c.in_err-kinds.field-0.0 c.in_err-kinds.ensures.end in
     search rules
 
 pub returns-in_err-check-2-clause-end : goal.returns-in_err-check-2-clause-end
 returns-in_err-check-2-clause-end c =
     let told : IsEndIn c.args.table.now c.args.f.now c.in_err-check-2.field-0.0 =
-    end_life c.args.table.now c.args.f.now c.in_ok-check.ensures.ok c.in_ok-found.ensures.keeps _ _ c.in_ok-found.ensures.kinds.kinds c.in_err-check-2.field-0.0 c.in_err-check-2.ensures.fault in
+    end_life c.args.table.now c.args.f.now c.in_ok-check.ensures.ok c.in_ok-kinds.ensures.keeps _ _ c.in_ok-kinds.ensures.kinds c.in_err-check-2.field-0.0 c.in_err-check-2.ensures.fault in
     search rules
 
 pub returns-in_err-check-3-clause-end : goal.returns-in_err-check-3-clause-end
 returns-in_err-check-3-clause-end c =
     let told : IsEndIn c.args.table.now c.args.f.now c.in_err-check-3.field-0.0 =
-    end_scope c.args.table.now c.args.f.now c.in_ok-check.ensures.ok c.in_ok-found.ensures.keeps _ _ c.in_ok-found.ensures.kinds.kinds c.in_ok-check-2.ensures.ok c.in_err-check-3.field-0.0
+    end_scope c.args.table.now c.args.f.now c.in_ok-check.ensures.ok c.in_ok-kinds.ensures.keeps _ _ c.in_ok-kinds.ensures.kinds c.in_ok-check-2.ensures.ok c.in_err-check-3.field-0.0
     c.in_err-check-3.ensures.fault in
     search rules
 
 pub returns-clause-ok : goal.returns-clause-ok
 returns-clause-ok c =
-    on_ok c.check-4.result _ _ (clean_in c.args.table.now c.args.f.now c.in_ok-check.ensures.ok c.in_ok-found.ensures.keeps _ _ c.in_ok-found.ensures.kinds.kinds c.in_ok-check-2.ensures.ok
+    on_ok c.check-4.result _ _ (clean_in c.args.table.now c.args.f.now c.in_ok-check.ensures.ok c.in_ok-kinds.ensures.keeps _ _ c.in_ok-kinds.ensures.kinds c.in_ok-check-2.ensures.ok
     c.in_ok-check-3.ensures.ok) c.check-4.ensures.ok
 
 pub returns-clause-end : goal.returns-clause-end
 returns-clause-end c =
-    along c.check-4.result _ _ (end_memory c.args.table.now c.args.f.now c.in_ok-check.ensures.ok c.in_ok-found.ensures.keeps _ _ c.in_ok-found.ensures.kinds.kinds c.in_ok-check-2.ensures.ok
+    along c.check-4.result _ _ (end_memory c.args.table.now c.args.f.now c.in_ok-check.ensures.ok c.in_ok-kinds.ensures.keeps _ _ c.in_ok-kinds.ensures.kinds c.in_ok-check-2.ensures.ok
     c.in_ok-check-3.ensures.ok) c.check-4.ensures.end
