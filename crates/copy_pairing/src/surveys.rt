@@ -5,7 +5,8 @@ ghost use Rattle.sil_cfg.specs.inner.Build.{HasGraph};
 ghost use Rattle.numbered_form.specs.PointChecks.inner.Numbered.{IsOfNumberedModule};
 ghost use Rattle.copy_pairing.specs.inner.Surveys.{IsSurveyOf};
 
-use ownership_kinds::{Kinds, kinds_in};
+use ownership_kinds::kinds_in;
+use ownership_kinds_chains::Kinds;
 use sil_ast::{Exhausted, Function};
 use sil_cfg::Graph;
 use sil_types::TypeTable;
