@@ -10,6 +10,7 @@ use crate::heap_calls::answer_on_heap;
 use crate::lowered_runs::answer_on_run;
 use crate::modules::{module_of, table_of};
 use crate::searches::answer_on_walks;
+use crate::statics::answer_on_statics;
 use crate::tokens::answer_on_tokens;
 use crate::typing::answer_on_types;
 use count_heap::no_class_is_too_large;
@@ -33,9 +34,11 @@ pub(crate) fn answer(
         [_name, "removable" | "lowered" | "cloned", ..] => {
             answer_on_accepted(alloc, words, text, written)
         }
-        [_name, "typing" | "lowered-run" | "lowered-end" | "heap", ..] => {
-            answer_on_text(alloc, words, text, written)
-        }
+        [
+            _name,
+            "typing" | "static" | "lowered-run" | "lowered-end" | "heap",
+            ..
+        ] => { answer_on_text(alloc, words, text, written) }
         _ => Ok(written.line("no such call", Status::Usage.code())),
     }
 }
@@ -81,6 +84,7 @@ fn answer_on_table(
     no_class_is_too_large();
     match words {
         [_name, "typing"] => answer_on_types(alloc, m, table, written),
+        [_name, "static", function] => answer_on_statics(alloc, function, m, table, written),
         [_name, "lowered-run", turns] => answer_on_run(alloc, turns, m, table, true, written),
         [_name, "lowered-end", turns] => answer_on_run(alloc, turns, m, table, false, written),
         [_name, "heap", calls @ ..] => answer_on_heap(alloc, calls, table, written),

@@ -14,6 +14,7 @@ mod places;
 mod program;
 mod run_reports;
 mod searches;
+mod statics;
 mod tokens;
 mod typing;
 

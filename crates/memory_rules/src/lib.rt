@@ -10,4 +10,4 @@ mod rules;
 mod statics;
 mod walks;
 
-pub use rules::check;
+pub use rules::{check, check_static};

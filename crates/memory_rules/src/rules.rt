@@ -1,11 +1,11 @@
 //! The checks of rules 601 to 611.
 
-ghost use Rattle.std.specs.Prelude.{IfErr, IfOk, OnOk};
+ghost use Rattle.std.specs.Prelude.{IfErr, IfOk, None, OnOk};
 ghost use Rattle.sil_cfg.specs.inner.Build.{IsGraphOf};
 ghost use Rattle.numbered_form.specs.PointChecks.inner.Numbered.{IsOfNumberedModule};
 ghost use Rattle.memory_rules_accesses.specs.Sources.{sources_of};
-ghost use Rattle.memory_rules.specs.Broken.{IsFirstBreak};
-ghost use Rattle.memory_rules.specs.inner.Ends.{IsMemoryEnd, IsMemoryKept};
+ghost use Rattle.memory_rules.specs.Broken.{IsFirstBreak, IsFirstStatic};
+ghost use Rattle.memory_rules.specs.inner.Ends.{IsMemoryEnd, IsMemoryKept, IsStaticEnd};
 
 use crate::statics::first_static;
 use crate::walks::first_on_walks;
@@ -61,4 +61,35 @@ pub fn check(
         Ok(Some(fault)) => Err(RuleEnd::Fault(fault)),
         Err(_) => Err(RuleEnd::Memory),
     }
+}
+
+/// Checks 608 and 611 alone, which need no walk: for a caller that has no graph yet. The fault is the first by value, then by rule, then
+/// by point.
+pub fn check_static(
+    alloc: Global,
+    f: &Function,
+    _k: &Kinds,
+    table: &TypeTable,
+) -> Result<(), RuleEnd>
+    requires of_module { IsOfNumberedModule f.now }
+    ensures ok { OnOk result (IsFirstStatic (sources_of table.now f.now) f.now None) }
+    ensures end { IfErr result (IsStaticEnd table.now f.now) }
+{
+    match first_static_of(alloc, f, table) {
+        Ok(None) => Ok(()),
+        Ok(Some(fault)) => Err(RuleEnd::Fault(fault)),
+        Err(_) => Err(RuleEnd::Memory),
+    }
+}
+
+fn first_static_of(
+    alloc: Global,
+    f: &Function,
+    table: &TypeTable,
+) -> Result<Option<RuleFault>, Exhausted>
+    requires { IsOfNumberedModule f.now }
+    ensures { IfOk result (IsFirstStatic (sources_of table.now f.now) f.now) }
+{
+    let memory = Memory::of(alloc, table, f)?;
+    first_static(alloc, &memory, f)
 }
