@@ -6,6 +6,7 @@ ghost use Rattle.sil_types_declarations.specs.TypeDefinitions.Rules.{AreDeclarat
 use crate::accepted::answer_on_accepted;
 use crate::answer::Answer;
 use crate::availability::answer_on_values;
+use crate::ends::answer_between_ends;
 use crate::heap_calls::answer_on_heap;
 use crate::lowered_runs::answer_on_run;
 use crate::modules::{module_of, table_of};
@@ -31,6 +32,7 @@ pub(crate) fn answer(
         [_name, "search"] => answer_on_walks(alloc, text, false, written),
         [_name, "search", "together"] => answer_on_walks(alloc, text, true, written),
         [_name, "available", function] => answer_on_values(alloc, function, text, written),
+        [_name, "ends", ..] => answer_between_ends(alloc, words, text, written),
         [_name, "removable" | "lowered" | "cloned", ..] => {
             answer_on_accepted(alloc, words, text, written)
         }

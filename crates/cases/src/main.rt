@@ -6,6 +6,7 @@ mod accepted;
 mod answer;
 mod availability;
 mod calls;
+mod ends;
 mod heap_calls;
 mod lowered_runs;
 mod marked;
